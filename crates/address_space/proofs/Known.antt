@@ -1,8 +1,10 @@
--- What stands where a capability says so has a header.
+-- What stands where a capability says so has a header. Sound frames with another word in a page. A descent through a tree.
 use Rattle.address_space.proofs.Names.{ℕ, List, length, sym, ap, subst, arith, IsTrue, Access, Capability, Space, Frame, ObjectHeader, Geometry, frames_in}
 use Rattle.address_space.proofs.Names.{objects_of, AreKeepable, IsSoundFrames, is_page, MayBeHeld, content_at, root_at, Parts, frames_of, objects_in}
-use Rattle.address_space.proofs.Names.{known_used, node_used, page_used, keepable_later}
-use Rattle.std.proofs.Common.{◌≡◌, ◌-◌, ◌^◌, ◌<◌, ◌∙◌}
+use Rattle.address_space.proofs.Names.{known_used, node_used, page_used, keepable_later, Object, AreCurrent, world_at, is_waiting, IsSound, World, with_word}
+use Rattle.address_space.proofs.Names.{edited_word, Waits, nearly_from, nearly_to, nearly_weaken, slot_at, Ok, inl, inr, cases_lt, IsErr, path, walk_along}
+use Rattle.address_space.proofs.Names.{AreSound, FetchesOrFails, Failed, OnlyFetches, Tree}
+use Rattle.std.proofs.Common.{◌≡◌, ◌-◌, ◌^◌, ◌<◌, ◌∙◌, ◌≤◌}
 
 pub space_known : (p : Parts) (n h : ℕ) (a : Access) → MayBeHeld (objects_in p) (Space n h a) → n < length p.headers
 space_known p n h a held = known_used p n (node_used (content_at (objects_in p) n) held.1)
@@ -32,3 +34,71 @@ module _ (p q : Parts) (headers : q.headers ≡ p.headers) (contents : q.content
   sound_onward geometry fs keeps age sound =
       subst (λ (g : Geometry). IsSoundFrames g age fs) geometry
       (keeps age (subst (λ (X : Type 0). X) (λ i. IsSoundFrames (sym geometry i) age (sym frames_same i)) sound))
+
+world_with_word : (g : Geometry) (w : World) (n i word : ℕ) → word < 2 ^ 64 → IsSound g w →
+    IsSound g (record { objects = with_word w.objects n i word; age = w.age })
+world_with_word g w n i word fits sound =
+    let us = with_word w.objects n i word in
+    let edited = edited_word g (Waits w.objects) w.objects n i word (nearly_from g w sound) fits in
+    nearly_to g us w.age (nearly_weaken g (Waits w.objects) (Waits us) us (λ p waits. ap is_waiting (edited.states p) ∙ waits) edited.sound)
+    sound.age
+
+pub word_stays_sound : (g : Geometry) (age : ℕ) (fs gs : List Frame) (n i word : ℕ) → word < 2 ^ 64 →
+    objects_of gs ≡ with_word (objects_of fs) n i word → (AreCurrent fs → AreCurrent gs) → (AreKeepable g age fs → AreKeepable g age gs) →
+    IsSoundFrames g age fs → IsSoundFrames g age gs
+word_stays_sound g age fs gs n i word fits is current keepable sound = record {
+  keepable = keepable sound.keepable;
+  current = current sound.current;
+  sound = subst (λ (os : List Object). IsSound g (record { objects = os; age = age })) (sym is) (world_with_word g (world_at age fs) n i word fits sound.sound);
+}
+
+pub unrisen : (a b : ℕ) → a ≤ b → (a < b → ⊥) → b ≡ a
+unrisen a b le none = elim (cases_lt a b) [ inl rose ↦ absurd (none rose) | inr within ↦ omega arith ]
+
+pub ok_no_err : {T : Type 0} (x : T) → IsErr {T = T} {E = Failed} (Ok x) → ⊥
+ok_no_err x is = cc
+
+-- from one tree to another on the way to the page with an index
+pub record HasDescended {S : Type 0} (parts : S → Parts) (Continues : S → S → Type 0) (index : ℕ) (tree : Tree) (old : S) (at : Tree) (now : S) : Type 0 where
+  pub snapshots : OnlyFetches parts Continues old now
+  pub failures : (parts now).failures ≡ (parts old).failures
+  pub held : MayBeHeld (objects_in (parts old)) (Space at.node at.height at.access)
+  pub way : walk_along (objects_in (parts old)) (Space tree.node tree.height tree.access) (path tree.height index) ≡
+      walk_along (objects_in (parts old)) (Space at.node at.height at.access) (path at.height index)
+
+module _ {S : Type 0} {parts : S → Parts} {Continues : S → S → Type 0} {index : ℕ} {tree at : Tree} {old now : S}
+    (so_far : HasDescended parts Continues index tree old at now) where
+  pub same_objects : objects_in (parts now) ≡ objects_in (parts old)
+  same_objects = ap (λ (fs : List Frame). objects_of fs) (frames_same (parts old) (parts now) so_far.snapshots.headers so_far.snapshots.contents)
+
+  pub read_there : (s : Capability) (i : ℕ) → s ≡ slot_at (objects_in (parts now)) at.node i → s ≡ slot_at (objects_in (parts old)) at.node i
+  read_there s i is = is ∙ ap (λ (us : List Object). slot_at us at.node i) same_objects
+
+  pub still_sound : AreSound (parts old) → AreSound (parts now)
+  still_sound sound = (
+    sound.0,
+    subst (λ (X : Type 0). X)
+        (λ i. IsSoundFrames (sym so_far.snapshots.geometry i) sound.0
+        (sym (frames_same (parts old) (parts now) so_far.snapshots.headers so_far.snapshots.contents) i)) sound.1,
+  )
+
+  pub still_held : MayBeHeld (objects_in (parts now)) (Space at.node at.height at.access)
+  still_held = subst (λ (us : List Object). MayBeHeld us (Space at.node at.height at.access)) (sym same_objects) so_far.held
+
+  module _ (twice : (s t u : S) → Continues s t → Continues t u → Continues s u) {new : S} where
+    looked_on : OnlyFetches parts Continues now new → OnlyFetches parts Continues old new
+    looked_on then = record {
+      headers = then.headers ∙ so_far.snapshots.headers;
+      contents = then.contents ∙ so_far.snapshots.contents;
+      touched = then.touched ∙ so_far.snapshots.touched;
+      geometry = then.geometry ∙ so_far.snapshots.geometry;
+      continues = twice old now new so_far.snapshots.continues then.continues;
+    }
+
+    pub fetches_on : {T U : Type 0} (x : T) (y : U) → FetchesOrFails {T = T} parts Continues now new (Ok x) →
+        FetchesOrFails {T = U} parts Continues old new (Ok y)
+    fetches_on x y then = record {
+      snapshots = looked_on then.snapshots;
+      later = rw (← so_far.failures) then.later;
+      cause = rw (← so_far.failures) then.cause;
+    }

@@ -1,6 +1,3 @@
 mod Names
 mod Known
 mod Paths
-mod Accesses
-mod Descending
-mod Stored

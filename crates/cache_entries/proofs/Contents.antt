@@ -1,8 +1,8 @@
 -- Bodies by place.
-use Rattle.cache_entries.proofs.Names.{inl, inr, ℕ, true, false, List, [], length, set, get_or, replicate, Option, Some, None, IsSome, true≢false, refl, sym}
-use Rattle.cache_entries.proofs.Names.{ap, subst, arith, length-set, cases_eq, cases_lt, get_or-set_same, get_or-set_other, get_or_past, get_or_default}
-use Rattle.cache_entries.proofs.Names.{get_or-map-range_with_len, length-map-range_with_len, get_or-replicate, length-replicate, set-get_or, fill_by_all}
-use Rattle.cache_entries.proofs.Names.{item_at, Kind, Content, Cap, held_at, with_word_in, with_slot_in, AreBodies, HasRoom, kind_at, kind_of, content_in}
+use Rattle.cache_entries.proofs.Names.{AreBodies, inl, inr, ℕ, true, false, List, [], length, set, get_or, replicate, Option, Some, None, IsSome, true≢false}
+use Rattle.cache_entries.proofs.Names.{refl, sym, ap, subst, arith, length-set, cases_eq, cases_lt, get_or-set_same, get_or-set_other, get_or_past}
+use Rattle.cache_entries.proofs.Names.{get_or_default, get_or-map-range_with_len, length-map-range_with_len, get_or-replicate, length-replicate, set-get_or}
+use Rattle.cache_entries.proofs.Names.{fill_by_all, item_at, Kind, Content, Cap, held_at, with_word_in, with_slot_in, HasRoom, kind_at, kind_of, content_in}
 use Rattle.cache_entries.proofs.Names.{content_at, contents_in, with_words_of, with_slots_of, words_are_of, slots_are_of, kind_with_root, slots_from}
 use Rattle.cache_entries.proofs.Names.{with_root_in, with_slots_in, Root, changed_once}
 use Rattle.std.proofs.Common.{◌≡◌, ◌≢◌, ◌+◌, ◌<◌, ◌∷◌, ◌∙◌}

@@ -1,5 +1,4 @@
 mod Names
-pub mod Lists
 pub mod Contents
 pub mod Orders
 pub mod Recent

@@ -1,6 +1,9 @@
 -- The names that the proofs here cite: of other crates, and of the definitions of this one.
 pub use Rattle.capability.specs.Objects.{changed_root, with_root_in, with_slots_in}
 pub use Rattle.capability.specs.Parts.{fresh_content}
+pub use Rattle.collections.proofs.Lists.{changed_once, get_map}
+pub use Rattle.collections.proofs.Positions.{filled}
+pub use Rattle.collections.specs.SparseVec.{item_at}
 pub use Rattle.lru.proofs.CallerLemmas.{Contains-lookup_entry}
 pub use Rattle.lru.specs.LruCache.{LruCache, demoted, promoted, put_entries}
 pub use Rattle.model.specs.Frame.{content_behind, held_at, void_held}
@@ -10,17 +13,16 @@ pub use Rattle.model.specs.Revoke.{is_member}
 pub use Rattle.model.specs.declared.capability.Cap.{Cap}
 pub use Rattle.model.specs.declared.object.Content.{Content}
 pub use Rattle.model.specs.declared.object.Root.{Root}
-pub use Rattle.sparse_vec.proofs.Lists.{changed_once, get_map}
-pub use Rattle.sparse_vec.proofs.Positions.{filled}
-pub use Rattle.sparse_vec.specs.SparseVec.{item_at}
 pub use Rattle.std.proofs.Common.{Bool, IsSome, List, None, Option, Some, [], ap, arith, cond, drop, false, get_or, inl, inr, is_some, length, length-append}
-pub use Rattle.std.proofs.Common.{length-set, map, nat_eq, option_map, refl, replicate, set, subst, suc, sym, take, true, true≢false, vec_capacity, vec_len}
-pub use Rattle.std.proofs.Common.{zero, ℕ}
+pub use Rattle.std.proofs.Common.{length-set, map, nat_eq, option_map, refl, replicate, rules, set, subst, suc, sym, take, true, true≢false, vec_capacity}
+pub use Rattle.std.proofs.Common.{vec_len, zero, ℕ}
 pub use Rattle.std.proofs.lemmas.Bool.{cases_eq, cases_lt, eq-eqb, eqb-true, le-ltb, lt-ltb, ne_eqb}
-pub use Rattle.std.proofs.lemmas.List.{get_or-drop, get_or-replicate, get_or-set_other, get_or-set_same, get_or_default, get_or_past, length-drop, length-map}
-pub use Rattle.std.proofs.lemmas.List.{length-replicate, length-take-le, same_lists, set-get_or, take-append-drop, take_all, take_more}
+pub use Rattle.std.proofs.lemmas.Bool.Decides.{Decides-eqb}
+pub use Rattle.std.proofs.lemmas.List.{get_or-replicate, get_or-set_other, get_or-set_same, get_or_default, get_or_past, length-map, length-replicate}
+pub use Rattle.std.proofs.lemmas.List.{length-take-le, set-get_or, take_all, take_more}
 pub use Rattle.std.proofs.lemmas.List.FromFn.{fill_by_all, get_or-map-range_with_len, length-map-range_with_len}
 pub use Rattle.std.proofs.lemmas.Option.{none-some, same_Some, slice_get_within}
+pub use Rattle.std.proofs.lemmas.Slice.Eq.{ends_is}
 pub use Rattle.std.specs.List.{Contains, slice_get}
 pub use Rattle.std.specs.Map.{keys_of, lookup_entry, remove_entry}
 pub use Rattle.std.specs.NonZero.{non_zero_usize_get}
@@ -30,7 +32,7 @@ pub use Rattle.cache_entries.specs.Bodies.{AreBodies, HasRoom, content_at, conte
 pub use Rattle.cache_entries.specs.Bodies.{with_slots_of, with_words_of, words_are_of}
 unfoldable pub use Rattle.cache_entries.specs.Bodies.{contents_in}
 pub use Rattle.cache_entries.specs.Entries.{Entry, changing, entry_at}
-pub use Rattle.cache_entries.specs.Order.{AllDiffer, AreLatest, AreOrdered, ArePlaced, AreReordered, AreSpread, AreStored, EntriesState, OrderState, Uses}
-pub use Rattle.cache_entries.specs.Order.{entries_of, entry_in, order_of, place_at, place_below, used_in_turn, used_last, used_longest_ago, with_entry_of}
-pub use Rattle.cache_entries.specs.Order.{with_new, without, without_entry}
+pub use Rattle.cache_entries.specs.Order.{AllDiffer, AreLatest, AreOrdered, ArePlaced, AreSpread, AreStored, EntriesState, IsFilled, OrderState, Uses}
+pub use Rattle.cache_entries.specs.Order.{entries_of, entry_in, order_of, place_at, place_below, used_all, used_in_turn, used_last, used_longest_ago}
+pub use Rattle.cache_entries.specs.Order.{with_entry_of, with_new, without, without_entry}
 pub use Rattle.cache_entries.specs.declared.bodies.Kind.{Kind}

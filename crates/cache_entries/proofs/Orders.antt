@@ -1,7 +1,7 @@
 -- Numbers in the order of their last use, and pairs of a cache with them as its keys.
-use Rattle.cache_entries.proofs.Names.{inl, inr, ℕ, nat_eq, Bool, true, false, cond, true≢false, List, [], length, take, Option, Some, None, is_some, refl, sym}
-use Rattle.cache_entries.proofs.Names.{ap, arith, keys_of, lookup_entry, remove_entry, option_map_or, eqb-true, eq-eqb, ne_eqb, cases_eq, take_all, LruCache}
-use Rattle.cache_entries.proofs.Names.{promoted, demoted, put_entries, Contains-lookup_entry, is_member, AllDiffer, AreReordered, without}
+use Rattle.cache_entries.proofs.Names.{IsFilled, inl, inr, ℕ, nat_eq, Bool, true, false, cond, true≢false, List, [], length, take, Option, Some, None, is_some}
+use Rattle.cache_entries.proofs.Names.{refl, sym, ap, arith, keys_of, lookup_entry, remove_entry, option_map_or, eqb-true, eq-eqb, ne_eqb, cases_eq, take_all}
+use Rattle.cache_entries.proofs.Names.{LruCache, promoted, demoted, put_entries, Contains-lookup_entry, is_member, AllDiffer, without}
 use Rattle.std.proofs.Common.{◌≡◌, ◌≢◌, ◌+◌, ◌-◌, ◌<◌, ◌||◌, ◌∷◌, ◌++◌, ◌∙◌}
 
 -- ---- the keys of pairs
@@ -121,12 +121,7 @@ not_yet keys k known = go (is_member keys k) refl
     go true is = absurd (omega (arith, known k is))
     go false is = is
 
--- a cache with one more key, greater than all others
-pub record IsFilled (keys : List ℕ) (k : ℕ) : Type 0 where
-  pub once : AllDiffer keys
-  pub all : length keys ≡ k
-  pub known : (p : ℕ) → is_member keys p ≡ true → p < k
-
+-- one more key, greater than all others
 pub filled_more : (keys : List ℕ) (k : ℕ) → IsFilled keys k → IsFilled (k ∷ keys) (k + 1)
 filled_more keys k is = record {
   once = (not_yet keys k is.known, is.once);
@@ -136,23 +131,3 @@ filled_more keys k is = record {
     | inr other ↦ omega (arith, is.known p (sym (member_tail p k keys (λ same. other (sym same))) ∙ here))
   ];
 }
-
--- ---- the same keys in another order
-
-pub reordered_none : (keys : List ℕ) → AreReordered keys keys
-reordered_none keys = record { all = refl; once = λ once. once; members = λ p. refl }
-
-pub reordered_used : (n : ℕ) (keys : List ℕ) (es : List (ℕ × Unit {0})) → AreReordered keys (keys_of es) →
-    AreReordered keys (keys_of (promoted (nat_eq n) es))
-reordered_used n keys es are = go (is_member (keys_of es) n) refl
-  where
-    go : (t : Bool) → is_member (keys_of es) n ≡ t → AreReordered keys (keys_of (promoted (nat_eq n) es))
-    go true here = rw (used_keys n es here) (record {
-      all = omega (arith, length_without n (keys_of es) here, are.all);
-      once = λ once. (gone n (keys_of es) (are.once once), differ_without n (keys_of es) (are.once once));
-      members = λ p. elim (cases_eq p n) [
-        | inl same ↦ member_head p n (without n (keys_of es)) same ∙ sym (sym (are.members p) ∙ ap (is_member (keys_of es)) same ∙ here)
-        | inr other ↦ member_tail p n (without n (keys_of es)) (λ same. other (sym same)) ∙ still n (keys_of es) p other ∙ are.members p
-      ];
-    })
-    go false none = rw (unused_keys n es none) are

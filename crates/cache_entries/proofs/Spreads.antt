@@ -1,26 +1,20 @@
 -- Places of numbers.
-use Rattle.cache_entries.proofs.Names.{inl, inr, ℕ, zero, suc, Bool, true, false, true≢false, List, [], length, map, set, take, get_or, Option, Some, None}
-use Rattle.cache_entries.proofs.Names.{is_some, refl, sym, ap, subst, arith, nat_eq, eqb-true, nat_lt, cond, cases_eq, cases_lt, lt-ltb, le-ltb, length-map}
-use Rattle.cache_entries.proofs.Names.{length-set, length-take-le, length-append, take_all, get_or_default, get_or-replicate, length-replicate, replicate}
-use Rattle.cache_entries.proofs.Names.{get_or-set_same, get_or-set_other, get_or_past, none-some, same_Some, slice_get, is_member, AllDiffer, ArePlaced}
-use Rattle.cache_entries.proofs.Names.{AreSpread, OrderState, order_of, place_at, place_below, used_last, used_longest_ago, without, changed_once, get_map}
+use Rattle.cache_entries.proofs.Names.{ArePlaced, AreSpread, inl, inr, ℕ, zero, suc, Bool, true, false, true≢false, List, [], length, map, set, take, get_or}
+use Rattle.cache_entries.proofs.Names.{Option, Some, None, is_some, refl, sym, ap, subst, arith, nat_eq, eqb-true, nat_lt, cond, cases_eq, cases_lt, lt-ltb}
+use Rattle.cache_entries.proofs.Names.{le-ltb, length-map, length-set, length-take-le, length-append, take_all, get_or_default, get_or-replicate}
+use Rattle.cache_entries.proofs.Names.{length-replicate, replicate, get_or-set_same, get_or-set_other, get_or_past, none-some, same_Some, slice_get, is_member}
+use Rattle.cache_entries.proofs.Names.{AllDiffer, OrderState, order_of, place_at, place_below, used_last, used_longest_ago, without, changed_once, get_map}
+use Rattle.cache_entries.proofs.Names.{IsFilled}
 use Rattle.std.proofs.Common.{◌≡◌, ◌≢◌, ◌⊎◌, ◌+◌, ◌-◌, ◌<◌, ◌≤◌, ◌∷◌, ◌++◌, ◌∙◌}
+use Rattle.cache_entries.proofs.Turns.{filled_back, filled_front}
 use Rattle.cache_entries.proofs.Orders.{differ_without, gone, length_without, member_head, still}
 use Rattle.cache_entries.proofs.Recent.{front_apart, front_stays, listed_member}
-use Rattle.cache_entries.proofs.Turns.{at_end, differ_end, either, in_tail, member_used, without_here, without_tail}
+use Rattle.cache_entries.proofs.Turns.{at_end, differ_end, either, in_front, in_tail, member_used, without_here, without_tail}
 
 -- ---- members of a list and of its first ones
 
 either_of : (m : ℕ) (ms : List ℕ) (n : ℕ) → is_member (m ∷ ms) n ≡ true → (n ≡ m) ⊎ (is_member ms n ≡ true)
 either_of m ms n is = elim (either (nat_eq n m) (is_member ms n) is) [ inl same ↦ inl (eqb-true n m same) | inr later ↦ inr later ]
-
-pub in_front : (k : ℕ) (ns : List ℕ) (n : ℕ) → is_member (take k ns) n ≡ true → is_member ns n ≡ true
-in_front zero ns n is = absurd (true≢false (sym is))
-in_front (suc k) [] n is = is
-in_front (suc k) (m ∷ ms) n is = elim (either_of m (take k ms) n is) [
-  | inl same ↦ member_head n m ms same
-  | inr later ↦ in_tail m ms n (in_front k ms n later)
-]
 
 -- the first ones, once one of them is taken out
 front_used : (p : ℕ) (ns : List ℕ) (k : ℕ) → is_member (take (suc k) ns) p ≡ true → take k (without p ns) ≡ without p (take (suc k) ns)
@@ -150,7 +144,7 @@ module _ {keys numbers places : List ℕ} {count : ℕ} (are : ArePlaced keys nu
   place n = get_or places n most
 
   pub inside : (p : ℕ) → is_member used p ≡ true → p < most
-  inside p is = are.known p (in_front count keys p is)
+  inside p is = are.filled.known p (in_front count keys p is)
 
   injective : (p q : ℕ) → is_member used p ≡ true → is_member used q ≡ true → number p ≡ number q → p ≡ q
   injective p q is_p is_q same = sym (are.back p is_p) ∙ ap place same ∙ are.back q is_q
@@ -171,7 +165,7 @@ module _ {keys numbers places : List ℕ} {count : ℕ} (are : ArePlaced keys nu
       (λ m other. place_of (set places n p) most m ∙ ap (place_below most) (get_or-set_other places n m p most other) ∙ sym (place_of places most m))
 
   pub length_used : length (map number used) ≡ count
-  length_used = length-map used number ∙ length-take-le count keys (omega (arith, are.few, are.all))
+  length_used = length-map used number ∙ length-take-le count keys (omega (arith, are.few, are.filled.all))
 
   pub spread : AreSpread (order_of keys numbers places count)
   spread = record {
@@ -183,7 +177,7 @@ module _ {keys numbers places : List ℕ} {count : ℕ} (are : ArePlaced keys nu
           not_mapped number used n (λ p is same. omega (arith, past, inside p is, sym (ap place same) ∙ are.back p is))
           ∙ sym (ap is_some (place_of places most n ∙ past_is most (place n) past))
     ];
-    once = differ_map number used (differ_front count keys are.once) injective;
+    once = differ_map number used (differ_front count keys are.filled.once) injective;
     few = omega (arith, length_used, are.few);
     within = λ n p is. let at = placed_at most (place n) p (sym (place_of places most n) ∙ is) in omega (arith, at.0, at.1);
     apart = λ n m p is_n is_m.
@@ -264,9 +258,7 @@ module _ {keys numbers places : List ℕ} {count : ℕ} (are : ArePlaced keys nu
           λ p. ap (λ (ps : List ℕ). is_member ps p) front_is ∙ member_used (place n) used p here in
           record {
             are = record {
-              once = subst AllDiffer (sym is) (gone (place n) keys are.once, differ_without (place n) keys are.once);
-              all = omega (arith, ap length is, length_without (place n) keys listed, are.all);
-              known = λ p known. are.known p (sym (member_used (place n) keys p listed) ∙ ap (λ (ps : List ℕ). is_member ps p) (sym is) ∙ known);
+              filled = subst (λ (ks : List ℕ). IsFilled ks most) (sym is) (filled_front are.filled (place n) listed);
               some = are.some;
               few = are.few;
               back = λ p known. are.back p (sym (same p) ∙ known);
@@ -286,8 +278,9 @@ module _ {keys numbers places : List ℕ} {count : ℕ} (are : ArePlaced keys nu
       removed after c is less =
           let left : length (without (place n) keys) + 1 ≡ length keys = length_without (place n) keys listed in
           let front_is : take c after ≡ without (place n) used =
-          ap (take c) is ∙ take_front c (without (place n) keys) (place n) (omega (arith, left, less, are.few, are.all)) ∙ front c (omega (arith, less)) in
-          let once : AllDiffer used = differ_front count keys are.once in
+          ap (take c) is ∙ take_front c (without (place n) keys) (place n) (omega (arith, left, less, are.few, are.filled.all))
+          ∙ front c (omega (arith, less)) in
+          let once : AllDiffer used = differ_front count keys are.filled.once in
           let size : n < length places = place_known n below in
           let other_place : (m : ℕ) → m ≢ n → get_or (set places n most) m most ≡ place m = λ m other. get_or-set_other places n m most most other in
           let no_place : get_or (set places n most) n most ≡ most = get_or-set_same places n most most size in
@@ -300,16 +293,7 @@ module _ {keys numbers places : List ℕ} {count : ℕ} (are : ArePlaced keys nu
           λ m less same. omega (arith, less, ap (λ (i : ℕ). get_or (set places n most) i most) same, no_place) in
           record {
             are = record {
-              once = subst AllDiffer (sym is) (differ_end (without (place n) keys) (place n) (differ_without (place n) keys are.once)
-                  (gone (place n) keys are.once));
-              all = omega (arith, ap length is, length-append (without (place n) keys) (place n ∷ []), left, are.all);
-              known = λ p known. elim (at_end (without (place n) keys) (place n) p (ap (λ (ps : List ℕ). is_member ps p) (sym is) ∙ known)) [
-                | inl there ↦ elim (cases_eq p (place n)) [
-                  | inl same ↦ omega (arith, same, below)
-                  | inr other ↦ are.known p (sym (still (place n) keys p other) ∙ there)
-                ]
-                | inr same ↦ omega (arith, same, below)
-              ];
+              filled = subst (λ (ks : List ℕ). IsFilled ks most) (sym is) (filled_back are.filled (place n) listed);
               some = are.some;
               few = omega (arith, less, are.few);
               back = λ p known.
@@ -337,13 +321,15 @@ module _ {keys numbers places : List ℕ} {count : ℕ} (are : ArePlaced keys nu
   -- a number gets the place that was used longest ago
   module _ (p n : ℕ) (last : slice_get keys (length keys - 1) ≡ Some p) (short : count < most) (known : n < length places) (absent : most ≤ place n) where
     p_below : p < most
-    p_below = are.known p (listed_member keys (length keys - 1) p last)
+    p_below = are.filled.known p (listed_member keys (length keys - 1) p last)
 
     p_free : is_member used p ≡ false
     p_free = go (is_member used p) refl
       where
         go : (t : Bool) → is_member used p ≡ t → is_member used p ≡ false
-        go true is = absurd (front_apart p keys (length keys - 1) count p (omega (arith, short, are.all)) are.once last (omega (arith, short, are.all)) is refl)
+        go true is =
+            let last_index : length keys - 1 + 1 ≡ length keys = omega (arith, short, are.filled.all) in
+            absurd (front_apart p keys (length keys - 1) count p last_index are.filled.once last (omega (arith, short, are.filled.all)) is refl)
         go false is = is
 
     abbrev numbers_after : List ℕ
@@ -372,16 +358,14 @@ module _ {keys numbers places : List ℕ} {count : ℕ} (are : ArePlaced keys nu
         let listed = listed_member keys (length keys - 1) p last in
         let front_is : take c after ≡ p ∷ used =
         ap (take c) is ∙ ap (λ (k : ℕ). take k (p ∷ without p keys)) more ∙ ap (λ (k : ℕ). take k (p ∷ without p keys)) (plus_one count)
-        ∙ ap (λ (rest : List ℕ). p ∷ rest) (front_stays p keys (length keys - 1) count (omega (arith, short, are.all)) are.once last
-        (omega (arith, short, are.all))) in
+        ∙ ap (λ (rest : List ℕ). p ∷ rest) (front_stays p keys (length keys - 1) count (omega (arith, short, are.filled.all)) are.filled.once last
+        (omega (arith, short, are.filled.all))) in
         let new_place : get_or places_after n most ≡ p = get_or-set_same places n p most known in
         let old_place : (m : ℕ) → m ≢ n → get_or places_after m most ≡ place m = λ m other. get_or-set_other places n m p most other in
         let new_number : get_or numbers_after p 0 ≡ n = get_or-set_same numbers p n 0 p_below in
         record {
           are = record {
-            once = subst AllDiffer (sym is) (gone p keys are.once, differ_without p keys are.once);
-            all = omega (arith, ap length is, length_without p keys listed, are.all, same_most);
-            known = λ q is_q. omega (arith, are.known q (sym (member_used p keys q listed) ∙ ap (λ (ps : List ℕ). is_member ps q) (sym is) ∙ is_q), same_most);
+            filled = subst (IsFilled after) (sym same_most) (subst (λ (ks : List ℕ). IsFilled ks most) (sym is) (filled_front are.filled p listed));
             some = omega (arith, are.some, same_most);
             few = omega (arith, more, short, same_most);
             back = λ q is_q. place_after (get_or numbers_after q 0) ∙ elim (either_of p used q (ap (λ (ps : List ℕ). is_member ps q) (sym front_is) ∙ is_q)) [
@@ -423,9 +407,9 @@ module _ {keys numbers places : List ℕ} {count : ℕ} (are : ArePlaced keys nu
       Some n ≡ used_longest_ago s.numbers
   least_number {s = s} view many p n last is =
       let full : most ≤ count = omega (arith, many, count_is view, most_is view) in
-      let whole : used ≡ keys = take_all count keys (omega (arith, full, are.all)) in
-      ap Some (is ∙ get_or_default numbers p n 0 (are.known p (listed_member keys (length keys - 1) p last))) ∙ sym (
-      ap (slice_get (map number used)) (omega (arith, length_used, full, are.few, are.all))
+      let whole : used ≡ keys = take_all count keys (omega (arith, full, are.filled.all)) in
+      ap Some (is ∙ get_or_default numbers p n 0 (are.filled.known p (listed_member keys (length keys - 1) p last))) ∙ sym (
+      ap (slice_get (map number used)) (omega (arith, length_used, full, are.few, are.filled.all))
       ∙ ap (λ (ps : List ℕ). slice_get (map number ps) (length keys - 1)) whole
       ∙ mapped keys (length keys - 1) last) ∙ ap (λ (o : OrderState). used_longest_ago o.numbers) view
     where
@@ -435,11 +419,9 @@ module _ {keys numbers places : List ℕ} {count : ℕ} (are : ArePlaced keys nu
       mapped (q ∷ qs) (suc k) at = mapped qs k at
 
 -- no number has a place at first
-pub none_placed : (keys numbers places : List ℕ) (most count : ℕ) → 0 < most → AllDiffer keys → length keys ≡ most →
-    ((p : ℕ) → is_member keys p ≡ true → p < most) →
-    length numbers ≡ most → places ≡ replicate count most →
+pub none_placed : (keys numbers places : List ℕ) (most count : ℕ) → 0 < most → IsFilled keys most → length numbers ≡ most → places ≡ replicate count most →
     Spreads keys numbers places 0 (record { numbers = []; places = replicate count None; most = most })
-none_placed keys numbers places most count some once all known size is =
+none_placed keys numbers places most count some filled size is =
     let past : (n : ℕ) → get_or places n (length numbers) ≡ length numbers =
     λ n. ap (get_or places n) size ∙ ap (λ (ps : List ℕ). get_or ps n most) is ∙ elim (cases_lt n count) [
       | inl below ↦ get_or-replicate count n most most below
@@ -447,9 +429,7 @@ none_placed keys numbers places most count some once all known size is =
     ] ∙ sym size in
     record {
       are = record {
-        once = once;
-        all = omega (arith, all, size);
-        known = λ p here. omega (arith, known p here, size);
+        filled = subst (IsFilled keys) (sym size) filled;
         some = omega (arith, some, size);
         few = omega arith;
         back = λ p here. absurd (true≢false (sym here));

@@ -1,7 +1,7 @@
 -- Entries by number, whose bodies are at places.
-use Rattle.cache_entries.proofs.Names.{inl, inr, ℕ, zero, suc, [], Bool, true, false, true≢false, List, length, map, set, get_or, replicate, Option, Some, None}
-use Rattle.cache_entries.proofs.Names.{is_some, option_map, cond, refl, sym, ap, subst, arith, length-map, length-set, get_or-set_same, get_or-set_other}
-use Rattle.cache_entries.proofs.Names.{cases_lt, get_or_past, Content, Cap, held_at, Entry, changing, entry_at, AreOrdered, AreSpread, AreStored, EntriesState}
+use Rattle.cache_entries.proofs.Names.{AreStored, AreSpread, AreOrdered, inl, inr, ℕ, zero, suc, [], Bool, true, false, true≢false, List, length, map, set}
+use Rattle.cache_entries.proofs.Names.{get_or, replicate, Option, Some, None, is_some, option_map, cond, refl, sym, ap, subst, arith, length-map, length-set}
+use Rattle.cache_entries.proofs.Names.{get_or-set_same, get_or-set_other, cases_lt, get_or_past, Content, Cap, held_at, Entry, changing, entry_at, EntriesState}
 use Rattle.cache_entries.proofs.Names.{OrderState, entries_of, entry_in, place_at, with_entry_of, with_new, without, without_entry, AllDiffer, is_member}
 use Rattle.cache_entries.proofs.Names.{changed_once, get_map}
 use Rattle.std.proofs.Common.{◌≡◌, ◌≢◌, ◌<◌, ◌≤◌, ◌∷◌, ◌∙◌}
@@ -36,6 +36,7 @@ module _ (o : OrderState) {ps ks : List (Content Cap)} {ms : List Bool} (are : A
     listed = λ n. ap (λ (t : EntriesState). is_member t.order n) (sym view) ∙ spread.listed n ∙ some_is n;
     once = subst (λ (t : EntriesState). AllDiffer t.order) view spread.once;
     few = subst (λ (t : EntriesState). length t.order ≤ t.most) view spread.few;
+    least = subst (λ (t : EntriesState). 8 ≤ t.most) view are.least;
   }
 
   -- a number that has a place

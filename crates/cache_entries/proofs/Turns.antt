@@ -1,9 +1,10 @@
 -- Numbers that are used in turn, and those whose use the order doesn't have yet.
-use Rattle.cache_entries.proofs.Names.{inl, inr, ℕ, zero, suc, nat_eq, Bool, true, false, cond, true≢false, List, [], length, set, take, drop, get_or, Option}
-use Rattle.cache_entries.proofs.Names.{Some, refl, sym, ap, subst, arith, Contains, slice_get, take_more, eqb-true, eq-eqb, ne_eqb, cases_eq, none-some}
-use Rattle.cache_entries.proofs.Names.{same_Some, is_member, AllDiffer, AreLatest, AreSpread, OrderState, Uses, used_in_turn, used_last, without}
+use Rattle.cache_entries.proofs.Names.{Uses, AreLatest, AreSpread, inl, inr, ℕ, zero, suc, nat_eq, Bool, true, false, cond, true≢false, List, [], length, set}
+use Rattle.cache_entries.proofs.Names.{take, drop, get_or, Option, Some, refl, sym, ap, subst, arith, Contains, slice_get, take_more, eqb-true, eq-eqb, ne_eqb}
+use Rattle.cache_entries.proofs.Names.{cases_eq, none-some, same_Some, is_member, AllDiffer, OrderState, used_in_turn, used_last, without, keys_of}
+use Rattle.cache_entries.proofs.Names.{length-append, promoted, IsFilled, used_all}
 use Rattle.std.proofs.Common.{◌≡◌, ◌≢◌, ◌⊎◌, ◌+◌, ◌||◌, ◌∷◌, ◌++◌, ◌<◌, ◌≤◌, ◌∙◌}
-use Rattle.cache_entries.proofs.Orders.{differ_without, gone, length_without, member_head, member_tail, still}
+use Rattle.cache_entries.proofs.Orders.{used_keys, unused_keys, differ_without, gone, length_without, member_head, member_tail, still}
 use Rattle.cache_entries.proofs.Recent.{listed_member}
 
 -- ---- members
@@ -146,7 +147,7 @@ without_earlier n (m ∷ ms) order once = elim (cases_eq n m) [
       ∙ without_earlier n ms (m ∷ without m order) once.1
 ]
 
-pub used_once_more : (n : ℕ) (ns order : List ℕ) → AllDiffer ns → used_in_turn (without n ns ++ n ∷ []) order ≡ n ∷ without n (used_in_turn ns order)
+used_once_more : (n : ℕ) (ns order : List ℕ) → AllDiffer ns → used_in_turn (without n ns ++ n ∷ []) order ≡ n ∷ without n (used_in_turn ns order)
 used_once_more n ns order once = used_at_end (without n ns) n order ∙ ap (λ (rest : List ℕ). n ∷ rest) (without_earlier n ns order once)
 
 -- ---- used again in the same turn
@@ -218,6 +219,10 @@ member_by (m ∷ ms) (suc i) n within at = in_tail m ms n (member_by ms i n (ome
 pub contains_member : (ns : List ℕ) (n : ℕ) → Contains ns n → is_member ns n ≡ true
 contains_member ns n has = member_by ns has.0 n has.1 has.2
 
+pub all_at_end : (ns : List ℕ) (n : ℕ) (s : OrderState) → used_all (ns ++ n ∷ []) s ≡ used_last n (used_all ns s)
+all_at_end [] n s = refl
+all_at_end (m ∷ ms) n s = all_at_end ms n (used_last m s)
+
 -- one more of a list is used
 pub one_more : (s t : List ℕ) (ns : List ℕ) (i : ℕ) → i < length ns → t ≡ used_in_turn (take i ns) s →
     get_or ns i 0 ∷ without (get_or ns i 0) t ≡ used_in_turn (take (i + 1) ns) s
@@ -245,13 +250,13 @@ differ_end (m ∷ ms) n once none =
     let apart = not_here m ms n none in
     (not_at_end ms n m once.0 (λ same. apart.0 (sym same)), differ_end ms n once.1 apart.1)
 
-module _ (latest order : List ℕ) (are : AreLatest latest order) (n : ℕ) where
+module _ (latest : List ℕ) (o : OrderState) (are : AreLatest latest o.numbers) (n : ℕ) where
   -- one of them is used again
-  pub again_latest : is_member latest n ≡ true → AreLatest (without n latest ++ n ∷ []) order
+  again_latest : is_member latest n ≡ true → AreLatest (without n latest ++ n ∷ []) o.numbers
   again_latest has = record {
     once = differ_end (without n latest) n (differ_without n latest are.once) (gone n latest are.once);
     listed = λ m is. elim (cases_eq m n) [
-      | inl same ↦ ap (is_member order) same ∙ are.listed n has
+      | inl same ↦ ap (is_member o.numbers) same ∙ are.listed n has
       | inr other ↦ elim (at_end (without n latest) n m is) [
         | inl there ↦ are.listed m (sym (still n latest m other) ∙ there)
         | inr same ↦ absurd (other same)
@@ -259,13 +264,23 @@ module _ (latest order : List ℕ) (are : AreLatest latest order) (n : ℕ) wher
     ];
   }
 
+  pub used_again_at : (place : ℕ) → slice_get latest place ≡ Some n → {after : List ℕ} → after ≡ without n latest ++ n ∷ [] →
+      AreLatest after o.numbers × (length after ≡ length latest) × (used_all after o ≡ used_last n (used_all latest o))
+  used_again_at place at is =
+      let has = listed_member latest place n at in
+      rw is (
+        again_latest has,
+        omega (arith, length-append (without n latest) (n ∷ []), length_without n latest has),
+        (λ k. record { numbers = used_once_more n latest o.numbers are.once k; places = o.places; most = o.most }),
+      )
+
   -- another one is used
-  pub more_latest : is_member latest n ≡ false → is_member order n ≡ true → AreLatest (latest ++ n ∷ []) order
+  pub more_latest : is_member latest n ≡ false → is_member o.numbers n ≡ true → AreLatest (latest ++ n ∷ []) o.numbers
   more_latest none here = record {
     once = differ_end latest n are.once none;
     listed = λ m is. elim (at_end latest n m is) [
       | inl has ↦ are.listed m has
-      | inr same ↦ ap (is_member order) same ∙ here
+      | inr same ↦ ap (is_member o.numbers) same ∙ here
     ];
   }
 
@@ -276,89 +291,38 @@ settled_latest n ns order are = record {
   listed = λ m is. member_used n order m (are.listed n (member_head n n ns refl)) ∙ are.listed m (in_tail n ns m is);
 }
 
--- what telling it leaves
-pub record Settles (latest rest order reported : List ℕ) : Type 0 where
-  pub same : used_in_turn rest reported ≡ used_in_turn latest order
-  pub are : AreLatest rest reported
+-- what that leaves
+pub record Settles (latest rest : List ℕ) (order after : OrderState) : Type 0 where
+  pub same : used_all rest after ≡ used_all latest order
+  pub are : AreLatest rest after.numbers
   pub others : (m : ℕ) → is_member latest m ≡ false → is_member rest m ≡ false
-  pub members : (m : ℕ) → is_member reported m ≡ is_member order m
+  pub members : (m : ℕ) → is_member after.numbers m ≡ is_member order.numbers m
   pub fewer : length rest + 1 ≡ length latest
 
-pub settles : (latest rest order reported : List ℕ) (n : ℕ) → 0 < length latest → n ≡ get_or latest 0 n → rest ≡ take 0 latest ++ drop 1 latest →
-    (is_member order n ≡ true → reported ≡ n ∷ without n order) → AreLatest latest order → Settles latest rest order reported
-settles [] rest order reported n some first is tells are = absurd (omega (arith, some))
-settles (m ∷ ms) rest order reported n some first is tells are =
-    let here : is_member order m ≡ true = are.listed m (member_head m m ms refl) in
-    let on : reported ≡ m ∷ without m order = subst (λ (k : ℕ). reported ≡ k ∷ without k order) first (tells (ap (is_member order) first ∙ here)) in
+pub settles : (latest rest : List ℕ) (order after : OrderState) (n : ℕ) → 0 < length latest → n ≡ get_or latest 0 n → rest ≡ take 0 latest ++ drop 1 latest →
+    after ≡ used_last n order → AreLatest latest order.numbers → Settles latest rest order after
+settles [] rest order after n some first is used are = absurd (omega (arith, some))
+settles (m ∷ ms) rest order after n some first is used are =
+    let here : is_member order.numbers m ≡ true = are.listed m (member_head m m ms refl) in
+    let on : after ≡ used_last m order = subst (λ (k : ℕ). after ≡ used_last k order) first used in
     record {
-      same = ap (λ (ks : List ℕ). used_in_turn ks reported) is ∙ ap (used_in_turn ms) on;
-      are = subst (λ (ks : List ℕ). AreLatest ks reported) (sym is) (subst (AreLatest ms) (sym on) (settled_latest m ms order are));
+      same = λ k. used_all (is k) (on k);
+      are = subst (λ (ks : List ℕ). AreLatest ks after.numbers) (sym is)
+          (subst (λ (s : OrderState). AreLatest ms s.numbers) (sym on) (settled_latest m ms order.numbers are));
       others = λ k none. ap (λ (ks : List ℕ). is_member ks k) is ∙ (not_here m ms k none).1;
-      members = λ k. ap (λ (ks : List ℕ). is_member ks k) on ∙ member_used m order k here;
+      members = λ k. ap (λ (s : OrderState). is_member s.numbers k) on ∙ member_used m order.numbers k here;
       fewer = omega (arith, ap length is);
     }
 
 -- ---- a number is moved to the end of a list
 
--- those behind the first move up, one after the other
-up_one : (m : ℕ) (ms : List ℕ) (i : ℕ) → i < length ms → set (take i ms ++ drop i (m ∷ ms)) i (get_or (take i ms ++ drop i (m ∷ ms)) (suc i) 0) ≡ take
-    (suc i) ms ++ drop i ms
-up_one m [] i below = absurd (omega (arith, below))
-up_one m (k ∷ ks) zero below = refl
-up_one m (k ∷ ks) (suc i) below = ap (λ (rest : List ℕ). k ∷ rest) (up_one k ks i (omega (arith, below)))
-
-up_last : (m n : ℕ) (ms : List ℕ) (i : ℕ) → i ≡ length ms → set (take i ms ++ drop i (m ∷ ms)) i n ≡ ms ++ n ∷ []
-up_last m n [] zero is = refl
-up_last m n [] (suc i) is = absurd (omega (arith, is))
-up_last m n (k ∷ ks) zero is = absurd (omega (arith, is))
-up_last m n (k ∷ ks) (suc i) is = ap (λ (rest : List ℕ). k ∷ rest) (up_last k n ks i (omega (arith, is)))
-
-apart_from : (m : ℕ) (ms : List ℕ) (place n : ℕ) → slice_get ms place ≡ Some n → is_member ms m ≡ false → n ≢ m
-apart_from m ms place n at none same = true≢false (sym (listed_member ms place n at) ∙ ap (is_member ms) same ∙ none)
-
-module _ (n : ℕ) where
-  pub move_begun : (ns : List ℕ) (place : ℕ) → slice_get ns place ≡ Some n → AllDiffer ns → ns ≡ take place (without n ns) ++ drop place ns
-  move_begun [] place at once = absurd (none-some n at)
-  move_begun (m ∷ ms) zero at once = refl
-  move_begun (m ∷ ms) (suc place) at once =
-      ap (λ (rest : List ℕ). m ∷ rest) (move_begun ms place at once.1)
-      ∙ ap (λ (rest : List ℕ). take (suc place) rest ++ drop place ms) (sym (without_tail n m ms (apart_from m ms place n at once.0)))
-
-  move_up : (ns : List ℕ) (place i : ℕ) → slice_get ns place ≡ Some n → AllDiffer ns → place ≤ i → suc i < length ns →
-      set (take i (without n ns) ++ drop i ns) i (get_or (take i (without n ns) ++ drop i ns) (suc i) 0) ≡ take (suc i) (without n ns) ++ drop (suc i) ns
-  move_up [] place i at once from below = absurd (none-some n at)
-  move_up (m ∷ ms) zero i at once from below =
-      subst (λ (rest : List ℕ). set (take i rest ++ drop i (m ∷ ms)) i (get_or (take i rest ++ drop i (m ∷ ms)) (suc i) 0) ≡ take (suc i) rest ++ drop i ms)
-      (sym (without_here n m ms (sym (same_Some m n at)))) (up_one m ms i (omega (arith, below)))
-  move_up (m ∷ ms) (suc place) zero at once from below = absurd (omega (arith, from))
-  move_up (m ∷ ms) (suc place) (suc i) at once from below =
-      subst (λ (rest : List ℕ). set (take (suc i) rest ++ drop i ms) (suc i) (get_or (take (suc i) rest ++ drop i ms) (suc (suc i)) 0) ≡ take (suc (suc i))
-      rest ++ drop (suc i) ms)
-      (sym (without_tail n m ms (apart_from m ms place n at once.0)))
-      (ap (λ (rest : List ℕ). m ∷ rest) (move_up ms place i at once.1 (omega (arith, from)) (omega (arith, below))))
-
-  pub moved_up : (xs ns : List ℕ) (place i j : ℕ) → slice_get ns place ≡ Some n → AllDiffer ns → place ≤ i → j ≡ suc i → j < length ns →
-      xs ≡ take i (without n ns) ++ drop i ns → set xs i (get_or xs j 0) ≡ take j (without n ns) ++ drop j ns
-  moved_up xs ns place i j at once from next below is =
-      ap (λ (ys : List ℕ). set ys i (get_or ys j 0)) is
-      ∙ subst (λ (k : ℕ). set (take i (without n ns) ++ drop i ns) i (get_or (take i (without n ns) ++ drop i ns) k 0) ≡ take k (without n ns) ++ drop k
-      ns) (sym next)
-      (move_up ns place i at once from (omega (arith, next, below)))
-
-  move_last : (ns : List ℕ) (place i : ℕ) → slice_get ns place ≡ Some n → AllDiffer ns → place ≤ i → suc i ≡ length ns →
-      set (take i (without n ns) ++ drop i ns) i n ≡ without n ns ++ n ∷ []
-  move_last [] place i at once from last = absurd (none-some n at)
-  move_last (m ∷ ms) zero i at once from last =
-      subst (λ (rest : List ℕ). set (take i rest ++ drop i (m ∷ ms)) i n ≡ rest ++ n ∷ []) (sym (without_here n m ms (sym (same_Some m n at))))
-      (up_last m n ms i (omega (arith, last)))
-  move_last (m ∷ ms) (suc place) zero at once from last = absurd (omega (arith, from))
-  move_last (m ∷ ms) (suc place) (suc i) at once from last =
-      subst (λ (rest : List ℕ). set (take (suc i) rest ++ drop i ms) (suc i) n ≡ rest ++ n ∷ []) (sym (without_tail n m ms (apart_from m ms place n at once.0)))
-      (ap (λ (rest : List ℕ). m ∷ rest) (move_last ms place i at once.1 (omega (arith, from)) (omega (arith, last))))
-
-  pub moved_last : (xs ns : List ℕ) (place i : ℕ) → slice_get ns place ≡ Some n → AllDiffer ns → place ≤ i → suc i ≡ length ns →
-      xs ≡ take i (without n ns) ++ drop i ns → set xs i n ≡ without n ns ++ n ∷ []
-  moved_last xs ns place i at once from last is = ap (λ (ys : List ℕ). set ys i n) is ∙ move_last ns place i at once from last
+-- a list without a number that stands at an index
+pub without_at : (n : ℕ) (ns : List ℕ) (place : ℕ) → slice_get ns place ≡ Some n → AllDiffer ns → without n ns ≡ take place ns ++ drop (suc place) ns
+without_at n [] place at once = absurd (none-some n at)
+without_at n (m ∷ ms) zero at once = without_here n m ms (sym (same_Some m n at))
+without_at n (m ∷ ms) (suc place) at once =
+    let other : n ≢ m = λ same. true≢false (sym (listed_member ms place n at) ∙ ap (is_member ms) same ∙ once.0) in
+    without_tail n m ms other ∙ ap (λ (rest : List ℕ). m ∷ rest) (without_at n ms place at once.1)
 
 -- ---- an order with places
 
@@ -372,16 +336,41 @@ spread_used s n here are = record {
 }
 
 pub spread_in_turn : (ns : List ℕ) (s : OrderState) → ((n : ℕ) → is_member ns n ≡ true → is_member s.numbers n ≡ true) → AreSpread s →
-    AreSpread (record { numbers = used_in_turn ns s.numbers; places = s.places; most = s.most })
+    AreSpread (used_all ns s)
 spread_in_turn [] s listed are = are
 spread_in_turn (n ∷ ns) s listed are =
     let here = listed n (member_head n n ns refl) in
     spread_in_turn ns (used_last n s) (λ k is. member_used n s.numbers k here ∙ listed k (in_tail n ns k is)) (spread_used s n here are)
 
 pub spread_uses : (s t : OrderState) (ns : List ℕ) (said : Bool) → Uses s t ns said → AreSpread s → AreSpread t
-spread_uses s t ns said uses are =
-    subst (λ (ms : List ℕ). AreSpread (record { numbers = ms; places = t.places; most = t.most })) (sym uses.numbers)
-    (subst (λ (ps : List (Option ℕ)). AreSpread (record { numbers = used_in_turn (take uses.count ns) s.numbers; places = ps; most = t.most }))
-    (sym uses.same_places)
-    (subst (λ (m : ℕ). AreSpread (record { numbers = used_in_turn (take uses.count ns) s.numbers; places = s.places; most = m })) (sym uses.same_most)
-    (spread_in_turn (take uses.count ns) s uses.listed are)))
+spread_uses s t ns said uses are = subst AreSpread (sym uses.used) (spread_in_turn (take uses.count ns) s uses.listed are)
+
+-- ---- all places, in another order
+
+module _ {keys : List ℕ} {count : ℕ} (are : IsFilled keys count) (p : ℕ) (has : is_member keys p ≡ true) where
+  pub filled_front : IsFilled (p ∷ without p keys) count
+  filled_front = record {
+    once = (gone p keys are.once, differ_without p keys are.once);
+    all = omega (arith, length_without p keys has, are.all);
+    known = λ q here. are.known q (sym (member_used p keys q has) ∙ here);
+  }
+
+  pub filled_back : IsFilled (without p keys ++ p ∷ []) count
+  filled_back = record {
+    once = differ_end (without p keys) p (differ_without p keys are.once) (gone p keys are.once);
+    all = omega (arith, length-append (without p keys) (p ∷ []), length_without p keys has, are.all);
+    known = λ q here. elim (cases_eq q p) [
+      | inl same ↦ omega (arith, same, are.known p has)
+      | inr other ↦ elim (at_end (without p keys) p q here) [
+        | inl there ↦ are.known q (sym (still p keys q other) ∙ there)
+        | inr same ↦ absurd (other same)
+      ]
+    ];
+  }
+
+pub filled_used : (p : ℕ) (es : List (ℕ × Unit {0})) {count : ℕ} → IsFilled (keys_of es) count → IsFilled (keys_of (promoted (nat_eq p) es)) count
+filled_used p es {count} are = go (is_member (keys_of es) p) refl
+  where
+    go : (t : Bool) → is_member (keys_of es) p ≡ t → IsFilled (keys_of (promoted (nat_eq p) es)) count
+    go true here = rw (used_keys p es here) (filled_front are p here)
+    go false none = rw (unused_keys p es none) are

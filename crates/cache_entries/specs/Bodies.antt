@@ -7,7 +7,7 @@ use Rattle.model.specs.declared.capability.Cap.{Cap}
 use Rattle.model.specs.declared.object.Content.{Content}
 use Rattle.model.specs.declared.object.Root.{Root}
 use Rattle.model.specs.declared.object.Content.TheVariants as content
-use Rattle.sparse_vec.specs.SparseVec.{item_at}
+use Rattle.collections.specs.SparseVec.{item_at}
 use Rattle.cache_entries.specs.declared.bodies.Kind.{Kind}
 use Rattle.cache_entries.specs.declared.bodies.Kind.TheVariants as kind
 

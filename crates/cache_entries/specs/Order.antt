@@ -18,11 +18,11 @@ abbrev pub without : ℕ → List ℕ → List ℕ
 without n [] = []
 without n (m ∷ ms) = if n == m then ms else m ∷ without n ms
 
--- the same numbers in another order
-pub record AreReordered (ns ms : List ℕ) : Type 0 where
-  pub all : length ms ≡ length ns
-  pub once : AllDiffer ns → AllDiffer ms
-  pub members : (n : ℕ) → is_member ms n ≡ is_member ns n
+-- all places below a count, each once
+pub record IsFilled (keys : List ℕ) (count : ℕ) : Type 0 where
+  pub once : AllDiffer keys
+  pub all : length keys ≡ count
+  pub known : (p : ℕ) → is_member keys p ≡ true → p < count
 
 -- the number used longest ago
 abbrev pub used_longest_ago : List ℕ → Option ℕ
@@ -51,6 +51,10 @@ place_at ps n = slice_index_or ps n None
 abbrev pub used_last : ℕ → OrderState → OrderState
 used_last n s = record { numbers = n ∷ without n s.numbers; places = s.places; most = s.most }
 
+-- numbers of the order were used in turn
+abbrev pub used_all : List ℕ → OrderState → OrderState
+used_all ns s = record { numbers = used_in_turn ns s.numbers; places = s.places; most = s.most }
+
 -- the order has each number with a place once, and no two have the same place
 pub record AreSpread (s : OrderState) : Type 0 where
   pub listed : (n : ℕ) → is_member s.numbers n ≡ is_some (place_at s.places n)
@@ -73,9 +77,7 @@ order_of keys numbers places count = record {
 }
 
 pub record ArePlaced (keys numbers places : List ℕ) (count : ℕ) : Type 0 where
-  pub once : AllDiffer keys
-  pub all : length keys ≡ length numbers
-  pub known : (p : ℕ) → is_member keys p ≡ true → p < length numbers
+  pub filled : IsFilled keys (length numbers)
   pub some : 0 < length numbers
   pub few : count ≤ length numbers
   pub back : (p : ℕ) → is_member (take count keys) p ≡ true
@@ -88,9 +90,7 @@ pub record ArePlaced (keys numbers places : List ℕ) (count : ℕ) : Type 0 whe
 -- the first `count` of a list of numbers of the order were used in turn, and all of them if `said`
 pub record Uses (s t : OrderState) (ns : List ℕ) (said : Bool) : Type 0 where
   pub count : ℕ
-  pub numbers : t.numbers ≡ used_in_turn (take count ns) s.numbers
-  pub same_places : t.places ≡ s.places
-  pub same_most : t.most ≡ s.most
+  pub used : t ≡ used_all (take count ns) s
   pub listed : (n : ℕ) → is_member (take count ns) n ≡ true → is_member s.numbers n ≡ true
   pub whole : said ≡ true → length ns ≤ count
 
@@ -114,17 +114,20 @@ entries_of o presents kepts marks = record {
   most = o.most;
 }
 
--- each of `most` places has a present body, a frozen copy, and a mark that says whether the copy counts
+-- there are at least eight places, and each has a present body, a frozen copy, and a mark that says whether the copy
+-- counts
 pub record AreStored (most : ℕ) (ps ks : List (Content Cap)) (ms : List Bool) : Type 0 where
+  pub least : 8 ≤ most
   pub presents : length ps ≡ most
   pub kepts : length ks ≡ most
   pub marks : length ms ≡ most
 
--- the order has each number with an entry once, and no more than there may be
+-- the order has each number with an entry once, and no more than there may be, which are at least eight
 pub record AreOrdered (s : EntriesState) : Type 0 where
   pub listed : (n : ℕ) → is_member s.order n ≡ is_some (entry_at s.at n)
   pub once : AllDiffer s.order
   pub few : length s.order ≤ s.most
+  pub least : 8 ≤ s.most
 
 -- the entry of a number is another one
 abbrev pub with_entry_of : (Entry → Entry) → ℕ → EntriesState → EntriesState

@@ -9,9 +9,8 @@ ghost use Rattle.cache_entries.specs.Bodies.{kind_of, slots_are_of, with_slots_o
 ghost use Rattle.cache_entries.specs.Bodies.{kind_with_root, slots_from, words_are_of};
 
 use capability::{Fresh, RootChange};
-use contents::{Page, SLOTS};
-use model::{Cap, ContentRef, Root, State};
-use sparse_vec::SparseVec;
+use collections::SparseVec;
+use model::{Cap, ContentRef, Page, Root, SLOTS, State};
 use std::alloc::{AllocError, Global};
 use std::marker::Model;
 

@@ -8,5 +8,5 @@ mod number_hasher;
 mod places;
 mod use_order;
 
-pub use capacity::Capacity;
+pub use capacity::{Capacity, GREATEST_CAPACITY, LEAST_CAPACITY};
 pub use entries::Entries;

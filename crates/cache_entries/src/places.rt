@@ -4,7 +4,7 @@ ghost use Rattle.std.specs.Prelude.{replicate, slice_set, IfOk, IsSome};
 ghost use Rattle.std.specs.Map.{keys_of};
 ghost use Rattle.std.specs.NonZero.{non_zero_usize_get};
 ghost use Rattle.model.specs.Revoke.{is_member};
-ghost use Rattle.cache_entries.specs.Order.{AllDiffer, AreReordered, AreSpread, place_at, used_last};
+ghost use Rattle.cache_entries.specs.Order.{AreSpread, IsFilled, place_at, used_last};
 ghost use Rattle.cache_entries.specs.Order.{used_longest_ago, without};
 
 use crate::number_hasher::NumberHasher;
@@ -44,10 +44,7 @@ impl Model for Places {
 
 // All places below `most`, in some order. Fails only if memory runs out.
 fn all_places(alloc: Global, most: NonZeroUsize) -> Result<UseList, AllocError>
-    ensures all { IfOk result (λ order. length (keys_of order.entries) ≡ non_zero_usize_get most) }
-    ensures once { IfOk result (λ order. AllDiffer (keys_of order.entries)) }
-    ensures known { IfOk result (λ order. (p : ℕ) → is_member (keys_of order.entries) p ≡ true
-        → p < non_zero_usize_get most) }
+    ensures { IfOk result (λ order. IsFilled (keys_of order.entries) (non_zero_usize_get most)) }
 {
     let mut order = LruCache::with_hasher(alloc, most, BuildHasherDefault::new())?;
     for place in 0..most.get() {
@@ -61,7 +58,7 @@ fn all_places(alloc: Global, most: NonZeroUsize) -> Result<UseList, AllocError>
 
 // Puts all places below `most` back into their first order: place 0 is the one used longest ago.
 fn restore_order(order: &mut UseList, most: usize)
-    ensures { AreReordered (keys_of order.old.entries) (keys_of order.new.entries) }
+    ensures { (count : ℕ) → IsFilled (keys_of order.old.entries) count → IsFilled (keys_of order.new.entries) count }
 {
     for place in 0..most {
         order.promote(&place);

@@ -4,7 +4,7 @@ ghost use Rattle.std.specs.Prelude.{is_some, nat_le, replicate, slice_get, slice
 ghost use Rattle.std.specs.Prelude.{IsSome};
 ghost use Rattle.std.specs.NonZero.{non_zero_usize_get};
 ghost use Rattle.model.specs.Revoke.{is_member};
-ghost use Rattle.cache_entries.specs.Order.{AllDiffer, AreLatest, AreSpread, Uses, place_at, used_in_turn, used_last};
+ghost use Rattle.cache_entries.specs.Order.{AllDiffer, AreLatest, AreSpread, Uses, place_at, used_all, used_last};
 ghost use Rattle.cache_entries.specs.Order.{used_longest_ago, without};
 
 use crate::places::Places;
@@ -28,15 +28,11 @@ pub(crate) struct UseOrder {
 
 impl Model for UseOrder {
     ghost use Rattle.std.specs.Prelude.{◌≤◌, length, vec_capacity};
-    ghost use Rattle.cache_entries.specs.Order.{AreLatest, OrderState, used_in_turn};
+    ghost use Rattle.cache_entries.specs.Order.{AreLatest, OrderState, used_all};
 
     ghost Value = { OrderState };
 
-    ghost view = { λ o. record {
-      numbers = used_in_turn o.latest.items o.order.numbers;
-      places = o.order.places;
-      most = o.order.most;
-    } };
+    ghost view = { λ o. used_all o.latest.items o.order };
 
     ghost invariant = { λ o. AreLatest o.latest.items o.order.numbers
         × (length o.latest.items ≤ 8)
@@ -56,63 +52,22 @@ fn place_of(numbers: &[u64], number: u64) -> Option<usize>
     None
 }
 
-// Whether a list ends with another.
-fn ends_with(numbers: &[u64], end: &[u64]) -> bool
-    ensures { result ≡ true → (front : List ℕ) × (numbers.now ≡ front ++ end.now) }
-{
-    if end.len() > numbers.len() {
-        return false;
-    }
-    let start = numbers.len() - end.len();
-    for i in 0..end.len() {
-        if numbers[start + i] != end[i] {
-            return false;
-        }
-    }
-    true
-}
-
 // Moves the number at index `place` to the end, and those behind it one index forward.
-fn shift_to_end(numbers: &mut [u64], place: usize, number: u64)
-    requires there { slice_get numbers.old place ≡ Some number }
-    requires once { AllDiffer numbers.old }
-    ensures { numbers.new ≡ without number numbers.old ++ number ∷ [] }
-{
-    let last = numbers.len() - 1;
-    for i in place..last {
-        numbers[i] = numbers[i + 1];
-    }
-    numbers[last] = number;
-}
-
-// The same in a `Vec`.
 fn move_to_end(numbers: &mut Vec<u64>, place: usize, number: u64)
     requires there { slice_get numbers.old.items place ≡ Some number }
     requires once { AllDiffer numbers.old.items }
     ensures moved { numbers.new.items ≡ without number numbers.old.items ++ number ∷ [] }
-    ensures capacity { vec_capacity numbers.old ≤ vec_capacity numbers.new }
+    ensures capacity { vec_capacity numbers.new ≡ vec_capacity numbers.old }
 {
-    shift_to_end(numbers, place, number);
-}
-
-// Puts a number at the end. The capacity has space for it.
-fn put_at_end(numbers: &mut Vec<u64>, number: u64)
-    requires { length numbers.old.items < vec_capacity numbers.old }
-    ensures more { numbers.new.items ≡ numbers.old.items ++ number ∷ [] }
-    ensures capacity { vec_capacity numbers.old ≤ vec_capacity numbers.new }
-{
-    match numbers.push(number) {
-        Ok(()) => {}
-        Err(_) => unreachable!(),
-    }
+    numbers.remove(place);
+    numbers.push_reserved(number);
 }
 
 // Moves the first of the latest numbers to the end of the order.
 fn settle_first(order: &mut Places, latest: &mut Vec<u64>)
     requires some { 0 < length latest.old.items }
     requires latest { AreLatest latest.old.items order.old.numbers }
-    ensures same { used_in_turn latest.new.items order.new.numbers
-        ≡ used_in_turn latest.old.items order.old.numbers }
+    ensures same { used_all latest.new.items order.new ≡ used_all latest.old.items order.old }
     ensures latest { AreLatest latest.new.items order.new.numbers }
     ensures others { (n : ℕ) → is_member latest.old.items n ≡ false
         → is_member latest.new.items n ≡ false }
@@ -120,8 +75,6 @@ fn settle_first(order: &mut Places, latest: &mut Vec<u64>)
         ≡ is_member order.old.numbers n }
     ensures fewer { length latest.new.items + 1 ≡ length latest.old.items }
     ensures capacity { vec_capacity latest.old ≤ vec_capacity latest.new }
-    ensures places { order.new.places ≡ order.old.places }
-    ensures most { order.new.most ≡ order.old.most }
 {
     let first = latest.remove(0);
     order.promote(first);
@@ -131,12 +84,9 @@ fn settle_first(order: &mut Places, latest: &mut Vec<u64>)
 #[inline(never)]
 fn settle(order: &mut Places, latest: &mut Vec<u64>)
     requires { AreLatest latest.old.items order.old.numbers }
-    ensures order { order.new.numbers
-        ≡ used_in_turn latest.old.items order.old.numbers }
+    ensures order { order.new ≡ used_all latest.old.items order.old }
     ensures latest { latest.new.items ≡ [] }
     ensures capacity { vec_capacity latest.old ≤ vec_capacity latest.new }
-    ensures places { order.new.places ≡ order.old.places }
-    ensures most { order.new.most ≡ order.old.most }
 {
     for _ in 0..latest.len() {
         settle_first(order, latest);
@@ -147,8 +97,7 @@ fn settle(order: &mut Places, latest: &mut Vec<u64>)
 fn spare_place(order: &mut Places, latest: &mut Vec<u64>)
     requires latest { AreLatest latest.old.items order.old.numbers }
     requires few { length latest.old.items ≤ 8 }
-    ensures same { used_in_turn latest.new.items order.new.numbers
-        ≡ used_in_turn latest.old.items order.old.numbers }
+    ensures same { used_all latest.new.items order.new ≡ used_all latest.old.items order.old }
     ensures latest { AreLatest latest.new.items order.new.numbers }
     ensures others { (n : ℕ) → is_member latest.old.items n ≡ false
         → is_member latest.new.items n ≡ false }
@@ -156,8 +105,6 @@ fn spare_place(order: &mut Places, latest: &mut Vec<u64>)
         ≡ is_member order.old.numbers n }
     ensures room { length latest.new.items < 8 }
     ensures capacity { vec_capacity latest.old ≤ vec_capacity latest.new }
-    ensures places { order.new.places ≡ order.old.places }
-    ensures most { order.new.most ≡ order.old.most }
 {
     if latest.len() == MOST_LATEST {
         settle_first(order, latest);
@@ -259,7 +206,7 @@ impl UseOrder {
     pub(crate) fn use_again(&mut self, numbers: &[u64]) -> bool
         ensures { Uses self.old self.new numbers.now result }
     {
-        if ends_with(&self.latest, numbers) {
+        if self.latest.ends_with(numbers) {
             return true;
         }
         for number in numbers {
@@ -280,7 +227,7 @@ impl UseOrder {
             Some(place) => move_to_end(&mut self.latest, place, number),
             None => {
                 spare_place(&mut self.order, &mut self.latest);
-                put_at_end(&mut self.latest, number);
+                self.latest.push_reserved(number);
             }
         }
     }

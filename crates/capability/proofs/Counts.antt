@@ -1,17 +1,17 @@
--- What frames stand for once counts have risen: the capabilities that they were compared with are void.
+-- What frames stand for once counts have risen: the capabilities that they were compared with are void. Frames stay sound then.
 use Rattle.capability.proofs.Names.{ℕ, inl, inr, nat_lt, Bool, true, false, List, [], map, length, slice_index_or, slice_set, refl, sym, ap, subst, arith}
 use Rattle.capability.proofs.Names.{zero-add, All, enumerate_from, cases_eq, eq-eqb, ne_eqb, nat_tests, get_or-set_other, get_or-set_same, length-map}
 use Rattle.capability.proofs.Names.{length-set, get_or-enumerate_from, length-enumerate_from, Cap, Capability, Void, Number, Page, Node, Space, Process, Start}
 use Rattle.capability.proofs.Names.{Resume, Bank, Discrim, ObjectHeader, Geometry, Content, Object, blank_header, called, conveyed, current_count, frames_in}
 use Rattle.capability.proofs.Names.{given_up, header_at, held_at, objects_of, AreCurrent, AreKeepable, IsCurrent, IsKeepable, caps_in, free, map_content}
 use Rattle.capability.proofs.Names.{consume, is_member, names_member, rescind, resumes, void_where, without, object_at, AreGivenUp, Parts, frames_of}
-use Rattle.capability.proofs.Names.{with_header, objects_in}
+use Rattle.capability.proofs.Names.{with_header, objects_in, IsSound, ConsumeKeepsSoundFrames, RescindKeepsSoundFrames}
 use Rattle.std.proofs.Common.{◌≡◌, ◌+◌, ◌^◌, ◌<◌, ◌≤◌, ◌==◌, if◌then◌else◌, ◌∷◌, ◌∙◌}
 use Rattle.std.proofs.lemmas.List.{get_or-map}
 use Rattle.model.specs.declared.object.Content.TheVariants as content
 use Rattle.capability.proofs.Edits.{content_agree, current_from, current_held, field_same}
 use Rattle.capability.proofs.FrameLists.{length_objects, object_in, objects_by}
-use Rattle.capability.proofs.Keeping.{frame_later, keepable_at, keepable_count, keepable_from}
+use Rattle.capability.proofs.Keeping.{frame_later, keepable_at, keepable_count, keepable_from, call_stays_keepable}
 
 -- one more where it is raised
 abbrev raised : Bool → ℕ → ℕ
@@ -191,20 +191,13 @@ module _ (r : ℕ) (p q : Parts) (known : r < length p.headers) (is : q ≡ with
   called_raises (Bank o) = called_allocations o
   called_raises Discrim = refl
 
-  consumed_at : (os : List Object) (n : ℕ) → n < length os → object_at (consume r os) n ≡ without (resumes r) (object_at os n)
-  unfolding consume
-  consumed_at os n inside = get_or-map (without (resumes r)) os n free free inside
-
-  length_consumed : (os : List Object) → length (consume r os) ≡ length os
-  unfolding consume
-  length_consumed os = length-map os (without (resumes r))
-
   consumed_objects : AreCurrent (frames_of p) → objects_of (frames_in next p.contents) ≡ consume r (objects_in p)
+  unfolding consume
   consumed_objects current =
       let os = objects_in p in
       let count : length os ≡ length p.headers = length_objects p.headers p.contents in
       let same : length next ≡ length p.headers = length-set p.headers r (called (header_at p.headers r)) in
-      objects_by next p.contents (consume r os) (length_consumed os ∙ count ∙ sym same)
+      objects_by next p.contents (consume r os) (length-map os (without (resumes r)) ∙ count ∙ sym same)
       (λ n within.
       let old : n < length p.headers = omega (arith, same) in
       let inside : n < length os = omega (arith, count) in
@@ -212,7 +205,7 @@ module _ (r : ℕ) (p q : Parts) (known : r < length p.headers) (is : q ≡ with
       (field_same (λ (k : ObjectHeader). k.owner) p.headers r (called (header_at p.headers r)) refl n)
       ∙ ap (λ (e : Content Capability). let o : Object = record { owner = (header_at p.headers n).owner; content = e } in o)
       (conveyed_without (resumes r) p.headers next called_raises (held_at p.contents n) (current_held p current n old))
-      ∙ sym (consumed_at os n inside ∙ ap (without (resumes r)) (object_in p.headers p.contents n old)))
+      ∙ sym (get_or-map (without (resumes r)) os n free free inside ∙ ap (without (resumes r)) (object_in p.headers p.contents n old)))
 
   -- raising a call count is consuming the capabilities that resume the process
   pub objects_called : AreCurrent (frames_of p) → objects_in q ≡ consume r (objects_in p)
@@ -224,3 +217,17 @@ module _ (r : ℕ) (p q : Parts) (known : r < length p.headers) (is : q ≡ with
       (current_from (with_header p r (called (header_at p.headers r))) (λ n within.
       let old : n < length p.headers = omega (arith, length-set p.headers r (called (header_at p.headers r))) in
       all_current (resumes r) p.headers next called_raises (caps_in (held_at p.contents n)) (current_held p current n old)))
+
+pub rescind_keeps_sound_frames : RescindKeepsSoundFrames
+rescind_keeps_sound_frames g age set old new frames given world = record {
+  keepable = keepable_given_up set old new given g age (omega (arith, world.age)) frames.keepable;
+  current = current_given_up set old new given frames.current;
+  sound = subst (λ (os : List Object). IsSound g (record { objects = os; age = age + 1 })) (sym (objects_given_up set old new given frames.current)) world;
+}
+
+pub consume_keeps_sound_frames : ConsumeKeepsSoundFrames
+consume_keeps_sound_frames g age p old new frames known is world = record {
+  keepable = call_stays_keepable g age old new p known (omega (arith, world.age)) is frames.keepable;
+  current = current_called p old new known is frames.current;
+  sound = subst (λ (os : List Object). IsSound g (record { objects = os; age = age + 1 })) (sym (objects_called p old new known is frames.current)) world;
+}

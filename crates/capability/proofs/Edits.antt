@@ -1,14 +1,18 @@
--- What frames stand for once the header or the content at one number is another.
+-- What frames stand for once the header or the content at one number is another, or the root of a process. What an edit of present frames leaves.
 use Rattle.capability.proofs.Names.{rules, ℕ, suc, inl, inr, nat_lt, List, [], map, length, slice_index_or, slice_set, refl, sym, ap, subst, arith, All}
 use Rattle.capability.proofs.Names.{get_or-map, map-set_same, cases_lt, nat_tests, length-set, map-set, set-get_or, All-replicate, All-set, Cap, Capability}
-use Rattle.capability.proofs.Names.{Void, Number, Page, Node, Space, Process, Start, Resume, Bank, Discrim, Frame, ObjectHeader, Content, Object, blank_header}
-use Rattle.capability.proofs.Names.{conveyed, current_count, frames_in, header_at, headers, held_at, object_of, objects_of, void_held, owned_by, claimed}
-use Rattle.capability.proofs.Names.{AreCurrent, IsCurrent, caps_in, all_slots, map_content, role_of, with_slot_in, with_word_in, content_at, with_content}
-use Rattle.capability.proofs.Names.{Fresh, Parts, frames_of, fresh_content, with_both, with_header, with_held, objects_in}
-use Rattle.std.proofs.Common.{◌≡◌, ◌<◌, if◌then◌else◌, ◌∷◌, ◌∙◌}
+use Rattle.capability.proofs.Names.{Void, Page, Node, Space, Process, Start, Resume, Bank, Frame, ObjectHeader, Content, Object, blank_header, conveyed}
+use Rattle.capability.proofs.Names.{current_count, frames_in, header_at, headers, held_at, object_of, objects_of, void_held, owned_by, claimed, AreCurrent}
+use Rattle.capability.proofs.Names.{IsCurrent, caps_in, all_slots, map_content, role_of, with_slot_in, with_word_in, content_at, with_content, Fresh, Parts}
+use Rattle.capability.proofs.Names.{frames_of, fresh_content, with_both, with_header, with_held, objects_in, true, Geometry, Root, State, AreKeptWords}
+use Rattle.capability.proofs.Names.{IsKeepable, IsKeptCap, MayBeKept, with_space, IsSpace, is_root, root_in, root_at, with_root, with_state, live_cap}
+use Rattle.capability.proofs.Names.{with_root_in, IsTrue, AreKeepable, is_annex, is_process, with_slot, with_word, Becomes, Edits, with_slots_in}
+use Rattle.capability.proofs.Names.{with_slots_from, set-set, get_or-set_same}
+use Rattle.std.proofs.Common.{◌≡◌, ◌<◌, if◌then◌else◌, ◌∷◌, ◌∙◌, ◌^◌, ◌+◌}
 use Rattle.model.specs.declared.object.Content.TheVariants as content
 use Rattle.capability.specs.declared.present.Fresh.TheVariants as fresh
 use Rattle.capability.proofs.FrameLists.{at_set, content_there, frame_in, frame_past, headers_in, owner_in, set_in}
+use Rattle.capability.proofs.Keeping.{refilled, keepable_at, one_keepable, with_slot_keeps, with_word_keeps}
 
 -- functions that agree on what a content holds make the same of it
 pub map_agree : {A B : Type 0} (f g : A → B) (xs : List A) → All (λ x. f x ≡ g x) xs → map f xs ≡ map g xs
@@ -41,16 +45,13 @@ module _ (hs : List ObjectHeader) (n : ℕ) (h : ObjectHeader) (same : HasCounts
   allocations_same : (m : ℕ) → (header_at (slice_set hs n h) m).allocations ≡ (header_at hs m).allocations
   allocations_same = field_same (λ (k : ObjectHeader). k.allocations) hs n h same.0
 
-  calls_same : (m : ℕ) → (header_at (slice_set hs n h) m).calls ≡ (header_at hs m).calls
-  calls_same = field_same (λ (k : ObjectHeader). k.calls) hs n h same.1
-
   pub current_same : (w : Capability) → current_count (slice_set hs n h) w ≡ current_count hs w
   current_same (Page o a) = allocations_same o
   current_same (Node o a) = allocations_same o
   current_same (Space o l a) = allocations_same o
   current_same (Process q) = allocations_same q
   current_same (Start q key) = allocations_same q
-  current_same (Resume q) = calls_same q
+  current_same (Resume q) = field_same (λ (k : ObjectHeader). k.calls) hs n h same.1 q
   current_same (Bank b) = allocations_same b
   current_same other = refl
 
@@ -201,3 +202,161 @@ module _ (p q : Parts) (n : ℕ) (inside : n < length p.contents) (f : Fresh) (o
       let h = claimed (role_of (fresh_content void_held f)) owner (header_at p.headers n) in
       subst (λ (r : Parts). AreCurrent (frames_of r)) (sym is)
       (current_set p n h (fresh_content void_held f) inside (refl, refl) (fresh_current p.headers f) current)
+
+-- a change that goes through the map of capabilities
+abbrev pub GoesThrough : (Root Cap → Root Cap) → (Root Capability → Root Capability) → (Cap → Capability) → Type 0
+GoesThrough change after f = (r : Root Cap) → map_content f (content.Root (change r)) ≡ content.Root (after (root_in (map_content f (content.Root r))))
+
+pub through_map : (change : Root Cap → Root Cap) (after : Root Capability → Root Capability) (f : Cap → Capability) → GoesThrough change after f →
+    (c : Content Cap) →
+    is_root (map_content f c) ≡ true → map_content f (with_root_in change c) ≡ content.Root (after (root_in (map_content f c)))
+through_map change after f through (content.Root r) is = through r
+through_map change after f through other is = cc
+
+pub root_current : (hs : List ObjectHeader) (change : Root Cap → Root Cap) → ((r : Root Cap) → IsCurrent hs r.space → IsCurrent hs (change r).space) →
+    (c : Content Cap) →
+    All (IsCurrent hs) (caps_in c) → All (IsCurrent hs) (caps_in (with_root_in change c))
+root_current hs change stays (content.Root r) all = one (IsCurrent hs) (change r).space (stays r (all 0 r.space (omega arith)))
+  where
+    one : (P : Cap → Type 0) (c : Cap) → P c → All P (c ∷ [])
+    one P c is = λ k d inside. let first : k ≡ 0 = omega arith in rw first is
+root_current hs change stays other all = all
+
+pub root_keeps : (g : Geometry) (age n : ℕ) (h : ObjectHeader) (change : Root Cap → Root Cap) →
+    ((r : Root Cap) → MayBeKept g age (content.Root r) → MayBeKept g age (content.Root (change r))) → (c : Content Cap) →
+    IsKeepable g age n (record { header = h; content = c }) → IsKeepable g age n (record { header = h; content = with_root_in change c })
+root_keeps g age n h change stays (content.Root r) k =
+    refilled g age n h (content.Root r) (content.Root (change r)) refl k.kind (stays r k.kept.content) k
+root_keeps g age n h change stays other k = k
+
+-- another word, state or address space
+pub word_kept : (i word : ℕ) (ws : List ℕ) → word < 2 ^ 64 → AreKeptWords 4 ws → AreKeptWords 4 (slice_set ws i word)
+word_kept i word ws fits k = record { count_is = length-set ws i word ∙ k.count_is; each = All-set (λ w. w < 2 ^ 64) ws i word fits k.each }
+
+pub state_is : (os : List Object) (p : ℕ) (s : State) → with_state os p s ≡ with_root os p (record (root_at os p) { state = s })
+unfolding with_state
+state_is os p s = refl
+
+pub space_through : (hs : List ObjectHeader) (w : Capability) (held : Cap) → held ≡ live_cap hs w →
+    GoesThrough (λ (r : Root Cap). record r { space = held }) (λ (r : Root Capability). with_space r w) (conveyed hs)
+space_through hs w held is r =
+    ap (λ (s : Capability). content.Root (record (root_in (map_content (conveyed hs) (content.Root r))) { space = s }))
+    (ap (conveyed hs) is ∙ live hs w)
+
+pub space_kept : (g : Geometry) (age : ℕ) (hs : List ObjectHeader) (w : Capability) (held : Cap) → held ≡ live_cap hs w →
+    IsKeptCap g age (live_cap hs w) → IsSpace w → (r : Root Cap) →
+    MayBeKept g age (content.Root r) → MayBeKept g age (content.Root (record r { space = held }))
+space_kept g age hs w held is kept space r k =
+    (k.0, k.1, k.2, subst (IsKeptCap g age) (sym is) kept, subst (λ (c : Cap). IsSpace c.what) (sym is) space)
+
+-- the objects after an edit, and when the frames can be kept
+pub record IsEdit (p q : Parts) (after : List Object) (may : ℕ → Type 0) : Type 0 where
+  pub objects : objects_in q ≡ after
+  pub current : AreCurrent (frames_of p) → AreCurrent (frames_of q)
+  pub keepable : (age : ℕ) → may age → AreKeepable p.geometry age (frames_of p) → AreKeepable p.geometry age (frames_of q)
+
+-- The object at a number holds something else. The new parts are q.
+module _ (p q : Parts) (n : ℕ) (known : n < length p.headers) (inside : n < length p.contents) where
+  abbrev held : Content Cap
+  held = held_at p.contents n
+
+  abbrev kept : Content Cap → ℕ → Type 0
+  kept c age = IsKeepable p.geometry age n (record { header = header_at p.headers n; content = c })
+
+  there : content_at (objects_in p) n ≡ map_content (conveyed p.headers) held
+  there = content_there p n known held refl
+
+  content_edit : (new : Content Cap) (conveys : Content Capability) (may : ℕ → Type 0) → map_content (conveyed p.headers) new ≡ conveys →
+      (All (IsCurrent p.headers) (caps_in held) → All (IsCurrent p.headers) (caps_in new)) → ((age : ℕ) → may age → kept held age → kept new age) →
+      q ≡ with_held p n new → IsEdit p q (with_content (objects_in p) n conveys) may
+  content_edit new conveys may through current keeps is = record {
+    objects = ap (λ (r : Parts). objects_in r) is ∙ held_objects p n new known inside ∙ ap (with_content (objects_in p) n) through;
+    current = λ k. subst (λ (r : Parts). AreCurrent (frames_of r)) (sym is) (held_current p n new known inside (current (current_held p k n known)) k);
+    keepable = λ age allowed k.
+        one_keepable p.geometry age age (omega arith) p q n (header_at p.headers n) new inside (is ∙ header_kept p n new)
+        (keeps age allowed (keepable_at p.geometry age p n known k)) k;
+  }
+
+  pub word_edit : (i word : ℕ) → word < 2 ^ 64 → q ≡ with_held p n (with_word_in held i word) → IsEdit p q (with_word (objects_in p) n i word) (λ age. Unit {0})
+  unfolding with_word
+  word_edit i word fits =
+      content_edit (with_word_in held i word) (with_word_in (content_at (objects_in p) n) i word) (λ age. Unit {0})
+      (word_through_map (conveyed p.headers) held i word ∙ ap (λ (d : Content Capability). with_word_in d i word) (sym there))
+      (word_current p.headers held i word) (λ age may. with_word_keeps p.geometry age n (header_at p.headers n) held i word fits)
+
+  pub slot_edit : (i : ℕ) (w : Capability) → q ≡ with_held p n (with_slot_in held i (live_cap p.headers w)) →
+      IsEdit p q (with_slot (objects_in p) n i w) (λ age. IsKeptCap p.geometry age (live_cap p.headers w) × (IsTrue (is_annex held) → i ≡ 0 → w ≡ Void))
+  unfolding with_slot
+  slot_edit i w =
+      let f = conveyed p.headers in
+      content_edit (with_slot_in held i (live_cap p.headers w)) (with_slot_in (content_at (objects_in p) n) i w) _
+      (slot_through_map f held i (live_cap p.headers w) ∙ ap (with_slot_in (map_content f held) i) (live p.headers w) ∙
+      ap (λ (d : Content Capability). with_slot_in d i w) (sym there))
+      (slot_current p.headers held i (live_cap p.headers w) (omega arith))
+      (λ age may. with_slot_keeps p.geometry age n (header_at p.headers n) held i (live_cap p.headers w) may.0
+      (λ annex zeroth. ap (live_cap p.headers) (may.1 annex zeroth)))
+
+  pub root_edit : (change : Root Cap → Root Cap) (after : Root Capability → Root Capability) (may : ℕ → Type 0) →
+      GoesThrough change after (conveyed p.headers) →
+      ((r : Root Cap) → IsCurrent p.headers r.space → IsCurrent p.headers (change r).space) →
+      ((age : ℕ) → may age → (r : Root Cap) → MayBeKept p.geometry age (content.Root r) → MayBeKept p.geometry age (content.Root (change r))) →
+      is_process (objects_in p) n ≡ true → q ≡ with_held p n (with_root_in change held) →
+      IsEdit p q (with_root (objects_in p) n (after (root_at (objects_in p) n))) may
+  unfolding with_root
+  root_edit change after may through current stays process =
+      content_edit (with_root_in change held) (content.Root (after (root_at (objects_in p) n))) may
+      (through_map change after (conveyed p.headers) through held (sym (ap is_root there) ∙ process) ∙
+      ap (λ (d : Content Capability). content.Root (after (root_in d))) (sym there))
+      (root_current p.headers change current held) (λ age allowed. root_keeps p.geometry age n (header_at p.headers n) change (stays age allowed) held)
+
+-- capabilities in the slots from i on, behind the first
+pub slots_edit : (p q : Parts) (n : ℕ) → n < length p.headers → n < length p.contents → (i : ℕ) → 0 < i → (cs : List Capability) →
+    q ≡ with_held p n (with_slots_in (held_at p.contents n) i (map (live_cap p.headers) cs)) →
+    IsEdit p q (with_slots_from (objects_in p) n i cs) (λ age. All (λ c. IsKeptCap p.geometry age (live_cap p.headers c)) cs)
+slots_edit p q n known inside i behind [] is =
+    let same : q ≡ p = is ∙ ap (λ (held : List (Content Cap)). let r : Parts = record p { contents = held } in r) (set-get_or p.contents n content.Free) in
+    record {
+      objects = ap (λ (r : Parts). objects_in r) same;
+      current = subst (λ (r : Parts). AreCurrent (frames_of r)) (sym same);
+      keepable = λ age may. subst (λ (r : Parts). AreKeepable p.geometry age (frames_of r)) (sym same);
+    }
+slots_edit p q n known inside i behind (c ∷ cs) is =
+    let first : Content Cap = with_slot_in (held_at p.contents n) i (live_cap p.headers c) in
+    let mid : Parts = with_held p n first in
+    let step = slot_edit p mid n known inside i c refl in
+    let last : Content Cap → Parts = λ d. with_held mid n (with_slots_in d (i + 1) (map (live_cap p.headers) cs)) in
+    let again : with_held p n (with_slots_in first (i + 1) (map (live_cap p.headers) cs)) ≡ last first =
+    ap (λ (held : List (Content Cap)). let r : Parts = record p { contents = held } in r)
+    (sym (set-set p.contents n first (with_slots_in first (i + 1) (map (live_cap p.headers) cs)))) in
+    let rest = slots_edit mid q n known (omega (arith, length-set p.contents n first)) (i + 1) (omega arith) cs
+    (is ∙ again ∙ ap last (sym (get_or-set_same p.contents n first content.Free inside))) in
+    record {
+      objects = rest.objects ∙ ap (λ (os : List Object). with_slots_from os n (i + 1) cs) step.objects;
+      current = λ current. rest.current (step.current current);
+      keepable = λ age may keepable.
+          rest.keepable age (λ k d within. may (suc k) d (omega arith))
+          (step.keepable age (may 0 Void (omega arith), λ annex zeroth. absurd (omega arith)) keepable);
+    }
+
+-- an edit of what an object holds
+pub edited : {S : Type 0} (parts : S → Parts) (Fetched Announced : S → ℕ → Type 0) (Continues : S → S → Type 0) (old new : S) (n : ℕ) (c : Content Cap)
+    (after : List Object) (may : ℕ → Type 0) → Becomes parts Fetched Announced Continues old new (with_held (parts old) n c) →
+    IsEdit (parts old) (parts new) after may → Edits parts Fetched Announced Continues old new after may
+edited parts Fetched Announced Continues old new n c after may becomes edit =
+    let is = becomes.parts_are in
+    record {
+      objects = edit.objects;
+      headers = ap (λ (p : Parts). p.headers) is;
+      current = edit.current;
+      keepable = edit.keepable;
+      snapshots = record {
+        count = ap (λ (p : Parts). length p.headers) is;
+        allocations = λ m. ap (λ (p : Parts). (header_at p.headers m).allocations) is;
+        touched = ap (λ (p : Parts). p.touched) is;
+        geometry = ap (λ (p : Parts). p.geometry) is;
+        failures = ap (λ (p : Parts). p.failures) is;
+        fetched = becomes.fetched;
+        announced = becomes.announced;
+        continues = becomes.continues;
+      };
+    }

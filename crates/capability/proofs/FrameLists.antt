@@ -1,10 +1,10 @@
 -- Frames are headers with contents beside them: what stands at a number.
-use Rattle.capability.proofs.Names.{ℕ, zero, suc, inl, inr, true, false, List, [], map, length, slice_get, slice_index, slice_index_or, slice_set, Some, refl}
-use Rattle.capability.proofs.Names.{sym, ap, subst, arith, ⊎_elim, IsTrue, get_or-map, cases_eq, cases_lt, ext_get_or, get_or_past, get_or-set_same}
-use Rattle.capability.proofs.Names.{get_or-set_other, set_past, length-map, get_or_from_slice_get, slice_get-map, option_map, Cap, Capability, Void, Frame}
-use Rattle.capability.proofs.Names.{ObjectHeader, Content, Object, Root, blank_frame, blank_header, conveyed, frame_at, frames_in, header_at, headers, held_at}
-use Rattle.capability.proofs.Names.{object_of, objects_of, free, is_annex, is_bank, is_free, is_node, is_page, is_root, map_content, root_in, slots_in}
-use Rattle.capability.proofs.Names.{words_in, content_at, is_process, object_at, owner_at, slot_at, word_at, Parts, objects_in}
+use Rattle.capability.proofs.Names.{ℕ, zero, suc, inl, inr, true, false, List, [], map, length, slice_index, slice_index_or, slice_set, refl, sym, ap, subst}
+use Rattle.capability.proofs.Names.{arith, ⊎_elim, IsTrue, get_or-map, cases_eq, cases_lt, ext_get_or, get_or_past, get_or-set_same, get_or-set_other, set_past}
+use Rattle.capability.proofs.Names.{length-map, Cap, Capability, Void, Frame, ObjectHeader, Content, Object, Root, blank_frame, blank_header, conveyed}
+use Rattle.capability.proofs.Names.{frame_at, frames_in, header_at, headers, held_at, object_of, objects_of, free, is_annex, is_bank, is_free, is_node, is_page}
+use Rattle.capability.proofs.Names.{is_root, map_content, root_in, slots_in, words_in, content_at, is_process, object_at, owner_at, slot_at, word_at, Parts}
+use Rattle.capability.proofs.Names.{objects_in}
 use Rattle.std.proofs.Common.{◌≡◌, ◌<◌, ◌≤◌, ◌∷◌, ◌∙◌}
 use Rattle.model.specs.declared.object.Content.TheVariants as content
 use Rattle.std.proofs.lemmas.List.{get_or-map as read_through}

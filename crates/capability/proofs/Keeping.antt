@@ -1,10 +1,10 @@
 -- Frames that can be kept stay so through each change.
 use Rattle.capability.proofs.Names.{rules, ℕ, inl, inr, List, length, slice_index_or, slice_set, refl, sym, ap, subst, arith, IsTrue, cases_lt, get_or_past}
-use Rattle.capability.proofs.Names.{length-set, All-replicate, All-set, All-weaker, Cap, Capability, Void, Number, Page, Node, Space, Process, Start, Resume}
-use Rattle.capability.proofs.Names.{Bank, Discrim, Frame, ObjectHeader, Geometry, Content, blank_frame, blank_header, called, claimed, frame_at, header_at}
-use Rattle.capability.proofs.Names.{held_at, owned_by, void_held, AreKeepable, AreKeptSlots, AreKeptWords, Follows, IsCount, IsKeepable, IsKeptCap, MayBeKept}
-use Rattle.capability.proofs.Names.{all_slots, is_annex, role_of, with_slot_in, with_word_in, zero_words, IsOfKind, object_count, Fresh, FreshFits}
-use Rattle.capability.proofs.Names.{HaveTheirRoles, IsFreshAt, Parts, frames_of, fresh_content, with_both, with_header}
+use Rattle.capability.proofs.Names.{length-set, All-replicate, All-set, All-weaker, Cap, Capability, Page, Node, Space, Process, Start, Resume, Bank, Frame}
+use Rattle.capability.proofs.Names.{ObjectHeader, Geometry, Content, blank_frame, blank_header, called, claimed, frame_at, header_at, held_at, owned_by}
+use Rattle.capability.proofs.Names.{void_held, AreKeepable, AreKeptSlots, AreKeptWords, Follows, IsCount, IsKeepable, IsKeptCap, MayBeKept, all_slots, is_annex}
+use Rattle.capability.proofs.Names.{role_of, with_slot_in, with_word_in, zero_words, IsOfKind, object_count, Fresh, FreshFits, HaveTheirRoles, IsFreshAt, Parts}
+use Rattle.capability.proofs.Names.{frames_of, fresh_content, with_both, with_header}
 use Rattle.std.proofs.Common.{◌≡◌, ◌+◌, ◌^◌, ◌<◌, ◌≤◌, ◌∙◌}
 use Rattle.model.specs.declared.object.Content.TheVariants as content
 use Rattle.model.specs.declared.object.Role.TheVariants as role

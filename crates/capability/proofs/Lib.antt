@@ -7,8 +7,5 @@ pub mod Mapped
 pub mod References
 pub mod Roles
 mod Counts
-mod Edited
 mod Edits
-mod RootEdits
-mod SoundFrames
 pub mod Untouched

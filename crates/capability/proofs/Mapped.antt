@@ -14,11 +14,7 @@ pub record IsMapped {B C : Type 0} (f : B → C) (c : Content B) (d : Content C)
 
 pub mapped : {B C : Type 0} (f : B → C) (c : Content B) → IsMapped f c (map_content f c)
 mapped f content.Free = record { role = refl; root = refl; annex = refl; bank = refl; words = refl; limit = refl; slots = refl }
-mapped f (content.Page words) = record { role = refl; root = refl; annex = refl; bank = refl; words = refl; limit = refl; slots = refl }
-mapped f (content.Node slots) = record { role = refl; root = refl; annex = refl; bank = refl; words = refl; limit = refl; slots = refl }
-mapped f (content.Root r) = record { role = refl; root = refl; annex = refl; bank = refl; words = refl; limit = refl; slots = refl }
-mapped f (content.Annex registers) = record { role = refl; root = refl; annex = refl; bank = refl; words = refl; limit = refl; slots = refl }
-mapped f (content.Bank limit) = record { role = refl; root = refl; annex = refl; bank = refl; words = refl; limit = refl; slots = refl }
+mapped f other = record { role = refl; root = refl; annex = refl; bank = refl; words = refl; limit = refl; slots = refl }
 
 pub kind_map : {B C : Type 0} (g : Geometry) (n : ℕ) (f : B → C) (c : Content B) → IsOfKind g n c → IsOfKind g n (map_content f c)
 kind_map g n f content.Free kind = kind

@@ -25,8 +25,8 @@ pub use Rattle.model.specs.declared.object.Role.{Role}
 pub use Rattle.model.specs.declared.object.Root.{Root}
 pub use Rattle.model.specs.declared.object.State.{State}
 pub use Rattle.model.specs.declared.object.State.TheVariants.{Running}
-pub use Rattle.std.proofs.Common.{Bool, Bor, List, Some, [], ap, arith, cond, false, get_or, inl, inr, length, map, nat_lt, refl, replicate, rules, slice_get}
-pub use Rattle.std.proofs.Common.{slice_index, slice_index_or, slice_set, subst, suc, sym, take, true, zero, zero-add, ℕ, ⊎_elim}
+pub use Rattle.std.proofs.Common.{Bool, Bor, List, [], ap, arith, cond, false, get_or, inl, inr, length, map, nat_lt, refl, replicate, rules, slice_index}
+pub use Rattle.std.proofs.Common.{slice_index_or, slice_set, subst, suc, sym, take, true, zero, zero-add, ℕ, ⊎_elim}
 pub use Rattle.std.proofs.Math.ListN.{get_or-map}
 pub use Rattle.std.proofs.Math.Seq.{map-set_same}
 pub use Rattle.std.proofs.lemmas.Bool.{cases_eq, cases_lt, eq-eqb, ne_eqb}
@@ -36,12 +36,10 @@ pub use Rattle.std.proofs.lemmas.List.{set_past, take_all}
 pub use Rattle.std.proofs.lemmas.List.Elements.{All-replicate, All-set, All-weaker}
 pub use Rattle.std.proofs.lemmas.List.FromFn.{get_or-enumerate_from, length-enumerate_from}
 pub use Rattle.std.proofs.lemmas.List.Sums.{sum_by-cons}
-pub use Rattle.std.proofs.lemmas.Option.{get_or_from_slice_get, slice_get-map}
 pub use Rattle.std.proofs.lemmas.Result.{IfOk-weaker}
 pub use Rattle.std.specs.List.{All, enumerate_from}
-pub use Rattle.std.specs.Option.{option_map}
 pub use Rattle.std.specs.Prelude.{IsTrue}
-pub use Rattle.capability.specs.Laws.{CalledIsConsumed, ConsumeKeepsSoundFrames, GivenUpIsRescinded, RescindKeepsSoundFrames}
+pub use Rattle.capability.specs.Laws.{ConsumeKeepsSoundFrames, RescindKeepsSoundFrames}
 pub use Rattle.capability.specs.Objects.{changed_root, live_cap, with_root_in, with_slots_in}
 pub use Rattle.capability.specs.Parts.{AreGivenUp, Becomes, Edits, FreshFits, HaveTheirRoles, IsFreshAt, KeepsRest, OnlyFetches, Parts, frames_of}
 pub use Rattle.capability.specs.Parts.{fresh_content, objects_in, with_both, with_header, with_held}

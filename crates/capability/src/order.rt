@@ -53,14 +53,14 @@ pub enum Change {
     Slot {
         node: u64,
         slot: usize,
-        capability: Capability,
+        held: Capability,
     },
     /// A register of a process, in its annex.
     Register {
         process: u64,
         annex: u64,
         register: usize,
-        capability: Capability,
+        held: Capability,
     },
     /// A word of the message that a process received last.
     RootWord {
@@ -76,7 +76,7 @@ pub enum Change {
     /// The address space of a process.
     Space {
         process: u64,
-        capability: Capability,
+        held: Capability,
     },
     /// Objects of a bank.
     Bank(BankChange),

@@ -1,5 +1,7 @@
 // The roots of processes, read and changed as the definitions see them.
 ghost use Rattle.std.specs.Prelude.{◌≡◌, ◌<◌, ℕ, IsTrue, slice_index};
+ghost use Rattle.model.specs.declared.object.Content.TheVariants as content;
+ghost use Rattle.model.specs.Frame.{held_at};
 ghost use Rattle.model.specs.Keepable.{IsKeptCap};
 ghost use Rattle.model.specs.Order.{with_root_word, with_space};
 ghost use Rattle.model.specs.Sound.{IsSpace};
@@ -8,7 +10,7 @@ ghost use Rattle.capability.specs.Objects.{live_cap};
 ghost use Rattle.capability.specs.Parts.{Edits, HaveTheirRoles, frames_of, objects_in};
 
 use crate::present::{Frames, PresentFrames, RootChange};
-use model::{Capability, ContentRef, Role, State};
+use model::{Cap, Capability, ContentRef, Role, Root, State};
 
 /// Whether a number is that of a process, by its role in the table: it needn't be fetched.
 pub fn is_process<F: Frames>(store: &F, number: u64) -> bool
@@ -16,6 +18,19 @@ pub fn is_process<F: Frames>(store: &F, number: u64) -> bool
     ensures { result ≡ is_process (objects_in (F.parts store.now)) number }
 {
     matches!(store.table().header(number).role, Role::Root)
+}
+
+// The root of a process, which is fetched.
+#[inline(always)]
+fn root<F: Frames>(store: &F, process: u64) -> &Root<Cap>
+    requires fetched { F.IsFetched store.now process }
+    requires process { IsTrue (is_process (objects_in (F.parts store.now)) process) }
+    ensures { held_at (F.parts store.now).contents process ≡ content.Root result.now }
+{
+    match store.frame(process) {
+        ContentRef::Root(root) => root,
+        _ => unreachable!(),
+    }
 }
 
 /// A word that a process was last delivered. Its root is fetched.
@@ -26,10 +41,7 @@ pub fn word<F: Frames>(store: &F, process: u64, index: usize) -> u64
     ensures { result ≡ slice_index (root_at
         (objects_in (F.parts store.now)) process).words index }
 {
-    match store.frame(process) {
-        ContentRef::Root(root) => root.words[index],
-        _ => 0,
-    }
+    root(store, process).words[index]
 }
 
 /// The key that a process was last delivered. Its root is fetched.
@@ -38,10 +50,7 @@ pub fn key<F: Frames>(store: &F, process: u64) -> u16
     requires process { IsTrue (is_process (objects_in (F.parts store.now)) process) }
     ensures { result ≡ (root_at (objects_in (F.parts store.now)) process).key }
 {
-    match store.frame(process) {
-        ContentRef::Root(root) => root.key,
-        _ => 0,
-    }
+    root(store, process).key
 }
 
 /// The state of a process. Its root is fetched.
@@ -50,10 +59,7 @@ pub fn state<F: Frames>(store: &F, process: u64) -> State
     requires process { IsTrue (is_process (objects_in (F.parts store.now)) process) }
     ensures { result ≡ (root_at (objects_in (F.parts store.now)) process).state }
 {
-    match store.frame(process) {
-        ContentRef::Root(root) => root.state,
-        _ => State::Available,
-    }
+    root(store, process).state
 }
 
 /// Whether a process runs. Its root is fetched.
@@ -74,10 +80,7 @@ pub fn space<F: Frames>(store: &F, process: u64) -> Capability
     requires process { IsTrue (is_process (objects_in (F.parts store.now)) process) }
     ensures { result ≡ (root_at (objects_in (F.parts store.now)) process).space }
 {
-    match store.frame(process) {
-        ContentRef::Root(root) => store.table().conveyed(root.space),
-        _ => Capability::Void,
-    }
+    store.table().conveyed(root(store, process).space)
 }
 
 /// Puts a word into the root of a process, which is fetched and announced.

@@ -4,9 +4,6 @@ pub use Rattle.device.proofs.Moments.{CountsNow, OnlyNow, ends, in_one_call, lea
 pub use Rattle.device.specs.Calls.{Agrees, AreSectors, Elsewhere, Narrows, sectors_of}
 pub use Rattle.device.specs.Disk.{Disk, Image}
 pub use Rattle.device.specs.Moments.{Elapses, LeavesOnly, Peeks}
-pub use Rattle.frame_io.specs.Frames.{IsRefused}
-pub use Rattle.frame_io.specs.declared.fault.Unreadable.{Unreadable}
-pub use Rattle.frame_io.specs.declared.fault.Unreadable.TheVariants.{Bad, Failed}
 pub use Rattle.layout.proofs.Directories.{directory_fits, one_directory}
 pub use Rattle.layout.proofs.Halves.{half_apart, half_within}
 pub use Rattle.layout.proofs.Headers.{six}
@@ -17,6 +14,7 @@ unfoldable pub use Rattle.layout.specs.Bytes.{number, number_from, zeros}
 pub use Rattle.layout.specs.Directory.{IsDirectory}
 unfoldable pub use Rattle.layout.specs.Directory.{directory_bytes}
 pub use Rattle.layout.specs.Frame.{IsFrameOf, frame_bytes}
+pub use Rattle.layout.specs.Frames.{IsRefused}
 pub use Rattle.layout.specs.Gate.{gate_bytes, is_open}
 pub use Rattle.layout.specs.Header.{IsHeader}
 unfoldable pub use Rattle.layout.specs.Header.{header_bytes}
@@ -28,6 +26,8 @@ unfoldable pub use Rattle.layout.specs.Image.{sectors_from}
 pub use Rattle.layout.specs.Superblock.{IsPlan, Plan}
 pub use Rattle.layout.specs.declared.bad_image.BadImage.{BadImage}
 pub use Rattle.layout.specs.declared.directory.Entry.{Entry}
+pub use Rattle.layout.specs.declared.frame_io.fault.Unreadable.{Unreadable}
+pub use Rattle.layout.specs.declared.frame_io.fault.Unreadable.TheVariants.{Bad, Failed}
 pub use Rattle.layout.specs.declared.gate.Gate.TheVariants.{Closed, Open}
 pub use Rattle.layout.specs.declared.header.CheckpointHeader.{CheckpointHeader}
 pub use Rattle.model.specs.Frame.{frame_at}

@@ -2,7 +2,7 @@
 use Rattle.ckpt_log.proofs.Names.{ℕ, List, length, take, sym, ap, subst, take-append_seam, BadImage, Entry, CheckpointHeader, directory_bytes, IsDirectory}
 use Rattle.ckpt_log.proofs.Names.{Image, HasHeader, HasDirectory, directory_in, Plan, Unreadable, HasCommitted, HasNoCommitted, IsBadDirectory}
 use Rattle.std.proofs.Common.{◌≡◌, ◌++◌, ◌∙◌}
-use Rattle.frame_io.specs.declared.fault.Unreadable.TheVariants as fault
+use Rattle.layout.specs.declared.frame_io.fault.Unreadable.TheVariants as fault
 
 pub bad_directory : {image seen : Image} {p : Plan} {h : CheckpointHeader} {n : ℕ} (e : Unreadable) → seen ≡ image → n ≡ h.entries → HasHeader image p h →
     IsBadDirectory p.geometry (directory_in seen p h.generation n) e → HasNoCommitted image p e

@@ -6,7 +6,7 @@ use Rattle.std.specs.Prelude.{◌≡◌}
 use Rattle.layout.specs.declared.bad_image.BadImage.TheVariants as bad
 use Rattle.ckpt_log.specs.declared.header_slot.HeaderSlot.{HeaderSlot}
 use Rattle.ckpt_log.specs.declared.header_slot.HeaderSlot.TheVariants.{First, Second}
-use Rattle.frame_io.specs.declared.fault.Unreadable.TheVariants as fault
+use Rattle.layout.specs.declared.frame_io.fault.Unreadable.TheVariants as fault
 
 -- of the bytes of two headers those in this slot
 abbrev pub chosen : Option HeaderSlot → List ℕ → List ℕ → Option (List ℕ)

@@ -1,12 +1,10 @@
 -- The names of other crates that the definitions here cite.
 pub use Rattle.device.specs.Calls.{Elsewhere}
 pub use Rattle.device.specs.Disk.{Disk, Image}
-pub use Rattle.frame_io.specs.Frames.{IsObject, IsRefused}
-pub use Rattle.frame_io.specs.declared.fault.Unreadable.{Unreadable}
-pub use Rattle.frame_io.specs.declared.fault.Unreadable.TheVariants.{Bad, Failed}
 pub use Rattle.layout.specs.Directory.{IsDirectory}
 unfoldable pub use Rattle.layout.specs.Directory.{directory_bytes}
 pub use Rattle.layout.specs.Frame.{IsFrameOf, frame_bytes}
+pub use Rattle.layout.specs.Frames.{IsObject, IsRefused}
 pub use Rattle.layout.specs.Gate.{gate_bytes, is_open}
 pub use Rattle.layout.specs.Header.{IsHeader}
 unfoldable pub use Rattle.layout.specs.Header.{header_bytes}
@@ -20,6 +18,8 @@ pub use Rattle.layout.specs.declared.bad_image.BadImage.{BadImage}
 pub use Rattle.layout.specs.declared.bad_image.BadImage.TheVariants.{BadDirectory}
 pub use Rattle.layout.specs.declared.directory.Entry.{Entry}
 pub use Rattle.layout.specs.declared.extent.Extent.{Extent}
+pub use Rattle.layout.specs.declared.frame_io.fault.Unreadable.{Unreadable}
+pub use Rattle.layout.specs.declared.frame_io.fault.Unreadable.TheVariants.{Bad, Failed}
 pub use Rattle.layout.specs.declared.gate.Gate.TheVariants.{Closed}
 pub use Rattle.layout.specs.declared.header.CheckpointHeader.{CheckpointHeader}
 pub use Rattle.model.specs.Frame.{frame_at}

@@ -2,7 +2,7 @@
 ghost use Rattle.std.specs.Prelude.{◌≡◌, ◌≤◌, IfOk, OnOk};
 ghost use Rattle.device.specs.Calls.{Counts, Only};
 ghost use Rattle.device.specs.Moments.{LeavesOnly};
-ghost use Rattle.frame_io.specs.Calls.{ReadsOnly};
+ghost use Rattle.layout.specs.Calls.{ReadsOnly};
 ghost use Rattle.ckpt_log.specs.Closing.{AreClosed, IsLesser, KeepsOrHasNone, WasKeptOrHasNone};
 
 use crate::header_slot::HeaderSlot;

@@ -2,8 +2,8 @@
 ghost use Rattle.std.specs.Prelude.{◌≡◌, ◌≤◌, length, option_map, IfOk, IfErr, OnOk};
 ghost use Rattle.layout.specs.Image.{does_count, committed_of, HasHeader};
 ghost use Rattle.device.specs.Calls.{Counts};
-ghost use Rattle.frame_io.specs.Calls.{ReadsOnly};
-ghost use Rattle.frame_io.specs.Fault.{CountsFailed};
+ghost use Rattle.layout.specs.Calls.{ReadsOnly};
+ghost use Rattle.layout.specs.Fault.{CountsFailed};
 ghost use Rattle.ckpt_log.specs.HeaderSlot.{slot_number, header_at, gate_at};
 ghost use Rattle.ckpt_log.specs.Log.{chosen, IsHeaderIn, IsRefusedBy, HasNone, HasCommitted, HasNoCommitted};
 
@@ -11,8 +11,9 @@ use crate::header_slot::HeaderSlot;
 use crate::log::Log;
 use crate::sector::read_sector;
 use device::{Device, Failed, SECTOR_SIZE};
-use frame_io::Unreadable;
-use layout::{BadImage, CheckpointHeader, Entry, Gate, decode_gate, decode_header, sequence_in};
+use layout::{
+    BadImage, CheckpointHeader, Entry, Gate, Unreadable, decode_gate, decode_header, sequence_in,
+};
 
 // Reads the header of a slot, and answers whether it counts: its gate is open, and it belongs in
 // this slot.

@@ -3,14 +3,16 @@ ghost use Rattle.std.specs.Prelude.{◌≡◌, ◌+◌, ◌-◌, ◌*◌, ◌<�
 ghost use Rattle.layout.specs.Directory.{directory_bytes, IsDirectory};
 ghost use Rattle.layout.specs.Image.{directory_sector, directory_length, directory_in, sectors_from};
 ghost use Rattle.device.specs.Calls.{Counts};
-ghost use Rattle.frame_io.specs.Calls.{ReadsOnly, WritesAt};
-ghost use Rattle.frame_io.specs.Fault.{CountsFailed};
+ghost use Rattle.layout.specs.Calls.{ReadsOnly, WritesAt};
+ghost use Rattle.layout.specs.Fault.{CountsFailed};
 ghost use Rattle.ckpt_log.specs.Slot.{IsBadDirectory};
 
 use crate::log::Log;
 use device::{Device, Failed, SECTOR_SIZE};
-use frame_io::{Unreadable, read_sectors, write_sectors};
-use layout::{BadImage, ENTRY_BYTES, Entry, decode_directory, encode_directory};
+use layout::{
+    BadImage, ENTRY_BYTES, Entry, Unreadable, decode_directory, encode_directory, read_sectors,
+    write_sectors,
+};
 use model::Geometry;
 
 // The bytes of the greatest directory.

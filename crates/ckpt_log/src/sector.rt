@@ -2,10 +2,10 @@
 ghost use Rattle.std.specs.Prelude.{◌≡◌, ◌<◌, length, OnOk};
 ghost use Rattle.device.specs.Calls.{Elsewhere, Only, Counts};
 ghost use Rattle.device.specs.Moments.{LeavesOnly};
-ghost use Rattle.frame_io.specs.Calls.{ReadsOnly};
+ghost use Rattle.layout.specs.Calls.{ReadsOnly};
 
 use device::{Device, Failed, write_durably};
-use frame_io::read_sectors;
+use layout::read_sectors;
 
 /// Reads a sector.
 pub(crate) fn read_sector<D: Device>(device: &mut D, at: u64, into: &mut [u8]) -> Result<(), Failed>

@@ -5,16 +5,15 @@ ghost use Rattle.device.specs.Calls.{Counts};
 ghost use Rattle.layout.specs.Frame.{IsFrameOf, frame_bytes, frame_of, page_frame_bytes};
 ghost use Rattle.layout.specs.Homes.{place_length, shape_of};
 ghost use Rattle.layout.specs.Image.{bytes_at, sectors_from, slot_sector};
-ghost use Rattle.frame_io.specs.Calls.{ReadsOnly, WritesAt};
-ghost use Rattle.frame_io.specs.Clusters.{HasZerosBeside};
-ghost use Rattle.frame_io.specs.Fault.{CountsFailed};
-ghost use Rattle.frame_io.specs.Frames.{IsObject, IsRefused};
+ghost use Rattle.layout.specs.Calls.{ReadsOnly, WritesAt};
+ghost use Rattle.layout.specs.Clusters.{HasZerosBeside};
+ghost use Rattle.layout.specs.Fault.{CountsFailed};
+ghost use Rattle.layout.specs.Frames.{IsObject, IsRefused};
 ghost use Rattle.model.specs.Frame.{content_behind};
 
 use crate::log::Log;
 use device::{Device, Failed};
-use frame_io::{Unreadable, read_frame, write_frame, write_page};
-use layout::{Body, Scratch};
+use layout::{Body, Scratch, Unreadable, read_frame, write_frame, write_page};
 use model::{Cap, ContentRef, ObjectHeader};
 
 impl<'a> Log<'a> {

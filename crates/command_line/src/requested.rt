@@ -9,9 +9,10 @@ ghost use Rattle.command_line.specs.Refusals.{Explains};
 
 use crate::arguments::{flag_of, numbers_in, option_of};
 use crate::subcommands::{
-    CACHE, DESCRIPTION, FILE, FROM, GREATEST_CAPACITY, IMAGE, LEAST_CAPACITY, LOG, NEW, NODES, OLD,
-    PAGES, PROCESS, SCRIPT, SHOWS, STOP_AFTER, STRICT, TO, TRACE,
+    CACHE, DESCRIPTION, FILE, FROM, IMAGE, LOG, NEW, NODES, OLD, PAGES, PROCESS, SCRIPT, SHOWS,
+    STOP_AFTER, STRICT, TO, TRACE,
 };
+use cache_entries::{GREATEST_CAPACITY, LEAST_CAPACITY};
 use clap::error::ErrorKind;
 use clap::{ArgMatches, Command, Error};
 use std::alloc::{AllocError, Global};

@@ -4,6 +4,7 @@ ghost use Rattle.clap.specs.Words.{new_app, rule_of};
 ghost use Rattle.command_line.specs.Commands.{IsCommand, argument_rule, bare_app, eros_app, rules_of, subcommand_app};
 ghost use Rattle.command_line.specs.Commands.{subcommand_name, with_rules, with_subcommands};
 
+use cache_entries::{GREATEST_CAPACITY, LEAST_CAPACITY};
 use clap::builder::ValueParser;
 use clap::{Arg, ArgAction, Command};
 use std::alloc::{AllocError, Global};
@@ -44,12 +45,6 @@ pub(crate) const STOP_AFTER: &str = "stop-after";
 
 /// What `eros --version` prints behind the name.
 const VERSION: &str = "1.0.0\nlayouts 1 and 2\nproved with rattle-kit-13 logic dac8208d650f15bf";
-
-/// The least number of objects that a cache may hold.
-pub(crate) const LEAST_CAPACITY: u64 = 8;
-
-/// The greatest number of objects that a cache may hold.
-pub(crate) const GREATEST_CAPACITY: u64 = 8192;
 
 /// An argument or an option of a subcommand.
 #[derive(Clone, Copy)]

@@ -1,7 +1,7 @@
 -- What is at a key, and what isn't.
-use Rattle.description.proofs.Names.{ℕ, List, Option, Some, None, IsSomeAnd, MatchOption, Result, Vec, Global, refl, sym, none-some, same_Some, Data, Members}
-use Rattle.description.proofs.Names.{get_member, AtOr, ReadsList, BuildFault}
-use Rattle.std.proofs.Common.{◌≡◌}
+use Rattle.description.proofs.Names.{ℕ, List, Option, Some, None, IsSomeAnd, Result, Vec, Global, refl, sym, none-some, same_Some, Data, Members, get_member}
+use Rattle.description.proofs.Names.{AtOr, ReadsList, BuildFault}
+use Rattle.std.proofs.Common.{MatchOption, ◌≡◌}
 
 pub missing : {A : Type 0} (P : Data → A → Type 0) (o : Option Data) → None ≡ o → (x : A) → IsSomeAnd o (λ d. P d x) → ⊥
 missing P None is x at = at

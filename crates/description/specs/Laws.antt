@@ -1,9 +1,7 @@
 -- A number has one spelling, a text is that of one capability, and a table that of one description.
-use Rattle.std.specs.Prelude.{◌≡◌, ℕ, ◌^◌, ◌<◌, List, [], ◌∷◌, IfSome}
-use Rattle.model.specs.Capability.{IsWellFormed, named}
-use Rattle.model.specs.Text.{capability_text}
-use Rattle.model.specs.declared.capability.Capability.{Capability}
-use Rattle.toml.specs.Data.{Data, Members}
+use Rattle.description.specs.Names.{ℕ, List, [], IfSome, IsWellFormed, named, capability_text, Capability, Data}
+use Rattle.description.specs.Names.{Members}
+use Rattle.std.specs.Prelude.{◌≡◌, ◌^◌, ◌<◌, ◌∷◌}
 use Rattle.description.specs.Reading.{IsDescription, IsWideNumber}
 use Rattle.description.specs.declared.entry.Description.{Description}
 use Rattle.description.specs.declared.entry.NodeEntry.{NodeEntry}

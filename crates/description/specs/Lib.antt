@@ -1,3 +1,10 @@
+pub mod Names
 pub mod Laws
 pub mod Outcomes
 pub mod Reading
+pub mod Described
+pub mod Laid
+pub mod Wholeness
+pub mod Broken
+pub mod FaultOutcomes
+pub mod Shapes

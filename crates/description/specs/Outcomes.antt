@@ -1,8 +1,5 @@
 -- What a function that reads answers.
-use Rattle.std.specs.Prelude.{Result, Ok, Err, List, Vec}
-use Rattle.std.specs.declared.alloc.Global.{Global}
-use Rattle.image_writer.specs.declared.fault.BuildFault.{BuildFault}
-use Rattle.image_writer.specs.declared.fault.BuildFault.TheVariants.{Shape, NoMemory}
+use Rattle.description.specs.Names.{Result, Ok, Err, List, Vec, Global, BuildFault, Shape, NoMemory}
 
 -- nothing is said, or memory ran out; no other fault comes
 abbrev pub Fails : {A : Type 0} → (A → Type 0) → BuildFault → Type 0

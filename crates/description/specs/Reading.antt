@@ -1,16 +1,10 @@
 -- What a table says.
-use Rattle.std.specs.Prelude.{◌≡◌, ◌≢◌, ◌⊎◌, ℕ, ◌^◌, ◌<◌, ◌≤◌, pos, Bool, true, false, ◌&&◌, ◌||◌, Option, None, Some}
-use Rattle.std.specs.Prelude.{List, [], ◌∷◌, length, codes, IfSome, IsTrue, IsSomeAnd, MatchOption}
-use Rattle.std.specs.List.{list_any}
-use Rattle.image_writer.specs.declared.number_range.NumberRange.{NumberRange}
-use Rattle.model.specs.Capability.{IsWellFormed, named}
-use Rattle.model.specs.Text.{capability_text, state_text}
-use Rattle.model.specs.declared.capability.Capability.{Capability}
-use Rattle.model.specs.declared.capability.Capability.TheVariants.{Number, Void}
-use Rattle.model.specs.declared.geometry.Geometry.{Geometry}
-use Rattle.model.specs.declared.object.State.{State}
-use Rattle.toml.specs.Data.{Data, integer, string, array, table, Items, no_items, item, Members, no_members, member}
-use Rattle.toml.specs.Data.{get_member, same_key}
+use Rattle.description.specs.Names.{ℕ, pos, Bool, true, false, Option, None, Some, List, [], length, codes, IfSome}
+use Rattle.description.specs.Names.{IsTrue, IsSomeAnd, MatchOption, list_any, NumberRange, IsWellFormed, named}
+use Rattle.description.specs.Names.{capability_text, state_text, Capability, Number, Void, Geometry, State, Data}
+use Rattle.description.specs.Names.{integer, string, array, table, Items, no_items, item, Members, no_members, member}
+use Rattle.description.specs.Names.{get_member, same_key}
+use Rattle.std.specs.Prelude.{◌≡◌, ◌≢◌, ◌⊎◌, ◌^◌, ◌<◌, ◌≤◌, ◌&&◌, ◌||◌, ◌∷◌}
 use Rattle.description.specs.declared.entry.BankEntry.{BankEntry}
 use Rattle.description.specs.declared.entry.Description.{Description}
 use Rattle.description.specs.declared.entry.NodeEntry.{NodeEntry}

@@ -1,7 +1,6 @@
 -- Texts that are written in two parts.
-use Rattle.std.proofs.Common.{◌≡◌, ◌++◌, ◌∙◌, List, ℕ, Result, Ok, Err, ap}
-use Rattle.std.proofs.lemmas.List.{append_assoc}
-use Rattle.std.specs.Prelude.{OnOk}
+use Rattle.description_explainer.proofs.Names.{List, ℕ, Result, Ok, Err, ap, append_assoc, OnOk}
+use Rattle.std.proofs.Common.{◌≡◌, ◌++◌, ◌∙◌}
 
 pub joined : {A E : Type 0} (r : Result A E) (old mid new object rest whole : List ℕ) → mid ≡ old ++ object → OnOk r (new ≡ mid ++ rest) →
     rest ≡ whole → OnOk r (new ≡ old ++ (object ++ whole))

@@ -2,7 +2,7 @@
 use Rattle.description_explainer.proofs.Names.{List, Option, None, Some, subst, arith, MatchOption, version_number, Version, MayBeLaid, NumberRange}
 use Rattle.description_explainer.proofs.Names.{IsWithinLimits, Description, Limit, BreaksGeometry, BreaksLimit, BreaksRanges, ranges_refuted}
 use Rattle.std.proofs.Common.{◌≡◌, ◌<◌, ◌≤◌, ◌^◌}
-use Rattle.description_faults.specs.declared.place.Limit.TheVariants as limit
+use Rattle.description.specs.declared.faults.place.Limit.TheVariants as limit
 
 pub limit_refuted : (d : Description) (l : Limit) → BreaksLimit d l → IsWithinLimits d → ⊥
 limit_refuted d limit.Nodes broken within = broken (within.laid.geometry.least_nodes, within.laid.geometry.most_nodes)

@@ -10,8 +10,8 @@ use Rattle.description_explainer.specs.declared.place.Place.{Place}
 use Rattle.description_explainer.specs.declared.place.Place.TheVariants as place
 use Rattle.description_explainer.specs.declared.place.Rule.{Rule}
 use Rattle.description_explainer.specs.declared.place.Rule.TheVariants as rule
-use Rattle.description_faults.specs.Broken.{BreaksField, BreaksLimit, BreaksNumber, BreaksOwner, BreaksTarget}
-use Rattle.description_faults.specs.Shapes.{BreaksShape}
+use Rattle.description.specs.Broken.{BreaksField, BreaksLimit, BreaksNumber, BreaksOwner, BreaksTarget}
+use Rattle.description.specs.Shapes.{BreaksShape}
 
 -- the fault that `build` answers
 abbrev pub rule_fault : Rule → BuildFault

@@ -3,12 +3,12 @@ ghost use Rattle.std.specs.Prelude.{◌≡◌, Some, IfNone, IfOk, IfSome};
 ghost use Rattle.toml.specs.Data.{Members};
 ghost use Rattle.toml.specs.View.{table_view};
 ghost use Rattle.model.specs.Frame.{frames_in};
-ghost use Rattle.consistency.specs.Consistency.{AreNamed};
-ghost use Rattle.consistency.specs.Noted.{AreNoted};
+ghost use Rattle.recovery.specs.Consistency.{AreNamed};
+ghost use Rattle.recovery.specs.Noted.{AreNoted};
 ghost use Rattle.description.specs.declared.entry.Description.{Description};
 ghost use Rattle.description.specs.Reading.{IsDescription};
-ghost use Rattle.described_world.specs.Described.{HasFields, HasNumbers};
-ghost use Rattle.described_world.specs.Laid.{HasTargets};
+ghost use Rattle.description.specs.Described.{HasFields, HasNumbers};
+ghost use Rattle.description.specs.Laid.{HasTargets};
 ghost use Rattle.image_builder.specs.Built.{IsWithinLimits};
 ghost use Rattle.image_builder.specs.Checked.{AreLaid};
 ghost use Rattle.description_explainer.specs.Explained.{ExplainsDescription};
@@ -17,11 +17,12 @@ ghost use Rattle.description_explainer.specs.Places.{Explains};
 use crate::limits::beyond_limits;
 use crate::place::{Place, Rule};
 use capability::Plain;
-use consistency::{Noted, find_unbanked, read_notes};
-use described_world::{World, lay_described};
-use description::Description;
-use description_faults::{Held, OfItsKind, OfItsRole, failing, misfilled, misnumbered, misshapen};
+use description::{
+    Description, Held, OfItsKind, OfItsRole, World, failing, lay_described, misfilled, misnumbered,
+    misshapen,
+};
 use image_builder::BuildFault;
+use recovery::{Noted, find_unbanked, read_notes};
 use std::alloc::{AllocError, Global};
 use toml::Table;
 

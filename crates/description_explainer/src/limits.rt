@@ -2,10 +2,9 @@
 ghost use Rattle.std.specs.Prelude.{◌≤◌, ◌^◌, MatchOption};
 ghost use Rattle.layout.specs.Superblock.{IsGeometry};
 ghost use Rattle.image_builder.specs.Built.{IsWithinLimits};
-ghost use Rattle.description_faults.specs.Broken.{BreaksLimit};
+ghost use Rattle.description.specs.Broken.{BreaksLimit};
 
-use description::Description;
-use description_faults::{Limit, bad_count, bad_ranges};
+use description::{Description, Limit, bad_count, bad_ranges};
 use layout::Version;
 use model::MAX_AGE;
 

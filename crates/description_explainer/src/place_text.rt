@@ -6,11 +6,11 @@ ghost use Rattle.description_explainer.specs.Text.{rule_text, slot_entry, table_
 
 use crate::naming::{put_node, put_object, put_page, put_process};
 use crate::place::{Place, Rule};
-use consistency::Unbanked;
-use description::Description;
-use description_faults::{
-    Flaw, Held, Indexed, Limit, Misnumbered, Named, Part, ShapePlace, SlotFlaw, TableName,
+use description::{
+    Description, Flaw, Held, Indexed, Limit, Misnumbered, Named, Part, ShapePlace, SlotFlaw,
+    TableName,
 };
+use recovery::Unbanked;
 use std::alloc::{AllocError, Global};
 
 // Writes an item of a list.

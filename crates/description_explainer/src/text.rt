@@ -5,15 +5,14 @@ ghost use Rattle.description_explainer.specs.Text.{IsExplanation};
 use crate::naming::listed_number;
 use crate::place::{Place, Rule};
 use crate::place_text::{indexed_entry, list_of, parts_of, place_text};
-use consistency::Unbanked;
-use described_world::is_capability;
 use description::member::member;
-use description::{Description, ProcessEntry, SlotEntry};
-use description_faults::{
-    Flaw, Held, Indexed, Key, Limit, Misnumbered, Named, Part, ShapePlace, SlotFlaw, TableName,
+use description::{
+    Description, Flaw, Held, Indexed, Key, Limit, Misnumbered, Named, Part, ProcessEntry,
+    ShapePlace, SlotEntry, SlotFlaw, TableName, is_capability,
 };
 use image_writer::NumberRange;
 use model::{Capability, Geometry};
+use recovery::Unbanked;
 use std::alloc::{AllocError, Global};
 use toml::{Table, Value};
 

@@ -2,15 +2,14 @@
 use Rattle.gate.proofs.Names.{ℕ, Bool, true, false, List, Result, Ok, Err, drop, length, refl, sym, ap, subst, arith, IsTrue, OnOk, OnErr, slice_index, All}
 use Rattle.gate.proofs.Names.{Bank, Invocation, Operation, Call, Return, Send, Geometry, Object, Arguments, objects_of, deliver, AreCurrent, AreKeepable}
 use Rattle.gate.proofs.Names.{IsSoundFrames, is_running, IsNoBankOrder, IsSound, NamesItsKind, Fits, World, annex_at, is_process, is_running_process}
-use Rattle.gate.proofs.Names.{register_at, root_at, deliver_frame, invocation_frame, state_sound, AreArguments, IsNow, held_to, SameFrame, frame_refl, tests_at}
-use Rattle.gate.proofs.Names.{usage_same, Caller, OrderPlan, Reply, message_of, AreSound, IsUnchanged, Parts, frames_of, objects_in, AreCounted, BanksState}
-use Rattle.gate.proofs.Names.{MayAsk, writer_count, writers, IsPlanned, answered, arguments_of, state_before, MayChange, Invokes, IsRequested}
+use Rattle.gate.proofs.Names.{register_at, root_at, deliver_frame, invocation_frame, state_sound, IsNow, held_to, SameFrame, frame_refl, tests_at, usage_same}
+use Rattle.gate.proofs.Names.{Caller, OrderPlan, Reply, message_of, AreSound, IsUnchanged, Parts, frames_of, objects_in, AreCounted, BanksState, MayAsk}
+use Rattle.gate.proofs.Names.{writer_count, writers, IsPlanned, answered, AreEnough, state_before, MayChange, Invokes, IsRequested}
 use Rattle.std.proofs.Common.{◌≡◌, ◌+◌, ◌++◌, ◌≤◌, ◌&&◌, ◌∙◌, if◌then◌else◌}
 use Rattle.model.specs.declared.command.Command.TheVariants as command
 use Rattle.gate.proofs.Effects.{frame_before}
-use Rattle.gate.proofs.Known.{running_process, same_frames}
-use Rattle.gate.proofs.Plans.{arguments_held, invoked_held}
-use Rattle.gate.proofs.Standing.{ReadsAs, looked_objects, looked_sound, now_sound}
+use Rattle.gate.proofs.Standing.{running_process, same_frames, ReadsAs, looked_objects, looked_sound, now_sound}
+use Rattle.gate.proofs.Plans.{enough_held, invoked_held}
 
 -- what is counted holds of objects of the same frame
 pub counted_on : {g : Geometry} {os us : List Object} {s : BanksState} → SameFrame os us → AreCounted g os s → AreCounted g us s
@@ -125,8 +124,8 @@ module _ (old mid new : Parts) (i : Invocation) (s : BanksState) (sound : AreSou
 -- an order of the bank that is invoked may be planned
 pub bank_may_ask : (p : Parts) (s : BanksState) (i : Invocation) (caller : Caller) (b : ℕ) (args : Arguments) → AreSound p →
     AreCounted p.geometry (objects_in p) s →
-    Fits (command.Invoke i) → IsRequested (objects_in p) i caller → args ≡ arguments_of (objects_in p) i → caller.invoked ≡ Bank b → MayAsk p s b args
-bank_may_ask p s i caller b args sound counted fits is args_are invoked =
+    Fits (command.Invoke i) → IsRequested (objects_in p) i caller → AreEnough (objects_in p) i caller.invoked args → caller.invoked ≡ Bank b → MayAsk p s b args
+bank_may_ask p s i caller b args sound counted fits is enough invoked =
     let os = objects_in p in
     record {
       serves = record {
@@ -135,7 +134,7 @@ bank_may_ask p s i caller b args sound counted fits is args_are invoked =
         bank = subst (NamesItsKind os) invoked (held_to os caller.invoked (invoked_held p.geometry os i (now_sound p sound) caller.invoked is.invoked)).1;
       };
       sent = held_to os args.capability
-          (subst (λ (a : Arguments). AreArguments os a) (sym args_are) (arguments_held p.geometry os i (now_sound p sound) fits)).held;
+          (enough_held p.geometry os i (now_sound p sound) caller.invoked args fits enough).held;
     }
 
 pub annex_requested : (old mid : Parts) (i : Invocation) (caller : Caller) → ReadsAs old mid → caller.process ≡ i.process →

@@ -1,14 +1,19 @@
--- The effect of an invocation, from what each part of it reported.
+-- The effect and the outcome of an invocation, through a gate too, from what each part of it reported. What follows of the numbers listed.
 use Rattle.gate.proofs.Names.{ℕ, zero, suc, Bool, List, Option, None, Some, drop, length, refl, sym, ap, subst, arith, IsTrue, slice_index, All, Capability}
 use Rattle.gate.proofs.Names.{Start, Resume, Invocation, Operation, Call, Return, Send, Frame, Geometry, Object, Available, Arguments, ResultCode, objects_of}
 use Rattle.gate.proofs.Names.{Effect, can_start, invoke, on_kernel_object, ordered, through_gate, AreCurrent, AreKeepable, IsSoundFrames, world_at, touching}
 use Rattle.gate.proofs.Names.{touched_count, order, OrderOutcome, consume, IsSound, object_count, Fits, World, annex_at, is_process, is_running_process}
 use Rattle.gate.proofs.Names.{register_at, with_state, state_frame, invocation_keeps, ordered_keeps, order_keeps, IsNow, held_to, SameFrame, frame_refl, Caller}
 use Rattle.gate.proofs.Names.{OrderPlan, Reply, changed, writer_count, writers, Invokes, IsRequested, IsKernelObject, Overfills, result_code, IsPlanned}
-use Rattle.gate.proofs.Names.{answered, arguments_of, finished, ordered_by, state_before, FitsCap, fetched_of}
-use Rattle.std.proofs.Common.{◌≡◌, ◌+◌, ◌++◌, ◌^◌, ◌<◌, ◌≤◌, ◌∙◌, if◌then◌else◌}
+use Rattle.gate.proofs.Names.{answered, arguments_of, finished, ordered_by, state_before, FitsCap, fetched_of, true, false, slice_set, All-map, All-set}
+use Rattle.gate.proofs.Names.{sent_by, NamesItsKind, AreSound, Parts, objects_in, Gate, entered, gate_capability, received, written_through, rules, [], Result}
+use Rattle.gate.proofs.Names.{Ok, Err, OnOk, Contains, inl, inr, IfOk, IsErrOf, OnErr, IsUnchanged, IsUnprepared, Prepares, Renews, frames_of, Invoked}
+use Rattle.gate.proofs.Names.{FetchesOrFails, Failed, IsErr, IsOfGate, Refusal, unrisen}
+use Rattle.std.proofs.Common.{◌≡◌, ◌+◌, ◌++◌, ◌^◌, ◌<◌, ◌≤◌, ◌∙◌, if◌then◌else◌, ◌||◌, ◌∷◌, ◌⊎◌}
 use Rattle.model.specs.declared.command.Command.TheVariants as command
-use Rattle.gate.proofs.Fits.{held_fits}
+use Rattle.model.specs.declared.answer.Refusal.TheVariants as refusal
+use Rattle.gate.proofs.Standing.{held_fits, resume_fits, register_kind, in_geometry, renews_looked, ReadsAs, keeps_looked, looked_as, looked_keepable}
+use Rattle.gate.proofs.Standing.{looked_objects, only_reads_again, prepared_as}
 use Rattle.gate.proofs.Plans.{arguments_held, change_fetched, invoked_held}
 
 -- an invocation by the capability that is invoked
@@ -53,28 +58,12 @@ sound_after g age fs gs i e young fits runs is objects sound keepable current = 
       (invocation_keeps g (world_at age fs) i e sound.sound fits runs young is);
 }
 
--- an invocation that wrote what its effect writes
-pub invokes_by : (g : Geometry) (i : Invocation) (os after : List Object) (touched touched_after : List Bool) (e : Effect) → invoke g os i ≡ Some e →
-    after ≡ e.objects →
-    touched_after ≡ touching touched e.written → touched_count touched_after ≤ g.log → Invokes g i os touched after touched_after
-invokes_by g i os after touched touched_after e is objects written within = (e, is, objects, written, within)
-
-pub overfills_by : (g : Geometry) (i : Invocation) (os : List Object) (touched : List Bool) (e : Effect) → invoke g os i ≡ Some e →
-    g.log < touched_count (touching touched e.written) → Overfills g i os touched
-overfills_by g i os touched e is over = (e, is, over)
-
 -- An invocation of a kernel object, by its operation.
 abbrev reply_in : OrderOutcome → Reply
 reply_in o = record { code = o.code; words = o.words; capability = o.capability }
 
 abbrev effect_by : Operation → ℕ → ℕ → OrderOutcome → Effect
 effect_by operation p annex o = record { objects = answered operation p o.objects (reply_in o); written = writers operation p annex ++ o.written }
-
-effect_is : (g : Geometry) (os : List Object) (i : Invocation) → on_kernel_object g os i
-    ≡ effect_by i.operation i.process (annex_at os i.process)
-    (order g (state_before i.operation os i.process) (register_at os i.process i.register) (slice_index i.words 0) (arguments_of os i))
-unfolding on_kernel_object
-effect_is g os i = refl
 
 -- a process that returns leaves the frame
 pub frame_before : (op : Operation) (os : List Object) (p : ℕ) → IsTrue (is_process os p) → SameFrame os (state_before op os p)
@@ -95,9 +84,9 @@ module _ {g : Geometry} {os : List Object} {i : Invocation} {caller : Caller} {p
   -- by the parts of the caller
   effect_requested : on_kernel_object g os i ≡ effect_by caller.operation caller.process caller.annex
       (order g (state_before caller.operation os caller.process) caller.invoked word args)
-  effect_requested =
-      effect_is g os i ∙ (λ k. effect_by (sym is.operation k) (sym is.process k) (sym is.annex k)
-      (order g (state_before (sym is.operation k) os (sym is.process k)) (sym is.invoked k) word args))
+  unfolding on_kernel_object
+  effect_requested = λ k. effect_by (sym is.operation k) (sym is.process k) (sym is.annex k)
+      (order g (state_before (sym is.operation k) os (sym is.process k)) (sym is.invoked k) word args)
 
   effect_planned : (op : Operation) → effect_by op caller.process caller.annex (order g (state_before op os caller.process) caller.invoked word args)
       ≡ record {
@@ -157,3 +146,268 @@ module _ {g : Geometry} {os : List Object} {i : Invocation} {caller : Caller} {p
         ap (code_by g os i) (sym is.invoked) ∙ object_code g os i caller.invoked object
         ∙ ap Some (ap (λ (o : OrderOutcome). o.code) ordered_requested ∙ planned.plans.code (state_before caller.operation os caller.process)
         (frame_before caller.operation os caller.process process))
+
+-- its effect
+abbrev pub effect_through : List Object → Invocation → Gate → Effect
+effect_through os i gate = record {
+  objects = entered os i gate (sent_by os i);
+  written = written_through i.operation i.process gate.process (annex_at os gate.process);
+}
+
+abbrev made : ℕ → ℕ → Bool → Gate
+made q key b = record { process = q; key = key; is_resume = b }
+
+gate_by : (g : Geometry) (os : List Object) (i : Invocation) (q key : ℕ) (b : Bool) → (b ≡ true → key ≡ 0) → (b || can_start os i q) ≡ true →
+    invoked_by g os i (gate_capability (made q key b)) ≡ Some (effect_through os i (made q key b))
+unfolding through_gate
+gate_by g os i q key true zeroth can = ap (λ (k : ℕ). Some (effect_through os i (made q k true))) (sym (zeroth refl))
+gate_by g os i q key false zeroth can = ap (λ (b : Bool). if b then Some (through_gate os i q key) else None) can
+
+-- it is carried out where the gate can be entered
+pub gate_invoked : (g : Geometry) (os : List Object) (i : Invocation) (caller : Caller) (gate : Gate) → IsRequested os i caller →
+    caller.invoked ≡ gate_capability gate →
+    (gate.is_resume ≡ true → gate.key ≡ 0) → (gate.is_resume || can_start os i gate.process) ≡ true → invoke g os i ≡ Some (effect_through os i gate)
+gate_invoked g os i caller gate is same zeroth can =
+    invoke_is g os i ∙ ap (invoked_by g os i) (sym is.invoked ∙ same) ∙ gate_by g os i gate.process gate.key gate.is_resume zeroth can
+
+-- and else stalls
+stalled_by : (g : Geometry) (os : List Object) (i : Invocation) (q key : ℕ) (b : Bool) → (b || can_start os i q) ≡ false →
+    invoked_by g os i (gate_capability (made q key b)) ≡ None
+stalled_by g os i q key true can = cc
+stalled_by g os i q key false can = ap (λ (b : Bool). if b then Some (through_gate os i q key) else None) can
+
+pub gate_stalled : (g : Geometry) (os : List Object) (i : Invocation) (caller : Caller) (gate : Gate) → IsRequested os i caller →
+    caller.invoked ≡ gate_capability gate → (gate.is_resume || can_start os i gate.process) ≡ false → invoke g os i ≡ None
+gate_stalled g os i caller gate is same can =
+    invoke_is g os i ∙ ap (invoked_by g os i) (sym is.invoked ∙ same) ∙ stalled_by g os i gate.process gate.key gate.is_resume can
+
+-- it has no result code
+no_code : (g : Geometry) (os : List Object) (i : Invocation) (q key : ℕ) (b : Bool) → code_by g os i (gate_capability (made q key b)) ≡ None
+no_code g os i q key true = refl
+no_code g os i q key false = refl
+
+pub gate_code : (g : Geometry) (os : List Object) (i : Invocation) (caller : Caller) (gate : Gate) → IsRequested os i caller →
+    caller.invoked ≡ gate_capability gate → result_code g os i ≡ None
+gate_code g os i caller gate is same = ap (code_by g os i) (sym is.invoked ∙ same) ∙ no_code g os i gate.process gate.key gate.is_resume
+
+-- a gate is that of a process
+gate_names : (os : List Object) (q key : ℕ) (b : Bool) → NamesItsKind os (gate_capability (made q key b)) → IsTrue (is_process os q)
+gate_names os q key true kind = kind.0
+gate_names os q key false kind = kind
+
+pub gate_process : (p : Parts) (sound : AreSound p) {i : Invocation} {caller : Caller} (gate : Gate) → IsRequested (objects_in p) i caller →
+    caller.invoked ≡ gate_capability gate → IsTrue (is_process (objects_in p) gate.process)
+gate_process p sound {i} {caller} gate requested same =
+    gate_names (objects_in p) gate.process gate.key gate.is_resume
+    (subst (NamesItsKind (objects_in p)) same (register_kind p sound i.process i.register caller.invoked requested.invoked))
+
+-- what is received fits
+pub received_fits : (g : Geometry) (os : List Object) (i : Invocation) (sent : List Capability) → IsNow g os → object_count g < 2 ^ 64 →
+    IsTrue (is_process os i.process) → sent ≡ sent_by os i →
+    All (FitsCap g) (received i sent)
+received_fits g os i sent now few is same = go i.operation
+  where
+    all : All (FitsCap g) sent
+    all = subst (All (FitsCap g)) (sym same) (All-map (FitsCap g) (register_at os i.process) i.sent
+        (λ k d inside. held_fits g os now.frame.kinds few _ (held_to os _ ((now.filled (annex_at os i.process)).slots _))))
+
+    go : (o : Operation) → All (FitsCap g) (elim o [ Call ↦ slice_set sent 3 (Resume i.process) | _ ↦ sent ])
+    go Call = All-set (FitsCap g) sent 3 (Resume i.process) (resume_fits g os now.frame.kinds few i.process is) all
+    go c = all
+
+pub on_ok : {T E : Type 0} (r : Result T E) {P Q : Type 0} → (P → Q) → OnOk r P → OnOk r Q
+on_ok (Ok x) f p = f p
+on_ok (Err e) f p = tt
+
+-- what stands at an index is contained
+pub contained : (xs : List ℕ) (i x : ℕ) → i < length xs → slice_index xs i ≡ x → Contains xs x
+contained [] i x inside is = absurd (omega arith)
+contained (y ∷ ys) zero x inside is = (0, omega arith, is)
+contained (y ∷ ys) (suc i) x inside is =
+    let rest = contained ys i x (omega arith) is in
+    (suc rest.0, omega (arith, rest.1), rest.2)
+
+-- what is written through a gate
+abbrev asking : Operation → ℕ → List ℕ
+asking operation p = elim operation [ Send ↦ [] | _ ↦ p ∷ [] ]
+
+asking_in : (operation : Operation) (p q a : ℕ) → (operation ≡ Send → ⊥) → Contains (written_through operation p q a) p
+asking_in Send p q a other = absurd (other refl)
+asking_in c p q a other = (2, omega arith, refl)
+
+pub announced_through : (Announced : ℕ → Type 0) (operation : Operation) (p q a : ℕ) → ((n : ℕ) → Contains (written_through operation p q a) n → Announced n)
+    → Announced q × Announced a × ((operation ≡ Send → ⊥) → Announced p)
+announced_through Announced operation p q a replying =
+    (replying q (0, omega arith, refl), replying a (1, omega arith, refl), λ other. replying p (asking_in operation p q a other))
+
+pub all_through : (P : ℕ → Type 0) (operation : Operation) (p q a : ℕ) → P p → P q → P a → All P (written_through operation p q a)
+all_through P Call p q a of_p of_q of_a = search rules
+all_through P c p q a of_p of_q of_a = search rules
+
+-- four capabilities, one after the other
+pub all_four : {X : Type 0} (P : X → Type 0) (a b c d : X) → P a → P b → P c → P d → All P (a ∷ b ∷ c ∷ d ∷ [])
+all_four P a b c d x y z w zero e inside = x
+all_four P a b c d x y z w (suc zero) e inside = y
+all_four P a b c d x y z w (suc (suc zero)) e inside = z
+all_four P a b c d x y z w (suc (suc (suc zero))) e inside = w
+all_four P a b c d x y z w (suc (suc (suc (suc k)))) e inside = absurd (omega arith)
+
+-- a refusal to prepare is one of the gate, and none of the process
+of_gate : (why : Refusal) → IsUnprepared why → IsOfGate why
+of_gate refusal.LogFull of = tt
+of_gate refusal.Fault of = tt
+of_gate c of = absurd of
+
+of_process : (why : Refusal) → IsUnprepared why → (why ≡ refusal.Stalled) ⊎ (why ≡ refusal.NotRunning) → ⊥
+of_process refusal.LogFull of (inl is) = cc
+of_process refusal.LogFull of (inr is) = cc
+of_process refusal.Fault of (inl is) = cc
+of_process refusal.Fault of (inr is) = cc
+of_process c of is = absurd of
+
+pub ok_no_failure : {T : Type 0} (x : T) → (let r : Result T Refusal = Ok x in IsErrOf r refusal.Fault) → ⊥
+ok_no_failure x is = cc
+
+pub ok_no_err : {T : Type 0} (x : T) → IsErr {T = T} {E = Failed} (Ok x) → ⊥
+ok_no_err x is = cc
+
+on_err : {T E : Type 0} (r : Result T E) {P Q : Type 0} → (P → Q) → OnErr r P → OnErr r Q
+on_err (Ok x) f p = tt
+on_err (Err e) f p = f p
+
+if_ok : {T E : Type 0} (r : Result T E) {P Q : T → Type 0} → ((x : T) → P x → Q x) → IfOk r P → IfOk r Q
+if_ok (Ok x) f p = f x p
+if_ok (Err e) f p = tt
+
+module _ {S : Type 0} {parts : S → Parts} {Continues : S → S → Type 0} (i : Invocation) where
+  -- an invocation after a read-only call
+  module _ (twice : (s t u : S) → Continues s t → Continues t u → Continues s u) {s t : S} (u : S) {T : Type 0} {x : T}
+      (only_reads : FetchesOrFails {T = T} parts Continues s t (Ok x)) where
+    still : (parts t).failures ≡ (parts s).failures
+    still = unrisen (parts s).failures (parts t).failures only_reads.later (λ rose. ok_no_err x (only_reads.cause.1 rose))
+
+    before : (P : Geometry → List Object → List Bool → Type 0) → P (parts t).geometry (objects_in (parts t)) (parts t).touched →
+        P (parts s).geometry (objects_in (parts s)) (parts s).touched
+    before P p = subst (λ (X : Type 0). X)
+        (λ k. P (only_reads.snapshots.geometry k) (looked_objects (looked_as only_reads.snapshots) k) (only_reads.snapshots.touched k)) p
+
+    -- a refusal that only a read reported
+    found : (k : Refusal) → IsOfGate k → (IsErrOf {T = Option ResultCode} (Err k) refusal.LogFull → ⊥) →
+        (IsErrOf {T = Option ResultCode} (Err k) refusal.Fault → ⊥) →
+        (IsErrOf {T = Option ResultCode} (Err k) refusal.NotRunning → is_running_process (objects_in (parts s)) i.process ≡ false) →
+        (IsErrOf {T = Option ResultCode} (Err k) refusal.Stalled → invoke (parts s).geometry (objects_in (parts s)) i ≡ None) →
+        Invoked parts Continues s t i (Err k)
+    found k is_of_gate not_full not_failed stopped stalled = record {
+      done = tt;
+      code = tt;
+      refusals = is_of_gate;
+      runs = stopped;
+      stalled = stalled;
+      full = λ is. absurd (not_full is);
+      sound = tt;
+      renews = tt;
+      unchanged = record { headers = only_reads.snapshots.headers; contents = only_reads.snapshots.contents; touched = only_reads.snapshots.touched };
+      cause = (λ is. absurd (not_failed is), λ rose. absurd (ok_no_err x (only_reads.cause.1 rose)));
+      later = only_reads.later;
+      geometry = only_reads.snapshots.geometry;
+      continues = only_reads.snapshots.continues;
+    }
+
+    pub found_stalled : invoke (parts s).geometry (objects_in (parts s)) i ≡ None → Invoked parts Continues s t i (Err refusal.Stalled)
+    found_stalled none = found refusal.Stalled tt (λ is. cc) (λ is. cc) (λ is. cc) (λ is. none)
+
+    pub invoked_looked : (r : Result (Option ResultCode) Refusal) → Invoked parts Continues t u i r → Invoked parts Continues s u i r
+    invoked_looked r is = record {
+      done = on_ok r (before (λ g os ts. Invokes g i os ts (objects_in (parts u)) (parts u).touched)) is.done;
+      code = if_ok r (λ code replying. before (λ g os ts. code ≡ result_code g os i) replying) is.code;
+      refusals = is.refusals;
+      runs = λ e. before (λ g os ts. is_running_process os i.process ≡ false) (is.runs e);
+      stalled = λ e. before (λ g os ts. invoke g os i ≡ None) (is.stalled e);
+      full = λ e. before (λ g os ts. Overfills g i os ts) (is.full e);
+      sound = on_ok r (keeps_looked (parts u) (looked_as only_reads.snapshots)) is.sound;
+      renews = on_ok r (renews_looked (looked_as only_reads.snapshots)) is.renews;
+      unchanged = on_err r (λ (same : IsUnchanged (parts t) (parts u)). record {
+        headers = same.headers ∙ only_reads.snapshots.headers;
+        contents = same.contents ∙ only_reads.snapshots.contents;
+        touched = same.touched ∙ only_reads.snapshots.touched;
+      }) is.unchanged;
+      cause = (
+        λ e. subst (λ (n : ℕ). n < (parts u).failures) still (is.cause.0 e),
+        λ rose. is.cause.1 (subst (λ (n : ℕ). n < (parts u).failures) (sym still) rose),
+      );
+      later = subst (λ (n : ℕ). n ≤ (parts u).failures) still is.later;
+      geometry = is.geometry ∙ only_reads.snapshots.geometry;
+      continues = twice s t u only_reads.snapshots.continues is.continues;
+    }
+
+    -- an invocation that is known, and the numbers that it writes
+    module _ (ns : List ℕ) (e : Effect) (invoked : invoke (parts s).geometry (objects_in (parts s)) i ≡ Some e) (written : ns ≡ e.written) where
+      -- numbers that couldn't be announced
+      pub unannounced : {U : Type 0} (f : Refusal) → Prepares {T = U} parts Continues t u ns (Err f) → Invoked parts Continues s u i (Err f)
+      unannounced f replying = record {
+        done = tt;
+        code = tt;
+        refusals = of_gate f replying.refusals;
+        runs = λ is. absurd (of_process f replying.refusals (inr cc));
+        stalled = λ is. absurd (of_process f replying.refusals (inl cc));
+        full = λ is. (
+          e,
+          invoked,
+          subst (λ (ms : List ℕ). (parts s).geometry.log < touched_count (touching (parts s).touched ms)) written
+              (before (λ g os ts. g.log < touched_count (touching ts ns)) (replying.full cc)),
+        );
+        sound = tt;
+        renews = tt;
+        unchanged = record {
+          headers = replying.headers ∙ only_reads.snapshots.headers;
+          contents = replying.contents ∙ only_reads.snapshots.contents;
+          touched = replying.untouched ∙ only_reads.snapshots.touched;
+        };
+        cause = (
+          λ is. subst (λ (n : ℕ). n < (parts u).failures) still (replying.cause.0 cc),
+          λ rose. let failed = replying.cause.1 (subst (λ (n : ℕ). n < (parts u).failures) (sym still) rose) in cc,
+        );
+        later = subst (λ (n : ℕ). n ≤ (parts u).failures) still replying.later;
+        geometry = replying.geometry ∙ only_reads.snapshots.geometry;
+        continues = twice s t u only_reads.snapshots.continues replying.continues;
+      }
+
+      -- and numbers that were, and then written
+      module _ {U : Type 0} (m : S) (y : U) (replying : Prepares {T = U} parts Continues t m ns (Ok y)) (failures : (parts u).failures ≡ (parts m).failures)
+        where
+          all_still : (parts u).failures ≡ (parts s).failures
+          all_still = failures ∙ unrisen (parts t).failures (parts m).failures replying.later (λ rose. ok_no_failure y (replying.cause.1 rose)) ∙ still
+
+          there : ReadsAs (parts s) (parts m)
+          there = only_reads_again (looked_as only_reads.snapshots) (prepared_as replying)
+
+          pub carried_out : (parts u).touched ≡ (parts m).touched → (parts u).geometry ≡ (parts m).geometry → Continues m u → objects_in (parts u) ≡ e.objects
+              → Fits (command.Invoke i) → IsTrue (is_running_process (objects_in (parts s)) i.process) → AreCurrent (frames_of (parts u))
+              → ((age : ℕ) → age + 1 < 2 ^ 64 → AreKeepable (parts m).geometry age (frames_of (parts m)) →
+              AreKeepable (parts m).geometry (age + 1) (frames_of (parts u)))
+              → Renews (parts s) (parts u) → (code : Option ResultCode) → code ≡ result_code (parts s).geometry (objects_in (parts s)) i
+              → Invoked parts Continues s u i (Ok code)
+          carried_out touched geometry continues objects fits running current keepable renews code is = record {
+            done = (
+              e,
+              invoked,
+              objects,
+              touched ∙ replying.touched ∙ ap (λ (ts : List Bool). touching ts ns) only_reads.snapshots.touched ∙ ap (touching (parts s).touched) written,
+              subst (λ (ts : List Bool). touched_count ts ≤ (parts s).geometry.log) (sym touched)
+                  (subst (λ (g : Geometry). touched_count (parts m).touched ≤ g.log) there.geometry replying.within),
+            );
+            code = is;
+            refusals = tt;
+            runs = λ is. cc;
+            stalled = λ is. cc;
+            full = λ is. cc;
+            sound = λ age young sound. sound_after (parts s).geometry age (frames_of (parts s)) (frames_of (parts u)) i e young fits running invoked objects
+                sound (in_geometry (sym there.geometry) (keepable age (omega (arith, young)) (looked_keepable there age sound.keepable)))
+                current;
+            renews = renews;
+            unchanged = tt;
+            cause = (λ is. cc, λ rose. absurd (omega (arith, rose, all_still)));
+            later = omega (arith, all_still);
+            geometry = geometry ∙ there.geometry;
+            continues = twice s t u only_reads.snapshots.continues (twice t m u replying.continues continues);
+          }

@@ -22,8 +22,8 @@ unfoldable pub use Rattle.model.specs.Invoke.{deliver, invoke, on_kernel_object,
 pub use Rattle.model.specs.Keepable.{AreCurrent, AreKeepable, IsCount, IsKeptCap, IsNodeNumber, IsSoundFrames, world_at}
 pub use Rattle.model.specs.Machine.{touched_count, touching}
 pub use Rattle.model.specs.Object.{free, is_annex, is_bank, is_free, is_node, is_root, is_running, map_content, root_in, with_slot_in, with_word_in}
-pub use Rattle.model.specs.Order.{IsNoBankOrder, bank_order, with_root_word, with_space}
-unfoldable pub use Rattle.model.specs.Order.{order}
+pub use Rattle.model.specs.Order.{IsNoBankOrder, bank_order, node_order, page_order, with_root_word, with_space}
+unfoldable pub use Rattle.model.specs.Order.{on_node, on_page, order}
 pub use Rattle.model.specs.OrderOutcome.{OrderOutcome, refused}
 pub use Rattle.model.specs.Revoke.{resumes, void_where, without}
 unfoldable pub use Rattle.model.specs.Revoke.{consume}
@@ -31,6 +31,7 @@ pub use Rattle.model.specs.Sound.{IsOfKind, IsSound, MayBeHeld, NamesItsKind, ob
 pub use Rattle.model.specs.Text.{Fits}
 pub use Rattle.model.specs.World.{World, annex_at, content_at, is_process, is_running_process, register_at, root_at, slot_at, with_slots_from}
 unfoldable pub use Rattle.model.specs.World.{with_content, with_root, with_slot, with_state, with_word}
+pub use Rattle.model.specs.declared.access.Access.{Access}
 pub use Rattle.model.specs.declared.answer.Refusal.{Refusal}
 pub use Rattle.model.specs.declared.capability.Cap.{Cap}
 pub use Rattle.model.specs.declared.capability.Capability.{Capability}
@@ -48,6 +49,8 @@ pub use Rattle.model.specs.declared.object.State.{State}
 pub use Rattle.model.specs.declared.object.State.TheVariants.{Available, Waiting}
 pub use Rattle.model.specs.declared.order.Arguments.{Arguments}
 pub use Rattle.model.specs.declared.order.BankOrder.{BankOrder}
+pub use Rattle.model.specs.declared.order.NodeOrder.{NodeOrder}
+pub use Rattle.model.specs.declared.order.PageOrder.{PageOrder}
 pub use Rattle.model.specs.declared.order.ResultCode.{ResultCode}
 pub use Rattle.model_laws.proofs.BankFreed.{used_within}
 pub use Rattle.model_laws.proofs.BankWrites.{annex_kept, written_within}
@@ -55,11 +58,10 @@ pub use Rattle.model_laws.proofs.InvocationFrame.{deliver_frame, invocation_fram
 pub use Rattle.model_laws.proofs.SoundGates.{all_words, held_sent, invocation_keeps, ordered_keeps}
 pub use Rattle.model_laws.proofs.SoundObjects.{order_keeps}
 pub use Rattle.model_laws.proofs.SoundOrders.{AreArguments, IsNow}
-pub use Rattle.model_laws.proofs.SoundParts.{IsHeld, Waits, held_to, nearly_from}
+pub use Rattle.model_laws.proofs.SoundParts.{IsHeld, Waits, held_to, held_void, nearly_from}
 pub use Rattle.model_laws.proofs.Usage.{SameFrame, frame_refl, tests_at, usage_same}
-pub use Rattle.space_bank.proofs.Ending.{snapshots_alone}
 pub use Rattle.space_bank.proofs.Missing.{counted_listed}
-pub use Rattle.space_bank.proofs.Renewing.{SameAllocations, SameFree, renews_after, renews_none, renews_then, unrisen}
+pub use Rattle.space_bank.proofs.Renewing.{SameAllocations, SameFree, renews_after, renews_none, renews_then, snapshots_alone, unrisen}
 pub use Rattle.space_bank.specs.Allocating.{numbers_of}
 pub use Rattle.space_bank.specs.Banks.{AreCounted, BanksState, MayAsk}
 pub use Rattle.space_bank.specs.Carrying.{IsForBank, MayMake, PlansAs}
@@ -75,7 +77,7 @@ pub use Rattle.std.specs.Option.{option_to_list}
 pub use Rattle.std.specs.Prelude.{IfOk, IsErr, IsErrOf, IsTrue, OnErr, OnOk, slice_index, slice_index_or, slice_set}
 pub use Rattle.gate.specs.Invoke.{Invoked, Invokes, IsKernelObject, IsOfGate, IsRequested, KeepsSoundFrames, Overfills, entered, gate_capability, received}
 pub use Rattle.gate.specs.Invoke.{result_code, written_through}
-pub use Rattle.gate.specs.Ordering.{IsPlanned, Plans, answered, arguments_of, finished, ordered_by, state_before}
+pub use Rattle.gate.specs.Ordering.{AreEnough, IsPlanned, LooksAtWords, Plans, answered, arguments_of, finished, ordered_by, state_before}
 pub use Rattle.gate.specs.Plan.{ChangesAs, FitsCap, HaveAnnexesOf, IsFor, IsOfProcess, IsWithinObject, MayChange, MayEdit, MayHold, fetched_of, node_named}
 pub use Rattle.gate.specs.Plan.{outcome_of, process_named}
 pub use Rattle.gate.specs.declared.gates.Gate.{Gate}

@@ -1,23 +1,175 @@
--- The effect of an order that is carried out as planned.
-use Rattle.gate.proofs.Names.{⊎_elim, ℕ, zero, suc, true, List, [], Option, None, Some, drop, length, refl, sym, ap, subst, arith, IsTrue, slice_index, All}
-use Rattle.gate.proofs.Names.{option_to_list, Capability, Number, Node, Process, Bank, Invocation, Operation, Call, Geometry, Object, Arguments, BankOrder}
-use Rattle.gate.proofs.Names.{on_bank, is_annex, is_bank, is_node, OrderOutcome, refused, bank_order, order, NamesItsKind, object_count, Fits, annex_at}
-use Rattle.gate.proofs.Names.{content_at, is_process, register_at, used_within, annex_kept, written_within, all_words, held_sent, AreArguments, IsNow, IsHeld}
-use Rattle.gate.proofs.Names.{Waits, held_to, SameFrame, frame_refl, tests_at, BankChange, Caller, Change, OrderPlan, changed, outcome_by, target_of}
-use Rattle.gate.proofs.Names.{written_of, numbers_of, IsForBank, MayMake, PlansAs, writer_count, writers, IsRequested, IsPlanned, Plans, arguments_of}
-use Rattle.gate.proofs.Names.{ChangesAs, FitsCap, HaveAnnexesOf, IsFor, IsOfProcess, IsWithinObject, MayChange, MayEdit, MayHold, fetched_of, node_named}
-use Rattle.gate.proofs.Names.{outcome_of, process_named, annex_used, node_used, root_used}
-use Rattle.std.proofs.Common.{◌≡◌, ◌^◌, ◌<◌, ◌++◌, ◌∙◌}
-use Rattle.model.specs.declared.command.Command.TheVariants as command
-use Rattle.model.specs.declared.order.ResultCode.TheVariants as code
-use Rattle.capability.specs.declared.order.BankChange.TheVariants as bank
+-- What stays of processes while one of them changes. Orders that look only at the words of their arguments, and orders carried out as planned.
+use Rattle.gate.proofs.Names.{ℕ, List, [], refl, sym, ap, IsTrue, slice_index_or, get_or-map, map-set_same, Capability, Invocation, Operation, Call, Return}
+use Rattle.gate.proofs.Names.{Send, Content, Object, State, Available, Waiting, after_gate, free, is_root, map_content, root_in, with_slot_in, with_word_in}
+use Rattle.gate.proofs.Names.{with_root_word, with_space, consume, resumes, void_where, without, annex_at, content_at, is_process, root_at, with_content}
+use Rattle.gate.proofs.Names.{with_root, with_slot, with_state, with_word, root_frame, set_frame, slot_frame, word_frame, SameFrame, frame_refl, Change}
+use Rattle.gate.proofs.Names.{changed, IsOfProcess, IsWithinObject, Bool, true, false, Option, None, Some, Access, Bank, Node, Page, Geometry, Arguments}
+use Rattle.gate.proofs.Names.{BankOrder, on_bank, NodeOrder, PageOrder, OrderOutcome, refused, bank_order, node_order, on_node, on_page, order, page_order}
+use Rattle.gate.proofs.Names.{LooksAtWords, ⊎_elim, zero, suc, drop, length, subst, arith, slice_index, All, option_to_list, Number, Process, is_annex, is_bank}
+use Rattle.gate.proofs.Names.{is_node, NamesItsKind, object_count, Fits, register_at, used_within, annex_kept, written_within, all_words, held_sent}
+use Rattle.gate.proofs.Names.{AreArguments, IsNow, IsHeld, Waits, held_to, tests_at, BankChange, Caller, OrderPlan, outcome_by, target_of, written_of}
+use Rattle.gate.proofs.Names.{numbers_of, IsForBank, MayMake, PlansAs, writer_count, writers, IsRequested, IsPlanned, Plans, arguments_of, ChangesAs, FitsCap}
+use Rattle.gate.proofs.Names.{HaveAnnexesOf, IsFor, MayChange, MayEdit, MayHold, fetched_of, node_named, outcome_of, process_named, annex_used, node_used}
+use Rattle.gate.proofs.Names.{root_used, Void, AreEnough, held_void}
+use Rattle.std.proofs.Common.{◌≡◌, ◌∙◌, ◌^◌, ◌<◌, ◌++◌}
+use Rattle.model.specs.declared.object.Content.TheVariants as content
 use Rattle.capability.specs.declared.order.Change.TheVariants as change
-use Rattle.gate.proofs.Fits.{held_fits}
-use Rattle.gate.proofs.Known.{named_used}
-use Rattle.gate.proofs.Roles.{changed_annex}
+use Rattle.model.specs.declared.order.BankOrder.TheVariants as bank
+use Rattle.model.specs.declared.order.NodeOrder.TheVariants as node
+use Rattle.model.specs.declared.order.PageOrder.TheVariants as page
+use Rattle.model.specs.declared.order.ResultCode.TheVariants as code
+use Rattle.model.specs.declared.command.Command.TheVariants as command
+use Rattle.capability.specs.declared.order.BankChange.TheVariants as bank_edit
+use Rattle.gate.proofs.Standing.{held_fits, named_used}
 
-none_all : (P : ℕ → Type 0) → All P []
-none_all P k d inside = absurd (omega arith)
+-- a field of all contents that one edit leaves
+module _ {X : Type 0} (field : Content Capability → X) where
+  abbrev field_of : Object → X
+  field_of o = field o.content
+
+  field_kept : (os : List Object) (n : ℕ) (c : Content Capability) → field c ≡ field (content_at os n) → (m : ℕ) →
+      field (content_at (with_content os n c) m) ≡ field (content_at os m)
+  unfolding with_content
+  field_kept os n c same m =
+      sym (get_or-map field_of (with_content os n c) m free)
+      ∙ ap (λ (xs : List X). slice_index_or xs m (field_of free)) (map-set_same field_of os n _ free same) ∙ get_or-map field_of os m free
+
+-- the annex that a content names
+abbrev annex_in : Content Capability → ℕ
+annex_in c = (root_in c).annex
+
+-- a process in another state
+module _ (os : List Object) (p : ℕ) (s : State) (is : IsTrue (is_process os p)) where
+  pub state_process : (q : ℕ) → is_process (with_state os p s) q ≡ is_process os q
+  unfolding with_state with_root
+  state_process q = field_kept is_root os p _ (sym is) q
+
+pub state_annex : (os : List Object) (p : ℕ) (s : State) (q : ℕ) → annex_at (with_state os p s) q ≡ annex_at os q
+unfolding with_state with_root
+state_annex os p s q = field_kept annex_in os p (content.Root (record (root_at os p) { state = s })) refl q
+
+-- the process that invokes through a gate
+pub after_process : (os : List Object) (i : Invocation) → IsTrue (is_process os i.process) → (q : ℕ) → is_process (after_gate os i) q ≡ is_process os q
+after_process os i is q = go i.operation
+  where
+    go : (o : Operation) → is_process (elim o [ Call ↦ with_state os i.process Waiting | Return ↦ with_state os i.process Available | Send ↦ os ]) q ≡
+        is_process os q
+    go Call = state_process os i.process Waiting is q
+    go Return = state_process os i.process Available is q
+    go Send = refl
+
+pub after_annex : (os : List Object) (i : Invocation) (q : ℕ) → annex_at (after_gate os i) q ≡ annex_at os q
+after_annex os i q = go i.operation
+  where
+    go : (o : Operation) → annex_at (elim o [ Call ↦ with_state os i.process Waiting | Return ↦ with_state os i.process Available | Send ↦ os ]) q ≡ annex_at os
+        q
+    go Call = state_annex os i.process Waiting q
+    go Return = state_annex os i.process Available q
+    go Send = refl
+
+-- a slot, a word and what goes void leave annexes
+word_annex : (c : Content Capability) (i word : ℕ) → annex_in (with_word_in c i word) ≡ annex_in c
+word_annex content.Free i word = refl
+word_annex c i word = refl
+
+slot_annex : (c : Content Capability) (i : ℕ) (held : Capability) → annex_in (with_slot_in c i held) ≡ annex_in c
+slot_annex content.Free i held = refl
+slot_annex c i held = refl
+
+void_annex : (f : Capability → Capability) (c : Content Capability) → annex_in (map_content f c) ≡ annex_in c
+void_annex f content.Free = refl
+void_annex f c = refl
+
+consume_annex : (p : ℕ) (os : List Object) (q : ℕ) → annex_at (consume p os) q ≡ annex_at os q
+unfolding consume
+consume_annex p os q =
+    ap (λ (o : Object). annex_in o.content) (get_or-map (without (resumes p)) os q free) ∙ void_annex (void_where (resumes p)) (content_at os q)
+
+-- a change leaves the annex of each process
+pub changed_annex : (os : List Object) (list : List ℕ) (c : Change) → IsWithinObject c → (q : ℕ) → annex_at (changed os list c) q ≡ annex_at os q
+unfolding with_word with_slot with_root
+changed_annex os list change.Nothing within q = refl
+changed_annex os list (change.Word page index word) within q = field_kept annex_in os page _ (word_annex (content_at os page) index word) q
+changed_annex os list (change.Slot node slot held) within q = field_kept annex_in os node _ (slot_annex (content_at os node) slot held) q
+changed_annex os list (change.Register process annex slot held) within q = field_kept annex_in os annex _ (slot_annex (content_at os annex) slot held) q
+changed_annex os list (change.RootWord process index word) within q = field_kept annex_in os process
+    (content.Root (with_root_word (root_at os process) index word)) refl q
+changed_annex os list (change.SetState process state) within q = consume_annex process (with_state os process state) q ∙ state_annex os process state q
+changed_annex os list (change.Space process held) within q = field_kept annex_in os process (content.Root (with_space (root_at os process) held)) refl q
+changed_annex os list (change.Bank made) within q = absurd within
+
+-- an edit that a list doesn't have is the same with another list, and leaves the frame
+pub changed_any : (os : List Object) (list : List ℕ) (c : Change) → IsWithinObject c → changed os [] c ≡ changed os list c
+changed_any os list (change.Bank made) within = absurd within
+changed_any os list c within = refl
+
+pub changed_frame : (os : List Object) (c : Change) → IsWithinObject c → IsOfProcess os c → SameFrame os (changed os [] c)
+changed_frame os change.Nothing within of = frame_refl os
+changed_frame os (change.Word page index word) within of = word_frame os page index word
+changed_frame os (change.Slot node slot held) within of = slot_frame os node slot held
+changed_frame os (change.Register process annex register held) within of = slot_frame os annex register held
+changed_frame os (change.RootWord process index word) within of = root_frame os process _ of refl
+changed_frame os (change.SetState process state) within of = set_frame os process state of
+changed_frame os (change.Space process held) within of = root_frame os process _ of refl
+changed_frame os (change.Bank made) within of = absurd within
+
+pub not_both : (b : Bool) → b ≡ false → b ≡ true → ⊥
+not_both true is other = cc
+not_both false is other = cc
+
+-- arguments with the words of others, and another capability
+abbrev with_sent : Arguments → Capability → Arguments
+with_sent a sent = record { first = a.first; second = a.second; capability = sent }
+
+-- an order that stays with another capability looks at the words alone
+by_words : (c : Capability) (w : ℕ) → ((g : Geometry) (us : List Object) (a : Arguments) (sent : Capability) →
+    order g us c w a ≡ order g us c w (with_sent a sent)) → LooksAtWords c w
+by_words c w same g us a b first second =
+    same g us a b.capability
+    ∙ ap (λ (n : ℕ). order g us c w (record { first = n; second = a.second; capability = b.capability })) first
+    ∙ ap (λ (n : ℕ). order g us c w (record { first = b.first; second = n; capability = b.capability })) second
+
+-- an outcome by the order that is found stays if that of each found order does
+abbrev found_or : {R : Type 0} → OrderOutcome → (R → OrderOutcome) → Option R → OrderOutcome
+found_or other on found = elim found [ None ↦ other | Some requested ↦ on requested ]
+
+same_found : {R : Type 0} (other : OrderOutcome) (on by : R → OrderOutcome) (found : Option R) → ((r : R) → found ≡ Some r → on r ≡ by r) →
+    found_or other on found ≡ found_or other by found
+same_found other on by None each = refl
+same_found other on by (Some r) each = each r refl
+
+page_found : (us : List Object) (o : ℕ) (access : Access) (a : Arguments) (sent : Capability) (requested : PageOrder) →
+    on_page us o access requested a ≡ on_page us o access requested (with_sent a sent)
+unfolding on_page
+page_found us o access a sent page.Read = refl
+page_found us o access a sent c = refl
+
+pub page_words : (o : ℕ) (access : Access) (w : ℕ) → LooksAtWords (Page o access) w
+unfolding order
+page_words o access w = by_words (Page o access) w (λ g us a sent. same_found (refused us code.NoOrder) (λ r. on_page us o access r a)
+    (λ r. on_page us o access r (with_sent a sent)) (page_order w) (λ r is. page_found us o access a sent r))
+
+node_found : (us : List Object) (o : ℕ) (access : Access) (a : Arguments) (sent : Capability) (requested : NodeOrder) → (requested ≡ node.Store → ⊥) →
+    on_node us o access requested a ≡ on_node us o access requested (with_sent a sent)
+unfolding on_node
+node_found us o access a sent node.Store other = absurd (other refl)
+node_found us o access a sent c other = refl
+
+pub node_words : (o : ℕ) (access : Access) (w : ℕ) → (node_order w ≡ Some node.Store → ⊥) → LooksAtWords (Node o access) w
+unfolding order
+node_words o access w other = by_words (Node o access) w (λ g us a sent. same_found (refused us code.NoOrder) (λ r. on_node us o access r a)
+    (λ r. on_node us o access r (with_sent a sent)) (node_order w) (λ r is. node_found us o access a sent r (λ e. other (is ∙ ap Some e))))
+
+bank_found : (g : Geometry) (us : List Object) (b : ℕ) (a : Arguments) (sent : Capability) (requested : BankOrder) → (requested ≡ bank.Free → ⊥) →
+    on_bank g us b requested a ≡ on_bank g us b requested (with_sent a sent)
+unfolding on_bank
+bank_found g us b a sent bank.Free other = absurd (other refl)
+bank_found g us b a sent c other = refl
+
+pub bank_words : (b w : ℕ) → (bank_order w ≡ Some bank.Free → ⊥) → LooksAtWords (Bank b) w
+unfolding order
+bank_words b w other = by_words (Bank b) w (λ g us a sent. same_found (refused us code.NoOrder) (λ r. on_bank g us b r a)
+    (λ r. on_bank g us b r (with_sent a sent)) (bank_order w) (λ r is. bank_found g us b a sent r (λ e. other (is ∙ ap Some e))))
 
 -- the process and the node that a capability names that may be held
 pub process_there : (os : List Object) (c : Capability) → NamesItsKind os c → (p : ℕ) → process_named c ≡ Some p → IsTrue (is_process os p)
@@ -87,9 +239,7 @@ module _ (g : Geometry) (os us : List Object) (frame : SameFrame os us) where
 
   holds_alike : (x : Change) → MayHold g os x → MayHold g us x
   holds_alike (change.Slot node slot held) holds = (holds.0, (tests_at os us frame node).node ∙ holds.1)
-  holds_alike (change.Register process annex register held) holds = holds
-  holds_alike (change.Space process held) holds = holds
-  holds_alike c holds = tt
+  holds_alike c holds = holds
 
   edit_alike : (list : List ℕ) (x : Change) → MayEdit g os list x → MayEdit g us list x
   edit_alike list x may = record { within = may.within; process = process_alike x may.process; holds = holds_alike x may.holds; listed = may.listed }
@@ -110,20 +260,13 @@ module _ (g : Geometry) (os : List Object) (list : List ℕ) where
 
   -- what holds of all that is written holds of what is to be fetched
   made_fetched : (P : ℕ → Type 0) (made : BankChange) → MayMake g os list made → All P list → All P (numbers_of made)
-  made_fetched P (bank.Make n f b) may all = subst (All P) may.listed all
-  made_fetched P (bank.MakeProcess r a b) may all = subst (All P) may.listed all
-  made_fetched P (bank.GiveUp above) may all = none_all P
-  made_fetched P (bank.Transfer b) may all = none_all P
+  made_fetched P (bank_edit.Make n f b) may all = subst (All P) may.listed all
+  made_fetched P (bank_edit.MakeProcess r a b) may all = subst (All P) may.listed all
+  made_fetched P c may all = λ k d inside. absurd (omega arith)
 
   pub change_fetched : (P : ℕ → Type 0) (x : Change) → MayChange g os list x → All P list → All P (fetched_of x)
-  change_fetched P change.Nothing may all = subst (All P) may.listed all
-  change_fetched P (change.Word page index word) may all = subst (All P) may.listed all
-  change_fetched P (change.Slot node slot held) may all = subst (All P) may.listed all
-  change_fetched P (change.Register process annex register held) may all = subst (All P) may.listed all
-  change_fetched P (change.RootWord process index word) may all = subst (All P) may.listed all
-  change_fetched P (change.SetState process state) may all = subst (All P) may.listed all
-  change_fetched P (change.Space process held) may all = subst (All P) may.listed all
   change_fetched P (change.Bank made) may all = made_fetched P made may all
+  change_fetched P c may all = subst (All P) may.listed all
 
 pub edit_fetched : (x : Change) → ((made : BankChange) → x ≡ change.Bank made → ⊥) → fetched_of x ≡ written_of x
 edit_fetched (change.Bank made) other = absurd (other made refl)
@@ -143,17 +286,30 @@ pub behind_writers : (op : Operation) (p annex : ℕ) (ns : List ℕ) → drop (
 behind_writers Call p annex ns = refl
 behind_writers c p annex ns = refl
 
+-- a plan by some arguments is one by others with which the order does the same
+plans_with : (g : Geometry) (os : List Object) (c : Capability) (w : ℕ) (args others : Arguments) (list : List ℕ) (plan : OrderPlan) →
+    ((us : List Object) → order g us c w args ≡ order g us c w others) → Plans g os c w args list plan → Plans g os c w others list plan
+plans_with g os c w args others list plan same plans = record {
+  here = sym (same os) ∙ plans.here;
+  code = λ us frame. ap (λ (o : OrderOutcome). o.code) (sym (same us)) ∙ plans.code us frame;
+  objects = λ us frame. ap (λ (o : OrderOutcome). o.objects) (sym (same us)) ∙ plans.objects us frame;
+  written = λ us frame. ap (λ (o : OrderOutcome). o.written) (sym (same us)) ∙ plans.written us frame;
+  may = plans.may;
+  annex = plans.annex;
+  known = plans.known;
+}
+
 pub planned_by : (g : Geometry) (os : List Object) (i : Invocation) (caller : Caller) (plan : OrderPlan) (args : Arguments) (first list rest : List ℕ) →
-    args ≡ arguments_of os i
+    AreEnough os i caller.invoked args
     → first ≡ writers caller.operation caller.process caller.annex → list ≡ first ++ rest → Plans g os caller.invoked (slice_index i.words 0) args rest plan →
     IsPlanned g os i caller plan list
-planned_by g os i caller plan args first list rest args_are first_is is plans =
+planned_by g os i caller plan args first list rest enough first_is is plans =
     let all : list ≡ writers caller.operation caller.process caller.annex ++ rest = is ∙ ap (λ (ns : List ℕ). ns ++ rest) first_is in
     let behind : drop (writer_count caller.operation) list ≡ rest =
     ap (λ (ns : List ℕ). drop (writer_count caller.operation) ns) all ∙ behind_writers caller.operation caller.process caller.annex rest in
     record {
       plans = subst (λ (ns : List ℕ). Plans g os caller.invoked (slice_index i.words 0) (arguments_of os i) ns plan) (sym behind)
-          (subst (λ (a : Arguments). Plans g os caller.invoked (slice_index i.words 0) a rest plan) args_are plans);
+          (plans_with g os caller.invoked (slice_index i.words 0) args (arguments_of os i) rest plan (enough.orders g) plans);
       listed = all ∙ ap (λ (ns : List ℕ). writers caller.operation caller.process caller.annex ++ ns) (sym behind);
     }
 
@@ -165,16 +321,27 @@ module _ (g : Geometry) (os : List Object) (i : Invocation) (now : IsNow g os) w
   pub arguments_held : Fits (command.Invoke i) → AreArguments os (arguments_of os i)
   arguments_held fits = record { first = all_words i.words fits.3 1; second = all_words i.words fits.3 2; held = held_sent g os i 0 now }
 
+  pub enough_held : (c : Capability) (args : Arguments) → Fits (command.Invoke i) → AreEnough os i c args → AreArguments os args
+  enough_held c args fits enough =
+      let sent = arguments_held fits in
+      record {
+        first = subst (λ (n : ℕ). n < 2 ^ 64) (sym enough.first) sent.first;
+        second = subst (λ (n : ℕ). n < 2 ^ 64) (sym enough.second) sent.second;
+        held = ⊎_elim (λ (e : args.capability ≡ (arguments_of os i).capability). subst (IsHeld os (Waits os)) (sym e) sent.held)
+            (λ (e : args.capability ≡ Void). subst (IsHeld os (Waits os)) (sym e) (held_void os (Waits os))) enough.sent;
+      }
+
 -- an order that isn't a bank's is planned
 pub object_planned : (g : Geometry) (os us : List Object) (i : Invocation) (caller : Caller) (plan : OrderPlan) (args : Arguments) (first list : List ℕ) →
-    us ≡ os → IsNow g os → object_count g < 2 ^ 64 → Fits (command.Invoke i) → IsRequested os i caller → args ≡ arguments_of os i →
-    first ≡ writers caller.operation caller.process caller.annex → list ≡ first ++ written_of plan.change → IsFor us caller.invoked args plan.change
+    us ≡ os → IsNow g os → object_count g < 2 ^ 64 → Fits (command.Invoke i) → IsRequested os i caller →
+    AreEnough os i caller.invoked args → first ≡ writers caller.operation caller.process caller.annex → list ≡ first ++ written_of plan.change →
+    IsFor us caller.invoked args plan.change
     → outcome_of us plan ≡ order g us caller.invoked (slice_index i.words 0) args
     → ((vs : List Object) → HaveAnnexesOf us vs → ChangesAs vs plan (order g vs caller.invoked (slice_index i.words 0) args)) →
     IsPlanned g os i caller plan list
-object_planned g os us i caller plan args first list same now few fits is args_are first_is listed for as_planned changes =
+object_planned g os us i caller plan args first list same now few fits is enough first_is listed for as_planned changes =
     let c = caller.invoked in
-    let sent = subst (λ (a : Arguments). AreArguments os a) (sym args_are) (arguments_held g os i now fits) in
+    let sent = enough_held g os i now caller.invoked args fits enough in
     let kind = (held_to os c (invoked_held g os i now c is.invoked)).1 in
     let for_os = subst (λ (vs : List Object). IsFor vs c args plan.change) same for in
     let may : MayEdit g os (written_of plan.change) plan.change = record {
@@ -184,7 +351,7 @@ object_planned g os us i caller plan args first list same now few fits is args_a
           for_os;
       listed = refl;
     } in
-    planned_by g os i caller plan args first list (written_of plan.change) args_are first_is listed (record {
+    planned_by g os i caller plan args first list (written_of plan.change) enough first_is listed (record {
       here = sym (subst (λ (vs : List Object). outcome_of vs plan ≡ order g vs c (slice_index i.words 0) args) same as_planned);
       code = λ vs frame. (changes vs (λ p. (frame.alike p).annex ∙ ap (λ (ws : List Object). annex_at ws p) (sym same))).code;
       objects = λ vs frame. (changes vs (λ p. (frame.alike p).annex ∙ ap (λ (ws : List Object). annex_at ws p) (sym same))).objects;
@@ -223,14 +390,15 @@ bank_plans g os b w requested args plan list now bank names is listed plans =
 
 pub bank_planned : (g : Geometry) (os : List Object) (i : Invocation) (caller : Caller) (plan : OrderPlan) (args : Arguments) (b : ℕ) (requested : BankOrder)
     (first list : List ℕ)
-    → IsNow g os → Fits (command.Invoke i) → IsRequested os i caller → args ≡ arguments_of os i → first ≡ writers caller.operation caller.process caller.annex
+    → IsNow g os → Fits (command.Invoke i) → IsRequested os i caller → AreEnough os i caller.invoked args →
+    first ≡ writers caller.operation caller.process caller.annex
     → caller.invoked ≡ Bank b → bank_order (slice_index i.words 0) ≡ Some requested → list ≡ first ++ (on_bank g os b requested args).written
     → PlansAs g os b requested args (on_bank g os b requested args).written plan → IsPlanned g os i caller plan list
-bank_planned g os i caller plan args b requested first list now fits is args_are first_is invoked order_is listed plans =
+bank_planned g os i caller plan args b requested first list now fits is enough first_is invoked order_is listed plans =
     let ws = (on_bank g os b requested args).written in
-    let sent = subst (λ (a : Arguments). AreArguments os a) (sym args_are) (arguments_held g os i now fits) in
+    let sent = enough_held g os i now caller.invoked args fits enough in
     let bank : IsTrue (is_bank (content_at os b)) = subst (NamesItsKind os) invoked
     (held_to os caller.invoked (invoked_held g os i now caller.invoked is.invoked)).1 in
-    planned_by g os i caller plan args first list ws args_are first_is listed
+    planned_by g os i caller plan args first list ws enough first_is listed
     (subst (λ (c : Capability). Plans g os c (slice_index i.words 0) args ws plan) (sym invoked)
     (bank_plans g os b (slice_index i.words 0) requested args plan ws now bank (held_to os args.capability sent.held).1 order_is refl plans))

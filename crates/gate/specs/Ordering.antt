@@ -4,7 +4,7 @@ use Rattle.gate.specs.Names.{Invocation, Operation, Call, Return, Geometry, Obje
 use Rattle.gate.specs.Names.{sent_by, order, annex_at, is_process, is_running_process, with_state, IsNow, SameFrame}
 use Rattle.gate.specs.Names.{Caller, OrderPlan, Reply, changed, message_of, outcome_by, Parts, Renews, writer_count}
 use Rattle.gate.specs.Names.{writers}
-use Rattle.std.specs.Prelude.{◌≡◌, ◌<◌, ◌++◌, if◌then◌else◌}
+use Rattle.std.specs.Prelude.{◌≡◌, ◌⊎◌, ◌<◌, ◌++◌, if◌then◌else◌}
 use Rattle.gate.specs.Plan.{MayChange}
 
 -- the arguments that an invocation gives its order
@@ -14,6 +14,20 @@ arguments_of os i = record {
   second = slice_index i.words 2;
   capability = slice_index_or (sent_by os i) 0 Void;
 }
+
+-- an order that looks only at the two words of its arguments
+abbrev pub LooksAtWords : Capability → ℕ → Type 0
+LooksAtWords c w = (g : Geometry) (us : List Object) (a b : Arguments) → a.first ≡ b.first → a.second ≡ b.second →
+    order g us c w a ≡ order g us c w b
+
+-- Arguments with which the order of an invocation does what it does with those of the invocation: the same words, and
+-- what is sent, or void.
+pub record AreEnough (os : List Object) (i : Invocation) (c : Capability) (args : Arguments) : Type 0 where
+  pub first : args.first ≡ (arguments_of os i).first
+  pub second : args.second ≡ (arguments_of os i).second
+  pub sent : (args.capability ≡ (arguments_of os i).capability) ⊎ (args.capability ≡ Void)
+  pub orders : (g : Geometry) (us : List Object) → order g us c (slice_index i.words 0) args
+      ≡ order g us c (slice_index i.words 0) (arguments_of os i)
 
 -- the objects that the order finds: a process that returns is available
 abbrev pub state_before : Operation → List Object → ℕ → List Object

@@ -4,8 +4,8 @@ ghost use Rattle.model.specs.Order.{IsNoBankOrder, bank_order};
 
 use model::{BankOrder, Capability};
 
-// The order that a word requests of a bank.
-fn bank_order(word: u64) -> Option<BankOrder>
+/// The order that a word requests of a bank.
+pub fn bank_order(word: u64) -> Option<BankOrder>
     ensures { result ≡ bank_order word }
 {
     match word {

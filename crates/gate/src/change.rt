@@ -30,17 +30,13 @@ pub fn make<F: PresentFrames>(store: &mut F, change: Change)
     match change {
         Change::Nothing => {}
         Change::Word { page, index, word } => objects::set_word(store, page, index, word),
-        Change::Slot {
-            node,
-            slot,
-            capability,
-        } => objects::set_slot(store, node, slot, capability),
+        Change::Slot { node, slot, held } => objects::set_slot(store, node, slot, held),
         Change::Register {
             annex,
             register,
-            capability,
+            held,
             ..
-        } => objects::set_slot(store, annex, register, capability),
+        } => objects::set_slot(store, annex, register, held),
         Change::RootWord {
             process,
             index,
@@ -50,10 +46,7 @@ pub fn make<F: PresentFrames>(store: &mut F, change: Change)
             roots::set_state(store, process, state);
             objects::consume(store, process);
         }
-        Change::Space {
-            process,
-            capability,
-        } => roots::set_space(store, process, capability),
+        Change::Space { process, held } => roots::set_space(store, process, held),
         Change::Bank(_) => unreachable!(),
     }
 }

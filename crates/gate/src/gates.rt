@@ -208,10 +208,10 @@ fn can_enter<F: Frames>(store: &F, invocation: &Invocation, gate: Gate) -> bool
     ensures { result ≡ (gate.is_resume || can_start
         (objects_in (F.parts store.now)) invocation.now gate.process) }
 {
-    let is_available = roots::state(store, gate.process) == State::Available;
-    let is_return = invocation.operation == Operation::Return;
-    let is_own = is_return && invocation.process == gate.process;
-    gate.is_resume || is_available || is_own
+    if gate.is_resume || roots::state(store, gate.process) == State::Available {
+        return true;
+    }
+    invocation.operation == Operation::Return && invocation.process == gate.process
 }
 
 /// An invocation by a running process through a gate. A start capability needs an available

@@ -13,16 +13,16 @@ ghost use Rattle.space_bank.specs.Banks.{AreCounted};
 ghost use Rattle.space_bank.specs.Planning.{writers};
 ghost use Rattle.capability.specs.Parts.{FetchesOrFails};
 ghost use Rattle.gate.specs.Invoke.{IsRequested, IsKernelObject, Invoked};
-ghost use Rattle.gate.specs.Ordering.{IsPlanned, arguments_of};
+ghost use Rattle.gate.specs.Ordering.{IsPlanned};
 ghost use Rattle.gate.specs.Plan.{fetched_of};
 
 use crate::banking::requested_bank;
 use crate::carrying::carry_out;
-use crate::looking::{look_at_named, order_arguments};
+use crate::looking::{look_at_named, needed_arguments};
 use crate::orders::plan;
 use capability::{BankChange, Caller, Change, Frames, OrderPlan, PresentFrames};
 use device::Failed;
-use model::{Arguments, Invocation, Refusal, ResultCode};
+use model::{Capability, Invocation, Refusal, ResultCode};
 use space_bank::Banks;
 
 // Lists the object that the change of an order writes, if it writes one.
@@ -37,12 +37,12 @@ fn list_target(banks: &mut Banks, change: Change)
 }
 
 // Plans an order that isn't a bank's, and lists what it writes. First fetches what it reads.
+#[inline(always)]
 fn plan_object_order<F: Frames>(
     store: &mut F,
     banks: &mut Banks,
     invocation: &Invocation,
     caller: Caller,
-    arguments: Arguments,
 ) -> Result<OrderPlan, Failed>
     requires sound { AreSound (F.parts store.old) }
     requires counted { AreCounted (F.parts store.old).geometry
@@ -51,7 +51,7 @@ fn plan_object_order<F: Frames>(
     requires few { length (F.parts store.old).headers < 2 ^ 64 }
     requires requested { IsRequested (objects_in (F.parts store.old)) invocation.now caller }
     requires order { IsNoBankOrder caller.invoked (slice_index invocation.now.words 0) }
-    requires arguments { arguments ≡ arguments_of (objects_in (F.parts store.old)) invocation.now }
+    requires fetched { F.IsFetched store.old caller.annex }
     requires listed { banks.old.listed ≡ writers caller.operation caller.process caller.annex }
     requires room { length banks.old.listed < banks.old.room }
     ensures planned { IfOk result
@@ -60,6 +60,7 @@ fn plan_object_order<F: Frames>(
     ensures kept { banks.new ≡ record banks.old { listed = banks.new.listed } }
     ensures fetches { FetchesOrFails F.parts F.ContinuesTo store.old store.new result }
 {
+    let arguments = needed_arguments(store, invocation, caller.annex, caller.invoked);
     look_at_named(store, banks, caller.invoked)?;
     let plan = plan(store, caller.invoked, invocation.words[0], arguments);
     list_target(banks, plan.change);
@@ -88,11 +89,17 @@ fn plan_order<F: Frames>(
     ensures kept { banks.new ≡ record banks.old { listed = banks.new.listed } }
     ensures fetches { FetchesOrFails F.parts F.ContinuesTo store.old store.new result }
 {
-    let arguments = order_arguments(store, invocation, caller.annex);
     banks.list_writers(caller);
+    // The compiler makes a plan for pages alone of this: most calls are of pages.
+    if let Capability::Page { .. } = caller.invoked {
+        return plan_object_order(store, banks, invocation, caller);
+    }
     match requested_bank(caller.invoked, invocation.words[0]) {
-        Some((bank, order)) => Ok(banks.plan(store, bank, order, arguments)),
-        None => plan_object_order(store, banks, invocation, caller, arguments),
+        Some((bank, order)) => {
+            let arguments = needed_arguments(store, invocation, caller.annex, caller.invoked);
+            Ok(banks.plan(store, bank, order, arguments))
+        }
+        None => plan_object_order(store, banks, invocation, caller),
     }
 }
 

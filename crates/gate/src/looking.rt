@@ -1,5 +1,5 @@
 // What an invocation reads before anything changes.
-ghost use Rattle.std.specs.Prelude.{◌≡◌, ℕ, ◌<◌, ◌^◌, length, Some, IfOk, OnOk, IsTrue};
+ghost use Rattle.std.specs.Prelude.{◌≡◌, ℕ, ◌<◌, ◌^◌, false, length, Some, IfOk, OnOk, IsTrue};
 ghost use Rattle.model.specs.Capability.{named};
 ghost use Rattle.model.specs.Invoke.{sent_by};
 ghost use Rattle.model.specs.Keepable.{AreKeepable};
@@ -8,13 +8,15 @@ ghost use Rattle.model.specs.Sound.{NamesItsKind};
 ghost use Rattle.model.specs.World.{annex_at, content_at, is_process};
 ghost use Rattle.capability.specs.Parts.{frames_of, objects_in};
 ghost use Rattle.space_bank.specs.Banks.{AreCounted};
-ghost use Rattle.gate.specs.Ordering.{arguments_of};
+ghost use Rattle.gate.specs.Ordering.{AreEnough, LooksAtWords, arguments_of};
 ghost use Rattle.capability.specs.Parts.{FetchesOrFails};
 ghost use Rattle.gate.specs.Plan.{process_named};
 
+use crate::banking::bank_order;
+use crate::node::node_order;
 use capability::{Frames, objects};
 use device::Failed;
-use model::{Arguments, Capability, Invocation};
+use model::{Arguments, BankOrder, Capability, Invocation, NodeOrder};
 use space_bank::Banks;
 
 /// Fetches a process and its annex. Returns the annex.
@@ -39,6 +41,7 @@ pub fn look_at_process<F: Frames>(store: &mut F, banks: &Banks, process: u64) ->
 
 /// Fetches what an order on a capability reads: the object that it names, and the annex of a
 /// process.
+#[inline(always)]
 pub fn look_at_named<F: Frames>(
     store: &mut F,
     banks: &Banks,
@@ -79,6 +82,44 @@ pub fn order_arguments<F: Frames>(store: &F, invocation: &Invocation, annex: u64
         first: invocation.words[1],
         second: invocation.words[2],
         capability: objects::slot(store, annex, invocation.sent[0].index()),
+    }
+}
+
+// Whether an order looks at the capability that is sent. If not, it does the same with any other.
+#[inline(always)]
+fn looks_at_sent(invoked: Capability, word: u64) -> bool
+    ensures { result ≡ false → LooksAtWords invoked word }
+{
+    match invoked {
+        Capability::Page { .. } => false,
+        Capability::Node { .. } => node_order(word) == Some(NodeOrder::Store),
+        Capability::Bank(_) => bank_order(word) == Some(BankOrder::Free),
+        _ => true,
+    }
+}
+
+/// Arguments with which an order does what it does with those of the invocation. The capability that
+/// is sent is read only if the order looks at it. The annex of the process is fetched.
+#[inline(always)]
+pub fn needed_arguments<F: Frames>(
+    store: &F,
+    invocation: &Invocation,
+    annex: u64,
+    invoked: Capability,
+) -> Arguments
+    requires fetched { F.IsFetched store.now annex }
+    requires annex { annex
+        ≡ annex_at (objects_in (F.parts store.now)) invocation.now.process }
+    ensures { AreEnough (objects_in (F.parts store.now)) invocation.now invoked result }
+{
+    if looks_at_sent(invoked, invocation.words[0]) {
+        return order_arguments(store, invocation, annex);
+    }
+    let [_, first, second, _] = invocation.words;
+    Arguments {
+        first,
+        second,
+        capability: Capability::Void,
     }
 }
 

@@ -57,7 +57,27 @@ fn stored(object: u64, access: Access, arguments: Arguments, capability: Capabil
     OrderPlan::changed(Change::Slot {
         node: object,
         slot: arguments.first as usize,
-        capability,
+        held: capability,
+    })
+}
+
+// Plans an address space of a height, whose top is a node.
+#[tactic(auto, unfolding(model::specs::Order::on_node))]
+fn space(object: u64, access: Access, arguments: Arguments) -> OrderPlan
+    ensures only { (os : List Object)
+        → IsFor os (Capability.Node object access) arguments result.change }
+    ensures outcome { (os : List Object)
+        → outcome_of os result ≡ on_node os object access NodeOrder.MakeSpace arguments }
+    ensures change { (os : List Object)
+        → ChangesAs os result (on_node os object access NodeOrder.MakeSpace arguments) }
+{
+    if arguments.first == 0 || arguments.first > MAX_HEIGHT as u64 {
+        return OrderPlan::refused(ResultCode::BadIndex);
+    }
+    OrderPlan::given(Capability::Space {
+        object,
+        height: arguments.first as u8,
+        access,
     })
 }
 
@@ -94,16 +114,7 @@ pub fn on_node<F: Frames>(
                 access: access.union(less),
             }),
         },
-        NodeOrder::MakeSpace => {
-            if arguments.first == 0 || arguments.first > MAX_HEIGHT as u64 {
-                return OrderPlan::refused(ResultCode::BadIndex);
-            }
-            OrderPlan::given(Capability::Space {
-                object,
-                height: arguments.first as u8,
-                access,
-            })
-        }
+        NodeOrder::MakeSpace => space(object, access, arguments),
         NodeOrder::PutNumber => {
             let number = Capability::Number(arguments.second);
             stored(object, access, arguments, number)

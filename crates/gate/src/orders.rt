@@ -101,6 +101,7 @@ fn on_plain(word: u64, capability: Capability, arguments: Arguments) -> OrderPla
 
 /// Plans an order on a kernel object, with the number `word`. It isn't a bank's order. The object
 /// is fetched, and so is the annex of a process.
+#[inline(always)]
 #[tactic(auto, unfolding(model::specs::Order::order))]
 pub fn plan<F: Frames>(
     store: &F,

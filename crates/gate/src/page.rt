@@ -33,6 +33,25 @@ pub fn reduction(word: u64) -> Option<Access>
     }
 }
 
+// Plans a reduction of a page capability.
+#[tactic(auto, unfolding(model::specs::Order::on_page))]
+fn reduced(object: u64, access: Access, arguments: Arguments) -> OrderPlan
+    ensures only { (os : List Object)
+        → IsFor os (Capability.Page object access) arguments result.change }
+    ensures outcome { (os : List Object)
+        → outcome_of os result ≡ on_page os object access PageOrder.Reduce arguments }
+    ensures change { (os : List Object)
+        → ChangesAs os result (on_page os object access PageOrder.Reduce arguments) }
+{
+    match reduction(arguments.first) {
+        None => OrderPlan::refused(ResultCode::BadIndex),
+        Some(less) => OrderPlan::given(Capability::Page {
+            object,
+            access: access.union(less),
+        }),
+    }
+}
+
 /// Plans an order on a page, which is fetched.
 #[tactic(auto, unfolding(model::specs::Order::on_page))]
 pub fn on_page<F: Frames>(
@@ -70,12 +89,6 @@ pub fn on_page<F: Frames>(
                 word: arguments.second,
             })
         }
-        PageOrder::Reduce => match reduction(arguments.first) {
-            None => OrderPlan::refused(ResultCode::BadIndex),
-            Some(less) => OrderPlan::given(Capability::Page {
-                object,
-                access: access.union(less),
-            }),
-        },
+        PageOrder::Reduce => reduced(object, access, arguments),
     }
 }

@@ -30,6 +30,66 @@ pub fn process_order(word: u64) -> Option<ProcessOrder>
     }
 }
 
+// Plans an order that puts what was sent into a register of a process, other than register 0.
+#[tactic(auto, unfolding(model::specs::Order::on_process))]
+fn put_register(process: u64, annex: u64, arguments: Arguments) -> OrderPlan
+    ensures only { (os : List Object) → annex ≡ annex_at os process
+        → IsFor os (Capability.Process process) arguments result.change }
+    ensures outcome { (os : List Object) → annex ≡ annex_at os process
+        → outcome_of os result ≡ on_process os process ProcessOrder.PutRegister arguments }
+    ensures change { (os : List Object) → annex ≡ annex_at os process
+        → ChangesAs os result (on_process os process ProcessOrder.PutRegister arguments) }
+{
+    if arguments.first == 0 || arguments.first >= REGISTERS as u64 {
+        return OrderPlan::refused(ResultCode::BadIndex);
+    }
+    OrderPlan::changed(Change::Register {
+        process,
+        annex,
+        register: arguments.first as usize,
+        held: arguments.capability,
+    })
+}
+
+// Plans an order that puts a word into the root of a process.
+#[tactic(auto, unfolding(model::specs::Order::on_process))]
+fn put_word(process: u64, arguments: Arguments) -> OrderPlan
+    ensures only { (os : List Object)
+        → IsFor os (Capability.Process process) arguments result.change }
+    ensures outcome { (os : List Object)
+        → outcome_of os result ≡ on_process os process ProcessOrder.PutWord arguments }
+    ensures change { (os : List Object)
+        → ChangesAs os result (on_process os process ProcessOrder.PutWord arguments) }
+{
+    if arguments.first >= ROOT_WORDS {
+        return OrderPlan::refused(ResultCode::BadIndex);
+    }
+    OrderPlan::changed(Change::RootWord {
+        process,
+        index: arguments.first as usize,
+        word: arguments.second,
+    })
+}
+
+// Plans an order that makes a start capability to a process, with a key.
+#[tactic(auto, unfolding(model::specs::Order::on_process))]
+fn make_start(process: u64, arguments: Arguments) -> OrderPlan
+    ensures only { (os : List Object)
+        → IsFor os (Capability.Process process) arguments result.change }
+    ensures outcome { (os : List Object)
+        → outcome_of os result ≡ on_process os process ProcessOrder.MakeStart arguments }
+    ensures change { (os : List Object)
+        → ChangesAs os result (on_process os process ProcessOrder.MakeStart arguments) }
+{
+    if arguments.first > u16::MAX as u64 {
+        return OrderPlan::refused(ResultCode::BadIndex);
+    }
+    OrderPlan::given(Capability::Start {
+        process,
+        key: arguments.first as u16,
+    })
+}
+
 // Plans an order that sets the state of a process: 0 makes it available, 1 running.
 #[tactic(auto, unfolding(model::specs::Order::on_process))]
 fn set_state(process: u64, arguments: Arguments) -> OrderPlan
@@ -64,7 +124,7 @@ fn set_space(process: u64, arguments: Arguments) -> OrderPlan
     }
     OrderPlan::changed(Change::Space {
         process,
-        capability,
+        held: capability,
     })
 }
 
@@ -94,28 +154,12 @@ pub fn on_process<F: Frames>(
         ProcessOrder::GetRegister if first < REGISTERS as u64 => {
             OrderPlan::given(objects::slot(store, annex, first as usize))
         }
-        ProcessOrder::PutRegister if first != 0 && first < REGISTERS as u64 => {
-            OrderPlan::changed(Change::Register {
-                process,
-                annex,
-                register: first as usize,
-                capability: arguments.capability,
-            })
-        }
+        ProcessOrder::PutRegister => put_register(process, annex, arguments),
         ProcessOrder::GetWord if first < ROOT_WORDS => {
             OrderPlan::replying(roots::word(store, process, first as usize), 0)
         }
-        ProcessOrder::PutWord if first < ROOT_WORDS => OrderPlan::changed(Change::RootWord {
-            process,
-            index: first as usize,
-            word: arguments.second,
-        }),
-        ProcessOrder::MakeStart if first <= u16::MAX as u64 => OrderPlan::given(
-            Capability::Start {
-                process,
-                key: first as u16,
-            },
-        ),
+        ProcessOrder::PutWord => put_word(process, arguments),
+        ProcessOrder::MakeStart => make_start(process, arguments),
         ProcessOrder::GetState => {
             let state = roots::state(store, process);
             OrderPlan::replying(state.number(), roots::key(store, process) as u64)

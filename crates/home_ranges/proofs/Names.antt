@@ -1,10 +1,10 @@
 -- The names that the proofs here cite: of other crates, and of the definitions of this one.
 pub use Rattle.device.specs.Disk.{Image}
-pub use Rattle.frame_io.specs.Frames.{IsObject}
 pub use Rattle.layout.proofs.Halves.{apart_inside, apart_turned, half_at, itself, many}
 pub use Rattle.layout.proofs.Shapes.{same_shaped}
 pub use Rattle.layout.proofs.SlotsOf.{found_slot}
 pub use Rattle.layout.specs.Directory.{entry_at}
+pub use Rattle.layout.specs.Frames.{IsObject}
 pub use Rattle.layout.specs.Half.{half_of}
 pub use Rattle.layout.specs.Homes.{home_place, node_offset, place_by, place_in, place_length, range_with, rank_in, shape_of}
 pub use Rattle.layout.specs.Image.{frame_slot_in, or_beside, slot_beside, slot_in}

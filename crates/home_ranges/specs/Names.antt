@@ -1,8 +1,8 @@
 -- The names of other crates that the definitions here cite.
 pub use Rattle.device.specs.Calls.{Elsewhere}
 pub use Rattle.device.specs.Disk.{Image}
-pub use Rattle.frame_io.specs.Clusters.{IsBlankBehind}
-pub use Rattle.frame_io.specs.Frames.{IsObject}
+pub use Rattle.layout.specs.Clusters.{IsBlankBehind}
+pub use Rattle.layout.specs.Frames.{IsObject}
 pub use Rattle.layout.specs.Homes.{home_place, place_length, shape_of}
 pub use Rattle.layout.specs.Image.{bytes_at, frame_in, frame_slot_in, half_sector}
 pub use Rattle.layout.specs.Shape.{shape_bytes}

@@ -4,15 +4,14 @@ ghost use Rattle.device.specs.Calls.{Counts};
 ghost use Rattle.layout.specs.Frame.{IsFrameOf, frame_of};
 ghost use Rattle.layout.specs.Homes.{home_place, place_length};
 ghost use Rattle.layout.specs.Image.{bytes_at, sectors_from};
-ghost use Rattle.frame_io.specs.Calls.{ReadsOnly, WritesAt};
-ghost use Rattle.frame_io.specs.Fault.{CountsFailed};
-ghost use Rattle.frame_io.specs.Frames.{IsObject, IsRefused};
+ghost use Rattle.layout.specs.Calls.{ReadsOnly, WritesAt};
+ghost use Rattle.layout.specs.Fault.{CountsFailed};
+ghost use Rattle.layout.specs.Frames.{IsObject, IsRefused};
 ghost use Rattle.home_ranges.specs.Home.{HoldsHome};
 
 use crate::home::Home;
 use device::{Device, Failed};
-use frame_io::{Unreadable, read_frame, write_sectors};
-use layout::{Body, Scratch};
+use layout::{Body, Scratch, Unreadable, read_frame, write_sectors};
 use model::ObjectHeader;
 
 impl<'a> Home<'a> {

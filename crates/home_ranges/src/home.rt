@@ -4,11 +4,10 @@ ghost use Rattle.layout.specs.declared.shape.Shape.TheVariants as shape;
 ghost use Rattle.layout.specs.Homes.{home_place, node_offset, place_in, place_length, shape_of};
 ghost use Rattle.layout.specs.Shape.{IsShapeFor, shape_bytes};
 ghost use Rattle.layout.specs.Superblock.{IsPlan};
-ghost use Rattle.frame_io.specs.Frames.{IsObject};
+ghost use Rattle.layout.specs.Frames.{IsObject};
 ghost use Rattle.home_ranges.specs.Home.{EndsInZeros, HaveHome};
 
-use frame_io::blank_behind;
-use layout::{HomeRange, Shape, Superblock, Version};
+use layout::{HomeRange, Shape, Superblock, Version, blank_behind};
 use model::Geometry;
 use std::marker::Model;
 

@@ -3,14 +3,12 @@ pub use Rattle.capability.proofs.Keeping.{keepable_later}
 pub use Rattle.checkpoint.specs.Opened.{OnlyReads}
 pub use Rattle.checkpoint.specs.Saved.{Holds, SavedFrames, kept_of}
 pub use Rattle.checkpoint.specs.declared.open_fault.OpenFault.{OpenFault}
-pub use Rattle.consistency.proofs.Unsound.{sound_banked, sound_named}
-pub use Rattle.consistency.specs.Consistency.{AreBanked, AreNamed, AreWholeProcesses, IsInconsistent}
-pub use Rattle.described_world.proofs.DescribedOnce.{described_once}
-pub use Rattle.described_world.specs.Described.{HasFields, HasNumbers, IsDescribed, IsWorldFault}
-pub use Rattle.described_world.specs.declared.world.World.{World}
+pub use Rattle.description.proofs.DescribedOnce.{described_once}
+pub use Rattle.description.specs.Described.{HasFields, HasNumbers, IsDescribed, IsWorldFault}
 pub use Rattle.description.specs.Outcomes.{Fails}
 pub use Rattle.description.specs.Reading.{IsDescription}
 pub use Rattle.description.specs.declared.entry.Description.{Description}
+pub use Rattle.description.specs.declared.world.World.{World}
 pub use Rattle.device.proofs.Images.{agrees_is}
 pub use Rattle.device.proofs.Moments.{OnlyNow, leaves_weaker, started}
 pub use Rattle.device.specs.Calls.{Agrees, Elsewhere}
@@ -41,6 +39,8 @@ pub use Rattle.model.specs.declared.frame.ObjectHeader.{ObjectHeader}
 pub use Rattle.model.specs.declared.geometry.Geometry.{Geometry}
 pub use Rattle.model.specs.declared.object.Content.{Content}
 pub use Rattle.object_cache.specs.StoreState.{StoreState, saved_by}
+pub use Rattle.recovery.proofs.Unsound.{sound_banked, sound_named}
+pub use Rattle.recovery.specs.Consistency.{AreBanked, AreNamed, AreWholeProcesses, IsInconsistent}
 pub use Rattle.recovery.specs.Denotes.{IsSoundSaved}
 pub use Rattle.recovery.specs.Recovered.{RefusesToOpen}
 pub use Rattle.std.proofs.Common.{IfOk, List, [], ap, append_assoc, arith, drop, get_or, inl, inr, length, refl, rules, subst, suc, sym, zero, ℕ, ⊎_elim}

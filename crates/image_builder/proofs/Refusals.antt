@@ -1,10 +1,10 @@
 -- What is refused whatever the device, and with which fault.
 use Rattle.image_builder.proofs.Names.{ℕ, List, ap, refl, subst, sym, arith, IfErr, OnOk, Result, Ok, Err, Members, Disk, Cap, Frame, ObjectHeader, Geometry}
-use Rattle.image_builder.proofs.Names.{Content, frames_in, IsSoundFrames, sound_banked, sound_named, BadImage, BadCapability, BadProcess, BadBank}
-use Rattle.image_builder.proofs.Names.{AreBanked, AreNamed, AreWholeProcesses, IsInconsistent, Description, IsDescription, HasFields, HasNumbers, IsDescribed}
-use Rattle.image_builder.proofs.Names.{BuildFault, Shape, Limits, Number, Field, Target, Owner, Small, Failed, NoMemory, Builds, BuildsFrom, IsAccepted}
-use Rattle.image_builder.proofs.Names.{IsRefused, IsWithinLimits, Refuses, Rule, TellsNoSize, fault_number, AreLaid, IsRefusedEarly, IsSoundDescription}
-use Rattle.image_builder.proofs.Names.{described_once, IsWorldFault, Fails}
+use Rattle.image_builder.proofs.Names.{Content, frames_in, IsSoundFrames, sound_banked, sound_named, BadImage, BadCapability, BadProcess, BadBank, AreBanked}
+use Rattle.image_builder.proofs.Names.{AreNamed, AreWholeProcesses, IsInconsistent, Description, IsDescription, HasFields, HasNumbers, IsDescribed, BuildFault}
+use Rattle.image_builder.proofs.Names.{Shape, Limits, Number, Field, Target, Owner, Small, Failed, NoMemory, Builds, BuildsFrom, IsAccepted, IsRefused}
+use Rattle.image_builder.proofs.Names.{IsWithinLimits, Refuses, Rule, TellsNoSize, fault_number, AreLaid, IsRefusedEarly, IsSoundDescription, described_once}
+use Rattle.image_builder.proofs.Names.{IsWorldFault, Fails}
 use Rattle.std.proofs.Common.{◌≡◌, ◌≢◌, ◌<◌}
 use Rattle.image_builder.proofs.Rules.{all_kept, field_broken, number_broken, owner_broken, small_broken, target_broken}
 

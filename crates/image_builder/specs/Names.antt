@@ -3,8 +3,7 @@ pub use Rattle.capability.specs.Parts.{frames_of}
 pub use Rattle.checkpoint.specs.Opened.{OnlyReads}
 pub use Rattle.checkpoint.specs.Saved.{Holds, SavedFrames, kept_of}
 pub use Rattle.checkpoint.specs.declared.open_fault.OpenFault.{OpenFault}
-pub use Rattle.consistency.specs.Consistency.{AreBanked, AreNamed}
-pub use Rattle.described_world.specs.Described.{HasFields, HasNumbers, IsDescribed}
+pub use Rattle.description.specs.Described.{HasFields, HasNumbers, IsDescribed}
 pub use Rattle.description.specs.Reading.{IsDescription}
 pub use Rattle.description.specs.declared.entry.Description.{Description}
 pub use Rattle.device.specs.Calls.{Elsewhere}
@@ -28,6 +27,7 @@ pub use Rattle.model.specs.declared.frame.Frame.{Frame}
 pub use Rattle.model.specs.declared.frame.ObjectHeader.{ObjectHeader}
 pub use Rattle.model.specs.declared.object.Content.{Content}
 pub use Rattle.object_cache.specs.StoreState.{StoreState, parts_of, saved_by}
+pub use Rattle.recovery.specs.Consistency.{AreBanked, AreNamed}
 pub use Rattle.recovery.specs.Denotes.{IsSoundSaved}
 pub use Rattle.recovery.specs.Recovered.{RefusesToOpen}
 pub use Rattle.std.specs.Prelude.{List, [], length, ℕ}

@@ -6,7 +6,7 @@ ghost use Rattle.device.specs.Moments.{LeavesOnly};
 ghost use Rattle.layout.specs.declared.version.Version.TheVariants.{Two};
 ghost use Rattle.layout.specs.Image.{Encodes, HasPlan};
 ghost use Rattle.layout.specs.Superblock.{Plan};
-ghost use Rattle.frame_io.specs.Calls.{ReadsOnly};
+ghost use Rattle.layout.specs.Calls.{ReadsOnly};
 ghost use Rattle.checkpoint.specs.Opened.{CountsOpen};
 ghost use Rattle.checkpoint.specs.Saved.{kept_of};
 ghost use Rattle.image_writer.specs.Laid.{laid_again};

@@ -5,11 +5,10 @@ ghost use Rattle.image_builder.specs.Checked.{AreLaid, IsRefusedEarly, IsSoundDe
 
 use capability::Plain;
 use checkpoint::OpenFault;
-use consistency::check;
-use described_world::{World, described_is_whole, lay_world};
-use description::Description;
+use description::{Description, World, described_is_whole, lay_world};
 use image_writer::BuildFault;
 use layout::BadImage;
+use recovery::check;
 use std::alloc::Global;
 
 // The fault for a reason why frames are inconsistent. Processes are never one, nor are reasons 1 to 7.

@@ -5,8 +5,7 @@ ghost use Rattle.image_builder.specs.Built.{Builds, IsRefused, IsWithinLimits, p
 ghost use Rattle.image_builder.specs.Checked.{AreLaid, IsLeftBuilding, IsSoundDescription};
 
 use crate::worlds::lay_sound;
-use described_world::World;
-use description::Description;
+use description::{Description, World};
 use device::Device;
 use image_writer::{BuildFault, write_image};
 use layout::Superblock;

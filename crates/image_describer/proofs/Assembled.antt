@@ -1,6 +1,6 @@
 -- Entries that describe all objects of a sound world are a description of it.
-use Rattle.image_describer.proofs.Names.{ℕ, inl, inr, List, map, length, Option, None, Some, slice_index_or, unwrap_or, refl, sym, ap, subst, arith, IsTrue}
-use Rattle.image_describer.proofs.Names.{All, Contains, get_or-map, cases_lt, length-map, All-append, All-contains, All-map, All-weaker, Contains-append_left}
+use Rattle.image_describer.proofs.Names.{ℕ, inl, inr, List, map, length, Option, None, Some, slice_index_or, refl, sym, ap, subst, arith, IsTrue, All, Contains}
+use Rattle.image_describer.proofs.Names.{get_or-map, cases_lt, length-map, All-append, All-contains, All-map, All-weaker, Contains-append_left}
 use Rattle.image_describer.proofs.Names.{Contains-append_right, slice_get-get_or, slice_get-map, Cap, Capability, Void, Geometry, Content, Object, Role}
 use Rattle.image_describer.proofs.Names.{IsWellFormed, blank_frame, frame_at, free, is_annex, is_free, is_root, role_of, root_in, slots_in, HasShape, IsOfKind}
 use Rattle.image_describer.proofs.Names.{IsSound, IsSpace, MayBeHeld, object_count, World, annex_at, content_at, is_process, object_at, fresh_cap, BankEntry}
@@ -9,7 +9,7 @@ use Rattle.image_describer.proofs.Names.{HasNamedWords, HasNumbers, HoldsNamed, 
 use Rattle.image_describer.proofs.Names.{IsDescribedRoot, IsProcessEntry, IsSomeCapability, IsSpaceEntry, first_frame, node_numbers, page_numbers, all_from}
 use Rattle.image_describer.proofs.Names.{contains_map, map_contains, AreBriefSlots, AreBriefWords, Describes, IsBrief, NamesSlots, NamesWords, plain_frame}
 use Rattle.image_describer.proofs.Names.{plain_frames, TellAll, TellsBank, TellsNode, TellsPage, TellsProcess}
-use Rattle.std.proofs.Common.{◌≡◌, ◌≢◌, ◌⊎◌, ◌<◌, ◌≤◌, ◌++◌, ◌∙◌}
+use Rattle.std.proofs.Common.{unwrap_or, ◌≡◌, ◌≢◌, ◌⊎◌, ◌<◌, ◌≤◌, ◌++◌, ◌∙◌}
 use Rattle.std.specs.Option.{option_map}
 use Rattle.model.specs.declared.object.Content.TheVariants as content
 use Rattle.model.specs.declared.object.Role.TheVariants as role

@@ -24,3 +24,10 @@ pub mod SameTables
 pub mod Short
 mod Telling
 mod Written
+pub mod Arrows
+pub mod Boxes
+pub mod Listed
+pub mod Once
+mod Parts
+pub mod Texts
+pub mod Reported

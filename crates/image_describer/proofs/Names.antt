@@ -5,17 +5,15 @@ pub use Rattle.capability.proofs.Mapped.{kind_map, mapped}
 pub use Rattle.capability.proofs.Roles.{role_read}
 pub use Rattle.capability.specs.Parts.{Parts, frames_of, objects_in}
 pub use Rattle.capability.specs.Plain.{fresh_cap}
-pub use Rattle.consistency.proofs.Looking.{HasLooked}
-pub use Rattle.consistency.proofs.Tables.{frames_looked}
-pub use Rattle.consistency.proofs.Unsound.{sound_named}
-pub use Rattle.described_world.proofs.DescribedOnce.{described_once}
-pub use Rattle.described_world.proofs.Entries.{IsFrameOf, IsOf, described_cases, described_of, in_range}
-pub use Rattle.described_world.proofs.Lists.{all_from, all_got, contains_here, contains_map, contains_there, first_beyond, first_none, first_of, first_there}
-pub use Rattle.described_world.proofs.Lists.{map_both, map_contains}
-pub use Rattle.described_world.specs.Described.{AreDistinct, AreSlots, AreWords, HasFields, HasNamedWords, HasNumbers, HoldsNamed, IsDescribed}
-pub use Rattle.described_world.specs.Described.{IsDescribedAnnex, IsDescribedNode, IsDescribedPage, IsDescribedRoot, IsProcessEntry, IsSomeCapability}
-pub use Rattle.described_world.specs.Described.{IsSpaceEntry, first_frame, first_named, named_at, node_numbers, page_numbers, word_named_at}
-pub use Rattle.described_world.specs.Laid.{Entry, OfAnnex, OfBank, OfNode, OfPage, OfRoot, number_of}
+pub use Rattle.collections.specs.Marks.{is_marked}
+pub use Rattle.description.proofs.DescribedOnce.{described_once}
+pub use Rattle.description.proofs.Entries.{IsFrameOf, IsOf, described_cases, described_of, in_range}
+pub use Rattle.description.proofs.Lists.{all_from, all_got, contains_cases, contains_here, contains_map, contains_none, contains_there, first_beyond}
+pub use Rattle.description.proofs.Lists.{first_none, first_of, first_there, map_again, map_both, map_contains}
+pub use Rattle.description.specs.Described.{AreDistinct, AreSlots, AreWords, HasFields, HasNamedWords, HasNumbers, HoldsNamed, IsDescribed, IsDescribedAnnex}
+pub use Rattle.description.specs.Described.{IsDescribedNode, IsDescribedPage, IsDescribedRoot, IsProcessEntry, IsSomeCapability, IsSpaceEntry, first_frame}
+pub use Rattle.description.specs.Described.{first_named, named_at, node_numbers, page_numbers, word_named_at}
+pub use Rattle.description.specs.Laid.{Entry, OfAnnex, OfBank, OfNode, OfPage, OfRoot, number_of}
 pub use Rattle.description.specs.Laws.{Each, IsSame, IsSameNode, IsSamePage, IsSameProcess}
 pub use Rattle.description.specs.Reading.{AreFour, AreItems, IsBank, IsCapability, IsDescription, IsList, IsNode, IsNumber, IsPage, IsProcess, IsRange, IsSlot}
 pub use Rattle.description.specs.Reading.{IsState, IsTable, IsWord, has_only, whole_ranges}
@@ -33,16 +31,16 @@ pub use Rattle.layout.specs.Superblock.{Cover, IsGeometry, IsOfOneKind, IsPlan, 
 pub use Rattle.layout.specs.declared.extent.HomeRange.{HomeRange}
 pub use Rattle.layout.specs.declared.version.Version.{Version}
 pub use Rattle.layout.specs.declared.version.Version.TheVariants.{One, Two}
-pub use Rattle.model.specs.Capability.{IsWellFormed, named}
+pub use Rattle.model.specs.Capability.{IsWellFormed, access_bits, named}
 pub use Rattle.model.specs.Frame.{blank_frame, conveyed, current_count, frame_at, header_at, headers, object_of, void_held}
 unfoldable pub use Rattle.model.specs.Frame.{objects_of}
 pub use Rattle.model.specs.Keepable.{AreCurrent, AreKeepable, AreKeptSlots, AreKeptWords, Follows, IsCurrent, IsKeepable, IsKeptCap, IsSoundFrames, MayBeKept}
 pub use Rattle.model.specs.Keepable.{caps_in, world_at}
-pub use Rattle.model.specs.Object.{free, is_annex, is_bank, is_free, is_root, map_content, role_of, root_in, slots_in}
+pub use Rattle.model.specs.Object.{free, is_annex, is_bank, is_free, is_node, is_root, map_content, role_of, root_in, slots_in}
 pub use Rattle.model.specs.Sound.{HasShape, IsOfKind, IsSound, IsSpace, MayBeHeld, object_count}
-pub use Rattle.model.specs.Text.{access_text, state_text}
+pub use Rattle.model.specs.Text.{access_text, line_of, spaced, state_text}
 unfoldable pub use Rattle.model.specs.Text.{capability_text}
-pub use Rattle.model.specs.World.{World, annex_at, content_at, is_process, object_at, owner_at}
+pub use Rattle.model.specs.World.{World, annex_at, content_at, is_process, object_at, owner_at, register_at, root_at, slot_at}
 pub use Rattle.model.specs.contracts.object.Role.{the_type}
 pub use Rattle.model.specs.declared.access.Access.{Access}
 pub use Rattle.model.specs.declared.capability.Cap.{Cap}
@@ -56,27 +54,37 @@ pub use Rattle.model.specs.declared.object.Object.{Object}
 pub use Rattle.model.specs.declared.object.Role.{Role}
 pub use Rattle.model.specs.declared.object.State.{State}
 pub use Rattle.model.specs.declared.object.State.TheVariants.{Available, Running, Waiting}
-pub use Rattle.std.proofs.Common.{Bool, Equal, Greater, IfSome, IsSomeAnd, Less, List, MatchOption, None, Option, Ordering, Some, String, [], ap, append-nil}
-pub use Rattle.std.proofs.Common.{append_assoc, arith, codes, decimal, false, get_or, inl, inr, is_eq, length, map, nat_cmp, nat_lt, not, option_and_then}
-pub use Rattle.std.proofs.Common.{option_map, option_to_list, pos, refl, rules, slice_index_or, slice_set, string_bytes, subst, suc, sym, take, true, unwrap_or}
-pub use Rattle.std.proofs.Common.{zero, ℕ}
+pub use Rattle.recovery.proofs.Looking.{HasLooked}
+pub use Rattle.recovery.proofs.Tables.{frames_looked}
+pub use Rattle.recovery.proofs.Unsound.{sound_named}
+pub use Rattle.script.proofs.Fronts.{text_fails, writes_after, writes_fail, writes_same, wrote_trans}
+pub use Rattle.script.specs.Writing.{Writes, Written, Wrote}
+pub use Rattle.script.specs.declared.fault.RunFault.{RunFault}
+pub use Rattle.std.proofs.Common.{Bool, Equal, Err, Greater, IfSome, IsSomeAnd, Less, List, MatchOption, None, Option, Ordering, Result, Some, [], add-one, ap}
+pub use Rattle.std.proofs.Common.{append-nil, append_assoc, arith, codes, decimal, drop, false, get_or, inl, inr, is_eq, length, map, nat_cmp, nat_lt, not}
+pub use Rattle.std.proofs.Common.{option_and_then, option_map, option_to_list, pos, refl, rules, slice_index_or, slice_set, string_bytes, subst, suc, sym, take}
+pub use Rattle.std.proofs.Common.{true, zero, ℕ}
 pub use Rattle.std.proofs.Math.ListN.{get_or-map}
+pub use Rattle.std.proofs.Math.Seq.{take-suc}
 pub use Rattle.std.proofs.lemmas.Bool.{cases_Bool, cases_eq, cases_lt, true≢false}
 pub use Rattle.std.proofs.lemmas.Bool.Decides.{nat_tests}
 pub use Rattle.std.proofs.lemmas.Cmp.{alike_right, nat_list_cmp_total}
 pub use Rattle.std.proofs.lemmas.Fmt.{decimal_is_IsNumeral}
-pub use Rattle.std.proofs.lemmas.List.{ext_get_or, get_or_past, length-map}
-pub use Rattle.std.proofs.lemmas.List.Elements.{All-append, All-cons, All-contains, All-from_recursion, All-head, All-map, All-nil, All-push, All-tail}
-pub use Rattle.std.proofs.lemmas.List.Elements.{All-weaker, AllZip-get_or, Contains-append_cases, Contains-append_left, Contains-append_right, Contains-push}
-pub use Rattle.std.proofs.lemmas.List.Elements.{length_all_zip, recursion_from_All}
+pub use Rattle.std.proofs.lemmas.Fn.{filter_same}
+pub use Rattle.std.proofs.lemmas.Grind.{flat_map-append}
+pub use Rattle.std.proofs.lemmas.List.{ext_get_or, get_or_past, length-map, take-append-drop, take_all}
+pub use Rattle.std.proofs.lemmas.List.Elements.{All-append, All-cons, All-contains, All-filter, All-from_recursion, All-head, All-map, All-nil, All-push}
+pub use Rattle.std.proofs.lemmas.List.Elements.{All-tail, All-weaker, AllZip-get_or, Contains-append_cases, Contains-append_left, Contains-append_right}
+pub use Rattle.std.proofs.lemmas.List.Elements.{Contains-push, filter-append, length_all_zip, recursion_from_All}
+pub use Rattle.std.proofs.lemmas.List.Folds.{flat_map-map}
 pub use Rattle.std.proofs.lemmas.List.FromFn.{get_or-map-range_with_len, length-range_with_len}
-pub use Rattle.std.proofs.lemmas.Option.{none-some, same_Some, slice_get-get_or, slice_get-map}
-pub use Rattle.std.proofs.lemmas.Result.{IfOk-weaker, on_ok_weaker}
+pub use Rattle.std.proofs.lemmas.Option.{get_or_from_slice_get, none-some, same_Some, slice_get-get_or, slice_get-map}
+pub use Rattle.std.proofs.lemmas.Result.{err_from_is_err_and, on_ok_weaker}
 pub use Rattle.std.proofs.lemmas.Str.Parse.{digit_from_value}
 pub use Rattle.std.specs.Cmp.Lexicographic.{slice_cmp}
-pub use Rattle.std.specs.List.{All, AllZip, Contains, flat_map, join_by, list_all, list_any, range_with_len}
+pub use Rattle.std.specs.List.{All, AllZip, Contains, filter, flat_map, join_by, list_all, list_any, range_with_len}
 pub use Rattle.std.specs.Ordering.{match_ordering}
-pub use Rattle.std.specs.Prelude.{IsTrue, Vec}
+pub use Rattle.std.specs.Prelude.{IsTrue, Vec, unwrap_or}
 pub use Rattle.std.specs.Str.Parse.{AllDigits}
 pub use Rattle.std.specs.declared.alloc.Global.{Global}
 pub use Rattle.toml.proofs.Fill.{Exists, fill, fill_elements, fill_pairs, fill_sections, roots, run-append, run_elements, run_pairs}
@@ -96,9 +104,16 @@ unfoldable pub use Rattle.toml_writer.specs.Text.{encoding_of, escaped, key_text
 pub use Rattle.image_describer.specs.DescribedEntry.{MayName, MayTell, TellAll, TellsBank, TellsNode, TellsPage, TellsProcess}
 pub use Rattle.image_describer.specs.Describes.{AreBriefSlots, AreBriefWords, AreRising, Describes, IsBrief, Names, NamesSlots, NamesWords, plain_frame}
 unfoldable pub use Rattle.image_describer.specs.Describes.{plain_frames}
+pub use Rattle.image_describer.specs.Graph.{arrow_lines, arrow_of, arrow_to, arrows, arrows_at, box_line, box_lines, boxes, head_lines, joined, kind_text}
+pub use Rattle.image_describer.specs.Graph.{next_line, node_arrows, owner_lines, owners, place_text, plain_line, plain_lines, process_arrows, style_text}
+pub use Rattle.image_describer.specs.Graph.{word_of_state}
+unfoldable pub use Rattle.image_describer.specs.Graph.{arrow_line, bank_box, graph_text, node_box, owner_line, page_box, process_box}
+pub use Rattle.image_describer.specs.GraphLaws.{ArrowsAreHeld, BoxesAreObjects, HasBox, Holds, IsArrow, IsOnce, IsOwner, OwnersAreOwners}
 pub use Rattle.image_describer.specs.Grown.{IsGrown, IsMovedNode, IsMovedPage, IsMovedProcess, IsNotRenumbered, IsRenumbered, IsUnsuited, NamesNodes}
 pub use Rattle.image_describer.specs.Grown.{NamesPages, NodesFit, PagesFit, grown_ranges, moved, moved_capability, moved_held, moved_object, moved_slot}
 pub use Rattle.image_describer.specs.Laws.{DescribedHasText, DescribedIsLaid, DescribedIsSame, GrownIsDescribed, GrownToItself, TextIsRead}
+pub use Rattle.image_describer.specs.Part.{IsPart, IsPartOfNode, IsPartOfProcess, PartIsShown, holders, holds_in, is_inside, is_listed, leads_inside, names}
+pub use Rattle.image_describer.specs.Part.{space_inside}
 pub use Rattle.image_describer.specs.Spelled.{CanBeSpelled, IsShort, IsWide, NamesWide, SpellsBank, SpellsGeometry, SpellsNode, SpellsPage, SpellsProcess}
 pub use Rattle.image_describer.specs.Spelled.{SpellsRange, SpellsSlot, SpellsWord}
 pub use Rattle.image_describer.specs.Text.{Field, are_whole, bank_fields, bank_text, begin_line, field_line, field_lines, held_text, image_fields, is_range}
@@ -106,4 +121,6 @@ pub use Rattle.image_describer.specs.Text.{list_text, list_unless_empty, node_fi
 pub use Rattle.image_describer.specs.Text.{process_fields, process_text, quoted, range_text, slot_text, space_unless_void, state_value, unless, wide_text}
 pub use Rattle.image_describer.specs.Text.{word_text, words_unless_zeros}
 unfoldable pub use Rattle.image_describer.specs.Text.{description_text}
+pub use Rattle.image_describer.specs.declared.graph.arrow.Arrow.{Arrow}
+pub use Rattle.image_describer.specs.declared.graph.arrow.Place.{Place}
 pub use Rattle.image_describer.specs.declared.sizes.GrowthFault.{GrowthFault}

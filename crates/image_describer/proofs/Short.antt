@@ -1,16 +1,15 @@
 -- The description of a sound world has a text: its numbers are short enough.
-use Rattle.image_describer.proofs.Names.{ℕ, true, List, [], map, Option, Some, None, unwrap_or, IfSome, refl, sym, ap, subst, arith, IsTrue, All, Contains}
-use Rattle.image_describer.proofs.Names.{All-contains, All-from_recursion, All-map, All-weaker, Contains-append_left, Contains-append_right, Cap, Capability}
-use Rattle.image_describer.proofs.Names.{Void, Number, Page, Node, Space, Process, Start, Resume, Bank, Discrim, Frame, Geometry, Content, Object, named}
-use Rattle.image_describer.proofs.Names.{frame_at, objects_of, AreKeptSlots, AreKeptWords, Follows, IsKeepable, IsKeptCap, IsSoundFrames, MayBeKept, world_at}
-use Rattle.image_describer.proofs.Names.{is_bank, is_free, map_content, role_of, IsOfKind, object_count, content_at, object_at, owner_at, HomeRange, Version}
-use Rattle.image_describer.proofs.Names.{One, Two, Cover, IsPlan, Plan, version_number, numbers_of, fresh_cap, mapped, BankEntry, Description, NodeEntry}
-use Rattle.image_describer.proofs.Names.{PageEntry, ProcessEntry, SlotEntry, WordEntry, AreSlots, AreWords, HasNamedWords, HoldsNamed, IsDescribedNode}
-use Rattle.image_describer.proofs.Names.{IsDescribedPage, IsDescribedAnnex, IsDescribedRoot, IsProcessEntry, first_frame, named_at, node_numbers, page_numbers}
-use Rattle.image_describer.proofs.Names.{word_named_at, all_from, all_got, contains_map, first_of, Describes, plain_frame, plain_frames, DescribedHasText}
-use Rattle.image_describer.proofs.Names.{IsShort, IsWide, NamesWide, SpellsBank, SpellsGeometry, SpellsNode, SpellsPage, SpellsProcess, SpellsRange, SpellsSlot}
-use Rattle.image_describer.proofs.Names.{SpellsWord}
-use Rattle.std.proofs.Common.{◌≡◌, ◌≢◌, ◌+◌, ◌<◌, ◌≤◌, ◌^◌, ◌∷◌, ◌++◌, ◌∙◌}
+use Rattle.image_describer.proofs.Names.{ℕ, true, List, [], map, Option, Some, None, IfSome, refl, sym, ap, subst, arith, IsTrue, All, Contains, All-contains}
+use Rattle.image_describer.proofs.Names.{All-from_recursion, All-map, All-weaker, Contains-append_left, Contains-append_right, Cap, Capability, Void, Number}
+use Rattle.image_describer.proofs.Names.{Page, Node, Space, Process, Start, Resume, Bank, Discrim, Frame, Geometry, Content, Object, named, frame_at}
+use Rattle.image_describer.proofs.Names.{objects_of, AreKeptSlots, AreKeptWords, Follows, IsKeepable, IsKeptCap, IsSoundFrames, MayBeKept, world_at, is_bank}
+use Rattle.image_describer.proofs.Names.{is_free, map_content, role_of, IsOfKind, object_count, content_at, object_at, owner_at, HomeRange, Version, One, Two}
+use Rattle.image_describer.proofs.Names.{Cover, IsPlan, Plan, version_number, numbers_of, fresh_cap, mapped, BankEntry, Description, NodeEntry, PageEntry}
+use Rattle.image_describer.proofs.Names.{ProcessEntry, SlotEntry, WordEntry, AreSlots, AreWords, HasNamedWords, HoldsNamed, IsDescribedNode, IsDescribedPage}
+use Rattle.image_describer.proofs.Names.{IsDescribedAnnex, IsDescribedRoot, IsProcessEntry, first_frame, named_at, node_numbers, page_numbers, word_named_at}
+use Rattle.image_describer.proofs.Names.{all_from, all_got, contains_map, first_of, Describes, plain_frame, plain_frames, DescribedHasText, IsShort, IsWide}
+use Rattle.image_describer.proofs.Names.{NamesWide, SpellsBank, SpellsGeometry, SpellsNode, SpellsPage, SpellsProcess, SpellsRange, SpellsSlot, SpellsWord}
+use Rattle.std.proofs.Common.{unwrap_or, ◌≡◌, ◌≢◌, ◌+◌, ◌<◌, ◌≤◌, ◌^◌, ◌∷◌, ◌++◌, ◌∙◌}
 use Rattle.std.specs.List.{AllByRecursion as ByRecursion}
 use Rattle.model.specs.declared.object.Content.TheVariants as content
 use Rattle.model.specs.declared.object.Role.TheVariants as role

@@ -1,12 +1,12 @@
 -- The values that the text of a description writes: what TOML has for each, and what it says.
-use Rattle.image_describer.proofs.Names.{ℕ, suc, pos, nat_lt, get_or, Bool, true, false, List, [], decimal, length, Option, Some, None, unwrap_or, MatchOption}
-use Rattle.image_describer.proofs.Names.{inl, inr, refl, sym, ap, arith, All, list_all, cases_Bool, nat_tests, recursion_from_All, Data, string, integer, array}
-use Rattle.image_describer.proofs.Names.{no_items, item, NumberRange, Capability, Void, Number, Page, Node, Space, Process, Start, Resume, Bank, Discrim}
-use Rattle.image_describer.proofs.Names.{Geometry, State, capability_text, state_text, AreFour, AreItems, IsCapability, IsList, IsNumber, IsRange, IsSlot}
-use Rattle.image_describer.proofs.Names.{IsState, IsWideNumber, IsWord, whole_ranges, SlotEntry, WordEntry, IsSomeCapability, IsSpaceEntry, IsShort, IsWide}
-use Rattle.image_describer.proofs.Names.{NamesWide, SpellsRange, SpellsSlot, SpellsWord, are_whole, held_text, is_range, list_text, list_unless_empty}
-use Rattle.image_describer.proofs.Names.{number_unless, range_text, slot_text, space_unless_void, state_value, unless, wide_text, word_text, words_unless_zeros}
-use Rattle.std.proofs.Common.{◌≡◌, ◌≢◌, ◌<◌, ◌≤◌, ◌^◌, ◌==◌, ◌&&◌, if◌then◌else◌, ◌∷◌, ◌∙◌}
+use Rattle.image_describer.proofs.Names.{ℕ, suc, pos, nat_lt, get_or, Bool, true, false, List, [], decimal, length, Option, Some, None, MatchOption, inl, inr}
+use Rattle.image_describer.proofs.Names.{refl, sym, ap, arith, All, list_all, cases_Bool, nat_tests, recursion_from_All, Data, string, integer, array, no_items}
+use Rattle.image_describer.proofs.Names.{item, NumberRange, Capability, Void, Number, Page, Node, Space, Process, Start, Resume, Bank, Discrim, Geometry, State}
+use Rattle.image_describer.proofs.Names.{capability_text, state_text, AreFour, AreItems, IsCapability, IsList, IsNumber, IsRange, IsSlot, IsState, IsWideNumber}
+use Rattle.image_describer.proofs.Names.{IsWord, whole_ranges, SlotEntry, WordEntry, IsSomeCapability, IsSpaceEntry, IsShort, IsWide, NamesWide, SpellsRange}
+use Rattle.image_describer.proofs.Names.{SpellsSlot, SpellsWord, are_whole, held_text, is_range, list_text, list_unless_empty, number_unless, range_text}
+use Rattle.image_describer.proofs.Names.{slot_text, space_unless_void, state_value, unless, wide_text, word_text, words_unless_zeros}
+use Rattle.std.proofs.Common.{unwrap_or, ◌≡◌, ◌≢◌, ◌<◌, ◌≤◌, ◌^◌, ◌==◌, ◌&&◌, if◌then◌else◌, ◌∷◌, ◌∙◌}
 use Rattle.std.specs.List.{AllByRecursion as ByRecursion}
 use Rattle.image_describer.proofs.Lines.{AllSpell, Spells, SpellsOption, deeper, items, spells_list, spells_number, spells_pair, spells_text}
 use Rattle.image_describer.proofs.Quoted.{quoted_capability, quoted_state}

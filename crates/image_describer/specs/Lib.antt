@@ -5,3 +5,6 @@ pub mod Laws
 pub mod Spelled
 pub mod Text
 pub mod DescribedEntry
+pub mod Graph
+pub mod GraphLaws
+pub mod Part

@@ -1,7 +1,7 @@
 // The keys of a description with their values. Each call fails only where memory runs out.
 ghost use Rattle.std.specs.Prelude.{◌≡◌, ◌++◌, ◌==◌, Some, OnOk, decimal, string_bytes};
 ghost use Rattle.std.specs.List.{All, list_all};
-ghost use Rattle.described_world.specs.Described.{IsSpaceEntry};
+ghost use Rattle.description.specs.Described.{IsSpaceEntry};
 ghost use Rattle.image_describer.specs.Text.{begin_line, field_line, list_text, list_unless_empty, number_unless};
 ghost use Rattle.image_describer.specs.Text.{space_unless_void, state_value, wide_text, words_unless_zeros};
 

@@ -4,7 +4,7 @@ ghost use Rattle.std.specs.List.{All, flat_map};
 ghost use Rattle.toml.specs.Data.{Members};
 ghost use Rattle.toml.specs.Parse.{parse_document};
 ghost use Rattle.description.specs.Reading.{IsDescription};
-ghost use Rattle.described_world.specs.Described.{AreSlots, HasFields, IsProcessEntry};
+ghost use Rattle.description.specs.Described.{AreSlots, HasFields, IsProcessEntry};
 ghost use Rattle.image_describer.specs.Spelled.{CanBeSpelled};
 ghost use Rattle.image_describer.specs.Text.{are_whole, bank_text, description_text, field_line, field_lines};
 ghost use Rattle.image_describer.specs.Text.{image_fields, is_range, list_text, node_text, page_text, process_text};

@@ -3,7 +3,7 @@ ghost use Rattle.std.specs.Prelude.{◌≡◌, ℕ, ◌++◌, List, OnOk, codes,
 ghost use Rattle.std.specs.List.{All, flat_map};
 ghost use Rattle.model.specs.Capability.{IsAccess, IsWellFormed};
 ghost use Rattle.model.specs.Text.{access_text, capability_text, state_text};
-ghost use Rattle.described_world.specs.Described.{IsSomeCapability};
+ghost use Rattle.description.specs.Described.{IsSomeCapability};
 ghost use Rattle.image_describer.specs.Text.{list_text, quoted, range_text, slot_text, wide_text, word_text};
 
 use description::{SlotEntry, WordEntry};

@@ -1,4 +1,14 @@
 mod Names
+mod Numbers
+mod SectorCopies
+mod Directories
+mod Frames
+mod Headers
+mod Marks
+mod Searching
+mod Superblocks
+pub mod OneReason
+pub mod Whole
 mod Copies
 mod Joined
 mod Matching

@@ -1,59 +1,88 @@
 -- The names that the proofs here cite: of other crates, and of the definitions of this one.
+pub use Rattle.byteorder.specs.Endian.{little_number}
+pub use Rattle.byteorder.specs.Numbers.{little_from-take}
 pub use Rattle.capability.proofs.References.{not_annex, not_node, not_root}
 pub use Rattle.capability.specs.Parts.{Parts, frames_of}
 pub use Rattle.checkpoint.specs.Opened.{CountsOpen, OnlyReads, Refuses}
 pub use Rattle.checkpoint.specs.Saved.{Holds, SavedFrames}
+pub use Rattle.checkpoint.specs.Store.{OpensStore}
 pub use Rattle.checkpoint.specs.declared.open_fault.OpenFault.{OpenFault}
-pub use Rattle.consistency.proofs.BankFaults.{refuted, unbanked_refuted}
-pub use Rattle.consistency.proofs.Looking.{HasLooked}
-pub use Rattle.consistency.proofs.Named.{holds_none, named_more}
-pub use Rattle.consistency.proofs.Notes.{none_noted}
-pub use Rattle.consistency.proofs.Sound.{consistent_is_sound}
-pub use Rattle.consistency.proofs.Tables.{annex_known, content_read, header_read, table_read}
-pub use Rattle.consistency.specs.Consistency.{AreNamed, AreWholeProcesses, IsInconsistent, IsNamed}
-pub use Rattle.consistency.specs.Noted.{AreNoted}
-pub use Rattle.consistency.specs.declared.processes.Noted.{Noted}
 pub use Rattle.device.proofs.Images.{agrees_is}
 pub use Rattle.device.proofs.Moments.{CountsNow, peeks_on}
 pub use Rattle.device.specs.Calls.{Agrees, AreSectors}
 pub use Rattle.device.specs.Disk.{Disk, Image}
-pub use Rattle.frame_io.specs.Calls.{ReadsOnly}
 pub use Rattle.kernel.specs.Opening.{IsNoReason}
 pub use Rattle.layout.proofs.Denoted.{frames_not_bad}
-pub use Rattle.layout.specs.Image.{IsBadBy}
+pub use Rattle.layout.proofs.Directories.{directory_fits, entry_read, none_read, one_directory}
+pub use Rattle.layout.proofs.Halves.{half_within}
+pub use Rattle.layout.proofs.Images.{same_directory, same_header, same_plan}
+pub use Rattle.layout.proofs.Totals.{total_reported}
+unfoldable pub use Rattle.layout.specs.Bytes.{half_number, number, zeros}
+pub use Rattle.layout.specs.Calls.{ReadsOnly}
+unfoldable pub use Rattle.layout.specs.Capability.{capability_bytes}
+pub use Rattle.layout.specs.Directory.{AllFitting, IsDirectory, IsEntry, entry_at}
+unfoldable pub use Rattle.layout.specs.Directory.{directory_bytes}
+pub use Rattle.layout.specs.Frame.{IsFrameOf}
+pub use Rattle.layout.specs.Header.{IsHeader}
+unfoldable pub use Rattle.layout.specs.Header.{header_bytes}
+pub use Rattle.layout.specs.Homes.{home_place, shape_of}
+pub use Rattle.layout.specs.Image.{HasBadDirectory, HasBadHeader, HasDirectory, HasHeader, HasNoHeader, HasPlan, IsBadBy, IsTooSmall, committed_bytes}
+pub use Rattle.layout.specs.Image.{committed_of, committed_slot, directory_in, directory_length, directory_sector, does_count, frame_in, frame_sector}
+pub use Rattle.layout.specs.Image.{option_at, sequence_in, shaped_at, slot_beside, slot_in, slot_sector, total_in}
+unfoldable pub use Rattle.layout.specs.Image.{sectors_from}
+pub use Rattle.layout.specs.Shape.{shape_bytes}
+pub use Rattle.layout.specs.Superblock.{HasMark, IsPlan, Plan, unused, version_number}
+unfoldable pub use Rattle.layout.specs.Superblock.{ranges_bytes, superblock_bytes}
 pub use Rattle.layout.specs.declared.bad_image.BadImage.{BadImage}
 pub use Rattle.layout.specs.declared.bad_image.BadImage.TheVariants.{BadBank, BadCapability, BadProcess}
+pub use Rattle.layout.specs.declared.directory.Entry.{Entry}
+pub use Rattle.layout.specs.declared.extent.HomeRange.{HomeRange}
+pub use Rattle.layout.specs.declared.header.CheckpointHeader.{CheckpointHeader}
+pub use Rattle.layout.specs.declared.shape.Shape.{Shape}
 pub use Rattle.migrator.specs.Durable.{DurableState}
 pub use Rattle.model.specs.Frame.{content_behind, current_count, frame_at, header_at, void_held}
-pub use Rattle.model.specs.Keepable.{AreKeepable, caps_in}
+pub use Rattle.model.specs.Keepable.{AreKeepable, IsKeptCap, caps_in}
 pub use Rattle.model.specs.declared.capability.Cap.{Cap}
 pub use Rattle.model.specs.declared.frame.Frame.{Frame}
 pub use Rattle.model.specs.declared.frame.ObjectHeader.{ObjectHeader}
+pub use Rattle.model.specs.declared.geometry.Geometry.{Geometry}
 pub use Rattle.model.specs.declared.object.Content.{Content}
 pub use Rattle.model.specs.declared.object.ContentRef.{ContentRef}
 pub use Rattle.object_cache.specs.StoreState.{StoreState, parts_of, view_of}
-pub use Rattle.object_store.specs.Store.{OpensStore}
+pub use Rattle.recovery.proofs.BankFaults.{refuted, unbanked_refuted}
 pub use Rattle.recovery.proofs.Denoted.{holds_one}
+pub use Rattle.recovery.proofs.Looking.{HasLooked}
+pub use Rattle.recovery.proofs.Named.{holds_none, named_more}
+pub use Rattle.recovery.proofs.Notes.{none_noted}
+pub use Rattle.recovery.proofs.Sound.{consistent_is_sound}
+pub use Rattle.recovery.proofs.Tables.{annex_known, content_read, header_read, table_read}
+pub use Rattle.recovery.specs.Consistency.{AreNamed, AreWholeProcesses, IsInconsistent, IsNamed}
 pub use Rattle.recovery.specs.Denotes.{saved_of}
-pub use Rattle.sector_faults.proofs.OneReason.{whole_not_bad}
-pub use Rattle.sector_faults.specs.Breaking.{IsFault}
-pub use Rattle.sector_faults.specs.Finding.{IsWhole}
-pub use Rattle.sector_faults.specs.declared.fault.DirectoryPart.{DirectoryPart}
-pub use Rattle.sector_faults.specs.declared.fault.FramePart.{FramePart}
-pub use Rattle.sector_faults.specs.declared.fault.HeaderPart.{HeaderPart}
-pub use Rattle.sector_faults.specs.declared.fault.NotCounted.{NotCounted}
-pub use Rattle.sector_faults.specs.declared.fault.SectorFault.{SectorFault}
-pub use Rattle.std.proofs.Common.{Err, List, None, Ok, Option, Result, Some, [], ap, append_assoc, arith, inl, inr, length, refl, slice_index_or, subst, sym, ℕ}
+pub use Rattle.recovery.specs.Noted.{AreNoted}
+pub use Rattle.recovery.specs.declared.consistency.processes.Noted.{Noted}
+pub use Rattle.std.proofs.Common.{Bool, Err, List, None, Ok, Option, Result, Some, [], ap, append-nil, append_assoc, arith, drop, drop_at, false, get_or, inl}
+pub use Rattle.std.proofs.Common.{inr, length, length-append, nat_le, refl, replicate, slice_index_or, subst, suc, sym, take, take-add, take_at, true, zero, ℕ}
 pub use Rattle.std.proofs.Common.{⊎_elim}
-pub use Rattle.std.proofs.lemmas.Bool.{cases_lt}
-pub use Rattle.std.proofs.lemmas.List.{get_or_default, get_or_past}
+pub use Rattle.std.proofs.lemmas.Bool.{cases_lt, eq-eqb, le-ltb, lt-ltb, ne_eqb}
+pub use Rattle.std.proofs.lemmas.List.{drop-drop, drop_all, drop_more, get_or-drop, get_or-take, get_or_default, get_or_past, length-drop, length-replicate}
+pub use Rattle.std.proofs.lemmas.List.{length-take, take-append-drop, take_rest}
+pub use Rattle.std.proofs.lemmas.Nat.{le_bytes_8}
+pub use Rattle.std.specs.Int.{from_le_bytes, w64}
 pub use Rattle.std.specs.List.{All}
-pub use Rattle.std.specs.Prelude.{IfNone, IfSome, codes, decimal}
+pub use Rattle.std.specs.Prelude.{IfErr, IfNone, IfOk, IfSome, OnOk, codes, decimal}
 pub use Rattle.image_explainer.specs.Breaking.{BreaksFrames, IsMisnamed, IsUnmatched, reason_of}
 pub use Rattle.image_explainer.specs.Explained.{AreBadForOneReason, Explains, IsExplainedBy}
 pub use Rattle.image_explainer.specs.Finding.{HasRoot, IsConsistentOr, IsMatched, MatchesOr, annex_noted}
+pub use Rattle.image_explainer.specs.SectorBreaking.{BreaksDirectory, HoldsCap, IsFault}
+pub use Rattle.image_explainer.specs.SectorFinding.{BreaksSector, FitsOr, HasHeaderIn, HasNoneIn, IsAmong, IsCopy, IsWhole, IsWholeFrame, RefusesHeader, picked}
+pub use Rattle.image_explainer.specs.SectorFinding.{slot_of}
 pub use Rattle.image_explainer.specs.Text.{directory_part_text, frame_part_text, header_part_text, not_counted_text, place_text, reason_number}
 unfoldable pub use Rattle.image_explainer.specs.Text.{fault_text}
 pub use Rattle.image_explainer.specs.declared.fault.ImageFault.{ImageFault}
 pub use Rattle.image_explainer.specs.declared.fault.Misnamed.{Misnamed}
 pub use Rattle.image_explainer.specs.declared.fault.Unmatched.{Unmatched}
+pub use Rattle.image_explainer.specs.declared.sectors.fault.DirectoryPart.{DirectoryPart}
+pub use Rattle.image_explainer.specs.declared.sectors.fault.FramePart.{FramePart}
+pub use Rattle.image_explainer.specs.declared.sectors.fault.HeaderPart.{HeaderPart}
+pub use Rattle.image_explainer.specs.declared.sectors.fault.NotCounted.{NotCounted}
+pub use Rattle.image_explainer.specs.declared.sectors.fault.SectorFault.{SectorFault}

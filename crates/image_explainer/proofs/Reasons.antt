@@ -6,7 +6,7 @@ use Rattle.image_explainer.proofs.Names.{parts_of, view_of, saved_of, holds_one,
 use Rattle.image_explainer.proofs.Names.{BreaksFrames, IsMisnamed, IsUnmatched, reason_of, AreBadForOneReason, Explains, IsExplainedBy, IsConsistentOr}
 use Rattle.std.proofs.Common.{◌≡◌, ◌≤◌, ◌^◌, ◌∙◌}
 use Rattle.std.specs.Prelude.{Result}
-use Rattle.sector_faults.proofs.OneReason.{one_reason as one_sector_reason}
+use Rattle.image_explainer.proofs.OneReason.{one_reason as one_sector_reason}
 use Rattle.image_explainer.specs.declared.fault.ImageFault.TheVariants as fault
 use Rattle.image_explainer.specs.declared.fault.Unmatched.TheVariants as unmatched
 

@@ -2,9 +2,9 @@
 use Rattle.std.specs.Prelude.{◌≡◌, ℕ, ◌<◌, List, Option, None, Some}
 use Rattle.model.specs.declared.frame.Frame.{Frame}
 use Rattle.model.specs.declared.object.Role.TheVariants as role
-use Rattle.consistency.specs.declared.processes.Noted.{Noted}
-use Rattle.consistency.specs.Consistency.{AreBanked, AreNamed, AreWholeProcesses, IsAnnexFor, IsRootOf, role_at}
-use Rattle.consistency.specs.Noted.{note_at}
+use Rattle.recovery.specs.declared.consistency.processes.Noted.{Noted}
+use Rattle.recovery.specs.Consistency.{AreBanked, AreNamed, AreWholeProcesses, IsAnnexFor, IsRootOf, role_at}
+use Rattle.recovery.specs.Noted.{note_at}
 use Rattle.image_explainer.specs.declared.fault.ImageFault.{ImageFault}
 use Rattle.image_explainer.specs.declared.fault.Misnamed.{Misnamed}
 use Rattle.image_explainer.specs.declared.fault.Unmatched.{Unmatched}

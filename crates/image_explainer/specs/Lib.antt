@@ -1,3 +1,5 @@
+pub mod SectorBreaking
+pub mod SectorFinding
 pub mod Breaking
 pub mod Finding
 pub mod Explained

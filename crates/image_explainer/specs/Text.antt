@@ -7,22 +7,22 @@ use Rattle.model.specs.declared.object.Role.TheVariants as role
 use Rattle.model.specs.Text.{capability_text, spaced}
 use Rattle.layout.specs.declared.bad_image.BadImage.{BadImage}
 use Rattle.layout.specs.declared.bad_image.BadImage.TheVariants as bad
-use Rattle.consistency.specs.declared.reason.Unbanked.{Unbanked}
-use Rattle.consistency.specs.declared.reason.Unbanked.TheVariants as unbanked
-use Rattle.sector_faults.specs.declared.fault.DirectoryPart.{DirectoryPart}
-use Rattle.sector_faults.specs.declared.fault.DirectoryPart.TheVariants as entry
-use Rattle.sector_faults.specs.declared.fault.FramePart.{FramePart}
-use Rattle.sector_faults.specs.declared.fault.FramePart.TheVariants as frame
-use Rattle.sector_faults.specs.declared.fault.GeometryPart.{GeometryPart}
-use Rattle.sector_faults.specs.declared.fault.GeometryPart.TheVariants as geometry
-use Rattle.sector_faults.specs.declared.fault.HeaderPart.{HeaderPart}
-use Rattle.sector_faults.specs.declared.fault.HeaderPart.TheVariants as header
-use Rattle.sector_faults.specs.declared.fault.NotCounted.{NotCounted}
-use Rattle.sector_faults.specs.declared.fault.NotCounted.TheVariants as uncounted
-use Rattle.sector_faults.specs.declared.fault.SectorFault.{SectorFault}
-use Rattle.sector_faults.specs.declared.fault.SectorFault.TheVariants as sectors
-use Rattle.sector_faults.specs.declared.fault.SuperblockPart.{SuperblockPart}
-use Rattle.sector_faults.specs.declared.fault.SuperblockPart.TheVariants as superblock
+use Rattle.recovery.specs.declared.consistency.reason.Unbanked.{Unbanked}
+use Rattle.recovery.specs.declared.consistency.reason.Unbanked.TheVariants as unbanked
+use Rattle.image_explainer.specs.declared.sectors.fault.DirectoryPart.{DirectoryPart}
+use Rattle.image_explainer.specs.declared.sectors.fault.DirectoryPart.TheVariants as entry
+use Rattle.image_explainer.specs.declared.sectors.fault.FramePart.{FramePart}
+use Rattle.image_explainer.specs.declared.sectors.fault.FramePart.TheVariants as frame
+use Rattle.image_explainer.specs.declared.sectors.fault.GeometryPart.{GeometryPart}
+use Rattle.image_explainer.specs.declared.sectors.fault.GeometryPart.TheVariants as geometry
+use Rattle.image_explainer.specs.declared.sectors.fault.HeaderPart.{HeaderPart}
+use Rattle.image_explainer.specs.declared.sectors.fault.HeaderPart.TheVariants as header
+use Rattle.image_explainer.specs.declared.sectors.fault.NotCounted.{NotCounted}
+use Rattle.image_explainer.specs.declared.sectors.fault.NotCounted.TheVariants as uncounted
+use Rattle.image_explainer.specs.declared.sectors.fault.SectorFault.{SectorFault}
+use Rattle.image_explainer.specs.declared.sectors.fault.SectorFault.TheVariants as sectors
+use Rattle.image_explainer.specs.declared.sectors.fault.SuperblockPart.{SuperblockPart}
+use Rattle.image_explainer.specs.declared.sectors.fault.SuperblockPart.TheVariants as superblock
 use Rattle.image_explainer.specs.declared.fault.ImageFault.{ImageFault}
 use Rattle.image_explainer.specs.declared.fault.ImageFault.TheVariants as fault
 use Rattle.image_explainer.specs.declared.fault.Misnamed.{Misnamed}

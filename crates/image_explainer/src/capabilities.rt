@@ -4,15 +4,15 @@ ghost use Rattle.std.specs.List.{All};
 ghost use Rattle.model.specs.Frame.{frame_at};
 ghost use Rattle.model.specs.Keepable.{AreKeepable, caps_in};
 ghost use Rattle.capability.specs.Parts.{OnlyReads, frames_of};
-ghost use Rattle.consistency.specs.Consistency.{IsNamed};
-ghost use Rattle.consistency.specs.Noted.{AreNoted};
+ghost use Rattle.recovery.specs.Consistency.{IsNamed};
+ghost use Rattle.recovery.specs.Noted.{AreNoted};
 ghost use Rattle.image_explainer.specs.Breaking.{IsMisnamed};
 ghost use Rattle.image_explainer.specs.Finding.{NamesOr};
 
 use crate::fault::Misnamed;
 use capability::Frames;
-use consistency::{Noted, is_named};
 use model::{Cap, ContentRef, Refusal};
+use recovery::{Noted, is_named};
 
 // The first of the capabilities that an object holds, which are these, that names what it can't.
 fn find_in<F: Frames>(

@@ -3,22 +3,21 @@ ghost use Rattle.std.specs.Prelude.{◌≡◌, ◌↔◌, ◌*◌, ◌≤◌, le
 ghost use Rattle.layout.specs.declared.bad_image.BadImage.{BadImage};
 ghost use Rattle.layout.specs.Image.{IsBadBy};
 ghost use Rattle.checkpoint.specs.Opened.{CountsOpen, Refuses};
-ghost use Rattle.frame_io.specs.Calls.{ReadsOnly};
-ghost use Rattle.sector_faults.specs.Breaking.{IsFault};
+ghost use Rattle.layout.specs.Calls.{ReadsOnly};
+ghost use Rattle.image_explainer.specs.SectorBreaking.{IsFault};
 ghost use Rattle.object_cache.specs.StoreState.{parts_of, view_of};
-ghost use Rattle.object_store.specs.Store.{OpensStore};
+ghost use Rattle.checkpoint.specs.Store.{OpensStore};
 ghost use Rattle.kernel.specs.Opening.{IsNoReason};
 ghost use Rattle.image_explainer.specs.Explained.{Explains};
 
 use crate::fault::ImageFault;
 use crate::objects::find_in_objects;
-use checkpoint::OpenFault;
-use consistency::opening_fault;
+use crate::{SectorFault, find_in_sectors};
+use checkpoint::{ObjectStore, OpenFault};
 use device::{Device, SECTOR_SIZE};
 use layout::{Entry, MAX_LOG, Scratch};
 use object_cache::PlainStore;
-use object_store::ObjectStore;
-use sector_faults::{SectorFault, find_in_sectors};
+use recovery::opening_fault;
 use std::alloc::{AllocError, Global};
 
 // What is wrong with the objects of a store that was made of a device, and the device beneath.

@@ -1,7 +1,7 @@
 // What is wrong with an image, and where.
-use consistency::Unbanked;
+use crate::SectorFault;
 use model::{Cap, Role};
-use sector_faults::SectorFault;
+use recovery::Unbanked;
 
 /// Why an image is refused, by the least of the ten reasons that holds, and where.
 #[derive(Clone, Copy, PartialEq, Eq, Debug)]

@@ -8,9 +8,14 @@ mod fault;
 mod laws;
 mod objects;
 mod processes;
+mod sectors;
 mod text;
 
 pub use explaining::explain;
 pub use fault::{ImageFault, Misnamed, Unmatched};
 pub use laws::images_are_bad_for_one_reason;
+pub use sectors::{
+    DirectoryPart, FramePart, GeometryPart, HeaderPart, NotCounted, SectorFault, SuperblockPart,
+    find_in_sectors,
+};
 pub use text::reason_number;

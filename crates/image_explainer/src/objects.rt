@@ -8,8 +8,8 @@ use crate::capabilities::find_misnamed;
 use crate::fault::ImageFault;
 use crate::processes::find_unmatched;
 use capability::Frames;
-use consistency::{find_unbanked, read_notes};
 use model::Refusal;
+use recovery::{find_unbanked, read_notes};
 use std::alloc::Global;
 
 // What is wrong with frames that can be kept at any age.

@@ -1,14 +1,14 @@
 // Which root and annex don't belong together.
 ghost use Rattle.std.specs.Prelude.{◌≡◌, ℕ, ◌≤◌, Some, IfNone, IfSome};
 ghost use Rattle.capability.specs.Parts.{frames_of};
-ghost use Rattle.consistency.specs.Noted.{AreNoted};
+ghost use Rattle.recovery.specs.Noted.{AreNoted};
 ghost use Rattle.image_explainer.specs.Breaking.{IsUnmatched};
 ghost use Rattle.image_explainer.specs.Finding.{HasRoot, IsMatched, MatchesOr, annex_noted};
 
 use crate::fault::Unmatched;
 use capability::Frames;
-use consistency::{Noted, has_role, is_annex_for};
 use model::Role;
+use recovery::{Noted, has_role, is_annex_for};
 
 // The annex that is noted of a number.
 fn annex_of(notes: &[Option<Noted>], number: usize) -> Option<u64>

@@ -6,16 +6,16 @@ ghost use Rattle.image_explainer.specs.Text.{directory_part_text, directory_text
 ghost use Rattle.image_explainer.specs.Text.{geometry_text, header_part_text, header_text, no_header_text};
 ghost use Rattle.image_explainer.specs.Text.{not_counted_text, numbered, superblock_text};
 ghost use Rattle.image_explainer.specs.Breaking.{reason_of};
-ghost use Rattle.sector_faults.specs.Breaking.{sector_reason};
+ghost use Rattle.image_explainer.specs.SectorBreaking.{sector_reason};
 
 use crate::fault::{ImageFault, Misnamed, Unmatched};
-use consistency::Unbanked;
-use layout::BadImage;
-use model::{Capability, Role};
-use script::LineText;
-use sector_faults::{
+use crate::{
     DirectoryPart, FramePart, GeometryPart, HeaderPart, NotCounted, SectorFault, SuperblockPart,
 };
+use layout::BadImage;
+use model::{Capability, Role};
+use recovery::Unbanked;
+use script::LineText;
 
 // What is wrong with the superblock.
 fn superblock_line(part: SuperblockPart) -> LineText

@@ -10,8 +10,6 @@ pub use Rattle.device.proofs.Moments.{OnlyNow, leaves_on, leaves_weaker, narrowe
 pub use Rattle.device.specs.Calls.{Agrees, Elsewhere, IsTorn, Only}
 pub use Rattle.device.specs.Disk.{Disk, Image}
 pub use Rattle.device.specs.Moments.{LeavesOnly}
-pub use Rattle.frame_io.specs.Calls.{WritesAt}
-pub use Rattle.frame_io.specs.Frames.{IsObject}
 pub use Rattle.home_ranges.proofs.FrameSlots.{frame_slot_entry}
 pub use Rattle.home_ranges.proofs.Places.{IsOwn, alone, one_before, one_length, places_apart, places_spare_log, places_within, ranked, zeros_in}
 pub use Rattle.home_ranges.proofs.Shared.{begins}
@@ -20,9 +18,11 @@ pub use Rattle.layout.proofs.Clusters.{node_end}
 pub use Rattle.layout.proofs.Halves.{half_within}
 pub use Rattle.layout.proofs.Sectors.{same_sectors}
 pub use Rattle.layout.proofs.Shapes.{few_sectors, same_shaped}
+pub use Rattle.layout.specs.Calls.{WritesAt}
 pub use Rattle.layout.specs.Directory.{IsDirectory, entry_at}
 unfoldable pub use Rattle.layout.specs.Directory.{directory_bytes}
 pub use Rattle.layout.specs.Frame.{IsFrameOf, frame_bytes}
+pub use Rattle.layout.specs.Frames.{IsObject}
 pub use Rattle.layout.specs.Gate.{is_open}
 pub use Rattle.layout.specs.Header.{IsHeader}
 unfoldable pub use Rattle.layout.specs.Header.{header_bytes}

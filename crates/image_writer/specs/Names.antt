@@ -2,10 +2,10 @@
 pub use Rattle.checkpoint.specs.Saved.{Holds, SavedFrames}
 pub use Rattle.ckpt_log.specs.Closing.{AreClosed, KeepsImage}
 pub use Rattle.device.specs.Disk.{Disk, Image}
-pub use Rattle.frame_io.specs.Frames.{IsObject}
 pub use Rattle.layout.specs.Directory.{entry_at}
 unfoldable pub use Rattle.layout.specs.Directory.{directory_bytes}
 pub use Rattle.layout.specs.Frame.{frame_bytes}
+pub use Rattle.layout.specs.Frames.{IsObject}
 unfoldable pub use Rattle.layout.specs.Header.{header_bytes}
 pub use Rattle.layout.specs.Homes.{home_place, shape_of}
 pub use Rattle.layout.specs.Image.{HasNoHeader, SavedState, bytes_at, directory_in, frame_in, slot_sector}

@@ -4,7 +4,7 @@ ghost use Rattle.layout.specs.declared.shape.Shape.TheVariants as shape;
 ghost use Rattle.layout.specs.Frame.{frame_bytes};
 ghost use Rattle.layout.specs.Homes.{shape_of};
 ghost use Rattle.layout.specs.Shape.{shape_bytes};
-ghost use Rattle.frame_io.specs.Frames.{IsObject};
+ghost use Rattle.layout.specs.Frames.{IsObject};
 ghost use Rattle.model.specs.Frame.{frames_in};
 ghost use Rattle.model.specs.Sound.{object_count};
 ghost use Rattle.home_ranges.specs.Home.{EndsInZeros};

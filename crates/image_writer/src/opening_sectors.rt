@@ -2,7 +2,7 @@
 ghost use Rattle.std.specs.Prelude.{◌≡◌, ◌+◌, ◌<◌, ◌≤◌, length, OnOk};
 ghost use Rattle.device.specs.Calls.{Counts, Elsewhere, Only};
 ghost use Rattle.device.specs.Moments.{LeavesOnly};
-ghost use Rattle.frame_io.specs.Calls.{WritesAt};
+ghost use Rattle.layout.specs.Calls.{WritesAt};
 ghost use Rattle.layout.specs.Gate.{gate_bytes};
 ghost use Rattle.layout.specs.Header.{header_bytes};
 ghost use Rattle.layout.specs.Superblock.{superblock_bytes};
@@ -11,8 +11,10 @@ ghost use Rattle.image_writer.specs.Written.{HasOpeningSectors, LeavesClosed};
 
 use ckpt_log::HeaderSlot;
 use device::{Device, Failed, SECTOR_SIZE};
-use frame_io::write_sectors;
-use layout::{CheckpointHeader, Gate, Superblock, encode_gate, encode_header, encode_superblock};
+use layout::{
+    CheckpointHeader, Gate, Superblock, encode_gate, encode_header, encode_superblock,
+    write_sectors,
+};
 
 // Writes a sector before the gates, which are closed, and touches no other.
 #[tactic(auto, using(crate::proofs::SingleSectors::alone))]

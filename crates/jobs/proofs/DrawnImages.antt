@@ -1,6 +1,6 @@
 -- The outcome of the command that draws.
-use Rattle.jobs.proofs.Names.{ℕ, List, Option, Result, Ok, Err, sym, subst, arith, Geometry, Object, object_count, Disk, OpenFault, Description, HasNumbers}
-use Rattle.jobs.proofs.Names.{AreSoundObjects, Focus, Fault, Whole, DrawsImage, DrawsPart, IsHeldTo, KeepsPart, KeepsReached, OfWhole, OpensWhole}
+use Rattle.jobs.proofs.Names.{Written, ℕ, List, Option, Result, Ok, Err, sym, subst, arith, Geometry, Object, object_count, Disk, OpenFault, Description}
+use Rattle.jobs.proofs.Names.{HasNumbers, AreSoundObjects, Focus, Fault, Whole, DrawsImage, DrawsPart, IsHeldTo, KeepsPart, KeepsReached, OfWhole, OpensWhole}
 use Rattle.jobs.proofs.Names.{DescribesSaved, HoldsOfSaved}
 use Rattle.std.proofs.Common.{◌≡◌, ◌<◌, ◌^◌}
 use Rattle.checkpoint.specs.declared.open_fault.OpenFault.TheVariants as opening
@@ -28,7 +28,7 @@ module _ {D : Type 0} (disk : D → Disk) (device back : D) (whole : Whole)
   pub sound : AreSoundObjects whole.objects.items
   sound = objects_sound disk device back whole.objects.items opened.1
 
-  module _ (focus : Focus) (output output_left : Option (List ℕ)) where
+  module _ (focus : Focus) (output output_left : Written) where
     of_whole : (outcome : Result (Unit {0}) Fault) → DrawsPart whole.objects.items focus whole.description output output_left outcome
         → OfWhole disk device back (λ os d. DrawsPart os focus d output output_left outcome)
     of_whole outcome draws = record { description = whole.description; saved = opened.0; objects = whole.objects.items; read = opened.1; reported = draws }

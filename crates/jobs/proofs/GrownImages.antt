@@ -1,9 +1,9 @@
 -- What a description for other sizes is built as.
-use Rattle.jobs.proofs.Names.{ℕ, List, Option, Result, Ok, Err, map, sym, ap, subst, arith, Appends, nat_tests, same_Some, Members, Frame, Geometry, Object}
-use Rattle.jobs.proofs.Names.{IsSoundFrames, world_at, Saved, IsSound, World, Disk, Holds, SavedFrames, NumberRange, MayBeLaid, numbers_of, first_saved}
+use Rattle.jobs.proofs.Names.{Written, ℕ, List, Option, Result, Ok, Err, map, sym, ap, subst, arith, Wrote, nat_tests, same_Some, Members, Frame, Geometry}
+use Rattle.jobs.proofs.Names.{Object, IsSoundFrames, world_at, Saved, IsSound, World, Disk, Holds, SavedFrames, NumberRange, MayBeLaid, numbers_of, first_saved}
 use Rattle.jobs.proofs.Names.{may_be_laid, Description, IsDescription, IsSame, description_once, HasFields, described_once, GrowthFault, Sizes, Describes}
 use Rattle.jobs.proofs.Names.{plain_frames, IsGrown, IsNotRenumbered, grown_geometry, grown_ranges, CanBeSpelled, brief_grown, fields_grown, not_suited}
-use Rattle.jobs.proofs.Names.{grown_is_described, grown_to_itself, grown_spelled, objects_plain, same_described, AppendsFront, Fault, IsGrownFrom}
+use Rattle.jobs.proofs.Names.{grown_is_described, grown_to_itself, grown_spelled, objects_plain, same_described, WroteFront, Fault, IsGrownFrom}
 use Rattle.jobs.proofs.Names.{TellsDescription, TellsGrown, TellsText, DescribesImage, DescribesSaved, IsDescribedIn, ReadsSaved, RefusesSizes, TellsWhole}
 use Rattle.jobs.proofs.Names.{GrownIsDenoted, UnsizedIsWhole}
 use Rattle.std.proofs.Common.{◌≡◌, ◌∙◌}
@@ -116,16 +116,16 @@ module _ {D : Type 0} (disk : D → Disk) (device back : D) (d : Description) (s
   )
 
   -- what is reported of it
-  module _ (output output_left : Option (List ℕ)) where
+  module _ (output output_left : Written) where
     pub describes_image : (outcome : Result (Unit {0}) Fault) → TellsGrown d sizes output output_left outcome →
         DescribesImage disk sizes device back output output_left outcome
-    describes_image (Ok a) tells = tells_grown tells.0 tells.1 (Appends output output_left) tells.2
+    describes_image (Ok a) tells = tells_grown tells.0 tells.1 (Wrote output output_left) tells.2
     describes_image (Err fault.CannotReadDescription) tells = absurd tells
     describes_image (Err fault.NotToml) tells = absurd tells
     describes_image (Err fault.CannotWriteImage) tells = absurd tells
     describes_image (Err fault.CannotOpenImage) tells = absurd tells
     describes_image (Err fault.CannotReadScript) tells = absurd tells
-    describes_image (Err fault.CannotWriteOutput) tells = tells_grown tells.0 tells.1 (AppendsFront output output_left) tells.2
+    describes_image (Err fault.CannotWriteOutput) tells = tells_grown tells.0 tells.1 (WroteFront output output_left) tells.2
     describes_image (Err fault.NoMemory) tells = absurd tells
     describes_image (Err (fault.Build why)) tells = absurd tells
     describes_image (Err (fault.Open opening.Failed)) tells = absurd tells
@@ -145,7 +145,7 @@ module _ (sizes : Sizes) (d e : Description) (grown : IsGrownFrom sizes d e) whe
   pub grown_has_text : MayBeLaid d.geometry d.ranges.items → CanBeSpelled d → CanBeSpelled e
   grown_has_text may spelled = grown_spelled d e grown.same grown.limits (omega (arith, may.geometry.most_nodes, may.geometry.most_pages)) grown.pages spelled
 
-  module _ (output output_left : Option (List ℕ)) where
+  module _ (output output_left : Written) where
     pub tells_text : (outcome : Result (Unit {0}) Fault) → TellsDescription e output output_left outcome → TellsGrown d sizes output output_left outcome
     tells_text (Ok a) tells = (e, grown, tells)
     tells_text (Err fault.CannotReadDescription) tells = tells

@@ -2,12 +2,12 @@
 pub use Rattle.capability.specs.Parts.{AreSound, Parts, frames_of, objects_in}
 pub use Rattle.checkpoint.specs.Opened.{OnlyReads}
 pub use Rattle.checkpoint.specs.Saved.{Holds, SavedFrames, kept_of}
+pub use Rattle.checkpoint.specs.Store.{View}
 pub use Rattle.checkpoint.specs.declared.committed.Checkpoint.{Checkpoint}
 pub use Rattle.checkpoint.specs.declared.open_fault.OpenFault.{OpenFault}
-pub use Rattle.consistency.proofs.Unsound.{sound_banked, sound_named}
-pub use Rattle.described_world.proofs.DescribedOnce.{described_once}
-pub use Rattle.described_world.specs.Described.{HasFields, HasNumbers}
+pub use Rattle.description.proofs.DescribedOnce.{described_once}
 pub use Rattle.description.proofs.Once.{description_once}
+pub use Rattle.description.specs.Described.{HasFields, HasNumbers}
 pub use Rattle.description.specs.Laws.{IsSame}
 pub use Rattle.description.specs.Reading.{IsDescription}
 pub use Rattle.description.specs.declared.entry.Description.{Description}
@@ -24,13 +24,13 @@ pub use Rattle.image_describer.proofs.GrownText.{grown_spelled}
 pub use Rattle.image_describer.proofs.Plain.{described_is_same, objects_plain, sound_plain}
 pub use Rattle.image_describer.proofs.SameTables.{same_described}
 pub use Rattle.image_describer.proofs.Short.{described_has_text}
+pub use Rattle.image_describer.proofs.Texts.{place_fails}
 pub use Rattle.image_describer.specs.Describes.{Describes}
 unfoldable pub use Rattle.image_describer.specs.Describes.{plain_frames}
 pub use Rattle.image_describer.specs.Grown.{IsGrown, IsNotRenumbered, grown_geometry, grown_ranges}
 pub use Rattle.image_describer.specs.Spelled.{CanBeSpelled}
 pub use Rattle.image_describer.specs.declared.sizes.GrowthFault.{GrowthFault}
 pub use Rattle.image_describer.specs.declared.sizes.Sizes.{Sizes}
-pub use Rattle.image_drawer.proofs.Texts.{place_fails}
 pub use Rattle.image_writer.proofs.LaidAgain.{may_be_laid}
 pub use Rattle.image_writer.specs.Laid.{MayBeLaid, laid_again, numbers_of}
 pub use Rattle.image_writer.specs.Written.{first_saved}
@@ -63,11 +63,11 @@ pub use Rattle.model.specs.declared.object.Object.{Object}
 pub use Rattle.model.specs.declared.object.Role.{Role}
 pub use Rattle.object_cache.specs.StoreState.{AreObjectsOf, StoreState, parts_of, saved_by, view_of}
 pub use Rattle.object_cache.specs.declared.all_objects.AllObjects.{AllObjects}
-pub use Rattle.object_store.specs.Store.{View}
 pub use Rattle.reach.proofs.Members.{processes_known}
 unfoldable pub use Rattle.reach.specs.ChainLines.{chain_text}
 unfoldable pub use Rattle.reach.specs.Lines.{reach_text}
 pub use Rattle.reach.specs.Reached.{AreSoundObjects}
+pub use Rattle.recovery.proofs.Unsound.{sound_banked, sound_named}
 pub use Rattle.recovery.specs.Denotes.{saved_of}
 pub use Rattle.recovery.specs.Recovered.{Recovers}
 pub use Rattle.recovery.specs.declared.live.Live.{Live}
@@ -76,14 +76,13 @@ pub use Rattle.runs.specs.Reader.{failed_reads, left_to_read}
 pub use Rattle.runs.specs.Tracing.{Ends, Sees}
 pub use Rattle.runs.specs.declared.cause.Stop.{Stop}
 pub use Rattle.runs.specs.declared.tracer.Tracer.{Tracer}
-pub use Rattle.script.specs.Writing.{AppendsFront}
+pub use Rattle.script.specs.Writing.{Written, Wrote, WroteFront}
 pub use Rattle.script.specs.declared.fault.RunFault.{RunFault}
 pub use Rattle.std.proofs.Common.{Bool, Err, IfOk, List, None, Ok, Option, Result, Some, String, [], ap, arith, codes, cond, drop, false, length, map, refl}
 pub use Rattle.std.proofs.Common.{string_bytes, subst, sym, take, true, ℕ, ⊎_elim}
 pub use Rattle.std.proofs.lemmas.Bool.Decides.{nat_tests}
 pub use Rattle.std.proofs.lemmas.Option.{none-some, same_Some}
 pub use Rattle.std.proofs.lemmas.Result.{IfOk-weaker, err_from_is_err_and}
-pub use Rattle.std.specs.Io.KnownBytes.{Appends}
 pub use Rattle.std.specs.List.{count_by, fold}
 pub use Rattle.std.specs.Prelude.{IfErr, IsErrOf, OnErr, OnOk, Vec}
 pub use Rattle.std.specs.declared.alloc.Global.{Global}

@@ -1,7 +1,7 @@
 -- What an observer made of a run, and how the command ends.
-use Rattle.jobs.proofs.Names.{ℕ, Bool, true, false, List, [], Option, None, Some, Result, Ok, Err, refl, sym, subst, ⊎_elim, Geometry, Up, opened, Turn, Disk}
-use Rattle.jobs.proofs.Names.{Parts, OpenFault, View, Stop, Tracer, AreSeen, Ends, Sees, RunFault, Fault, HasStop, IsRunEnd, OpensAndRuns, OpensAndSees}
-use Rattle.jobs.proofs.Names.{RunsImage, SeesImage}
+use Rattle.jobs.proofs.Names.{Written, ℕ, Bool, true, false, List, [], Option, None, Some, Result, Ok, Err, refl, sym, subst, ⊎_elim, Geometry, Up, opened}
+use Rattle.jobs.proofs.Names.{Turn, Disk, Parts, OpenFault, View, Stop, Tracer, AreSeen, Ends, Sees, RunFault, Fault, HasStop, IsRunEnd, OpensAndRuns}
+use Rattle.jobs.proofs.Names.{OpensAndSees, RunsImage, SeesImage}
 use Rattle.std.proofs.Common.{◌≡◌, ◌∷◌, ◌∙◌}
 use Rattle.script.specs.declared.fault.RunFault.TheVariants as run
 
@@ -13,12 +13,12 @@ goes_on_to_end sees always first last (t ∷ ts) on seen =
     ⊎_elim (λ goes. goes_on_to_end sees always goes.0 last ts on goes.2) (λ ends. ends.1 ∙ always t first last false ends.2) seen
 
 -- where a tracer ended a run
-has_ended : {V : Type 0} (contents : V → Option (List ℕ)) (g : Geometry) (first last : Tracer V) (turns : List Turn) (on : Bool) →
-    AreSeen (Sees contents g) first last turns on → on ≡ false →
+has_ended : {V : Type 0} (written : V → Written) (g : Geometry) (first last : Tracer V) (turns : List Turn) (on : Bool) →
+    AreSeen (Sees written g) first last turns on → on ≡ false →
     (stop : Stop) × (last.stop ≡ Some stop)
-has_ended contents g first last [] on seen ended = let never : true ≡ false = sym seen.1 ∙ ended in absurd cc
-has_ended contents g first last (t ∷ ts) on seen ended =
-    ⊎_elim (λ goes. has_ended contents g goes.0 last ts on goes.2 ended) (λ ends. found first.options.strict last.stop last.line ends.2.ends) seen
+has_ended written g first last [] on seen ended = let never : true ≡ false = sym seen.1 ∙ ended in absurd cc
+has_ended written g first last (t ∷ ts) on seen ended =
+    ⊎_elim (λ goes. has_ended written g goes.0 last ts on goes.2 ended) (λ ends. found first.options.strict last.stop last.line ends.2.ends) seen
   where
     found : (strict : Bool) (stop : Option Stop) (place : ℕ) → Ends g place t strict false stop → (s : Stop) × (stop ≡ Some s)
     found false stop place never = absurd cc
@@ -26,7 +26,8 @@ has_ended contents g first last (t ∷ ts) on seen ended =
     found true (Some stop) place ends = (stop, refl)
 
 module _ {D S : Type 0} (disk : D → Disk) (view : S → View D) (parts : S → Parts) (device back : D) where
-  module _ {O : Type 0} (sees : Geometry → Turn → O → O → Bool → Type 0) (before after : O) (input input_left output output_left : Option (List ℕ)) where
+  module _ {O : Type 0} (sees : Geometry → Turn → O → O → Bool → Type 0) (before after : O) (input input_left : Option (List ℕ))
+      (output output_left : Written) where
     -- such an observer needs no place where it ended the run
     pub needs_no_stop : ((g : Geometry) (t : Turn) (old new : O) (on : Bool) → sees g t old new on → on ≡ true) →
         (outcome : Result (Result (Unit {0}) RunFault) OpenFault) →
@@ -60,15 +61,15 @@ module _ {D S : Type 0} (disk : D → Disk) (view : S → View D) (parts : S →
         (sym is) (seen.0, seen.1, seen.2)
 
   -- a tracer that ended a run has the place
-  pub tracer_has_stop : {V : Type 0} (contents : V → Option (List ℕ)) (before after : Tracer V) (input input_left output output_left : Option (List ℕ))
+  pub tracer_has_stop : {V : Type 0} (written : V → Written) (before after : Tracer V) (input input_left : Option (List ℕ)) (output output_left : Written)
       (outcome : Result (Result (Unit {0}) RunFault) OpenFault) →
-      SeesImage disk view parts (Sees contents) device back before after input input_left output output_left outcome → HasStop outcome after.stop
-  tracer_has_stop contents before after input input_left output output_left (Ok (Ok a)) seen = tt
-  tracer_has_stop contents before after input input_left output output_left (Ok (Err run.Read)) seen = tt
-  tracer_has_stop contents before after input input_left output output_left (Ok (Err run.Write)) seen = tt
-  tracer_has_stop contents before after input input_left output output_left (Ok (Err run.Stopped)) seen =
+      SeesImage disk view parts (Sees written) device back before after input input_left output output_left outcome → HasStop outcome after.stop
+  tracer_has_stop written before after input input_left output output_left (Ok (Ok a)) seen = tt
+  tracer_has_stop written before after input input_left output output_left (Ok (Err run.Read)) seen = tt
+  tracer_has_stop written before after input input_left output output_left (Ok (Err run.Write)) seen = tt
+  tracer_has_stop written before after input input_left output output_left (Ok (Err run.Stopped)) seen =
       let r = seen.3 seen.2.geometry (Up (opened seen.2.geometry seen.2.saved)) seen.2.stands in
-      let stop = has_ended contents seen.2.geometry before after r.0 r.3 r.4 r.5 in
+      let stop = has_ended written seen.2.geometry before after r.0 r.3 r.4 r.5 in
       let stopped : Result (Result (Unit {0}) RunFault) OpenFault = Ok (Err run.Stopped) in
       subst (λ (s : Option Stop). HasStop stopped s) (sym stop.1) tt
-  tracer_has_stop contents before after input input_left output output_left (Err why) seen = tt
+  tracer_has_stop written before after input input_left output output_left (Err why) seen = tt

@@ -1,5 +1,5 @@
 -- What the command says of the objects that processes can ever change.
-use Rattle.jobs.proofs.Names.{ℕ, List, Option, Result, Ok, Err, sym, subst, Global, Object, Disk, OpenFault, AreSoundObjects, Fault, HoldsOfSaved}
+use Rattle.jobs.proofs.Names.{Written, ℕ, List, Option, Result, Ok, Err, sym, subst, Global, Object, Disk, OpenFault, AreSoundObjects, Fault, HoldsOfSaved}
 use Rattle.jobs.proofs.Names.{OpensAndReads, ReachesImage, TellsReach}
 use Rattle.std.proofs.Common.{◌≡◌, Vec}
 use Rattle.checkpoint.specs.declared.open_fault.OpenFault.TheVariants as opening
@@ -16,7 +16,7 @@ module _ {D : Type 0} (disk : D → Disk) (device back : D) (objects : List Obje
   pub objects_sound : AreSoundObjects objects
   objects_sound = subst AreSoundObjects (sym read.holds) (read.state.plan.geometry, read.state.header.age, read.sound.sound)
 
-  module _ (starts : List ℕ) (shows : Option ℕ) (output output_left : Option (List ℕ)) where
+  module _ (starts : List ℕ) (shows : Option ℕ) (output output_left : Written) where
     -- what is reported of them is reported of the objects that are saved
     reported_of_saved : (outcome : Result (Unit {0}) Fault) → TellsReach objects starts shows output output_left outcome →
         HoldsOfSaved disk device back (λ os. TellsReach os starts shows output output_left outcome)

@@ -1,6 +1,6 @@
 -- The outcomes of the commands that open an image.
-use Rattle.jobs.proofs.Names.{ℕ, List, Option, Ok, Err, sym, ap, subst, Appends, Running, Saved, line_of, Disk, Parts, Checkpoint, OnlyReads, View, Power}
-use Rattle.jobs.proofs.Names.{Opens, IsDeviceOf, IsReported, AppendsFront, ChecksImage, checked_text}
+use Rattle.jobs.proofs.Names.{Written, ℕ, List, Option, Ok, Err, sym, ap, subst, Wrote, Running, Saved, line_of, Disk, Parts, Checkpoint, OnlyReads, View}
+use Rattle.jobs.proofs.Names.{Power, Opens, IsDeviceOf, IsReported, WroteFront, ChecksImage, checked_text}
 use Rattle.std.proofs.Common.{◌≡◌, ◌∙◌}
 use Rattle.std.specs.Prelude.{None, Some}
 use Rattle.kernel.specs.Power as power
@@ -32,25 +32,25 @@ module _ {D S : Type 0} (disk : D → Disk) (view : S → View D) (parts : S →
 
   module _ (back : D) (p : Power D S) (reported : Checkpoint) (opens : Opens disk view parts device p) (is : IsReported disk view parts p (Some reported))
       (beneath : IsDeviceOf disk view parts p back)
-      (output output_left : Option (List ℕ)) where
-    pub checked : Appends output output_left (line_of (checked_text reported.generation reported.age reported.entries)) →
+      (output output_left : Written) where
+    pub checked : Wrote output output_left (line_of (checked_text reported.generation reported.age reported.entries)) →
         ChecksImage disk device back output output_left (Ok tt)
     checked written = (
       opens.geometry,
       opens.saved,
       opens.denoted,
-      subst (λ (t : List ℕ). Appends output output_left (line_of t)) (text_reported p reported opens is) written,
+      subst (λ (t : List ℕ). Wrote output output_left (line_of t)) (text_reported p reported opens is) written,
       looked_at back p opens beneath,
       none_failed back p opens beneath,
     )
 
-    pub checked_untold : AppendsFront output output_left (line_of (checked_text reported.generation reported.age reported.entries)) →
+    pub checked_untold : WroteFront output output_left (line_of (checked_text reported.generation reported.age reported.entries)) →
         ChecksImage disk device back output output_left (Err fault.CannotWriteOutput)
     checked_untold written = (
       opens.geometry,
       opens.saved,
       opens.denoted,
-      subst (λ (t : List ℕ). AppendsFront output output_left (line_of t)) (text_reported p reported opens is)
+      subst (λ (t : List ℕ). WroteFront output output_left (line_of t)) (text_reported p reported opens is)
           written,
       looked_at back p opens beneath,
       none_failed back p opens beneath,

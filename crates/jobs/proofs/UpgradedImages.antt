@@ -1,6 +1,6 @@
 -- The outcome of the command that upgrades.
-use Rattle.jobs.proofs.Names.{ℕ, List, Option, Ok, Err, refl, ap, arith, subst, sym, IfErr, IsErrOf, OnErr, OnOk, Appends, line_of, Disk, Two, laid_again}
-use Rattle.jobs.proofs.Names.{UpgradeFault, IsRefusedAsOld, ReadsAndCloses, Upgrades, AppendsFront, Fault, UpgradesImage, old_failed, upgraded_text}
+use Rattle.jobs.proofs.Names.{Written, ℕ, List, Option, Ok, Err, refl, ap, arith, subst, sym, IfErr, IsErrOf, OnErr, OnOk, Wrote, line_of, Disk, Two}
+use Rattle.jobs.proofs.Names.{laid_again, UpgradeFault, IsRefusedAsOld, ReadsAndCloses, Upgrades, WroteFront, Fault, UpgradesImage, old_failed, upgraded_text}
 use Rattle.std.proofs.Common.{◌≡◌, ◌∙◌}
 use Rattle.std.specs.Prelude.{◌↔◌, Result}
 use Rattle.checkpoint.specs.declared.open_fault.OpenFault.TheVariants as opening
@@ -10,18 +10,18 @@ use Rattle.jobs.specs.declared.fault.Fault.TheVariants as fault
 pub upgrade_cause : (why : UpgradeFault) (P : Type 0) → ((let r : Result ℕ UpgradeFault = Err why in IsErrOf r upgrade.Failed) ↔ P) → (why ≡ upgrade.Failed) ↔ P
 upgrade_cause why P caused = (λ is. caused.0 (ap (λ (f : UpgradeFault). Err f) is), λ rose. let is = caused.1 rose in cc)
 
-module _ {D E : Type 0} (disk : D → Disk) (new_disk : E → Disk) (old : D) (before new : E) (output output_left : Option (List ℕ)) (total : ℕ)
+module _ {D E : Type 0} (disk : D → Disk) (new_disk : E → Disk) (old : D) (before new : E) (output output_left : Written) (total : ℕ)
     (done : (upgrades : Upgrades (disk old) (new_disk before) (new_disk new)) × (total ≡ (laid_again Two upgrades.state.plan).total)) where
-  pub upgraded_reported : Appends output output_left (line_of (upgraded_text total)) → UpgradesImage disk new_disk old before new output output_left (Ok tt)
-  upgraded_reported reported = (done.0, subst (λ (n : ℕ). Appends output output_left (line_of (upgraded_text n))) done.1 reported)
+  pub upgraded_reported : Wrote output output_left (line_of (upgraded_text total)) → UpgradesImage disk new_disk old before new output output_left (Ok tt)
+  upgraded_reported reported = (done.0, subst (λ (n : ℕ). Wrote output output_left (line_of (upgraded_text n))) done.1 reported)
 
-  pub upgraded_untold : AppendsFront output output_left (line_of (upgraded_text total)) →
+  pub upgraded_untold : WroteFront output output_left (line_of (upgraded_text total)) →
       UpgradesImage disk new_disk old before new output output_left (Err fault.CannotWriteOutput)
-  upgraded_untold reported = (done.0, subst (λ (n : ℕ). AppendsFront output output_left (line_of (upgraded_text n))) done.1 reported)
+  upgraded_untold reported = (done.0, subst (λ (n : ℕ). WroteFront output output_left (line_of (upgraded_text n))) done.1 reported)
 
   -- the total was reported, or couldn't be
-  pub total_reported : (result : Result (Unit {0}) Fault) → OnOk result (Appends output output_left (line_of (upgraded_text total))) →
-      OnErr result (AppendsFront output output_left (line_of (upgraded_text total)))
+  pub total_reported : (result : Result (Unit {0}) Fault) → OnOk result (Wrote output output_left (line_of (upgraded_text total))) →
+      OnErr result (WroteFront output output_left (line_of (upgraded_text total)))
       → IfErr result (λ f. f ≡ fault.CannotWriteOutput) → UpgradesImage disk new_disk old before new output output_left result
   total_reported (Ok a) reported front is = upgraded_reported reported
   total_reported (Err f) reported front is = subst
@@ -34,7 +34,7 @@ never_old (Ok a) is reported = cc
 never_old (Err f) is reported = let same : f ≡ old_failed = cc in let other : fault.CannotWriteOutput ≡ old_failed = sym is ∙ same in cc
 
 -- an old device that is refused leaves the new one as it was
-pub old_refused : {D E : Type 0} (disk : D → Disk) (new_disk : E → Disk) (old : D) (before : E) (output : Option (List ℕ)) (why : UpgradeFault) →
+pub old_refused : {D E : Type 0} (disk : D → Disk) (new_disk : E → Disk) (old : D) (before : E) (output : Written) (why : UpgradeFault) →
     IsRefusedAsOld disk old why
     → (let r : Result (Unit {0}) Fault = Err (fault.Upgrade why) in UpgradesImage disk new_disk old before before output output r)
 old_refused disk new_disk old before output (upgrade.Old why) is = (is, (λ _. refl), (λ same. cc, λ rose. absurd (omega (arith, rose))), refl)

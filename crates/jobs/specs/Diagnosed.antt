@@ -1,6 +1,6 @@
 -- What is printed of why an image is refused.
-use Rattle.jobs.specs.Names.{ℕ, List, codes, Option, None, Some, Result, Ok, Err, Appends, line_of, Disk, OpenFault}
-use Rattle.jobs.specs.Names.{ImageFault, fault_text, AppendsFront}
+use Rattle.jobs.specs.Names.{Written, ℕ, List, codes, Option, None, Some, Result, Ok, Err, Wrote, line_of, Disk}
+use Rattle.jobs.specs.Names.{OpenFault, ImageFault, fault_text, WroteFront}
 use Rattle.std.specs.Prelude.{◌≡◌}
 use Rattle.image_explainer.specs.Explained.{Explains}
 use Rattle.jobs.specs.declared.fault.Fault.{Fault}
@@ -29,12 +29,12 @@ TellsFault disk device back found Reported =
     (line_of (explanation_text found))
 
 -- that is written; or it isn't written whole; or the device failed, or memory ran out
-abbrev pub ExplainsImage : {D : Type 0} → (D → Disk) → D → D → Option (List ℕ) → Option (List ℕ) →
+abbrev pub ExplainsImage : {D : Type 0} → (D → Disk) → D → D → Written → Written →
     Result (Option ImageFault) Fault → Type 0
 ExplainsImage disk device back output output_left (Ok found) = TellsFault disk device back found
-    (Appends output output_left)
+    (Wrote output output_left)
 ExplainsImage disk device back output output_left (Err fault.CannotWriteOutput) = (found : Option ImageFault) ×
-    TellsFault disk device back found (AppendsFront output output_left)
+    TellsFault disk device back found (WroteFront output output_left)
 ExplainsImage disk device back output output_left (Err (fault.Open why)) =
     (let r : Result (Option ImageFault) OpenFault = Err why in Explains disk device back r) × (output_left ≡ output)
 ExplainsImage disk device back output output_left (Err _) = ⊥

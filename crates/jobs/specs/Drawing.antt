@@ -1,7 +1,7 @@
 -- What the command that draws says of an image.
-use Rattle.jobs.specs.Names.{ℕ, Bool, true, false, Option, None, Some, List, [], Result, Ok, Err, Appends, Object}
-use Rattle.jobs.specs.Names.{is_process, Disk, OpenFault, RefusesToOpen, AppendsFront, Description, boxes, graph_text}
-use Rattle.jobs.specs.Names.{IsPart, holders, is_listed, IsReach}
+use Rattle.jobs.specs.Names.{Written, ℕ, Bool, true, false, Option, None, Some, List, [], Result, Ok, Err, Wrote}
+use Rattle.jobs.specs.Names.{Object, is_process, Disk, OpenFault, RefusesToOpen, WroteFront, Description, boxes}
+use Rattle.jobs.specs.Names.{graph_text, IsPart, holders, is_listed, IsReach}
 use Rattle.std.specs.Prelude.{◌≡◌, ◌∷◌}
 use Rattle.checkpoint.specs.declared.open_fault.OpenFault.TheVariants as opening
 use Rattle.jobs.specs.declared.drawing.Focus.{Focus}
@@ -56,11 +56,11 @@ KeepsPart os focus d e (Err why) = IsNoFocus os focus d why
 abbrev pub TellsPart : List Object → Focus → Description → (List ℕ → Type 0) → Type 0
 TellsPart os focus d Reported = (e : Description) × IsFocus os focus d e × Reported (graph_text e)
 
-abbrev pub DrawsPart : List Object → Focus → Description → Option (List ℕ) → Option (List ℕ) → Result (Unit {0}) Fault →
+abbrev pub DrawsPart : List Object → Focus → Description → Written → Written → Result (Unit {0}) Fault →
     Type 0
-DrawsPart os focus d output output_left (Ok a) = TellsPart os focus d (Appends output output_left)
+DrawsPart os focus d output output_left (Ok a) = TellsPart os focus d (Wrote output output_left)
 DrawsPart os focus d output output_left (Err fault.CannotWriteOutput) = TellsPart os focus d
-    (AppendsFront output output_left)
+    (WroteFront output output_left)
 DrawsPart os focus d output output_left (Err (fault.Open opening.NoMemory)) = output_left ≡ output
 DrawsPart os focus d output output_left (Err why) = IsNoFocus os focus d why × (output_left ≡ output)
 
@@ -82,7 +82,7 @@ pub record OfWhole {D : Type 0} (disk : D → Disk) (device back : D) (Reported 
 
 -- the graph of a part of what is saved was written; or not whole; or a number of the focus is wrong; or
 -- the device wasn't opened, or memory ran out
-abbrev pub DrawsImage : {D : Type 0} → (D → Disk) → Focus → D → D → Option (List ℕ) → Option (List ℕ) →
+abbrev pub DrawsImage : {D : Type 0} → (D → Disk) → Focus → D → D → Written → Written →
     Result (Unit {0}) Fault → Type 0
 DrawsImage disk focus device back output output_left (Err (fault.Open why)) = RefusesToOpen disk device back why ×
     (output_left ≡ output)

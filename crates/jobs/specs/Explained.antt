@@ -1,7 +1,7 @@
 -- The explanation of the description in a text.
-use Rattle.jobs.specs.Names.{nat_lt, take, ℕ, Bool, true, false, not, List, [], length, codes, decimal, Option, None}
-use Rattle.jobs.specs.Names.{Some, Result, Ok, Err, Appends, Members, parse_document, line_of, Place, Explains}
-use Rattle.jobs.specs.Names.{IsExplanation, AppendsFront}
+use Rattle.jobs.specs.Names.{Written, nat_lt, take, ℕ, Bool, true, false, not, List, [], length, codes, decimal, Option}
+use Rattle.jobs.specs.Names.{None, Some, Result, Ok, Err, Wrote, Members, parse_document, line_of, Place, Explains}
+use Rattle.jobs.specs.Names.{IsExplanation, WroteFront}
 use Rattle.std.specs.Prelude.{◌+◌, if◌then◌else◌, ◌≡◌, ◌==◌, ◌||◌, ◌≤◌, ◌++◌, ◌∷◌}
 use Rattle.jobs.specs.declared.fault.Fault.{Fault}
 use Rattle.jobs.specs.declared.fault.Fault.TheVariants as fault
@@ -40,19 +40,19 @@ TellsOf text line false =
     × (parse_document text ≡ None → IsSyntaxLine text line)
 
 -- a line is written; or it isn't written whole; or memory ran out
-abbrev pub TellsLine : List ℕ → Option (List ℕ) → Option (List ℕ) → Result (Unit {0}) Fault → Type 0
-TellsLine line output output_left (Ok a) = Appends output output_left (line_of line)
-TellsLine line output output_left (Err fault.CannotWriteOutput) = AppendsFront output output_left (line_of line)
+abbrev pub TellsLine : List ℕ → Written → Written → Result (Unit {0}) Fault → Type 0
+TellsLine line output output_left (Ok a) = Wrote output output_left (line_of line)
+TellsLine line output output_left (Err fault.CannotWriteOutput) = WroteFront output output_left (line_of line)
 TellsLine line output output_left (Err fault.NoMemory) = output_left ≡ output
 TellsLine line output output_left (Err _) = ⊥
 
 -- the line about a text is written; or it isn't written whole; or memory ran out
-abbrev pub ExplainsText : List ℕ → Option (List ℕ) → Option (List ℕ) → Result Bool Fault → Type 0
+abbrev pub ExplainsText : List ℕ → Written → Written → Result Bool Fault → Type 0
 ExplainsText text output output_left (Ok is_accepted) =
-    (line : List ℕ) × TellsOf text line is_accepted × Appends output output_left (line_of line)
+    (line : List ℕ) × TellsOf text line is_accepted × Wrote output output_left (line_of line)
 ExplainsText text output output_left (Err fault.CannotWriteOutput) =
     (line : List ℕ) × (is_accepted : Bool) × TellsOf text line is_accepted
-    × AppendsFront output output_left (line_of line)
+    × WroteFront output output_left (line_of line)
 ExplainsText text output output_left (Err fault.NoMemory) = output_left ≡ output
 ExplainsText text output output_left (Err _) = ⊥
 

@@ -1,8 +1,8 @@
 -- The message of a fault, and the exit status of a command.
-use Rattle.jobs.specs.Names.{ℕ, List, [], codes, decimal, Option, None, Some, Result, Ok, Err, OpenFault, line_of}
-use Rattle.jobs.specs.Names.{spaced, BuildFault, UpgradeFault, fault_number, GrowthFault, Stop, cause_text, RunFault}
-use Rattle.jobs.specs.Names.{Writes, reason_number}
-use Rattle.std.specs.Prelude.{◌≡◌, ◌∷◌, ◌++◌}
+use Rattle.jobs.specs.Names.{Written, ℕ, List, [], codes, decimal, Option, None, Some, Result, Ok, Err, OpenFault}
+use Rattle.jobs.specs.Names.{line_of, spaced, BuildFault, UpgradeFault, fault_number, GrowthFault, Stop, cause_text}
+use Rattle.jobs.specs.Names.{RunFault, Writes, reason_number}
+use Rattle.std.specs.Prelude.{◌≡◌, ◌≢◌, ◌∷◌, ◌++◌}
 use Rattle.checkpoint.specs.declared.open_fault.OpenFault.TheVariants as opening
 use Rattle.image_writer.specs.declared.fault.BuildFault.TheVariants as build
 use Rattle.image_builder.specs.declared.upgrade_fault.UpgradeFault.TheVariants as upgrade
@@ -74,13 +74,14 @@ status_of (Ok a) = 0
 status_of (Err why) = 1
 
 -- a fault was written on a line of its own, as far as it could be written
-abbrev pub IsReported : Result (Unit {0}) Fault → Option (List ℕ) → Option (List ℕ) → Type 0
+abbrev pub IsReported : Result (Unit {0}) Fault → Written → Written → Type 0
 IsReported (Ok a) old new = new ≡ old
 IsReported (Err why) old new = (wrote : Result (Unit {0}) RunFault) × Writes old new wrote (line_of (fault_text why))
 
--- The status of a command once the buffer of its output is passed on: the status before, and an empty buffer if that
--- status is 0; or 1, where it was 0 and the buffer couldn't be passed on.
-abbrev pub PassesOn : ℕ → ℕ → List ℕ → Result (Unit {0}) Fault → Type 0
-PassesOn before after left (Ok a) = (after ≡ before) × (before ≡ 0 → left ≡ [])
-PassesOn before after left (Err fault.CannotWriteOutput) = (before ≡ 0) × (after ≡ 1)
-PassesOn before after left (Err _) = ⊥
+-- The status of a command once the buffer of its output is passed on, or can't be: the status before, and an empty
+-- buffer where it is passed on; or 1, where it isn't and the status was 0.
+abbrev pub PassesOn : Result (Unit {0}) RunFault → ℕ → ℕ → List ℕ → Result (Unit {0}) Fault → Type 0
+PassesOn (Ok a) before after left outcome = (outcome ≡ Ok tt) × (after ≡ before) × (left ≡ [])
+PassesOn (Err e) before after left (Ok a) = (after ≡ before) × (before ≢ 0)
+PassesOn (Err e) before after left (Err fault.CannotWriteOutput) = (before ≡ 0) × (after ≡ 1)
+PassesOn (Err e) before after left (Err _) = ⊥

@@ -1,7 +1,7 @@
 -- A description of an image, renumbered for other sizes.
-use Rattle.jobs.specs.Names.{ℕ, List, Some, Option, Result, Ok, Err, Appends, Members, parse_document, IsGeometry}
-use Rattle.jobs.specs.Names.{AppendsFront, Description, IsDescription, Sizes, IsNotRenumbered, IsRenumbered, NamesNodes}
-use Rattle.jobs.specs.Names.{NamesPages, grown_geometry, description_text}
+use Rattle.jobs.specs.Names.{Written, ℕ, List, Some, Option, Result, Ok, Err, Wrote, Members, parse_document}
+use Rattle.jobs.specs.Names.{IsGeometry, WroteFront, Description, IsDescription, Sizes, IsNotRenumbered, IsRenumbered}
+use Rattle.jobs.specs.Names.{NamesNodes, NamesPages, grown_geometry, description_text}
 use Rattle.std.specs.Prelude.{◌≡◌}
 use Rattle.checkpoint.specs.declared.open_fault.OpenFault.TheVariants as opening
 use Rattle.jobs.specs.declared.fault.Fault.{Fault}
@@ -18,9 +18,9 @@ abbrev pub TellsText : Description → (List ℕ → Type 0) → Type 0
 TellsText d Reported = (text : List ℕ) × IsSpelling d text × Reported text
 
 -- the text of a description was written; or it couldn't be written whole; or memory ran out
-abbrev pub TellsDescription : Description → Option (List ℕ) → Option (List ℕ) → Result (Unit {0}) Fault → Type 0
-TellsDescription d output output_left (Ok a) = TellsText d (Appends output output_left)
-TellsDescription d output output_left (Err fault.CannotWriteOutput) = TellsText d (AppendsFront output output_left)
+abbrev pub TellsDescription : Description → Written → Written → Result (Unit {0}) Fault → Type 0
+TellsDescription d output output_left (Ok a) = TellsText d (Wrote output output_left)
+TellsDescription d output output_left (Err fault.CannotWriteOutput) = TellsText d (WroteFront output output_left)
 TellsDescription d output output_left (Err (fault.Open opening.NoMemory)) = output_left ≡ output
 TellsDescription d output output_left (Err _) = ⊥
 
@@ -43,10 +43,10 @@ abbrev pub TellsGrownText : Description → Sizes → (List ℕ → Type 0) → 
 TellsGrownText d sizes Reported = (e : Description) × IsGrownFrom sizes d e × TellsText e Reported
 
 -- the text of a renumbered description was written; or a fault
-abbrev pub TellsGrown : Description → Sizes → Option (List ℕ) → Option (List ℕ) → Result (Unit {0}) Fault → Type 0
-TellsGrown d sizes output output_left (Ok a) = TellsGrownText d sizes (Appends output output_left)
+abbrev pub TellsGrown : Description → Sizes → Written → Written → Result (Unit {0}) Fault → Type 0
+TellsGrown d sizes output output_left (Ok a) = TellsGrownText d sizes (Wrote output output_left)
 TellsGrown d sizes output output_left (Err fault.CannotWriteOutput) = TellsGrownText d sizes
-    (AppendsFront output output_left)
+    (WroteFront output output_left)
 TellsGrown d sizes output output_left (Err (fault.Sizes why)) = IsNotRenumbered d (grown_geometry d.geometry sizes) why
     × (output_left ≡ output)
 TellsGrown d sizes output output_left (Err (fault.Open opening.NoMemory)) = output_left ≡ output

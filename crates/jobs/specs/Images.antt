@@ -1,11 +1,11 @@
 -- What the commands do with images.
-use Rattle.jobs.specs.Names.{ℕ, List, [], codes, decimal, Bool, map, Option, Some, Result, Ok, Err, Appends, Members}
-use Rattle.jobs.specs.Names.{parse_document, Frame, Geometry, IsSoundFrames, world_at, Saved, World, Turn, line_of}
-use Rattle.jobs.specs.Names.{spaced, Disk, Encodes, SavedState, Plan, version_number, Two, OnlyReads, OpenFault}
-use Rattle.jobs.specs.Names.{laid_again, numbers_of, Parts, View, Power, RefusesToOpen, Opens, Denotes, IsDeviceOf}
-use Rattle.jobs.specs.Names.{Description, IsDescription, BuildsFrom, Refuses, plan_for, GrowthFault, Sizes, Describes}
-use Rattle.jobs.specs.Names.{IsBrief, IsGrown, IsUnsuited, grown_geometry, grown_ranges, description_text}
-use Rattle.jobs.specs.Names.{IsNotUpgraded, Upgrades, Stop, RunsOver, RunsSeen, RunFault, AppendsFront}
+use Rattle.jobs.specs.Names.{Written, ℕ, List, [], codes, decimal, Bool, map, Option, Some, Result, Ok, Err, Wrote}
+use Rattle.jobs.specs.Names.{Members, parse_document, Frame, Geometry, IsSoundFrames, world_at, Saved, World, Turn}
+use Rattle.jobs.specs.Names.{line_of, spaced, Disk, Encodes, SavedState, Plan, version_number, Two, OnlyReads}
+use Rattle.jobs.specs.Names.{OpenFault, laid_again, numbers_of, Parts, View, Power, RefusesToOpen, Opens, Denotes}
+use Rattle.jobs.specs.Names.{IsDeviceOf, Description, IsDescription, BuildsFrom, Refuses, plan_for, GrowthFault, Sizes}
+use Rattle.jobs.specs.Names.{Describes, IsBrief, IsGrown, IsUnsuited, grown_geometry, grown_ranges, description_text}
+use Rattle.jobs.specs.Names.{IsNotUpgraded, Upgrades, Stop, RunsOver, RunsSeen, RunFault, WroteFront}
 use Rattle.std.specs.Prelude.{◌≡◌, ◌≢◌, ◌↔◌, ◌<◌, ◌∷◌}
 use Rattle.checkpoint.specs.declared.open_fault.OpenFault.TheVariants as opening
 use Rattle.image_writer.specs.declared.fault.BuildFault.TheVariants as build
@@ -29,12 +29,12 @@ abbrev pub TellsTotal : Members → (List ℕ → Type 0) → Type 0
 TellsTotal ms Reported = (d : Description) × IsDescription ms d × Reported (line_of (built_text (plan_for d).total))
 
 -- an image was built and its total written; or it was built, and the total couldn't be written whole; or none was
-abbrev pub BuildsImage : {D : Type 0} → (D → Disk) → Members → D → D → Option (List ℕ) → Option (List ℕ) →
+abbrev pub BuildsImage : {D : Type 0} → (D → Disk) → Members → D → D → Written → Written →
     Result (Unit {0}) Fault → Type 0
 BuildsImage disk ms old new output output_left (Ok a) = BuildsFrom ms (disk old) (disk new) × TellsTotal ms
-    (Appends output output_left)
+    (Wrote output output_left)
 BuildsImage disk ms old new output output_left (Err fault.CannotWriteOutput) = BuildsFrom ms (disk old) (disk new) ×
-    TellsTotal ms (AppendsFront output output_left)
+    TellsTotal ms (WroteFront output output_left)
 BuildsImage disk ms old new output output_left (Err (fault.Build why)) =
     Refuses ms (disk old).sectors why × (why ≢ build.Failed → new ≡ old) ×
     ((why ≡ build.Failed) ↔ ((disk old).failures < (disk new).failures)) × (output_left ≡ output)
@@ -50,12 +50,12 @@ UpgradesAndTells disk new_disk old before new Reported =
     (line_of (upgraded_text (laid_again Two done.state.plan).total))
 
 -- an image was upgraded and its total written; or the total couldn't be written whole; or no image was upgraded
-abbrev pub UpgradesImage : {D E : Type 0} → (D → Disk) → (E → Disk) → D → E → E → Option (List ℕ) → Option (List ℕ) →
+abbrev pub UpgradesImage : {D E : Type 0} → (D → Disk) → (E → Disk) → D → E → E → Written → Written →
     Result (Unit {0}) Fault → Type 0
 UpgradesImage disk new_disk old before new output output_left (Ok a) = UpgradesAndTells disk new_disk old before new
-    (Appends output output_left)
+    (Wrote output output_left)
 UpgradesImage disk new_disk old before new output output_left (Err fault.CannotWriteOutput) = UpgradesAndTells disk
-    new_disk old before new (AppendsFront output output_left)
+    new_disk old before new (WroteFront output output_left)
 UpgradesImage disk new_disk old before new output output_left (Err (fault.Upgrade why)) =
     IsNotUpgraded disk old (new_disk before).sectors why × (why ≢ upgrade.Failed → new ≡ before)
     × ((why ≡ upgrade.Failed) ↔ ((new_disk before).failures < (new_disk new).failures)) × (output_left ≡ output)
@@ -69,7 +69,7 @@ old_failed = fault.Upgrade (upgrade.Old opening.Failed)
 module _ {D S : Type 0} (disk : D → Disk) (view : S → View D) (parts : S → Parts) where
   -- a kernel was opened, and a script run over it with this outcome; the device that is given back is that of the
   -- kernel after the run
-  abbrev pub OpensAndRuns : D → D → Option (List ℕ) → Option (List ℕ) → Option (List ℕ) → Option (List ℕ) →
+  abbrev pub OpensAndRuns : D → D → Option (List ℕ) → Option (List ℕ) → Written → Written →
       Result (Unit {0}) RunFault → Type 0
   OpensAndRuns device back input input_left output output_left outcome =
       (first : Power D S) × (last : Power D S) × Opens disk view parts device first × RunsOver disk view parts first
@@ -78,7 +78,7 @@ module _ {D S : Type 0} (disk : D → Disk) (view : S → View D) (parts : S →
 
   -- so it was, and an observer saw each turn
   abbrev pub OpensAndSees : {O : Type 0} → (Geometry → Turn → O → O → Bool → Type 0) → D → D → O → O
-      → Option (List ℕ) → Option (List ℕ) → Option (List ℕ) → Option (List ℕ) → Result (Unit {0}) RunFault → Type 0
+      → Option (List ℕ) → Option (List ℕ) → Written → Written → Result (Unit {0}) RunFault → Type 0
   OpensAndSees sees device back before after input input_left output output_left outcome =
       (first : Power D S) × (last : Power D S) × Opens disk view parts device first
       × RunsSeen disk view parts sees first last before after input input_left output output_left outcome × IsDeviceOf
@@ -86,7 +86,7 @@ module _ {D S : Type 0} (disk : D → Disk) (view : S → View D) (parts : S →
 
   -- so it was; or the device wasn't opened, nothing was read or written, and the observer saw nothing
   abbrev pub SeesImage : {O : Type 0} → (Geometry → Turn → O → O → Bool → Type 0) → D → D → O → O
-      → Option (List ℕ) → Option (List ℕ) → Option (List ℕ) → Option (List ℕ) →
+      → Option (List ℕ) → Option (List ℕ) → Written → Written →
       Result (Result (Unit {0}) RunFault) OpenFault → Type 0
   SeesImage sees device back before after input input_left output output_left (Ok outcome) =
       OpensAndSees sees device back before after input input_left output output_left outcome
@@ -95,13 +95,13 @@ module _ {D S : Type 0} (disk : D → Disk) (view : S → View D) (parts : S →
 
   -- the outcome of a command that runs a script: the run that its observer saw, and where that ended it
   abbrev pub EndsAs : {O : Type 0} → (Geometry → Turn → O → O → Bool → Type 0) → (O → Option Stop) → D → D → O → O
-      → Option (List ℕ) → Option (List ℕ) → Option (List ℕ) → Option (List ℕ) → Result (Unit {0}) Fault → Type 0
+      → Option (List ℕ) → Option (List ℕ) → Written → Written → Result (Unit {0}) Fault → Type 0
   EndsAs sees stop device back before after input input_left output output_left result =
       (outcome : Result (Result (Unit {0}) RunFault) OpenFault) × IsRunEnd outcome (stop after) result
       × SeesImage sees device back before after input input_left output output_left outcome
 
   -- so it was; or the device wasn't opened, and nothing was read or written, there either
-  abbrev pub RunsImage : D → D → Option (List ℕ) → Option (List ℕ) → Option (List ℕ) → Option (List ℕ) →
+  abbrev pub RunsImage : D → D → Option (List ℕ) → Option (List ℕ) → Written → Written →
       Result (Unit {0}) Fault → Type 0
   RunsImage device back input input_left output output_left (Ok a) = OpensAndRuns device back input input_left output
       output_left (Ok a)
@@ -122,11 +122,11 @@ TellsSaved disk device back Reported =
     × OnlyReads (disk device) (disk back) × ((disk back).failures ≡ (disk device).failures)
 
 -- so it was; or that couldn't be written whole; or the device wasn't opened
-abbrev pub ChecksImage : {D : Type 0} → (D → Disk) → D → D → Option (List ℕ) → Option (List ℕ) →
+abbrev pub ChecksImage : {D : Type 0} → (D → Disk) → D → D → Written → Written →
     Result (Unit {0}) Fault → Type 0
-ChecksImage disk device back output output_left (Ok a) = TellsSaved disk device back (Appends output output_left)
+ChecksImage disk device back output output_left (Ok a) = TellsSaved disk device back (Wrote output output_left)
 ChecksImage disk device back output output_left (Err fault.CannotWriteOutput) = TellsSaved disk device back
-    (AppendsFront output output_left)
+    (WroteFront output output_left)
 ChecksImage disk device back output output_left (Err (fault.Open why)) = RefusesToOpen disk device back why ×
     (output_left ≡ output)
 ChecksImage disk device back output output_left (Err _) = ⊥
@@ -212,12 +212,12 @@ RefusesSizes disk sizes device back why =
     why
 
 -- all was written; or not all of it; or there is no such image; or the device wasn't opened, or memory ran out
-abbrev pub DescribesImage : {D : Type 0} → (D → Disk) → Sizes → D → D → Option (List ℕ) → Option (List ℕ) →
+abbrev pub DescribesImage : {D : Type 0} → (D → Disk) → Sizes → D → D → Written → Written →
     Result (Unit {0}) Fault → Type 0
 DescribesImage disk sizes device back output output_left (Ok a) = TellsWhole disk sizes device back
-    (Appends output output_left)
+    (Wrote output output_left)
 DescribesImage disk sizes device back output output_left (Err fault.CannotWriteOutput) = TellsWhole disk sizes device
-    back (AppendsFront output output_left)
+    back (WroteFront output output_left)
 DescribesImage disk sizes device back output output_left (Err (fault.Sizes why)) = RefusesSizes disk sizes device back
     why × (output_left ≡ output)
 DescribesImage disk sizes device back output output_left (Err (fault.Open why)) = RefusesToOpen disk device back why ×

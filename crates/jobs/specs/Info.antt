@@ -1,8 +1,8 @@
 -- What is printed about an image.
-use Rattle.jobs.specs.Names.{ℕ, Bool, List, [], codes, decimal, map, Option, Result, Ok, Err, Vec, Global, Appends}
-use Rattle.jobs.specs.Names.{count_by, flat_map, Cap, Content, Role, IsSoundFrames, Saved, role_number, role_of}
+use Rattle.jobs.specs.Names.{Written, ℕ, Bool, List, [], codes, decimal, map, Option, Result, Ok, Err, Vec, Global}
+use Rattle.jobs.specs.Names.{Wrote, count_by, flat_map, Cap, Content, Role, IsSoundFrames, Saved, role_number, role_of}
 use Rattle.jobs.specs.Names.{line_of, spaced, World, Disk, HomeRange, Encodes, SavedState, Plan, version_number}
-use Rattle.jobs.specs.Names.{Checkpoint, OpenFault, OnlyReads, kept_of, saved_of, RefusesToOpen, AppendsFront}
+use Rattle.jobs.specs.Names.{Checkpoint, OpenFault, OnlyReads, kept_of, saved_of, RefusesToOpen, WroteFront}
 use Rattle.std.specs.Prelude.{◌≡◌, ◌==◌, ◌∷◌, ◌++◌}
 use Rattle.model.specs.declared.object.Role.TheVariants as role
 use Rattle.jobs.specs.declared.fault.Fault.{Fault}
@@ -82,11 +82,11 @@ TellsInfo disk device back Reported = (lines : List InfoLine) × InfoOf disk dev
     (info_text lines)
 
 -- the lines were written; or couldn't be written whole; or the device wasn't opened
-abbrev pub InspectsImage : {D : Type 0} → (D → Disk) → D → D → Option (List ℕ) → Option (List ℕ) →
+abbrev pub InspectsImage : {D : Type 0} → (D → Disk) → D → D → Written → Written →
     Result (Unit {0}) Fault → Type 0
-InspectsImage disk device back output output_left (Ok a) = TellsInfo disk device back (Appends output output_left)
+InspectsImage disk device back output output_left (Ok a) = TellsInfo disk device back (Wrote output output_left)
 InspectsImage disk device back output output_left (Err fault.CannotWriteOutput) = TellsInfo disk device back
-    (AppendsFront output output_left)
+    (WroteFront output output_left)
 InspectsImage disk device back output output_left (Err (fault.Open why)) = RefusesToOpen disk device back why ×
     (output_left ≡ output)
 InspectsImage disk device back output output_left (Err _) = ⊥

@@ -2,8 +2,10 @@
 pub use Rattle.capability.specs.Parts.{Parts}
 pub use Rattle.checkpoint.specs.Opened.{OnlyReads}
 pub use Rattle.checkpoint.specs.Saved.{Holds, SavedFrames, kept_of}
+pub use Rattle.checkpoint.specs.Store.{View}
 pub use Rattle.checkpoint.specs.declared.committed.Checkpoint.{Checkpoint}
 pub use Rattle.checkpoint.specs.declared.open_fault.OpenFault.{OpenFault}
+pub use Rattle.collections.specs.Marks.{is_marked}
 pub use Rattle.description.specs.Reading.{IsDescription}
 pub use Rattle.description.specs.declared.entry.Description.{Description}
 pub use Rattle.description_explainer.specs.Places.{Explains}
@@ -14,14 +16,14 @@ pub use Rattle.image_builder.specs.Built.{BuildsFrom, IsAccepted, IsSavedOf, Ref
 pub use Rattle.image_builder.specs.Upgraded.{IsNotUpgraded, Upgrades}
 pub use Rattle.image_builder.specs.declared.upgrade_fault.UpgradeFault.{UpgradeFault}
 pub use Rattle.image_describer.specs.Describes.{Describes, IsBrief}
+pub use Rattle.image_describer.specs.Graph.{boxes}
+unfoldable pub use Rattle.image_describer.specs.Graph.{graph_text}
 pub use Rattle.image_describer.specs.Grown.{IsGrown, IsNotRenumbered, IsRenumbered, IsUnsuited, NamesNodes, NamesPages}
 pub use Rattle.image_describer.specs.Grown.{grown_geometry, grown_ranges}
+pub use Rattle.image_describer.specs.Part.{IsPart, holders, is_listed}
 unfoldable pub use Rattle.image_describer.specs.Text.{description_text}
 pub use Rattle.image_describer.specs.declared.sizes.GrowthFault.{GrowthFault}
 pub use Rattle.image_describer.specs.declared.sizes.Sizes.{Sizes}
-pub use Rattle.image_drawer.specs.Graph.{boxes}
-unfoldable pub use Rattle.image_drawer.specs.Graph.{graph_text}
-pub use Rattle.image_drawer.specs.Part.{IsPart, holders, is_listed}
 pub use Rattle.image_explainer.specs.Text.{reason_number}
 unfoldable pub use Rattle.image_explainer.specs.Text.{fault_text}
 pub use Rattle.image_explainer.specs.declared.fault.ImageFault.{ImageFault}
@@ -50,8 +52,6 @@ pub use Rattle.model.specs.declared.geometry.Geometry.{Geometry}
 pub use Rattle.model.specs.declared.object.Content.{Content}
 pub use Rattle.model.specs.declared.object.Object.{Object}
 pub use Rattle.model.specs.declared.object.Role.{Role}
-pub use Rattle.number_set.specs.Marks.{is_marked}
-pub use Rattle.object_store.specs.Store.{View}
 pub use Rattle.reach.specs.Chain.{IsShortestIfAny}
 unfoldable pub use Rattle.reach.specs.ChainLines.{chain_text}
 unfoldable pub use Rattle.reach.specs.Lines.{reach_text}
@@ -64,9 +64,8 @@ pub use Rattle.runs.specs.Tracing.{cause_text}
 pub use Rattle.runs.specs.declared.cause.Stop.{Stop}
 pub use Rattle.runs.specs.declared.script_pieces.Piece.{Piece}
 pub use Rattle.runs.specs.declared.unsaved.Unsaved.{Unsaved}
-pub use Rattle.script.specs.Writing.{AppendsFront, Writes}
+pub use Rattle.script.specs.Writing.{Writes, Written, Wrote, WroteFront}
 pub use Rattle.script.specs.declared.fault.RunFault.{RunFault}
-pub use Rattle.std.specs.Io.KnownBytes.{Appends}
 pub use Rattle.std.specs.List.{All, count_by, find, flat_map}
 pub use Rattle.std.specs.Prelude.{Bool, Err, IsTrue, List, None, Ok, Option, Result, Some, Vec, [], codes, decimal}
 pub use Rattle.std.specs.Prelude.{false, is_some, length, map, nat_lt, not, take, true, ℕ}

@@ -1,8 +1,8 @@
 -- What the command says of the objects that some processes can ever change.
-use Rattle.jobs.specs.Names.{ℕ, Bool, not, Option, None, Some, List, Vec, Result, Ok, Err, IsTrue, is_some, Appends}
-use Rattle.jobs.specs.Names.{All, find, Global, is_marked, Object, objects_of, IsSoundFrames, is_process, Disk, Encodes}
-use Rattle.jobs.specs.Names.{SavedState, OnlyReads, OpenFault, RefusesToOpen, AppendsFront, Step, IsShortestIfAny}
-use Rattle.jobs.specs.Names.{chain_text, reach_text, BoundsRuns, IsReach}
+use Rattle.jobs.specs.Names.{Written, ℕ, Bool, not, Option, None, Some, List, Vec, Result, Ok, Err, IsTrue, is_some}
+use Rattle.jobs.specs.Names.{Wrote, All, find, Global, is_marked, Object, objects_of, IsSoundFrames, is_process, Disk}
+use Rattle.jobs.specs.Names.{Encodes, SavedState, OnlyReads, OpenFault, RefusesToOpen, WroteFront, Step}
+use Rattle.jobs.specs.Names.{IsShortestIfAny, chain_text, reach_text, BoundsRuns, IsReach}
 use Rattle.std.specs.Prelude.{◌≡◌}
 use Rattle.checkpoint.specs.declared.open_fault.OpenFault.TheVariants as opening
 use Rattle.jobs.specs.declared.fault.Fault.{Fault}
@@ -35,11 +35,11 @@ Reaches os starts shows Reported = AreProcesses os starts ×
     ((text : List ℕ) × IsReachText os starts shows text × Reported text)
 
 -- so it was; or that couldn't be written whole; or a number isn't that of a process; or memory ran out
-abbrev pub TellsReach : List Object → List ℕ → Option ℕ → Option (List ℕ) → Option (List ℕ) → Result (Unit {0}) Fault →
+abbrev pub TellsReach : List Object → List ℕ → Option ℕ → Written → Written → Result (Unit {0}) Fault →
     Type 0
-TellsReach os starts shows output output_left (Ok a) = Reaches os starts shows (Appends output output_left)
+TellsReach os starts shows output output_left (Ok a) = Reaches os starts shows (Wrote output output_left)
 TellsReach os starts shows output output_left (Err fault.CannotWriteOutput) = Reaches os starts shows
-    (AppendsFront output output_left)
+    (WroteFront output output_left)
 TellsReach os starts shows output output_left (Err (fault.NoProcess p)) =
     (find (λ n. not (is_process os n)) starts ≡ Some p) × (output_left ≡ output)
 TellsReach os starts shows output output_left (Err (fault.Open opening.NoMemory)) = output_left ≡ output
@@ -61,7 +61,7 @@ OpensAndReads disk device back (Ok objects) = HoldsOfSaved disk device back (λ 
 OpensAndReads disk device back (Err why) = RefusesToOpen disk device back why
 
 -- what processes can ever change was written; or a fault; or the device wasn't opened, or memory ran out
-abbrev pub ReachesImage : {D : Type 0} → (D → Disk) → List ℕ → Option ℕ → D → D → Option (List ℕ) → Option (List ℕ) →
+abbrev pub ReachesImage : {D : Type 0} → (D → Disk) → List ℕ → Option ℕ → D → D → Written → Written →
     Result (Unit {0}) Fault → Type 0
 ReachesImage disk starts shows device back output output_left (Err (fault.Open why)) = RefusesToOpen disk device back
     why × (output_left ≡ output)

@@ -10,12 +10,11 @@ ghost use Rattle.jobs.specs.Images.{BuildsImage};
 use crate::fault::{Fault, status};
 use device::Device;
 use image_builder::Blueprint;
-use script::LineText;
+use script::{LineText, Output};
 use std::alloc::Global;
-use std::io::Write;
 
 // Builds an image, and reports how many sectors it has.
-fn build_and_tell<D: Device, W: Write>(
+fn build_and_tell<D: Device, W: Output>(
     alloc: Global,
     blueprint: &Blueprint,
     device: &mut D,
@@ -23,7 +22,7 @@ fn build_and_tell<D: Device, W: Write>(
 ) -> Result<(), Fault>
     ensures built { (table : Members) → IsDescription table blueprint.now
         → BuildsImage D.disk table device.old device.new
-        (W.contents writer.old) (W.contents writer.new) result }
+        (W.written writer.old) (W.written writer.new) result }
     ensures any_moment { (table : Members) → IsDescription table blueprint.now
         → LeavesOnly (D.disk device.old) (D.disk device.new)
         (λ c. IsLeftOf table (D.disk device.old) c) }
@@ -48,7 +47,7 @@ fn build_and_tell<D: Device, W: Write>(
 ///
 /// A crash at any moment leaves the image that was there, as it was; or nothing that can be opened;
 /// or the described one, whole.
-pub fn build_image<D: Device, W: Write, V: Write>(
+pub fn build_image<D: Device, W: Output, V: Output>(
     alloc: Global,
     blueprint: &Blueprint,
     device: &mut D,
@@ -56,10 +55,10 @@ pub fn build_image<D: Device, W: Write, V: Write>(
     errors: &mut V,
 ) -> u8
     ensures built { (outcome : Result (Unit {0}) Fault) × (result ≡ status_of outcome)
-        × IsReported outcome (V.contents errors.old) (V.contents errors.new)
+        × IsReported outcome (V.written errors.old) (V.written errors.new)
         × ((table : Members) → IsDescription table blueprint.now
         → BuildsImage D.disk table device.old device.new
-        (W.contents writer.old) (W.contents writer.new) outcome) }
+        (W.written writer.old) (W.written writer.new) outcome) }
     ensures any_moment { (table : Members) → IsDescription table blueprint.now
         → LeavesOnly (D.disk device.old) (D.disk device.new)
         (λ c. IsLeftOf table (D.disk device.old) c) }

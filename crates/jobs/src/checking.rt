@@ -9,9 +9,8 @@ use checkpoint::Checkpoint;
 use device::Device;
 use kernel::Kernel;
 use object_cache::{BoundedCache, Capacity};
-use script::LineText;
+use script::{LineText, Output};
 use std::alloc::Global;
-use std::io::Write;
 
 // The line for an image that can be opened.
 fn checked_line(saved: Checkpoint) -> LineText
@@ -35,12 +34,12 @@ fn least_capacity() -> Capacity
 }
 
 // Opens a device, reports what checkpoint it holds, and gives it back. Keeps few bodies in memory.
-fn open_and_tell<D: Device, W: Write>(
+fn open_and_tell<D: Device, W: Output>(
     alloc: Global,
     device: D,
     writer: &mut W,
 ) -> (Result<(), Fault>, D)
-    ensures { ChecksImage D.disk device result.1 (W.contents writer.old) (W.contents writer.new) result.0 }
+    ensures { ChecksImage D.disk device result.1 (W.written writer.old) (W.written writer.new) result.0 }
 {
     let kernel = match Kernel::<D, BoundedCache<D>>::open(alloc, device, least_capacity()) {
         Ok(kernel) => kernel,
@@ -63,15 +62,15 @@ fn open_and_tell<D: Device, W: Write>(
 /// device isn't opened, and `cannot write output` where the writer fails.
 ///
 /// The device is given back, and nothing was written to it, at no moment.
-pub fn check_image<D: Device, W: Write, V: Write>(
+pub fn check_image<D: Device, W: Output, V: Output>(
     alloc: Global,
     device: D,
     writer: &mut W,
     errors: &mut V,
 ) -> Done<D>
     ensures { (outcome : Result (Unit {0}) Fault) × (result.status ≡ status_of outcome)
-        × IsReported outcome (V.contents errors.old) (V.contents errors.new)
-        × ChecksImage D.disk device result.device (W.contents writer.old) (W.contents writer.new) outcome }
+        × IsReported outcome (V.written errors.old) (V.written errors.new)
+        × ChecksImage D.disk device result.device (W.written writer.old) (W.written writer.new) outcome }
 {
     let (outcome, device) = open_and_tell(alloc, device, writer);
     Done {

@@ -4,7 +4,7 @@ ghost use Rattle.toml.specs.Data.{Members};
 ghost use Rattle.toml.specs.Parse.{parse_document};
 ghost use Rattle.image_writer.specs.Laid.{MayBeLaid};
 ghost use Rattle.description.specs.Reading.{IsDescription};
-ghost use Rattle.described_world.specs.Described.{HasFields};
+ghost use Rattle.description.specs.Described.{HasFields};
 ghost use Rattle.image_describer.specs.Spelled.{CanBeSpelled};
 ghost use Rattle.image_describer.specs.Text.{description_text};
 ghost use Rattle.jobs.specs.Faults.{IsReported, status_of};
@@ -18,9 +18,8 @@ use checkpoint::OpenFault;
 use description::Description;
 use device::Device;
 use image_describer::{GrowthFault, Sizes, grow, text_of};
-use script::write_fully;
+use script::Output;
 use std::alloc::{AllocError, Global};
-use std::io::Write;
 
 // The text of a description, which is let go.
 fn text_of_whole(alloc: Global, description: Description) -> Result<String, AllocError>
@@ -34,17 +33,17 @@ fn text_of_whole(alloc: Global, description: Description) -> Result<String, Allo
 }
 
 // Writes the text of a description, which is let go.
-fn tell_description<W: Write>(
+fn tell_description<W: Output>(
     alloc: Global,
     description: Description,
     writer: &mut W,
 ) -> Result<(), Fault>
     requires fields { HasFields description }
     requires spelled { CanBeSpelled description }
-    ensures { TellsDescription description (W.contents writer.old) (W.contents writer.new) result }
+    ensures { TellsDescription description (W.written writer.old) (W.written writer.new) result }
 {
     match text_of_whole(alloc, description) {
-        Ok(text) => match write_fully(writer, text.as_bytes()) {
+        Ok(text) => match writer.write_fully(text.as_bytes()) {
             Ok(()) => Ok(()),
             Err(_) => Err(Fault::CannotWriteOutput),
         },
@@ -65,7 +64,7 @@ fn grow_description(alloc: Global, description: &mut Description, sizes: Sizes) 
 }
 
 // Writes the text of a description, renumbered for other sizes, and lets it go.
-fn tell_grown<W: Write>(
+fn tell_grown<W: Output>(
     alloc: Global,
     description: Description,
     sizes: Sizes,
@@ -74,7 +73,7 @@ fn tell_grown<W: Write>(
     requires laid { MayBeLaid description.geometry description.ranges.items }
     requires fields { HasFields description }
     requires spelled { CanBeSpelled description }
-    ensures { TellsGrown description sizes (W.contents writer.old) (W.contents writer.new) result }
+    ensures { TellsGrown description sizes (W.written writer.old) (W.written writer.new) result }
 {
     let mut description = description;
     match grow_description(alloc, &mut description, sizes) {
@@ -84,13 +83,13 @@ fn tell_grown<W: Write>(
 }
 
 // Opens a device, describes all that it saves, renumbered for other sizes, and gives it back.
-fn describe_and_tell<D: Device, W: Write>(
+fn describe_and_tell<D: Device, W: Output>(
     alloc: Global,
     device: D,
     sizes: Sizes,
     writer: &mut W,
 ) -> (Result<(), Fault>, D)
-    ensures { DescribesImage D.disk sizes device result.1 (W.contents writer.old) (W.contents writer.new) result.0 }
+    ensures { DescribesImage D.disk sizes device result.1 (W.written writer.old) (W.written writer.new) result.0 }
 {
     let (described, device) = describe_saved(alloc, device);
     match described {
@@ -109,7 +108,7 @@ fn describe_and_tell<D: Device, W: Write>(
 /// - `cannot write output` if the writer fails.
 ///
 /// The device is given back, and nothing was written to it, at no moment.
-pub fn describe_image<D: Device, W: Write, V: Write>(
+pub fn describe_image<D: Device, W: Output, V: Output>(
     alloc: Global,
     device: D,
     sizes: Sizes,
@@ -117,8 +116,8 @@ pub fn describe_image<D: Device, W: Write, V: Write>(
     errors: &mut V,
 ) -> Done<D>
     ensures { (outcome : Result (Unit {0}) Fault) × (result.status ≡ status_of outcome)
-        × IsReported outcome (V.contents errors.old) (V.contents errors.new)
-        × DescribesImage D.disk sizes device result.device (W.contents writer.old) (W.contents writer.new) outcome }
+        × IsReported outcome (V.written errors.old) (V.written errors.new)
+        × DescribesImage D.disk sizes device result.device (W.written writer.old) (W.written writer.new) outcome }
 {
     let (outcome, device) = describe_and_tell(alloc, device, sizes, writer);
     Done {

@@ -8,9 +8,8 @@ use crate::done::Done;
 use crate::fault::{Fault, status};
 use device::Device;
 use image_explainer::{ImageFault, explain};
-use script::LineText;
+use script::{LineText, Output};
 use std::alloc::Global;
-use std::io::Write;
 
 // The line about an image.
 fn explanation_line(found: Option<ImageFault>) -> LineText
@@ -24,12 +23,12 @@ fn explanation_line(found: Option<ImageFault>) -> LineText
 }
 
 // Opens a device, writes why its image is refused, if it is, and gives the device back.
-fn explain_and_tell<D: Device, W: Write>(
+fn explain_and_tell<D: Device, W: Output>(
     alloc: Global,
     device: D,
     writer: &mut W,
 ) -> (Result<Option<ImageFault>, Fault>, D)
-    ensures { ExplainsImage D.disk device result.1 (W.contents writer.old) (W.contents writer.new) result.0 }
+    ensures { ExplainsImage D.disk device result.1 (W.written writer.old) (W.written writer.new) result.0 }
 {
     let (explained, device) = explain(alloc, device);
     match explained {
@@ -48,15 +47,15 @@ fn explain_and_tell<D: Device, W: Write>(
 /// where the writer fails.
 ///
 /// The device is given back, and nothing was written to it, at no moment.
-pub fn explain_image<D: Device, W: Write, V: Write>(
+pub fn explain_image<D: Device, W: Output, V: Output>(
     alloc: Global,
     device: D,
     writer: &mut W,
     errors: &mut V,
 ) -> Done<D>
     ensures { (outcome : Result (Option ImageFault) Fault) × (result.status ≡ explained_status outcome)
-        × IsReported (without_fault outcome) (V.contents errors.old) (V.contents errors.new)
-        × ExplainsImage D.disk device result.device (W.contents writer.old) (W.contents writer.new) outcome }
+        × IsReported (without_fault outcome) (V.written errors.old) (V.written errors.new)
+        × ExplainsImage D.disk device result.device (W.written writer.old) (W.written writer.new) outcome }
 {
     let (outcome, device) = explain_and_tell(alloc, device, writer);
     let status = match outcome {

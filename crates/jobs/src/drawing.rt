@@ -2,8 +2,8 @@
 ghost use Rattle.std.specs.Prelude.{◌≡◌, ◌<◌, ◌^◌, Result};
 ghost use Rattle.script.specs.Writing.{Writes};
 ghost use Rattle.model.specs.Sound.{object_count};
-ghost use Rattle.described_world.specs.Described.{HasNumbers};
-ghost use Rattle.image_drawer.specs.Graph.{graph_text};
+ghost use Rattle.description.specs.Described.{HasNumbers};
+ghost use Rattle.image_describer.specs.Graph.{graph_text};
 ghost use Rattle.reach.specs.Reached.{AreSoundObjects};
 ghost use Rattle.jobs.specs.Drawing.{DrawsImage, DrawsPart, KeepsHolders, KeepsPart, KeepsReached};
 ghost use Rattle.jobs.specs.Faults.{IsReported, status_of};
@@ -12,15 +12,14 @@ use crate::done::Done;
 use crate::fault::{Fault, status};
 use crate::whole::{Whole, read_whole};
 use checkpoint::OpenFault;
+use collections::NumberSet;
 use description::Description;
 use device::Device;
-use image_drawer::{draw, has_box, holders, restrict};
+use image_describer::{draw, has_box, holders, restrict};
 use model::Object;
-use number_set::NumberSet;
 use reach::{missing_process, reach};
-use script::RunFault;
+use script::{Output, RunFault};
 use std::alloc::Global;
-use std::io::Write;
 
 /// Which part of what an image saves is drawn. All of it, if both are `None`; with both, what both name.
 #[derive(Clone, Copy)]
@@ -32,8 +31,8 @@ pub struct Focus {
 }
 
 // Draws a description, and lets it go.
-fn draw_whole<W: Write>(description: Description, writer: &mut W) -> Result<(), RunFault>
-    ensures { Writes (W.contents writer.old) (W.contents writer.new) result
+fn draw_whole<W: Output>(description: Description, writer: &mut W) -> Result<(), RunFault>
+    ensures { Writes (W.written writer.old) (W.written writer.new) result
         (graph_text description) }
 {
     draw(&description, writer)
@@ -104,7 +103,7 @@ fn keep_part(
 }
 
 // Draws a part of what is saved, and lets it go.
-fn draw_part<W: Write>(
+fn draw_part<W: Output>(
     alloc: Global,
     whole: Whole,
     focus: Focus,
@@ -113,7 +112,7 @@ fn draw_part<W: Write>(
     requires few { object_count whole.description.geometry < 2 ^ 64 }
     requires numbers { HasNumbers whole.description }
     requires sound { AreSoundObjects whole.objects.items }
-    ensures { DrawsPart whole.objects.items focus whole.description (W.contents writer.old) (W.contents writer.new)
+    ensures { DrawsPart whole.objects.items focus whole.description (W.written writer.old) (W.written writer.new)
         result }
 {
     let Whole {
@@ -131,13 +130,13 @@ fn draw_part<W: Write>(
 }
 
 // Opens a device, draws a part of all that is saved on it, and gives it back.
-fn draw_and_tell<D: Device, W: Write>(
+fn draw_and_tell<D: Device, W: Output>(
     alloc: Global,
     device: D,
     focus: Focus,
     writer: &mut W,
 ) -> (Result<(), Fault>, D)
-    ensures { DrawsImage D.disk focus device result.1 (W.contents writer.old) (W.contents writer.new) result.0 }
+    ensures { DrawsImage D.disk focus device result.1 (W.written writer.old) (W.written writer.new) result.0 }
 {
     let (read, device) = read_whole(alloc, device);
     match read {
@@ -156,7 +155,7 @@ fn draw_and_tell<D: Device, W: Write>(
 /// - `cannot write output` if the writer fails.
 ///
 /// The device is given back, and nothing was written to it, at no moment.
-pub fn draw_image<D: Device, W: Write, V: Write>(
+pub fn draw_image<D: Device, W: Output, V: Output>(
     alloc: Global,
     device: D,
     focus: Focus,
@@ -164,8 +163,8 @@ pub fn draw_image<D: Device, W: Write, V: Write>(
     errors: &mut V,
 ) -> Done<D>
     ensures { (outcome : Result (Unit {0}) Fault) × (result.status ≡ status_of outcome)
-        × IsReported outcome (V.contents errors.old) (V.contents errors.new)
-        × DrawsImage D.disk focus device result.device (W.contents writer.old) (W.contents writer.new) outcome }
+        × IsReported outcome (V.written errors.old) (V.written errors.new)
+        × DrawsImage D.disk focus device result.device (W.written writer.old) (W.written writer.new) outcome }
 {
     let (outcome, device) = draw_and_tell(alloc, device, focus, writer);
     Done {

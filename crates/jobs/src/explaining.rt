@@ -7,9 +7,8 @@ ghost use Rattle.jobs.specs.Faults.{IsReported};
 
 use crate::fault::{Fault, status};
 use description_explainer::{explain, explanation};
-use script::write_fully;
+use script::Output;
 use std::alloc::{AllocError, Global};
-use std::io::Write;
 use toml::de::Error;
 
 // The line and the column after a text, both from 1. A column counts characters.
@@ -70,22 +69,22 @@ fn explained(alloc: Global, text: &str) -> Result<(String, bool), AllocError>
 }
 
 // Ends a line and writes it.
-fn tell_line<W: Write>(line: String, writer: &mut W) -> Result<(), Fault>
-    ensures { TellsLine (string_bytes line) (W.contents writer.old) (W.contents writer.new) result }
+fn tell_line<W: Output>(line: String, writer: &mut W) -> Result<(), Fault>
+    ensures { TellsLine (string_bytes line) (W.written writer.old) (W.written writer.new) result }
 {
     let mut line = line;
     if line.push_str("\n").is_err() {
         return Err(Fault::NoMemory);
     }
-    match write_fully(writer, line.as_bytes()) {
+    match writer.write_fully(line.as_bytes()) {
         Ok(()) => Ok(()),
         Err(_) => Err(Fault::CannotWriteOutput),
     }
 }
 
 // Writes the line about the description in a text, and answers whether the description is accepted.
-fn explain_and_tell<W: Write>(alloc: Global, text: &str, writer: &mut W) -> Result<bool, Fault>
-    ensures { ExplainsText text.now (W.contents writer.old) (W.contents writer.new) result }
+fn explain_and_tell<W: Output>(alloc: Global, text: &str, writer: &mut W) -> Result<bool, Fault>
+    ensures { ExplainsText text.now (W.written writer.old) (W.written writer.new) result }
 {
     let (line, is_accepted) = match explained(alloc, text) {
         Ok(explained) => explained,
@@ -102,15 +101,15 @@ fn explain_and_tell<W: Write>(alloc: Global, text: &str, writer: &mut W) -> Resu
 /// and `(bad description K)` with the number that `build` answers; or, if the text isn't TOML, the line and
 /// the column where it isn't. After a fault one line is written to `errors`, and the status is 1: `no
 /// memory`, or `cannot write output` where the writer fails.
-pub fn explain_description<W: Write, V: Write>(
+pub fn explain_description<W: Output, V: Output>(
     alloc: Global,
     text: &str,
     writer: &mut W,
     errors: &mut V,
 ) -> u8
     ensures { (outcome : Result Bool Fault) × (result ≡ accepted_status outcome)
-        × IsReported (without_answer outcome) (V.contents errors.old) (V.contents errors.new)
-        × ExplainsText text.now (W.contents writer.old) (W.contents writer.new) outcome }
+        × IsReported (without_answer outcome) (V.written errors.old) (V.written errors.new)
+        × ExplainsText text.now (W.written writer.old) (W.written writer.new) outcome }
 {
     match explain_and_tell(alloc, text, writer) {
         Ok(true) => 0,

@@ -10,8 +10,7 @@ use image_builder::{BuildFault, UpgradeFault};
 use image_describer::GrowthFault;
 use image_explainer::reason_number;
 use runs::Stop;
-use script::{LineText, RunFault};
-use std::io::Write;
+use script::{LineText, Output, RunFault};
 
 /// Why a command of `eros` failed.
 #[derive(Clone, Copy, PartialEq, Eq, Debug)]
@@ -159,8 +158,8 @@ impl Fault {
     }
 
     /// Writes it as a line. `RunFault::Write` where the writer fails or takes nothing.
-    pub fn tell<V: Write>(self, errors: &mut V) -> Result<(), RunFault>
-        ensures { Writes (V.contents errors.old) (V.contents errors.new) result
+    pub fn tell<V: Output>(self, errors: &mut V) -> Result<(), RunFault>
+        ensures { Writes (V.written errors.old) (V.written errors.new) result
             (line_of (fault_text self)) }
     {
         self.line().write_to(errors)
@@ -169,9 +168,9 @@ impl Fault {
 
 /// The exit status of a command with this outcome: 0 for success and 1 for a fault. The message of
 /// a fault is written first.
-pub(crate) fn status<V: Write>(outcome: Result<(), Fault>, errors: &mut V) -> u8
+pub(crate) fn status<V: Output>(outcome: Result<(), Fault>, errors: &mut V) -> u8
     ensures status { result ≡ status_of outcome }
-    ensures reported { IsReported outcome (V.contents errors.old) (V.contents errors.new) }
+    ensures reported { IsReported outcome (V.written errors.old) (V.written errors.new) }
 {
     match outcome {
         Ok(()) => 0,

@@ -1,6 +1,5 @@
 // What a shell says of its commands.
-use script::write_fully;
-use std::io::Write;
+use script::Output;
 
 // A word, and what is said of it.
 struct Topic {
@@ -128,11 +127,11 @@ fn text_on(word: &[u8]) -> &'static [u8] {
 
 /// Writes what is said of a word, or of all commands where the word is empty. A text that can't be
 /// written is left out.
-pub(crate) fn help_on<V: Write>(word: &[u8], notes: &mut V) {
+pub(crate) fn help_on<V: Output>(word: &[u8], notes: &mut V) {
     let text = if word.is_empty() {
         COMMANDS
     } else {
         text_on(word)
     };
-    let _reported = write_fully(notes, text);
+    let _reported = notes.write_fully(text);
 }

@@ -8,9 +8,8 @@ ghost use Rattle.jobs.specs.Info.{has_role, info_line, info_text, lines_over, ra
 use checkpoint::Checkpoint;
 use layout::{HomeRange, Superblock};
 use model::{Cap, Content, Role};
-use script::{LineText, RunFault};
+use script::{LineText, Output, RunFault};
 use std::alloc::{AllocError, Global};
-use std::io::Write;
 
 /// A line about an image: its sizes and ranges, which checkpoint it holds, and how many objects of
 /// each kind.
@@ -72,8 +71,8 @@ impl InfoLine {
     }
 
     // Writes the line.
-    fn print<W: Write>(&self, writer: &mut W) -> Result<(), RunFault>
-        ensures { Writes (W.contents writer.old) (W.contents writer.new) result
+    fn print<W: Output>(&self, writer: &mut W) -> Result<(), RunFault>
+        ensures { Writes (W.written writer.old) (W.written writer.new) result
             (line_of (info_line self.now)) }
     {
         self.text().write_to(writer)
@@ -81,8 +80,8 @@ impl InfoLine {
 }
 
 /// Writes lines.
-pub(crate) fn print_lines<W: Write>(lines: &[InfoLine], writer: &mut W) -> Result<(), RunFault>
-    ensures { Writes (W.contents writer.old) (W.contents writer.new) result
+pub(crate) fn print_lines<W: Output>(lines: &[InfoLine], writer: &mut W) -> Result<(), RunFault>
+    ensures { Writes (W.written writer.old) (W.written writer.new) result
         (info_text lines.now) }
 {
     for line in lines {

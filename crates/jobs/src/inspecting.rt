@@ -14,8 +14,8 @@ use checkpoint::OpenFault;
 use device::Device;
 use object_cache::PlainStore;
 use recovery::recover;
+use script::Output;
 use std::alloc::{AllocError, Global};
-use std::io::Write;
 
 // The lines about the image of a store that has all its objects as they are saved, and the device
 // beneath. Fails only where memory runs out.
@@ -52,12 +52,12 @@ fn read_info<D: Device>(alloc: Global, device: D) -> (Result<Vec<InfoLine>, Open
 }
 
 // Opens a device, writes the lines about the image that it holds, and gives it back.
-fn inspect_and_tell<D: Device, W: Write>(
+fn inspect_and_tell<D: Device, W: Output>(
     alloc: Global,
     device: D,
     writer: &mut W,
 ) -> (Result<(), Fault>, D)
-    ensures { InspectsImage D.disk device result.1 (W.contents writer.old) (W.contents writer.new) result.0 }
+    ensures { InspectsImage D.disk device result.1 (W.written writer.old) (W.written writer.new) result.0 }
 {
     let (read, device) = read_info(alloc, device);
     match read {
@@ -77,15 +77,15 @@ fn inspect_and_tell<D: Device, W: Write>(
 /// output` where the writer fails.
 ///
 /// The device is given back, and nothing was written to it, at no moment.
-pub fn info_image<D: Device, W: Write, V: Write>(
+pub fn info_image<D: Device, W: Output, V: Output>(
     alloc: Global,
     device: D,
     writer: &mut W,
     errors: &mut V,
 ) -> Done<D>
     ensures { (outcome : Result (Unit {0}) Fault) × (result.status ≡ status_of outcome)
-        × IsReported outcome (V.contents errors.old) (V.contents errors.new)
-        × InspectsImage D.disk device result.device (W.contents writer.old) (W.contents writer.new) outcome }
+        × IsReported outcome (V.written errors.old) (V.written errors.new)
+        × InspectsImage D.disk device result.device (W.written writer.old) (W.written writer.new) outcome }
 {
     let (outcome, device) = inspect_and_tell(alloc, device, writer);
     Done {

@@ -1,24 +1,22 @@
 // The end of a command's output.
-ghost use Rattle.std.specs.Prelude.{Result};
-ghost use Rattle.std.specs.Io.KnownBytes.{Keeps};
-ghost use Rattle.std.specs.Io.Buffered.{writer_buffer, writer_contents};
+ghost use Rattle.std.specs.Prelude.{Result, []};
+ghost use Rattle.script.specs.Writing.{Writes};
+ghost use Rattle.script.specs.declared.fault.RunFault.{RunFault};
 ghost use Rattle.jobs.specs.Faults.{IsReported, PassesOn};
 
 use crate::fault::{Fault, status};
-use std::io::{BufWriter, Write};
+use script::Output;
 
-/// The status of a command that came to `before`, once its output is passed on: what stands in the buffer is written.
-/// If that fails after status 0, `cannot write output` is written to `errors`, and the status is 1.
-pub fn finish<W: Write + Drop, V: Write>(
-    writer: &mut BufWriter<W>,
-    before: u8,
-    errors: &mut V,
-) -> u8
-    ensures bytes { Keeps (writer_contents W.contents writer.old) (writer_contents W.contents writer.new) }
-    ensures status { (outcome : Result (Unit {0}) Fault) × PassesOn before result (writer_buffer writer.new) outcome
-        × IsReported outcome (V.contents errors.old) (V.contents errors.new) }
+/// The status of a command that came to `before`, once its output is passed on: what stands in the
+/// buffer is written. If that fails after status 0, `cannot write output` is written to `errors`,
+/// and the status is 1.
+pub fn finish<W: Output, V: Output>(writer: &mut W, before: u8, errors: &mut V) -> u8
+    ensures { (passed : Result (Unit {0}) RunFault) × (outcome : Result (Unit {0}) Fault)
+        × Writes (W.written writer.old) (W.written writer.new) passed []
+        × PassesOn passed before result (W.waiting writer.new) outcome
+        × IsReported outcome (V.written errors.old) (V.written errors.new) }
 {
-    match writer.flush() {
+    match writer.pass_on() {
         Ok(()) => before,
         Err(_) => {
             if before == 0 {

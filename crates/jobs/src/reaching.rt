@@ -11,40 +11,39 @@ use crate::done::Done;
 use crate::fault::{Fault, status};
 use crate::reading::read_saved;
 use checkpoint::OpenFault;
+use collections::NumberSet;
 use device::Device;
 use model::Object;
-use number_set::NumberSet;
 use reach::{Step, missing_process, print_chain, print_reach, reach, shortest_chain};
-use script::RunFault;
+use script::{Output, RunFault};
 use std::alloc::Global;
-use std::io::Write;
 
 // Writes a closed set, and lets it go.
-fn print_set<W: Write>(
+fn print_set<W: Output>(
     objects: &[Object],
     inside: NumberSet,
     writer: &mut W,
 ) -> Result<(), RunFault>
     requires { length inside ≡ length objects.now }
-    ensures { Writes (W.contents writer.old) (W.contents writer.new) result (reach_text objects.now inside) }
+    ensures { Writes (W.written writer.old) (W.written writer.new) result (reach_text objects.now inside) }
 {
     print_reach(objects, &inside, writer)
 }
 
 // Writes a chain, and lets it go.
-fn print_found<W: Write>(
+fn print_found<W: Output>(
     objects: &[Object],
     object: u64,
     chain: Option<Vec<Step>>,
     writer: &mut W,
 ) -> Result<(), RunFault>
-    ensures { Writes (W.contents writer.old) (W.contents writer.new) result (chain_text objects.now object chain) }
+    ensures { Writes (W.written writer.old) (W.written writer.new) result (chain_text objects.now object chain) }
 {
     print_chain(objects, object, &chain, writer)
 }
 
 // Writes the least closed set that contains some processes.
-fn tell_set<W: Write>(
+fn tell_set<W: Output>(
     alloc: Global,
     objects: &[Object],
     processes: &[u64],
@@ -52,7 +51,7 @@ fn tell_set<W: Write>(
 ) -> Result<(), Fault>
     requires sound { AreSoundObjects objects.now }
     requires processes { AreProcesses objects.now processes.now }
-    ensures { TellsReach objects.now processes.now None (W.contents writer.old) (W.contents writer.new) result }
+    ensures { TellsReach objects.now processes.now None (W.written writer.old) (W.written writer.new) result }
 {
     match reach(alloc, objects, processes) {
         Ok(inside) => match print_set(objects, inside, writer) {
@@ -64,7 +63,7 @@ fn tell_set<W: Write>(
 }
 
 // Writes a shortest chain from some processes to an object.
-fn tell_chain<W: Write>(
+fn tell_chain<W: Output>(
     alloc: Global,
     objects: &[Object],
     processes: &[u64],
@@ -73,7 +72,7 @@ fn tell_chain<W: Write>(
 ) -> Result<(), Fault>
     requires sound { AreSoundObjects objects.now }
     requires processes { AreProcesses objects.now processes.now }
-    ensures { TellsReach objects.now processes.now (Some object) (W.contents writer.old) (W.contents writer.new)
+    ensures { TellsReach objects.now processes.now (Some object) (W.written writer.old) (W.written writer.new)
         result }
 {
     match shortest_chain(alloc, objects, processes, object) {
@@ -86,7 +85,7 @@ fn tell_chain<W: Write>(
 }
 
 // Writes what processes can ever change, or how they can change one object.
-fn tell_reach<W: Write>(
+fn tell_reach<W: Output>(
     alloc: Global,
     objects: &[Object],
     processes: &[u64],
@@ -94,7 +93,7 @@ fn tell_reach<W: Write>(
     writer: &mut W,
 ) -> Result<(), Fault>
     requires { AreSoundObjects objects.now }
-    ensures { TellsReach objects.now processes.now shows (W.contents writer.old) (W.contents writer.new) result }
+    ensures { TellsReach objects.now processes.now shows (W.written writer.old) (W.written writer.new) result }
 {
     if let Some(number) = missing_process(objects, processes) {
         return Err(Fault::NoProcess(number));
@@ -106,14 +105,14 @@ fn tell_reach<W: Write>(
 }
 
 // Opens a device, writes what processes can ever change, and gives the device back.
-fn open_and_reach<D: Device, W: Write>(
+fn open_and_reach<D: Device, W: Output>(
     alloc: Global,
     device: D,
     processes: &[u64],
     shows: Option<u64>,
     writer: &mut W,
 ) -> (Result<(), Fault>, D)
-    ensures { ReachesImage D.disk processes.now shows device result.1 (W.contents writer.old) (W.contents writer.new)
+    ensures { ReachesImage D.disk processes.now shows device result.1 (W.written writer.old) (W.written writer.new)
         result.0 }
 {
     let (read, device) = read_saved(alloc, device);
@@ -136,7 +135,7 @@ fn open_and_reach<D: Device, W: Write>(
 /// - `cannot write output` if the writer fails.
 ///
 /// The device is given back, and nothing was written to it at any moment.
-pub fn reach_image<D: Device, W: Write, V: Write>(
+pub fn reach_image<D: Device, W: Output, V: Output>(
     alloc: Global,
     device: D,
     processes: &[u64],
@@ -145,8 +144,8 @@ pub fn reach_image<D: Device, W: Write, V: Write>(
     errors: &mut V,
 ) -> Done<D>
     ensures { (outcome : Result (Unit {0}) Fault) × (result.status ≡ status_of outcome)
-        × IsReported outcome (V.contents errors.old) (V.contents errors.new)
-        × ReachesImage D.disk processes.now shows device result.device (W.contents writer.old) (W.contents writer.new)
+        × IsReported outcome (V.written errors.old) (V.written errors.new)
+        × ReachesImage D.disk processes.now shows device result.device (W.written writer.old) (W.written writer.new)
         outcome }
 {
     let (outcome, device) = open_and_reach(alloc, device, processes, shows, writer);

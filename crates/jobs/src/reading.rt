@@ -4,11 +4,10 @@ ghost use Rattle.capability.specs.Parts.{AreSound, frames_of, objects_in};
 ghost use Rattle.object_cache.specs.StoreState.{parts_of};
 ghost use Rattle.jobs.specs.Reaching.{OpensAndReads};
 
-use checkpoint::OpenFault;
+use checkpoint::{ObjectStore, OpenFault};
 use device::Device;
 use model::Object;
 use object_cache::PlainStore;
-use object_store::ObjectStore;
 use reach::read_objects;
 use recovery::recover;
 use std::alloc::{AllocError, Global};

@@ -1,23 +1,22 @@
 // The commands that run a script over an image.
-ghost use Rattle.std.specs.Prelude.{◌≡◌, List, Option, ℕ, Result, None};
+ghost use Rattle.std.specs.Prelude.{◌≡◌, Result, None};
 ghost use Rattle.jobs.specs.Faults.{IsReported, status_of};
 ghost use Rattle.jobs.specs.Images.{EndsAs, RunsImage, SeesImage};
 ghost use Rattle.jobs.specs.Shell.{TellsUnsaved};
 ghost use Rattle.runs.specs.Tracing.{Sees, stop_of};
 ghost use Rattle.runs.specs.Unsaved.{Notes, nothing_unsaved};
 ghost use Rattle.runs.specs.declared.unsaved.Unsaved.{Unsaved};
+ghost use Rattle.script.specs.Writing.{Written};
 
 use crate::done::Done;
 use crate::fault::{Fault, of_run, status};
 use crate::shell::tell_unsaved;
-use checkpoint::OpenFault;
+use checkpoint::{ObjectStore, OpenFault};
 use device::Device;
 use kernel::Kernel;
-use object_store::ObjectStore;
-use runs::{Observer, Output, Script, Silent, Tracer, Unsaved, run_observed};
-use script::RunFault;
+use runs::{Observer, Script, Silent, Tracer, Unsaved, run_observed};
+use script::{Output, RunFault};
 use std::alloc::Global;
-use std::io::Write;
 
 // Opens a device, runs a script over it, and gives it back.
 fn open_and_run<D: Device, S: ObjectStore<D>, R: Script, W: Output, O: Observer>(
@@ -29,7 +28,7 @@ fn open_and_run<D: Device, S: ObjectStore<D>, R: Script, W: Output, O: Observer>
     observer: &mut O,
 ) -> (Result<Result<(), RunFault>, OpenFault>, D)
     ensures { SeesImage D.disk S.view S.parts O.sees device result.1 observer.old observer.new (R.unread reader.old)
-        (R.unread reader.new) (W.contents writer.old) (W.contents writer.new) result.0 }
+        (R.unread reader.new) (W.written writer.old) (W.written writer.new) result.0 }
 {
     let mut kernel = match Kernel::<D, S>::open(alloc, device, setting) {
         Ok(kernel) => kernel,
@@ -46,7 +45,7 @@ fn open_and_run<D: Device, S: ObjectStore<D>, R: Script, W: Output, O: Observer>
 /// where the reader or the writer fails.
 ///
 /// The device is given back as the last answer left it. One that isn't opened is as it was.
-pub fn run_image<D: Device, S: ObjectStore<D>, R: Script, W: Output, V: Write>(
+pub fn run_image<D: Device, S: ObjectStore<D>, R: Script, W: Output, V: Output>(
     alloc: Global,
     device: D,
     setting: S::Setting,
@@ -55,9 +54,9 @@ pub fn run_image<D: Device, S: ObjectStore<D>, R: Script, W: Output, V: Write>(
     errors: &mut V,
 ) -> Done<D>
     ensures { (outcome : Result (Unit {0}) Fault) × (result.status ≡ status_of outcome)
-        × IsReported outcome (V.contents errors.old) (V.contents errors.new)
+        × IsReported outcome (V.written errors.old) (V.written errors.new)
         × RunsImage D.disk S.view S.parts device result.device (R.unread reader.old)
-        (R.unread reader.new) (W.contents writer.old) (W.contents writer.new) outcome }
+        (R.unread reader.new) (W.written writer.old) (W.written writer.new) outcome }
 {
     let mut observer = Silent;
     let (outcome, device) = open_and_run::<D, S, R, W, Silent>(
@@ -81,7 +80,7 @@ pub fn run_image<D: Device, S: ObjectStore<D>, R: Script, W: Output, V: Write>(
 ///
 /// What is written to `writer`, and what becomes of the device, is that of `run_image` for the lines
 /// taken.
-pub fn run_traced<D: Device, S: ObjectStore<D>, R: Script, W: Output, T: Write, V: Write>(
+pub fn run_traced<D: Device, S: ObjectStore<D>, R: Script, W: Output, T: Output, V: Output>(
     alloc: Global,
     device: D,
     setting: S::Setting,
@@ -91,9 +90,9 @@ pub fn run_traced<D: Device, S: ObjectStore<D>, R: Script, W: Output, T: Write, 
     errors: &mut V,
 ) -> Done<D>
     ensures { (outcome : Result (Unit {0}) Fault) × (result.status ≡ status_of outcome)
-        × IsReported outcome (V.contents errors.old) (V.contents errors.new)
-        × EndsAs D.disk S.view S.parts (Sees T.contents) stop_of device result.device tracer.old tracer.new
-        (R.unread reader.old) (R.unread reader.new) (W.contents writer.old) (W.contents writer.new) outcome }
+        × IsReported outcome (V.written errors.old) (V.written errors.new)
+        × EndsAs D.disk S.view S.parts (Sees T.written) stop_of device result.device tracer.old tracer.new
+        (R.unread reader.old) (R.unread reader.new) (W.written writer.old) (W.written writer.new) outcome }
 {
     let (outcome, device) = open_and_run::<D, S, R, W, Tracer<T>>(
         alloc, device, setting, reader, writer, tracer,
@@ -106,7 +105,7 @@ pub fn run_traced<D: Device, S: ObjectStore<D>, R: Script, W: Output, T: Write, 
 
 /// Runs what a shell is given as `run_image` does. If a process did something that isn't committed,
 /// one line in the end says so.
-pub fn run_shell<D: Device, S: ObjectStore<D>, R: Script, W: Output, V: Write>(
+pub fn run_shell<D: Device, S: ObjectStore<D>, R: Script, W: Output, V: Output>(
     alloc: Global,
     device: D,
     setting: S::Setting,
@@ -114,12 +113,12 @@ pub fn run_shell<D: Device, S: ObjectStore<D>, R: Script, W: Output, V: Write>(
     writer: &mut W,
     errors: &mut V,
 ) -> Done<D>
-    ensures { (outcome : Result (Unit {0}) Fault) × (reported : Option (List ℕ)) × (before : Unsaved)
+    ensures { (outcome : Result (Unit {0}) Fault) × (reported : Written) × (before : Unsaved)
         × (after : Unsaved)
         × (result.status ≡ status_of outcome) × (before ≡ nothing_unsaved)
-        × TellsUnsaved after (V.contents errors.old) reported × IsReported outcome reported (V.contents errors.new)
+        × TellsUnsaved after (V.written errors.old) reported × IsReported outcome reported (V.written errors.new)
         × EndsAs D.disk S.view S.parts Notes (λ _. None) device result.device before after
-        (R.unread reader.old) (R.unread reader.new) (W.contents writer.old) (W.contents writer.new) outcome }
+        (R.unread reader.old) (R.unread reader.new) (W.written writer.old) (W.written writer.new) outcome }
 {
     let mut observer = Unsaved::new();
     let (outcome, device) = open_and_run::<D, S, R, W, Unsaved>(

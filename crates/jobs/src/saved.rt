@@ -5,12 +5,11 @@ ghost use Rattle.capability.specs.Parts.{frames_of};
 ghost use Rattle.object_cache.specs.StoreState.{parts_of};
 ghost use Rattle.jobs.specs.Images.{IsDescriptionOf, OpensAndDescribes};
 
-use checkpoint::OpenFault;
+use checkpoint::{ObjectStore, OpenFault};
 use description::Description;
 use device::Device;
 use image_describer::{describe, ranges_of};
 use object_cache::PlainStore;
-use object_store::ObjectStore;
 use recovery::recover;
 use std::alloc::{AllocError, Global};
 

@@ -5,19 +5,16 @@ ghost use Rattle.runs.specs.KernelRuns.{IsCounted};
 ghost use Rattle.runs.specs.Reader.{failed_reads, left_to_read};
 
 use crate::help::help_on;
-use runs::{Output, Piece, Script, ScriptReader, Unsaved};
-use script::{RunFault, write_fully};
-use std::io::{Read, Write};
+use runs::{Piece, Script, ScriptReader, Unsaved};
+use script::{Output, RunFault};
+use std::io::Read;
 
 /// Says in the end that something isn't committed, if so. A line that can't be written is left out.
-pub(crate) fn tell_unsaved<V: Write>(unsaved: &Unsaved, errors: &mut V)
-    ensures { TellsUnsaved unsaved.now (V.contents errors.old) (V.contents errors.new) }
+pub(crate) fn tell_unsaved<V: Output>(unsaved: &Unsaved, errors: &mut V)
+    ensures { TellsUnsaved unsaved.now (V.written errors.old) (V.written errors.new) }
 {
     if unsaved.is_some() {
-        let _reported = write_fully(
-            errors,
-            b"eros: some invocations or stores are not committed\n",
-        );
+        let _reported = errors.write_fully(b"eros: some invocations or stores are not committed\n");
     }
 }
 
@@ -55,7 +52,7 @@ pub struct ShellInput<R, V> {
     is_inside: bool,
 }
 
-impl<R: Read, V: Write> ShellInput<R, V> {
+impl<R: Read, V: Output> ShellInput<R, V> {
     /// Reads lines from `inner`. It greets and prompts if `is_prompting`.
     pub fn new(inner: R, notes: V, is_prompting: bool) -> ShellInput<R, V>
         ensures unread { failed_reads result.inner ≡ 0 }
@@ -77,7 +74,7 @@ impl<R: Read, V: Write> ShellInput<R, V> {
         ensures prompts { self.new.is_prompting ≡ self.old.is_prompting }
     {
         if self.is_prompting {
-            let _reported = write_fully(&mut self.notes, text);
+            let _reported = self.notes.write_fully(text);
         }
     }
 
@@ -139,7 +136,7 @@ fn without_newline(line: &[u8]) -> &[u8]
     }
 }
 
-impl<R: Read, V: Write> Script for ShellInput<R, V> {
+impl<R: Read, V: Output> Script for ShellInput<R, V> {
     ghost unread = { λ _. None };
 
     ghost failures = { λ s. failed_reads s.inner };

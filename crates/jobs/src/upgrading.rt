@@ -1,25 +1,23 @@
 // The command that upgrades an image.
 ghost use Rattle.std.specs.Prelude.{◌≡◌, IfErr, IsErrOf, OnErr, OnOk, Result};
-ghost use Rattle.std.specs.Io.KnownBytes.{Appends};
 ghost use Rattle.model.specs.Text.{line_of};
 ghost use Rattle.device.specs.Moments.{LeavesOnly};
 ghost use Rattle.image_builder.specs.Upgraded.{IsLeftUpgrading, IsOpenedFrom, ReadsAndCloses};
-ghost use Rattle.script.specs.Writing.{AppendsFront};
+ghost use Rattle.script.specs.Writing.{Wrote, WroteFront};
 ghost use Rattle.jobs.specs.Faults.{IsReported, status_of};
 ghost use Rattle.jobs.specs.Images.{UpgradesImage, old_failed, upgraded_text};
 
 use crate::fault::{Fault, status};
 use device::Device;
 use image_builder::{ClosableDevice, OldImage};
-use script::LineText;
+use script::{LineText, Output};
 use std::alloc::Global;
-use std::io::Write;
 
 // Writes how many sectors an upgraded image has.
-fn tell_total<W: Write>(total: u64, writer: &mut W) -> Result<(), Fault>
-    ensures reported { OnOk result (Appends (W.contents writer.old) (W.contents writer.new)
+fn tell_total<W: Output>(total: u64, writer: &mut W) -> Result<(), Fault>
+    ensures reported { OnOk result (Wrote (W.written writer.old) (W.written writer.new)
         (line_of (upgraded_text total))) }
-    ensures front { OnErr result (AppendsFront (W.contents writer.old) (W.contents writer.new)
+    ensures front { OnErr result (WroteFront (W.written writer.old) (W.written writer.new)
         (line_of (upgraded_text total))) }
     ensures fault { IfErr result (λ fault. fault ≡ Fault.CannotWriteOutput) }
 {
@@ -32,7 +30,7 @@ fn tell_total<W: Write>(total: u64, writer: &mut W) -> Result<(), Fault>
 }
 
 // Writes what an old image saves to a new device, and reports how many sectors the new image has.
-fn write_and_tell<D: ClosableDevice, E: Device, W: Write>(
+fn write_and_tell<D: ClosableDevice, E: Device, W: Output>(
     alloc: Global,
     image: OldImage<D>,
     new: &mut E,
@@ -40,7 +38,7 @@ fn write_and_tell<D: ClosableDevice, E: Device, W: Write>(
 ) -> Result<(), Fault>
     ensures upgraded { (old : D) → IsOpenedFrom D.disk old image
         → UpgradesImage D.disk E.disk old new.old new.new
-        (W.contents writer.old) (W.contents writer.new) result }
+        (W.written writer.old) (W.written writer.new) result }
     ensures any_moment { (old : D) → IsOpenedFrom D.disk old image
         → LeavesOnly (E.disk new.old) (E.disk new.new)
         (λ c. IsLeftUpgrading (D.disk old) (E.disk new.old) c) }
@@ -55,7 +53,7 @@ fn write_and_tell<D: ClosableDevice, E: Device, W: Write>(
 
 /// Writes what an old image that was opened saves over a new device by version 2 of the layout, as
 /// `upgrade_image` does, and closes the old device; the lines and the status are the same.
-pub fn upgrade_opened<D: ClosableDevice, E: Device, W: Write, V: Write>(
+pub fn upgrade_opened<D: ClosableDevice, E: Device, W: Output, V: Output>(
     alloc: Global,
     image: OldImage<D>,
     new: &mut E,
@@ -63,10 +61,10 @@ pub fn upgrade_opened<D: ClosableDevice, E: Device, W: Write, V: Write>(
     errors: &mut V,
 ) -> u8
     ensures upgraded { (outcome : Result (Unit {0}) Fault) × (result ≡ status_of outcome)
-        × IsReported outcome (V.contents errors.old) (V.contents errors.new)
+        × IsReported outcome (V.written errors.old) (V.written errors.new)
         × ((old : D) → IsOpenedFrom D.disk old image
         → UpgradesImage D.disk E.disk old new.old new.new
-        (W.contents writer.old) (W.contents writer.new) outcome
+        (W.written writer.old) (W.written writer.new) outcome
         × ReadsAndCloses D.disk D.was_closed old (IsErrOf outcome old_failed)) }
     ensures any_moment { (old : D) → IsOpenedFrom D.disk old image
         → LeavesOnly (E.disk new.old) (E.disk new.new)
@@ -84,7 +82,7 @@ pub fn upgrade_opened<D: ClosableDevice, E: Device, W: Write, V: Write>(
 ///
 /// A crash of the new device at any moment leaves the image that was there, as it was; or nothing
 /// that can be opened; or the new image, whole. Nothing is written to the old device at any moment.
-pub fn upgrade_image<D: ClosableDevice, E: Device, W: Write, V: Write>(
+pub fn upgrade_image<D: ClosableDevice, E: Device, W: Output, V: Output>(
     alloc: Global,
     old: D,
     new: &mut E,
@@ -92,9 +90,9 @@ pub fn upgrade_image<D: ClosableDevice, E: Device, W: Write, V: Write>(
     errors: &mut V,
 ) -> u8
     ensures upgraded { (outcome : Result (Unit {0}) Fault) × (result ≡ status_of outcome)
-        × IsReported outcome (V.contents errors.old) (V.contents errors.new)
+        × IsReported outcome (V.written errors.old) (V.written errors.new)
         × UpgradesImage D.disk E.disk old new.old new.new
-        (W.contents writer.old) (W.contents writer.new) outcome
+        (W.written writer.old) (W.written writer.new) outcome
         × ReadsAndCloses D.disk D.was_closed old (IsErrOf outcome old_failed) }
     ensures any_moment { LeavesOnly (E.disk new.old) (E.disk new.new)
         (λ c. IsLeftUpgrading (D.disk old) (E.disk new.old) c) }

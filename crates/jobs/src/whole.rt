@@ -8,12 +8,11 @@ ghost use Rattle.jobs.specs.Images.{IsDescriptionOf};
 
 use crate::reading::objects_of;
 use crate::saved::description_in;
-use checkpoint::OpenFault;
+use checkpoint::{ObjectStore, OpenFault};
 use description::Description;
 use device::Device;
 use model::Object;
 use object_cache::PlainStore;
-use object_store::ObjectStore;
 use recovery::recover;
 use std::alloc::{AllocError, Global};
 

@@ -11,22 +11,16 @@ use Rattle.checkpoint.specs.Snapshots as stage
 use Rattle.model.specs.declared.answer.Answer.TheVariants as answer
 use Rattle.model.specs.declared.answer.Refusal.TheVariants as refusal
 use Rattle.model.specs.declared.command.Command.TheVariants as command
-use Rattle.kernel.proofs.Performing.{AreSame}
-use Rattle.kernel.proofs.ProcessSteps.{refused_step}
-use Rattle.kernel.proofs.Crashes.{leaves_along, leaves_either, leaves_here, leaves_home}
-use Rattle.kernel.proofs.Renewed.{base_moved, renewed_on}
+use Rattle.kernel.proofs.Performing.{AreSame, refused_step}
+use Rattle.kernel.proofs.Machines.{leaves_along, leaves_either, leaves_here, leaves_home, base_moved, renewed_on}
 use Rattle.kernel.proofs.Stages.{acts_sound, begun_sound, committed_sound, frames_again, frozen_none, frozen_some, moved_sound, next_sound, none_there}
-use Rattle.kernel.proofs.Stages.{same_running, saved_moved, some_left, some_there, stabilized_sound, stays_sound}
-use Rattle.kernel.proofs.Steps.{checkpoint_step, commit_step, evict_refused, evict_step, migrate_step, none_to_commit, none_to_stabilize, not_home, not_stable}
-use Rattle.kernel.proofs.Steps.{running_already, second_of_commit, stabilize_step}
+use Rattle.kernel.proofs.Stages.{same_running, saved_moved, some_left, some_there, stabilized_sound, stays_sound, checkpoint_step, commit_step, evict_refused}
+use Rattle.kernel.proofs.Stages.{evict_step, migrate_step, none_to_commit, none_to_stabilize, not_home, not_stable, running_already, second_of_commit}
+use Rattle.kernel.proofs.Stages.{stabilize_step}
 
 -- the same but for the store
 abbrev pub with_store : {S : Type 0} → Live S → S → Live S
 with_store l s = record { store = s; banks = l.banks; age = l.age; frozen_age = l.frozen_age }
-
--- and but for what is counted of banks, at another age
-abbrev pub with_act : {S : Type 0} → Live S → S → BanksState → ℕ → Live S
-with_act l s banks age = record { store = s; banks = banks; age = age; frozen_age = l.frozen_age }
 
 -- The parameters are ghost members and laws of a device and of an object store.
 module _ {D S : Type 0} (disk : D → Disk) (view : S → View D) (parts : S → Parts)

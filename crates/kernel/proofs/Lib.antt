@@ -1,13 +1,7 @@
 mod Names
 mod Acts
-mod Crashes
-mod JournalSteps
-mod Journals
 mod Machines
+mod Journals
 mod MemoryServing
-mod MemorySteps
 mod Performing
-mod ProcessSteps
-mod Renewed
 mod Stages
-mod Steps

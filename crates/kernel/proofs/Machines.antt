@@ -1,18 +1,145 @@
--- From a store that serves to a machine that is up or down.
-use Rattle.kernel.proofs.Names.{append-nil, ℕ, zero, suc, Option, Some, List, [], length, refl, sym, ap, subst, inl, inr, arith, slice_index_or, Contains}
-use Rattle.kernel.proofs.Names.{Answer, Command, Geometry, Machine, Running, Saved, Up, Down, candidates, opened, Reopens, Step, carried_out, refusal_of}
-use Rattle.kernel.proofs.Names.{second, Only, Disk, Elapses, LeavesOnly, agrees_is, CountsNow, OnlyNow, goes_on_cut, leaves_on, leaves_weaker, started}
-use Rattle.kernel.proofs.Names.{OpenFault, Parts, View, Live, Power, power_of, saved_of, DenotesOne, Leaves, LeavesOne, RefusesToOpen, Recovers, IsNoReason}
-use Rattle.kernel.proofs.Names.{IsSomeDown, Opens, ReopensAs, Reopened, IsSomeUp, IsUp, running, IsCaused, IsDeviceOf, IsSomeMachine, Serves, ServesFrom}
-use Rattle.kernel.proofs.Names.{ServesUp, Stands, disk_of, one_denoted, one_not_bad, refused_by, true, takes_memory, wants_memory_to_show, None, Result, Ok}
-use Rattle.kernel.proofs.Names.{Err, IfOk, Invocation, objects_in, code_with, HasCode, Refusal, ResultCode, done_with}
-use Rattle.std.proofs.Common.{◌≡◌, ◌↔◌, ◌⊎◌, ◌<◌, ◌≤◌, ◌∷◌, ◌++◌, ◌∙◌}
-use Rattle.kernel.proofs.Crashes.{leaves_end, leaves_here, among}
+-- Which numbers were renewed since the last checkpoint or restart. From a store that serves to a machine that is up or down, and what a crash leaves.
+use Rattle.kernel.proofs.Names.{ℕ, Bool, true, false, not, List, length, map, refl, sym, ap, arith, range_with_len, get_or-map, ne_eqb, ext_get_or}
+use Rattle.kernel.proofs.Names.{get_or-map-range_with_len, length-map-range_with_len, Cap, Frame, ObjectHeader, Content, blank_frame, frame_at, frames_in}
+use Rattle.kernel.proofs.Names.{header_at, renewing, is_given_up, Parts, Renews, frames_of, objects_in, headers_in, Snapshots, moved_saved, FrozenFrames}
+use Rattle.kernel.proofs.Names.{SavedFrames, home_saved, base_of, renewed_since, allocations_at, base_by, renewed_at, renewed_length, [], subst, ⊎_elim, inl}
+use Rattle.kernel.proofs.Names.{inr, nat_tests, Geometry, Saved, at_home, Image, Disk, CountsNow, OnlyNow, ends, leaves_weaker, started, Holds, LeavesSaved}
+use Rattle.kernel.proofs.Names.{LeavesEither, denoted_by, saved_of, IsSoundSaved, DenotesOne, Leaves, LeavesOne, append-nil, zero, suc, Option, Some}
+use Rattle.kernel.proofs.Names.{slice_index_or, Contains, Answer, Command, Machine, Running, Up, Down, candidates, opened, Reopens, Step, carried_out}
+use Rattle.kernel.proofs.Names.{refusal_of, second, Only, Elapses, LeavesOnly, agrees_is, goes_on_cut, leaves_on, OpenFault, View, Live, Power, power_of}
+use Rattle.kernel.proofs.Names.{RefusesToOpen, Recovers, IsNoReason, IsSomeDown, Opens, ReopensAs, Reopened, IsSomeUp, IsUp, running, IsCaused, IsDeviceOf}
+use Rattle.kernel.proofs.Names.{IsSomeMachine, Serves, ServesFrom, ServesUp, Stands, disk_of, one_denoted, one_not_bad, refused_by, takes_memory}
+use Rattle.kernel.proofs.Names.{wants_memory_to_show, None, Result, Ok, Err, IfOk, Invocation, code_with, HasCode, Refusal, ResultCode, done_with, moved}
+use Rattle.std.proofs.Common.{◌≡◌, ◌+◌, ◌-◌, ◌<◌, ◌≤◌, ◌||◌, ◌∙◌, ◌==◌, ◌⊎◌, ◌∷◌, ◌++◌, ◌↔◌}
+use Rattle.std.specs.Prelude.{if◌then◌else◌}
 use Rattle.model.specs.declared.answer.Answer.TheVariants as answer
 use Rattle.model.specs.declared.answer.Refusal.TheVariants as refusal
 use Rattle.model.specs.declared.command.Command.TheVariants as command
 use Rattle.checkpoint.specs.declared.open_fault.OpenFault.TheVariants as fault
 use Rattle.kernel.specs.Power as power
+
+pub header_in : (hs : List ObjectHeader) (cs : List (Content Cap)) (n : ℕ) → (frame_at (frames_in hs cs) n).header ≡ header_at hs n
+header_in hs cs n = sym (get_or-map (λ (f : Frame). f.header) (frames_in hs cs) n blank_frame) ∙
+    ap (λ (ks : List ObjectHeader). header_at ks n) (headers_in hs cs)
+
+-- a count differs where it did before, or rises now
+differs : (gone : Bool) (base old new : ℕ) → base ≤ old → new ≡ old + (if gone then 1 else 0) → (not (old == base) || gone) ≡ not (new == base)
+differs true base old new le is =
+    let up : new ≡ old + 1 = is in
+    either (not (old == base)) ∙ sym (ap (λ (b : Bool). not b) (ne_eqb new base (λ e. omega (arith, le, up, e))))
+  where
+    either : (b : Bool) → (b || true) ≡ true
+    either true = refl
+    either false = refl
+differs false base old new le is =
+    let same : old ≡ new = omega (arith, is) in
+    neither (not (old == base)) ∙ ap (λ (k : ℕ). not (k == base)) same
+  where
+    neither : (b : Bool) → (b || false) ≡ b
+    neither true = refl
+    neither false = refl
+
+-- counts through an invocation
+module _ (base : List Frame) (p q : Parts) (renews : Renews p q) (risen : (n : ℕ) → allocations_at base n ≤ allocations_at (frames_of p) n) where
+  abbrev gone : ℕ → Bool
+  gone n = is_given_up (objects_in p) (objects_in q) n
+
+  rising : (n : ℕ) → allocations_at (frames_of q) n ≡ allocations_at (frames_of p) n + (if gone n then 1 else 0)
+  rising n =
+      ap (λ (h : ObjectHeader). h.allocations) (header_in q.headers q.contents n) ∙ (renews.each n
+      ∙ ap (λ (h : ObjectHeader). h.allocations + (if gone n then 1 else 0)) (sym (header_in p.headers p.contents n)))
+
+  pub risen_on : (n : ℕ) → allocations_at base n ≤ allocations_at (frames_of q) n
+  risen_on n = omega (arith, risen n, rising n)
+
+  pub renewed_on : renewing (renewed_since base (frames_of p)) (objects_in p) (objects_in q) ≡ renewed_since base (frames_of q)
+  unfolding renewing
+  renewed_on =
+      let before = renewed_since base (frames_of p) in
+      let after = renewed_since base (frames_of q) in
+      let test : ℕ → Bool = λ n. slice_index_or before n false || gone n in
+      let count = length-map-range_with_len test 0 (length before) in
+      let size = renewed_length base (frames_of p) in
+      ext_get_or false (map test (range_with_len 0 (length before))) after (count ∙ (size ∙ sym (renewed_length base (frames_of q)))) (λ n inside.
+      let within : n < length before = omega (arith, inside, count) in
+      let known : n < length base = omega (arith, within, size) in
+      get_or-map-range_with_len test 0 (length before) n n false within (omega arith) ∙ (ap (λ (b : Bool). b || gone n) (renewed_at base (frames_of p) n known)
+      ∙ (differs (gone n) (allocations_at base n) (allocations_at (frames_of p) n) (allocations_at (frames_of q) n) (risen n) (rising n)
+      ∙ sym (renewed_at base (frames_of q) n known))))
+
+frames_if : (b : Bool) (fs : SavedFrames) → (if b then home_saved fs else fs).frames ≡ fs.frames
+frames_if true fs = refl
+frames_if false fs = refl
+
+pub base_moved : (a : Snapshots FrozenFrames) (n : ℕ) → base_of (moved n a) ≡ base_of a
+base_moved a n = ap (λ (fs : List Frame). base_by fs a.frozen) (frames_if (a.to_move - n == 0) a.saved)
+
+-- one of the first is one of all
+pub among : (g : Geometry) (size : ℕ) (c : Image) (ss ts : List Saved) → DenotesOne g size ss c → DenotesOne g size (ss ++ ts) c
+among g size c [] ts one = absurd one
+among g size c (s ∷ ss) ts one = ⊎_elim (λ here. inl here) (λ there. inr (among g size c ss ts there)) one
+
+-- no call was made
+pub leaves_here : (g : Geometry) (disk : Disk) (ss ts : List Saved) → OnlyNow disk → Leaves g disk ss → LeavesOne g disk disk (ss ++ ts)
+leaves_here g disk ss ts only_now here = record {
+  size = refl;
+  any_moment = started disk (DenotesOne g disk.sectors (ss ++ ts)) only_now (λ c left. among g disk.sectors c ss ts (here c left));
+}
+
+-- a crash left what was saved all along
+pub leaves_along : {g : Geometry} {old new : Disk} {fs : SavedFrames} {ts : List Saved} → IsSoundSaved g fs → new.sectors ≡ old.sectors →
+    LeavesSaved old new fs → LeavesOne g old new (saved_of fs ∷ ts)
+leaves_along {g} {old} {new} {fs} {ts} sound size moments = record {
+  size = size;
+  any_moment = leaves_weaker {old = old} {new = new} {P = λ c. Holds old.sectors c fs} (DenotesOne g old.sectors (saved_of fs ∷ ts))
+      (λ c holds. inl (denoted_by g old.sectors c fs sound holds)) moments;
+}
+
+-- or what is saved next
+pub leaves_either : {g : Geometry} {old new : Disk} {fs next : SavedFrames} → IsSoundSaved g fs → IsSoundSaved g next → new.sectors ≡ old.sectors →
+    LeavesEither old new fs next →
+    LeavesOne g old new (saved_of fs ∷ saved_of next ∷ [])
+leaves_either {g} {old} {new} {fs} {next} sound sound_next size moments = record {
+  size = size;
+  any_moment = leaves_weaker {old = old} {new = new} {P = λ c. Holds old.sectors c fs ⊎ Holds old.sectors c next}
+      (DenotesOne g old.sectors (saved_of fs ∷ saved_of next ∷ []))
+      (λ c held. ⊎_elim (λ was. inl (denoted_by g old.sectors c fs sound was)) (λ is. inr (inl (denoted_by g old.sectors c next sound_next is))) held) moments;
+}
+
+-- where a run ends a crash leaves no more than at its moments
+pub leaves_end : (g : Geometry) (old new : Disk) (ss : List Saved) → CountsNow new → LeavesOne g old new ss → Leaves g new ss
+leaves_end g old new ss counts_now run c left =
+    subst (λ (n : ℕ). DenotesOne g n ss c) (sym run.size) (ends {old = old} {new = new} {P = DenotesOne g old.sectors ss} run.any_moment counts_now c left)
+
+-- ---- what is saved goes home
+
+home_same : (fs : SavedFrames) → fs.entries ≡ 0 → home_saved fs ≡ fs
+home_same fs none = ap
+    (λ (n : ℕ). let s : SavedFrames = record { geometry = fs.geometry; frames = fs.frames; generation = fs.generation; entries = n; age = fs.age } in s)
+    (sym none)
+
+home_or_saved : (g : Geometry) (size : ℕ) (c : Image) (fs : SavedFrames) → IsSoundSaved g fs → (home last : Bool) → (fs.entries == 0) ≡ home →
+    Holds size c (if last then home_saved fs else fs) →
+    DenotesOne g size (saved_of fs ∷ (if home then [] else if last then at_home (saved_of fs) ∷ [] else [])) c
+home_or_saved g size c fs sound home false is holds = inl (denoted_by g size c fs sound holds)
+home_or_saved g size c fs sound false true is holds = inr
+    (inl (denoted_by g size c (home_saved fs) (record { geometry = sound.geometry; sound = sound.sound }) holds))
+home_or_saved g size c fs sound true true is holds =
+    let none : fs.entries ≡ 0 = grind (arith, nat_tests) in
+    inl (denoted_by g size c fs sound (subst (Holds size c) (home_same fs none) holds))
+
+pub leaves_home : (g : Geometry) (old new : Disk) (a : Snapshots FrozenFrames) (n : ℕ) → IsSoundSaved g a.saved → new.sectors ≡ old.sectors →
+    LeavesEither old new a.saved (moved_saved n a) →
+    LeavesOne g old new (saved_of a.saved ∷ (if a.saved.entries == 0 then [] else if a.to_move - n == 0 then at_home (saved_of a.saved) ∷ [] else []))
+leaves_home g old new a n sound size moments =
+    let more : List Saved = if a.saved.entries == 0 then [] else if a.to_move - n == 0 then at_home (saved_of a.saved) ∷ [] else [] in
+    record {
+      size = size;
+      any_moment = leaves_weaker {old = old} {new = new} {P = λ c. Holds old.sectors c a.saved ⊎ Holds old.sectors c (moved_saved n a)}
+          (DenotesOne g old.sectors (saved_of a.saved ∷ more)) (λ c held. ⊎_elim (λ was. inl (denoted_by g old.sectors c a.saved sound was))
+          (λ is. home_or_saved g old.sectors c a.saved sound (a.saved.entries == 0) (a.to_move - n == 0) refl is)
+          held) moments;
+    }
 
 -- ---- steps of the machine
 
@@ -110,6 +237,12 @@ module _ {D S : Type 0} (disk : D → Disk) (view : S → View D) (parts : S →
         leaves = s.leaves;
       })
   stays_up l k c a fine serves g (Down saved) stands = absurd stands
+
+  -- there is one device beneath a kernel
+  pub one_device : (p : Power D S) (d e : D) → IsDeviceOf disk view parts p d → IsDeviceOf disk view parts p e → d ≡ e
+  one_device (power.Up l) d e is other = is ∙ sym other
+  one_device (power.Down f) d e is other = is ∙ sym other
+  one_device power.Between d e is other = absurd is
 
   -- the device failed, and was given back
   pub goes_down : (l k : Live S) (c : Command) (d : D) → CountsNow (disk d) → ServesUp disk view parts l c (answer.Refused refusal.Fault) k →
@@ -216,9 +349,7 @@ module _ {D S : Type 0} (disk : D → Disk) (view : S → View D) (parts : S →
       subst (λ (x : Running). Leaves g (disk d) (x.saved ∷ [])) (sym stands.1)
       (subst (λ (x : D). Leaves g (disk x) (saved_of (view l.store).snapshots.saved ∷ [])) (sym is) stands.0.leaves)
   beneath g (power.Down e) (Down saved) d stands is = subst (λ (x : D). Leaves g (disk x) saved) (sym is) stands
-  beneath g (power.Up l) (Down saved) d stands is = absurd stands
-  beneath g (power.Down e) (Up r) d stands is = absurd stands
-  beneath g power.Between m d stands is = absurd stands
+  beneath g p m d stands is = absurd stands
 
   disk_is : (p : Power D S) (d : D) (P : Disk → Type 0) → IsDeviceOf disk view parts p d → P (disk d) → P (disk_of disk view parts p)
   disk_is (power.Up l) d P is has = subst (λ (x : D). P (disk x)) is has
@@ -290,9 +421,3 @@ module _ {D S : Type 0} (disk : D → Disk) (view : S → View D) (parts : S →
       → IfOk r (λ code. HasCode disk view parts (power.Up l) (command.Invoke i) (done_with code))
   up_code l i (Ok code) is = invoked_code l i code is
   up_code l i (Err why) is = tt
-
-  -- a refusal has none
-  pub refused_code : (p : Power D S) (i : Invocation) (why : Refusal) →
-      HasCode disk view parts p (command.Invoke i) (record { answer = answer.Refused why; code = None })
-  refused_code p i why g (Up r) stands = refl
-  refused_code p i why g (Down saved) stands = refl

@@ -4,9 +4,11 @@ pub use Rattle.capability.proofs.FrameLists.{at_set, frame_in, headers_in, proce
 pub use Rattle.capability.proofs.Keeping.{keepable_count, keepable_later}
 pub use Rattle.capability.specs.Parts.{FetchesOrFails, IsUnchanged, IsUnprepared, IsUnread, OnlyFetches, Parts, Renews, frames_of, objects_in}
 pub use Rattle.checkpoint.proofs.Lists.{maps_same}
+pub use Rattle.checkpoint.specs.Journal.{is_page_now, is_page_role, is_still_saved, next_journaled, words_now}
 pub use Rattle.checkpoint.specs.Refused.{IsCommitAnswer, IsFreezeAnswer, IsJournalAnswer, IsRefused, IsTurnedAway}
 pub use Rattle.checkpoint.specs.Saved.{Holds, LeavesEither, LeavesOneOf, LeavesSaved, SavedFrames, home_saved, journaled_saved, most, with_words}
-pub use Rattle.checkpoint.specs.Snapshots.{MayCommit, Snapshots, freezing, journaled, left_in, moved_saved, next_saved}
+pub use Rattle.checkpoint.specs.Snapshots.{MayCommit, Snapshots, freezing, journaled, left_in, moved, moved_saved, next_saved}
+pub use Rattle.checkpoint.specs.Store.{Continues, FrozenFrames, IsStabilizeAnswer, View, all_frozen, stabilized, whole}
 pub use Rattle.checkpoint.specs.declared.open_fault.OpenFault.{OpenFault}
 pub use Rattle.device.proofs.Images.{agrees_is}
 pub use Rattle.device.proofs.Moments.{CountsNow, OnlyNow, ends, goes_on_cut, leaves_on, leaves_weaker, started}
@@ -15,9 +17,8 @@ pub use Rattle.device.specs.Disk.{Disk, Image}
 pub use Rattle.device.specs.Moments.{Elapses, LeavesOnly}
 pub use Rattle.device.specs.declared.device.Failed.{Failed}
 pub use Rattle.gate.proofs.BankStates.{counted_looked, counted_on}
-pub use Rattle.gate.proofs.Invoking.{ok_no_err, ok_no_failure}
-pub use Rattle.gate.proofs.Known.{annex_known, one_known}
-pub use Rattle.gate.proofs.Standing.{keepable_most, looked_as}
+pub use Rattle.gate.proofs.Effects.{ok_no_err, ok_no_failure}
+pub use Rattle.gate.proofs.Standing.{annex_known, keepable_most, looked_as, one_known}
 pub use Rattle.gate.specs.Invoke.{Invoked, Invokes, KeepsSoundFrames, TellsState}
 pub use Rattle.model.specs.Frame.{blank_frame, conveyed, frame_at, header_at, headers, held_at, object_of}
 unfoldable pub use Rattle.model.specs.Frame.{frames_in, objects_of}
@@ -29,8 +30,8 @@ unfoldable pub use Rattle.model.specs.Machine.{renewing, untouched}
 pub use Rattle.model.specs.Object.{is_free, is_page, map_content, role_of, words_in}
 pub use Rattle.model.specs.Revoke.{is_given_up}
 pub use Rattle.model.specs.Sound.{IsOfKind, IsSound, object_count}
-pub use Rattle.model.specs.Step.{Outcome, Reopens, Step, at_home, committed, gives_way, moved, of_running, outcome, overfills, reached, second, shown}
-pub use Rattle.model.specs.Step.{takes_memory, unjournaled, unless, writable, writing}
+pub use Rattle.model.specs.Step.{Outcome, Reopens, Step, at_home, committed, gives_way, of_running, outcome, overfills, reached, second, shown, takes_memory}
+pub use Rattle.model.specs.Step.{unjournaled, unless, writable, writing}
 unfoldable pub use Rattle.model.specs.Step.{carried_out, refusal_of}
 pub use Rattle.model.specs.World.{World, content_at, is_process, is_running_process, owner_at, word_at}
 unfoldable pub use Rattle.model.specs.World.{with_content, with_word}
@@ -55,8 +56,6 @@ pub use Rattle.model_laws.proofs.InvocationFrame.{word_frame}
 pub use Rattle.model_laws.proofs.Journaling.{journal_keeps_sound}
 pub use Rattle.model_laws.proofs.Stepping.{wants_memory_to_show}
 pub use Rattle.model_laws.proofs.Usage.{SameFrame, frame_refl, tests_at}
-pub use Rattle.object_store.specs.Journal.{is_page_now, is_page_role, is_still_saved, next_journaled, words_now}
-pub use Rattle.object_store.specs.Store.{Continues, FrozenFrames, IsStabilizeAnswer, View, all_frozen, stabilized, whole}
 pub use Rattle.recovery.proofs.Denoted.{denoted_by, leaves_saved, one_denoted, one_not_bad}
 pub use Rattle.recovery.proofs.Renewed.{allocations_at, base_by, base_frozen, base_saved, none_renewed, renewed_at, renewed_length}
 pub use Rattle.recovery.specs.Denotes.{DenotesOne, IsSoundSaved, Leaves, LeavesOne, saved_of}
@@ -70,7 +69,7 @@ pub use Rattle.std.proofs.Common.{Bool, Err, List, None, Ok, Option, Result, Som
 pub use Rattle.std.proofs.Common.{refl, set, subst, suc, sym, true, zero, ℕ, ⊎_elim}
 pub use Rattle.std.proofs.Math.ListN.{get_or-map}
 pub use Rattle.std.proofs.Math.Seq.{map-set_same}
-pub use Rattle.std.proofs.lemmas.Bool.{cases_lt, ne_eqb}
+pub use Rattle.std.proofs.lemmas.Bool.{cases_lt, ltb-false, ltb-true, ne_eqb}
 pub use Rattle.std.proofs.lemmas.Bool.Decides.{nat_tests}
 pub use Rattle.std.proofs.lemmas.List.{ext_get_or, get_or_past, map-set}
 pub use Rattle.std.proofs.lemmas.List.Elements.{All-nil}

@@ -1,6 +1,7 @@
 -- The names of other crates that the definitions here cite.
 pub use Rattle.capability.specs.Parts.{Parts, Renews, frames_of, objects_in}
 pub use Rattle.checkpoint.specs.Opened.{OnlyReads}
+pub use Rattle.checkpoint.specs.Store.{View}
 pub use Rattle.checkpoint.specs.declared.committed.Checkpoint.{Checkpoint}
 pub use Rattle.checkpoint.specs.declared.open_fault.OpenFault.{OpenFault}
 pub use Rattle.device.specs.Calls.{Only}
@@ -19,7 +20,6 @@ pub use Rattle.model.specs.declared.command.Invocation.{Invocation}
 pub use Rattle.model.specs.declared.geometry.Geometry.{Geometry}
 pub use Rattle.model.specs.declared.object.Object.{Object}
 pub use Rattle.model.specs.declared.order.ResultCode.{ResultCode}
-pub use Rattle.object_store.specs.Store.{View}
 pub use Rattle.recovery.specs.Denotes.{Denotes, Leaves, LeavesOne}
 pub use Rattle.recovery.specs.Live.{IsUp, disk_at, running}
 pub use Rattle.recovery.specs.declared.live.Live.{Live}

@@ -5,9 +5,10 @@ ghost use Rattle.kernel.specs.Machine.{IsReportedOnce, IsUnlooked, answer_of};
 ghost use Rattle.recovery.specs.Live.{IsSomeUp, disk_at};
 ghost use Rattle.kernel.specs.Standing.{IsCaused, ServesUp};
 
+use crate::age::is_worn;
+use checkpoint::ObjectStore;
 use device::{Device, Failed};
-use model::{Answer, MAX_AGE, Refusal};
-use object_store::ObjectStore;
+use model::{Answer, Refusal};
 use recovery::Live;
 
 /// What is answered where the store refuses. A failure of the device is passed on.
@@ -34,7 +35,7 @@ pub fn checkpoint<D: Device, S: ObjectStore<D>>(live: &mut Live<S>) -> Result<An
     ensures only_reads { IsUnlooked (answer_of result) → ⊥ }
     ensures reported_once { IsReportedOnce result }
 {
-    if live.age >= MAX_AGE {
+    if is_worn(live.age) {
         return Ok(Answer::Refused(Refusal::Worn));
     }
     match live.store.freeze() {

@@ -5,10 +5,11 @@ ghost use Rattle.kernel.specs.Machine.{IsReportedOnce, IsUnlooked, answer_of};
 ghost use Rattle.recovery.specs.Live.{IsSomeUp, disk_at};
 ghost use Rattle.kernel.specs.Standing.{IsCaused, ServesUp};
 
+use crate::age::is_worn;
 use crate::checkpoints::refused;
+use checkpoint::ObjectStore;
 use device::{Device, Failed};
-use model::{Answer, MAX_AGE, Refusal};
-use object_store::ObjectStore;
+use model::{Answer, Refusal};
 use recovery::Live;
 
 /// Saves the present words of a page without a checkpoint. All else that is saved of the page
@@ -32,7 +33,7 @@ pub fn journal<D: Device, S: ObjectStore<D>>(
         → (S.view live.new.store).beneath ≡ (S.view live.old.store).beneath }
     ensures reported_once { IsReportedOnce result }
 {
-    if live.age >= MAX_AGE {
+    if is_worn(live.age) {
         return Ok(Answer::Refused(Refusal::Worn));
     }
     let age = live.store.saved().age + 1;

@@ -1,25 +1,24 @@
 // A machine that is up or down, and its steps.
-ghost use Rattle.std.specs.Prelude.{◌≡◌, List, None, false, true, IfOk, IfErr};
+ghost use Rattle.std.specs.Prelude.{◌≡◌, List, None, Some, false, true, IfOk, IfErr};
 ghost use Rattle.model.specs.declared.command.Command.TheVariants as command;
 ghost use Rattle.model.specs.declared.command.Command.TheVariants.{Invoke};
 ghost use Rattle.model.specs.declared.command.Invocation.{Invocation};
 ghost use Rattle.model.specs.declared.geometry.Geometry.{Geometry};
 ghost use Rattle.model.specs.Machine.{Saved};
 ghost use Rattle.model.specs.Step.{opens, takes_memory};
-ghost use Rattle.kernel.specs.Machine.{IsUnlooked, NeedsNoLook};
+ghost use Rattle.kernel.specs.Machine.{IsUnlooked, NeedsNoLook, answer_with};
 ghost use Rattle.recovery.specs.Denotes.{Leaves};
 ghost use Rattle.recovery.specs.Recovered.{RefusesToOpen};
 ghost use Rattle.kernel.specs.Power.{power_of};
 ghost use Rattle.kernel.specs.Standing.{HasCode, HasDevice, HasNoneToMove, IsCaused, IsDeviceOf, IsReported};
-ghost use Rattle.kernel.specs.Standing.{SameDevice, Serves, disk_of};
+ghost use Rattle.kernel.specs.Standing.{SameDevice, Serves, disk_of, done_with};
 ghost use Rattle.kernel.specs.Opening.{IsNoReason, IsSomeDown, Opens, Reopened, refused_by};
 
 use crate::processes::Served;
 use crate::serving::{invoke, serve};
-use checkpoint::{Checkpoint, OpenFault, OpenRefused};
+use checkpoint::{Checkpoint, ObjectStore, OpenFault, OpenRefused};
 use device::{Device, Failed};
-use model::{Answer, Command, Invocation, Refusal};
-use object_store::ObjectStore;
+use model::{Answer, Command, Invocation, Refusal, ResultCode};
 use recovery::{Live, recover, recover_in};
 use std::alloc::Global;
 use std::marker::Model;
@@ -68,6 +67,22 @@ fn take_device<D: Device, S: ObjectStore<D>>(
             None => unreachable!(),
         },
     }
+}
+
+// Closes the store of a kernel after a failure of the device: the machine is down.
+#[inline(never)]
+fn go_down<D: Device, S: ObjectStore<D>>(
+    live: &mut Option<Live<S>>,
+    device: &mut Option<D>,
+    memory: &mut Option<S::Memory>,
+)
+    requires { HasDevice D.disk S.view S.parts (power_of live.old device.old) }
+    ensures down { live.new ≡ None }
+    ensures device { (d : D) → IsDeviceOf D.disk S.view S.parts (power_of live.old device.old) d
+        → device.new ≡ Some d }
+{
+    let closed = take_device::<D, S>(live, device, memory);
+    *device = Some(closed);
 }
 
 // The refusal if a device isn't opened that a crash of a kernel left.
@@ -158,12 +173,7 @@ impl<D: Device, S: ObjectStore<D>> Kernel<D, S> {
             Some(live) => match serve::<D, S>(alloc, live, command) {
                 Ok(answer) => answer,
                 Err(Failed) => {
-                    let device = take_device::<D, S>(
-                        &mut self.live,
-                        &mut self.device,
-                        &mut self.memory,
-                    );
-                    self.device = Some(device);
+                    go_down::<D, S>(&mut self.live, &mut self.device, &mut self.memory);
                     Answer::Refused(Refusal::Fault)
                 }
             },
@@ -172,34 +182,27 @@ impl<D: Device, S: ObjectStore<D>> Kernel<D, S> {
     }
 
     // Carries out an invocation. After a failure the machine is down.
-    fn invoke(&mut self, invocation: &Invocation) -> Served
-        ensures serves { Serves D.disk S.view S.parts self.old (Invoke invocation.now) result.answer self.new }
-        ensures untouched { IsUnlooked result.answer
+    fn invoke(&mut self, invocation: &Invocation) -> Result<Option<ResultCode>, Refusal>
+        ensures serves { Serves D.disk S.view S.parts self.old (Invoke invocation.now) (answer_with result) self.new }
+        ensures untouched { IsUnlooked (answer_with result)
             → SameDevice D.disk S.view S.parts self.old self.new }
         ensures cause { IsCaused (disk_of D.disk S.view S.parts self.old)
-            (disk_of D.disk S.view S.parts self.new) result.answer }
-        ensures code { HasCode D.disk S.view S.parts self.old (Invoke invocation.now) result }
+            (disk_of D.disk S.view S.parts self.new) (answer_with result) }
+        ensures code { IfOk result
+            (λ code. HasCode D.disk S.view S.parts self.old (Invoke invocation.now) (done_with code)) }
     {
         match &mut self.live {
             Some(live) => match invoke::<D, S>(live, invocation) {
-                Ok(code) => Served {
-                    answer: Answer::Done,
-                    code,
-                },
+                Ok(code) => Ok(code),
                 Err(why) => match why {
                     Refusal::Fault => {
-                        let device = take_device::<D, S>(
-                            &mut self.live,
-                            &mut self.device,
-                            &mut self.memory,
-                        );
-                        self.device = Some(device);
-                        Served::from(Answer::Refused(Refusal::Fault))
+                        go_down::<D, S>(&mut self.live, &mut self.device, &mut self.memory);
+                        Err(Refusal::Fault)
                     }
-                    refusal => Served::from(Answer::Refused(refusal)),
+                    refusal => Err(refusal),
                 },
             },
-            None => Served::from(Answer::Refused(Refusal::Down)),
+            None => Err(Refusal::Down),
         }
     }
 
@@ -281,7 +284,13 @@ impl<D: Device, S: ObjectStore<D>> Kernel<D, S> {
         // The proof of `memory` needs the invariant.
         let _ = &self.live;
         match command {
-            Command::Invoke(invocation) => self.invoke(invocation),
+            Command::Invoke(invocation) => match self.invoke(invocation) {
+                Ok(code) => Served {
+                    answer: Answer::Done,
+                    code,
+                },
+                Err(why) => Served::from(Answer::Refused(why)),
+            },
             Command::Restart => Served::from(self.restart(alloc)),
             Command::Cut => Served::from(self.cut(alloc)),
             other => Served::from(self.go_on(alloc, *other)),

@@ -1,6 +1,7 @@
 //! The kernel: a machine of objects over a device, and its commands.
 #![tactic(auto)]
 
+mod age;
 mod checkpoints;
 mod journaling;
 mod kernel;

@@ -10,9 +10,9 @@ ghost use Rattle.recovery.specs.Live.{IsSomeUp, disk_at};
 ghost use Rattle.kernel.specs.Standing.{HasCode, HasNoneToMove, IsCaused, ServesUp, done_with};
 
 use crate::{checkpoints, journaling, processes};
+use checkpoint::ObjectStore;
 use device::{Device, Failed};
 use model::{Answer, Command, Invocation, Refusal, ResultCode};
-use object_store::ObjectStore;
 use recovery::Live;
 use std::alloc::Global;
 

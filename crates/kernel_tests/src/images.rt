@@ -16,7 +16,7 @@ use model::{Cap, Content, ObjectHeader};
 use std::alloc::{AllocError, Global};
 use std::test::Fail;
 
-/// World F0: process 1 runs, and holds node 5 in register 5 and page 16 in register 6.
+/// World `f0`: process 1 runs, and holds node 5 in register 5 and page 16 in register 6.
 pub fn first_world(alloc: Global) -> Result<Plain, AllocError>
     ensures sound { IfOk result (λ p. IsSoundFrames p.geometry 0 (frames_of (parts_of p))) }
     ensures keepable { IfOk result (λ p. AreKeepable p.geometry 0 (frames_of (parts_of p))) }
@@ -24,7 +24,7 @@ pub fn first_world(alloc: Global) -> Result<Plain, AllocError>
     f0(alloc)
 }
 
-/// World I0: process 1 runs, and holds itself, the prime bank, the right to start process 3 with
+/// World `i0`: process 1 runs, and holds itself, the prime bank, the right to start process 3 with
 /// key 7 and that process, which is available, in registers 1 to 4.
 pub fn second_world(alloc: Global) -> Result<Plain, AllocError>
     ensures sound { IfOk result (λ p. IsSoundFrames p.geometry 0 (frames_of (parts_of p))) }

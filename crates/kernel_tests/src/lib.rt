@@ -1,11 +1,21 @@
-//! What tests of `kernel` and `runs` are written with: worlds on a device, and kernels over them.
-//! `checks/stops` tries devices that stop or lose power, and the rows of checks/rows all that no
-//! such device is needed for.
+//! Worlds on a device and kernels over them, and the tests of what no script over an image shows: readers and
+//! writers that give and take little, stop or fail, values that no image has, and builds on devices that no file is.
+//! `checks/stops` tries devices that stop or lose power, and the rows of checks/rows all else.
 #![tactic(auto)]
 
+#[cfg(test)]
+mod builds;
 mod images;
 mod kernels;
+#[cfg(test)]
+mod readers;
+#[cfg(test)]
+mod values;
+#[cfg(test)]
+mod world_runs;
 mod worlds;
+#[cfg(test)]
+mod writers;
 
 pub use images::{first_world, second_world, written};
 pub use kernels::opened;

@@ -20,3 +20,5 @@ pub mod Denoted
 pub mod Shapes
 mod Searching
 pub mod Clusters
+mod Runs
+mod Zeros

@@ -1,6 +1,7 @@
 -- The names that the proofs here cite: of other crates, and of the definitions of this one.
 pub use Rattle.byteorder.specs.Endian.{IsRead, little_number}
 pub use Rattle.byteorder.specs.Numbers.{little_from-lt, little_from-take, little_number-reads_back}
+pub use Rattle.device.specs.Calls.{sectors_of}
 pub use Rattle.device.specs.Disk.{Image}
 pub use Rattle.model.specs.Capability.{IsAccess, access_bits, tag_of}
 pub use Rattle.model.specs.Frame.{blank_frame, content_behind, frame_at, void_held}
@@ -21,8 +22,8 @@ pub use Rattle.model.specs.declared.object.Role.{Role}
 pub use Rattle.model.specs.declared.object.Root.{Root}
 pub use Rattle.model.specs.declared.object.State.{State}
 pub use Rattle.model.specs.declared.object.State.TheVariants.{Available, Running, Waiting}
-pub use Rattle.std.proofs.Common.{Bool, Bor, List, None, Option, Some, [], ap, append_assoc, arith, below_more, cond, drop, false, get_or, inl, inr, length}
-pub use Rattle.std.proofs.Common.{nat_le, nat_lt, refl, rules, set, subst, suc, sym, take, true, zero, ℕ, ⊎_elim}
+pub use Rattle.std.proofs.Common.{Bool, Bor, Err, List, None, Ok, Option, Result, Some, [], ap, append_assoc, arith, below_more, cond, drop, false, get_or, inl}
+pub use Rattle.std.proofs.Common.{inr, length, nat_le, nat_lt, refl, rules, set, subst, suc, sym, take, true, zero, ℕ, ⊎_elim}
 pub use Rattle.std.proofs.Math.Seq.{take-add}
 pub use Rattle.std.proofs.lemmas.Bool.{cases_eq, cases_lt, eq-eqb, false≢true, le-ltb, lt-ltb, ne_eqb}
 pub use Rattle.std.proofs.lemmas.Bool.Decides.{nat_tests}
@@ -41,10 +42,11 @@ pub use Rattle.std.proofs.lemmas.Slice.{between-put_mid, between_is, drop-put_mi
 pub use Rattle.std.proofs.lemmas.Slice.Eq.{slice_eq-Decides}
 pub use Rattle.std.specs.Int.{from_le_bytes, w32, w64}
 pub use Rattle.std.specs.List.{All, between, flat_map, range_with_len}
-pub use Rattle.std.specs.Prelude.{IfNone, IfSome, IsTrue, bit_or, codes, map, nat_eq, replicate}
+pub use Rattle.std.specs.Prelude.{IfNone, IfSome, IsTrue, OnOk, bit_or, codes, map, nat_eq, replicate, ⊤}
 unfoldable pub use Rattle.layout.specs.Bytes.{half_number, number, number_from, short_number, zeros}
 pub use Rattle.layout.specs.Capability.{HeadFits, assembled, head_number, height_of, key_of, number_of}
 unfoldable pub use Rattle.layout.specs.Capability.{capability_bytes, head_bytes}
+pub use Rattle.layout.specs.Clusters.{IsAlone, IsBlankBehind}
 pub use Rattle.layout.specs.Directory.{AllFitting, AreRising, HaveOwnSlots, IsDirectory, entry_at, entry_bytes}
 unfoldable pub use Rattle.layout.specs.Directory.{directory_bytes}
 pub use Rattle.layout.specs.Frame.{FollowsRole, HoldsPage, IsBody, IsFrameOf, IsFront, IsNodeFrame, IsPageBody, IsPageFrame, body_in, content_of, frame_bytes}
@@ -52,6 +54,7 @@ pub use Rattle.layout.specs.Frame.{frame_length, frame_of, number_cap, page_body
 unfoldable pub use Rattle.layout.specs.Frame.{front_bytes, front_numbers, node_frame_bytes, page_frame_bytes, slots_bytes, words_bytes}
 pub use Rattle.layout.specs.FrameReader.{cap_with, node_from, page_from}
 unfoldable pub use Rattle.layout.specs.FrameReader.{cap_from, frame_from, header_from, slots_from, words_from}
+pub use Rattle.layout.specs.Frames.{IsHeaderAt}
 pub use Rattle.layout.specs.Gate.{gate_bytes}
 pub use Rattle.layout.specs.Half.{half_of}
 pub use Rattle.layout.specs.Header.{IsHeader}

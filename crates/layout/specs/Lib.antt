@@ -1,3 +1,4 @@
+pub use Rattle.byteorder.specs.Endian
 pub mod Names
 pub mod Bytes
 pub mod Capability
@@ -13,4 +14,7 @@ pub mod Image
 pub mod Laws
 pub mod FrameReader
 pub mod Spelt
-pub use Rattle.byteorder.specs.Endian
+pub mod Calls
+pub mod Clusters
+pub mod Fault
+pub mod Frames

@@ -1,6 +1,8 @@
 -- The names of other crates that the definitions here cite.
 pub use Rattle.byteorder.specs.Endian.{little_bytes, little_number}
-pub use Rattle.device.specs.Disk.{Image}
+pub use Rattle.device.specs.Calls.{Agrees, Elsewhere, IsTorn, Narrows, Tears}
+pub use Rattle.device.specs.Disk.{Disk, Image}
+pub use Rattle.device.specs.Moments.{Elapses, LeavesOnly, Peeks}
 pub use Rattle.model.specs.Capability.{access_bits, tag_of}
 pub use Rattle.model.specs.Frame.{frame_at, void_held}
 pub use Rattle.model.specs.Keepable.{AreKeptSlots, AreKeptWords, IsCount, IsKeepable, IsKeptCap}
@@ -22,4 +24,4 @@ pub use Rattle.model.specs.declared.object.State.{State}
 pub use Rattle.model.specs.declared.object.State.TheVariants.{Available, Running, Waiting}
 pub use Rattle.std.specs.List.{All, flat_map, range_with_len}
 pub use Rattle.std.specs.Prelude.{Bool, IsTrue, List, None, Option, Some, [], codes, drop, length, map, nat_le, nat_lt}
-pub use Rattle.std.specs.Prelude.{replicate, slice_index_or, suc, take, zero, ℕ}
+pub use Rattle.std.specs.Prelude.{replicate, slice_index_or, suc, take, zero, ℕ, ⊤}

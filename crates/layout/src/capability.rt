@@ -8,7 +8,7 @@ ghost use Rattle.layout.specs.Capability.{capability_bytes, head_number, HeadFit
 use crate::bad_image::BadImage;
 use crate::bytes::{number_at, put_number};
 use bitflags::Flags;
-use model::{Access, Cap, Capability, Geometry, MAX_HEIGHT};
+use model::{Access, Cap, Capability, Geometry};
 
 /// How many bytes a capability takes.
 pub const CAPABILITY_BYTES: usize = 24;
@@ -60,28 +60,15 @@ fn is_capability(geometry: Geometry, age: u64, cap: Cap) -> bool
 {
     match cap.what {
         Capability::Void | Capability::Number(_) | Capability::Discrim => cap.count == 0,
-        Capability::Page { object, access } => {
-            let is_page = object >= geometry.nodes && object - geometry.nodes < geometry.pages;
-            access.is_valid() && is_page && cap.count <= age
+        Capability::Page { .. }
+        | Capability::Node { .. }
+        | Capability::Space { .. }
+        | Capability::Process(_)
+        | Capability::Start { .. }
+        | Capability::Resume(_)
+        | Capability::Bank(_) => {
+            cap.what.is_well_formed() && geometry.has_target(cap.what) && cap.count <= age
         }
-        Capability::Node { object, access } => {
-            access.is_valid() && object < geometry.nodes && cap.count <= age
-        }
-        Capability::Space {
-            object,
-            height,
-            access,
-        } => {
-            let is_height = height >= 1 && height <= MAX_HEIGHT;
-            access.is_valid() && is_height && object < geometry.nodes && cap.count <= age
-        }
-        Capability::Process(object)
-        | Capability::Start {
-            process: object,
-            ..
-        }
-        | Capability::Resume(object)
-        | Capability::Bank(object) => object < geometry.nodes && cap.count <= age,
     }
 }
 

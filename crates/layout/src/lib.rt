@@ -1,4 +1,5 @@
-//! The bytes of an image: each structure has one spelling, and a decoder takes no other bytes.
+//! The bytes of an image: each structure has one spelling, and a decoder takes no other bytes. Frames and sectors
+//! are read and written at a sector of any device.
 #![tactic(auto)]
 
 mod bad_image;
@@ -10,6 +11,7 @@ mod directory;
 mod extent;
 mod fields;
 mod frame;
+mod frame_io;
 mod front;
 mod gate;
 mod half;
@@ -31,6 +33,10 @@ pub use directory::{ENTRY_BYTES, Entry, MAX_LOG, decode_directory, encode_direct
 pub use extent::{Extent, HomeRange, half_extent, range_extent};
 pub use fields::{header_in, sequence_in, total_in};
 pub use frame::{decode_frame, encode_frame};
+pub use frame_io::{
+    Unreadable, blank_behind, read_frame, read_header, read_packed, read_sectors, write_frame,
+    write_page, write_sectors,
+};
 pub use gate::{Gate, decode_gate, encode_gate};
 pub use half::Half;
 pub use header::{CheckpointHeader, decode_header, encode_header};

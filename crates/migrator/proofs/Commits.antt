@@ -5,7 +5,7 @@ use Rattle.migrator.proofs.Names.{MayAdopt, adopted, entries_of}
 use Rattle.std.proofs.Common.{◌≡◌, ◌∙◌}
 use Rattle.migrator.proofs.Saving.{kept_raw, stored_raw}
 use Rattle.migrator.proofs.Committing.{committed_stored, may_commit}
-use Rattle.migrator.proofs.Completed.{IsReady, goes_after, has_after, keepable_at, kept_with, mid_kept, ready, stored_after}
+use Rattle.migrator.proofs.Completing.{IsReady, goes_after, has_after, keepable_at, kept_with, mid_kept, ready, stored_after}
 use Rattle.migrator.proofs.GoingOn.{goes_seen, goes_with}
 
 module _ {old mid : Disk} {b : Books} {o : Option Unwritten} {k age : ℕ} (may : MayCommitAt old b k age)

@@ -14,8 +14,7 @@ use Rattle.std.specs.Prelude.{◌==◌}
 use Rattle.migrator.proofs.Tables.{all_whole, whole_taken, entries_directory, length_entries, slot_entries, blank_at, blank_table, tally-blank}
 use Rattle.migrator.proofs.Spared.{state_stays}
 use Rattle.migrator.proofs.Kept.{stored_stays, kept_on}
-use Rattle.migrator.proofs.PlacesApart.{in_slot, in_frame_slot, at_home, frame_apart, home_apart, spares_other, homes_behind}
-use Rattle.migrator.proofs.FrameSlots.{no_entries, frame_slot_fits}
+use Rattle.migrator.proofs.PlacesApart.{in_slot, in_frame_slot, at_home, frame_apart, home_apart, spares_other, homes_behind, no_entries, frame_slot_fits}
 use Rattle.migrator.proofs.Putting.{put_is, later_half, other_parity, half_spares, none_spares, homes_spare}
 
 -- ---- what is kept through a directory and a header that are written

@@ -6,8 +6,7 @@ use Rattle.migrator.proofs.Names.{Nowhere, place_at, Books, stored_on, frozen_ge
 use Rattle.migrator.proofs.Names.{home_header, MayAdopt, SparesPuts, adopted, SparesFrames, Spares, Unwritten, mended, on_snapshots}
 use Rattle.std.proofs.Common.{◌≡◌, ◌+◌, ◌-◌, ◌*◌, ◌<◌, ◌≤◌, ◌∙◌}
 use Rattle.std.specs.Prelude.{◌==◌}
-use Rattle.migrator.proofs.PlacesApart.{at_home, frame_apart, home_apart}
-use Rattle.migrator.proofs.FrameSlots.{frame_slot_fits}
+use Rattle.migrator.proofs.PlacesApart.{at_home, frame_apart, home_apart, frame_slot_fits}
 use Rattle.migrator.proofs.Putting.{none_spares, half_spares, homes_spare, idle_half}
 use Rattle.migrator.proofs.Committing.{slots_apart_directory, directory_inside}
 use Rattle.migrator.proofs.Moving.{no_checkpoint}

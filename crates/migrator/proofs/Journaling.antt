@@ -18,8 +18,7 @@ use Rattle.migrator.proofs.Spared.{touches}
 use Rattle.migrator.proofs.Kept.{are_put_same, puts_same, map_set, stored_stays, kept_on}
 use Rattle.migrator.proofs.GoingOn.{goes_seen, goes_spared}
 use Rattle.migrator.proofs.Later.{keepable_later}
-use Rattle.migrator.proofs.PlacesApart.{in_slot, at_home, frame_apart, home_apart, spares_log}
-use Rattle.migrator.proofs.FrameSlots.{none_beside, page_own, no_entries, frame_slot_fits}
+use Rattle.migrator.proofs.PlacesApart.{in_slot, at_home, frame_apart, home_apart, spares_log, none_beside, page_own, no_entries, frame_slot_fits}
 use Rattle.migrator.proofs.Putting.{half_spares, homes_spare, idle_half, none_spares}
 use Rattle.migrator.proofs.Committing.{one_more, slots_apart_directory, directory_inside}
 use Rattle.migrator.proofs.Adopting.{with_header, idle_books, may_adopt_idle}

@@ -2,12 +2,11 @@ mod Names
 pub mod Tables
 mod Spared
 pub mod Kept
-mod FrameSlots
 mod PlacesApart
 mod Gathering
 mod Mended
 mod Completing
-mod Counting
+pub mod Counting
 pub mod Putting
 mod GoingOn
 mod Freezing
@@ -24,9 +23,5 @@ mod Journaling
 mod Moves
 mod Opening
 mod Reading
-mod FirstBooks
-mod Fetching
 mod Buffered
-mod Completed
 mod Commits
-mod Headers

@@ -12,16 +12,13 @@ pub use Rattle.ckpt_log.specs.Commit.{CommitsOne, HasNew, IsOld, Precedes, heade
 pub use Rattle.ckpt_log.specs.CommitLaws.{HomesAreBehind, IsReady}
 pub use Rattle.ckpt_log.specs.Places.{directory_extent, place_extent, slot_extent}
 pub use Rattle.ckpt_log.specs.SavedSectors.{SameFrom, SameWhereRead}
+pub use Rattle.collections.specs.Marks.{HasNoneMarked, IsNextMarked, is_marked}
 pub use Rattle.device.proofs.Images.{agrees_is, elsewhere_on, elsewhere_same}
 pub use Rattle.device.proofs.Moments.{OnlyNow, counted_ok, counts_on, leaves_on, leaves_weaker, peeks_started, started}
 pub use Rattle.device.specs.Calls.{Agrees, Counts, Elsewhere, IsTorn, Only, image_of, sectors_of}
 pub use Rattle.device.specs.Disk.{Disk, Image}
 pub use Rattle.device.specs.Moments.{Elapses, LeavesOnly}
 pub use Rattle.device.specs.declared.device.Failed.{Failed}
-pub use Rattle.frame_io.specs.Calls.{ReadsOnly, WritesAt}
-pub use Rattle.frame_io.specs.Fault.{CountsFailed}
-pub use Rattle.frame_io.specs.Frames.{IsHeaderAt, IsObject, IsRefused}
-pub use Rattle.frame_io.specs.declared.fault.Unreadable.{Unreadable}
 pub use Rattle.home_ranges.proofs.FrameSlots.{beside_behind, beside_frame_slot, beside_here, frame_slot_entry, own_frame_slot, same_some}
 pub use Rattle.home_ranges.proofs.Places.{IsOwn, alone, lt_false, lt_true, one_length, places_apart, places_spare_log, places_within, ranked}
 pub use Rattle.home_ranges.proofs.Shared.{begins, home_between, own_of}
@@ -37,11 +34,14 @@ pub use Rattle.layout.proofs.SlotsOf.{found_slot, no_slot, own_slot, rising_to, 
 pub use Rattle.layout.proofs.Spelling.{bytes_spelt, denotes, length_read, read_at, read_same, spelt_at, spelt_read, spelt_same}
 pub use Rattle.layout.proofs.Totals.{total_reported}
 unfoldable pub use Rattle.layout.specs.Bytes.{zeros}
+pub use Rattle.layout.specs.Calls.{ReadsOnly, WritesAt}
 pub use Rattle.layout.specs.Directory.{AreRising, IsDirectory, IsEntry, entry_at}
 unfoldable pub use Rattle.layout.specs.Directory.{directory_bytes}
+pub use Rattle.layout.specs.Fault.{CountsFailed}
 pub use Rattle.layout.specs.Frame.{IsFrameOf, frame_bytes, frame_length, frame_of}
 unfoldable pub use Rattle.layout.specs.Frame.{node_frame_bytes, page_frame_bytes}
 unfoldable pub use Rattle.layout.specs.FrameReader.{frame_from, header_from}
+pub use Rattle.layout.specs.Frames.{IsHeaderAt, IsObject, IsRefused}
 pub use Rattle.layout.specs.Half.{half_of}
 pub use Rattle.layout.specs.Header.{IsHeader}
 pub use Rattle.layout.specs.Homes.{home_place, place_length, range_with, rank_in, shape_of}
@@ -57,6 +57,7 @@ unfoldable pub use Rattle.layout.specs.Superblock.{superblock_bytes}
 pub use Rattle.layout.specs.declared.bad_image.BadImage.{BadImage}
 pub use Rattle.layout.specs.declared.directory.Entry.{Entry}
 pub use Rattle.layout.specs.declared.extent.Extent.{Extent}
+pub use Rattle.layout.specs.declared.frame_io.fault.Unreadable.{Unreadable}
 pub use Rattle.layout.specs.declared.half.Half.{Half}
 pub use Rattle.layout.specs.declared.half.Half.TheVariants.{First, Second}
 pub use Rattle.layout.specs.declared.header.CheckpointHeader.{CheckpointHeader}
@@ -73,7 +74,6 @@ pub use Rattle.model.specs.declared.frame.Frame.{Frame}
 pub use Rattle.model.specs.declared.frame.ObjectHeader.{ObjectHeader}
 pub use Rattle.model.specs.declared.geometry.Geometry.{Geometry}
 pub use Rattle.model.specs.declared.object.Content.{Content}
-pub use Rattle.number_set.specs.Marks.{HasNoneMarked, IsNextMarked, is_marked}
 pub use Rattle.std.proofs.Common.{Bool, Err, List, None, Ok, Option, Result, Some, [], ap, append-nil, arith, cond, drop, false, get_or, inl, inr, length}
 pub use Rattle.std.proofs.Common.{length-append, nat_eq, nat_le, nat_lt, not, refl, rules, set, subst, suc, sym, take, true, zero, ℕ, ⊎_elim}
 pub use Rattle.std.proofs.Math.ListN.{get_or-map}
@@ -84,7 +84,7 @@ pub use Rattle.std.proofs.lemmas.List.{length-replicate, length-set, map-set, ni
 pub use Rattle.std.proofs.lemmas.List.Elements.{All-weaker}
 pub use Rattle.std.proofs.lemmas.List.FromFn.{get_or-map-range_with_len, length-map-range_with_len, map-range_with_len_more}
 pub use Rattle.std.proofs.lemmas.Option.{same_Some}
-pub use Rattle.std.proofs.lemmas.Result.{err_from_is_err_and}
+pub use Rattle.std.proofs.lemmas.Result.{IfErr-weaker, IfOk-weaker, err_from_is_err_and, on_err_weaker, on_ok_weaker}
 pub use Rattle.std.specs.List.{range_with_len}
 pub use Rattle.std.specs.Prelude.{IfErr, IfOk, IsErr, OnErr, OnOk, is_err, map, option_map, replicate, slice_set}
 pub use Rattle.std.specs.Vec.{vec_capacity}
@@ -101,6 +101,7 @@ pub use Rattle.migrator.specs.Opened.{HasNoPlan, IsBadAt, IsRead, IsUnplanned, O
 pub use Rattle.migrator.specs.Put.{Absent, ArePut, Broken, HasFreeSlot, Kept, Put, held_slot, kept_count, kept_frame, put_at, put_of, put_or, slot_bytes}
 pub use Rattle.migrator.specs.Put.{slot_frame}
 unfoldable pub use Rattle.migrator.specs.Put.{overlaid, puts_in, sum_of}
+pub use Rattle.migrator.specs.Reserve.{IsReadInto, first_books}
 pub use Rattle.migrator.specs.Saving.{IsIdle, MayAdopt, MayCommitAt, MayFinish, MayReplace, SavesOnly, SparesKept, SparesPuts, adopted}
 pub use Rattle.migrator.specs.Spared.{Spares, SparesFrames, Touches, frame_extent}
 pub use Rattle.migrator.specs.Table.{IsTable, entries_from, entry_before, has_frame, has_slot, is_held, place_at, slot_for, slot_of, slot_or, taken_count}

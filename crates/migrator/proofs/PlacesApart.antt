@@ -1,11 +1,162 @@
--- Places of frames that lie apart.
-use Rattle.migrator.proofs.Names.{ℕ, Option, Some, None, List, length, refl, sym, ap, subst, inl, inr, arith, Image, Entry, Extent, CheckpointHeader}
-use Rattle.migrator.proofs.Names.{IsDirectory, home_place, place_length, bytes_at, frame_in, frame_slot_in, slot_in, slot_sector, half_sector, sector_or}
-use Rattle.migrator.proofs.Names.{count_of, Plan, IsPlan, IsApart, IsInside, half_extent, itself, apart_inside, apart_turned, within_inside, own_frame_slot}
-use Rattle.migrator.proofs.Names.{home_extent, places_within, places_apart, places_spare_log, place_extent, directory_extent, slots_inside, frames_in_slots}
-use Rattle.migrator.proofs.Names.{directories_inside, halves_within, halves_apart, HomesAreBehind, slot_bytes, frame_extent, Spares}
-use Rattle.std.proofs.Common.{◌≡◌, ◌%◌, ◌<◌, ◌≤◌, ◌∙◌}
-use Rattle.migrator.proofs.FrameSlots.{no_entries, frame_slots_differ, frame_slot_fits}
+-- Which slot has the frame of an object, or of another in its cluster.
+use Rattle.migrator.proofs.Names.{ℕ, zero, suc, Bool, true, false, not, nat_eq, Option, Some, None, List, [], length, refl, sym, ap, subst, inl, inr, arith}
+use Rattle.migrator.proofs.Names.{cases_eq, cases_lt, eq-eqb, Entry, Packed, Page, IsDirectory, AreRising, entry_at, home_place, range_with, rank_in, shape_of}
+use Rattle.migrator.proofs.Names.{slot_in, slot_beside, frame_slot_in, count_of, node_shape, Plan, IsPlan, found_slot, own_slot, rising_to, IsOwn, alone}
+use Rattle.migrator.proofs.Names.{lt_false, beside_behind, beside_here, beside_frame_slot, own_frame_slot, same_some, frame_slot_entry, begins, home_between}
+use Rattle.migrator.proofs.Names.{IsFirst, Image, Extent, CheckpointHeader, place_length, bytes_at, frame_in, slot_sector, half_sector, sector_or, IsApart}
+use Rattle.migrator.proofs.Names.{IsInside, half_extent, itself, apart_inside, apart_turned, within_inside, home_extent, places_within, places_apart}
+use Rattle.migrator.proofs.Names.{places_spare_log, place_extent, directory_extent, slots_inside, frames_in_slots, directories_inside, halves_within}
+use Rattle.migrator.proofs.Names.{halves_apart, HomesAreBehind, slot_bytes, frame_extent, Spares}
+use Rattle.std.proofs.Common.{◌≡◌, ◌-◌, ◌<◌, ◌≤◌, ◌∷◌, ◌∙◌, ◌%◌}
+use Rattle.std.specs.Prelude.{if◌then◌else◌}
+
+-- ---- the first entry whose home is that of an object
+
+pub none_beside : (p : Plan) (es : List Entry) (n : ℕ) → ((i : ℕ) → i < length es → home_place p (entry_at es i).object ≡ home_place p n → ⊥) →
+    slot_beside p es n ≡ None
+none_beside p [] n none = refl
+none_beside p (e ∷ es) n none = beside_behind p e es n (none 0 (omega arith)) ∙ none_beside p es n (λ i lt. none (suc i) (omega (arith, lt)))
+
+pub beside_at : (p : Plan) (es : List Entry) (n i : ℕ) → i < length es → ((j : ℕ) → j < i → home_place p (entry_at es j).object ≡ home_place p n → ⊥) →
+    home_place p (entry_at es i).object ≡ home_place p n
+    → slot_beside p es n ≡ Some (entry_at es i).slot
+beside_at p [] n i lt before is = absurd (omega (arith, lt))
+beside_at p (e ∷ es) n zero lt before is = beside_here p e es n is
+beside_at p (e ∷ es) n (suc i) lt before is = beside_behind p e es n (before 0 (omega arith)) ∙
+    beside_at p es n i (omega (arith, lt)) (λ j less. before (suc j) (omega (arith, less))) is
+
+-- which is the first of its home
+pub record HasFirst (p : Plan) (es : List Entry) (n slot : ℕ) : Type 0 where
+  pub index : ℕ
+  pub within : index < length es
+  pub home_is : home_place p (entry_at es index).object ≡ home_place p n
+  pub slot_is : (entry_at es index).slot ≡ slot
+  pub before : (j : ℕ) → j < index → home_place p (entry_at es j).object ≡ home_place p n → ⊥
+
+pub found_first : (p : Plan) (es : List Entry) (n s : ℕ) → slot_beside p es n ≡ Some s → HasFirst p es n s
+found_first p [] n s is = absurd cc
+found_first p (e ∷ es) n s is = elim (cases_eq (home_place p e.object) (home_place p n)) [
+  | inl same ↦ record {
+    index = 0;
+    within = omega arith;
+    home_is = same;
+    slot_is = same_some (sym (beside_here p e es n same) ∙ is);
+    before = λ j lt. absurd (omega (arith, lt));
+  }
+  | inr other ↦
+      let rest = found_first p es n s (sym (beside_behind p e es n other) ∙ is) in
+      record {
+        index = suc rest.index;
+        within = omega (arith, rest.within);
+        home_is = rest.home_is;
+        slot_is = rest.slot_is;
+        before = behind e es rest.index other rest.before;
+      }
+] where
+  behind : (e : Entry) (es : List Entry) (k : ℕ) → (home_place p e.object ≡ home_place p n → ⊥) →
+      ((j : ℕ) → j < k → home_place p (entry_at es j).object ≡ home_place p n → ⊥)
+      → (j : ℕ) → j < suc k → home_place p (entry_at (e ∷ es) j).object ≡ home_place p n → ⊥
+  behind e es k other before zero lt same = other same
+  behind e es k other before (suc j) lt same = before j (omega (arith, lt)) same
+
+-- where an entry has the home there is such a slot
+some_beside : (p : Plan) (es : List Entry) (n i : ℕ) → i < length es → home_place p (entry_at es i).object ≡ home_place p n → slot_beside p es n ≡ None → ⊥
+some_beside p [] n i lt is none = omega (arith, lt)
+some_beside p (e ∷ es) n zero lt is none = let never : None ≡ Some e.slot = sym none ∙ beside_here p e es n is in cc
+some_beside p (e ∷ es) n (suc i) lt is none = elim (cases_eq (home_place p e.object) (home_place p n)) [
+  | inl same ↦ let never : None ≡ Some e.slot = sym none ∙ beside_here p e es n same in cc
+  | inr other ↦ some_beside p es n i (omega (arith, lt)) is (sym (beside_behind p e es n other) ∙ none)
+]
+
+-- an object whose frame isn't packed has no slot but its own
+pub alone_beside : {p : Plan} {es : List Entry} {n : ℕ} → IsPlan p → IsDirectory p.geometry es → n < count_of p → IsOwn (shape_of p n) → slot_in es n ≡ None →
+    slot_beside p es n ≡ None
+alone_beside {p} {es} {n} fits is lt own none = none_beside p es n (λ i within same.
+    let object = (is.each i (record { object = 0; slot = 0 }) within).object in
+    let one : (entry_at es i).object ≡ n = alone p (entry_at es i).object n fits object lt own same in
+    let never : None ≡ Some (entry_at es i).slot = sym none ∙ ap (slot_in es) (sym one) ∙ own_slot es i is.rising within in
+    cc)
+
+-- as that of a page isn't
+pub page_own : (p : Plan) {n : ℕ} → p.geometry.nodes ≤ n → IsOwn (shape_of p n)
+page_own p {n} le = subst IsOwn
+    (sym (ap (λ (test : Bool). if test then node_shape p.version (rank_in (range_with p.ranges n) n) else Page) (lt_false n p.geometry.nodes le))) tt
+
+-- where there are no entries there is none
+pub no_entries : (p : Plan) (es : List Entry) (n : ℕ) → length es ≡ 0 → frame_slot_in p es n ≡ None
+no_entries p [] n size = refl
+no_entries p (e ∷ es) n size = absurd (omega (arith, size))
+
+-- an object without one doesn't share its home with an object that has a slot
+pub frame_slots_differ : (p : Plan) (es : List Entry) (n m : ℕ) {t : ℕ} → slot_in es m ≡ Some t → frame_slot_in p es n ≡ None → home_place p n ≡ home_place p m
+    → ⊥
+frame_slots_differ p es n m {t} has none same =
+    let entry = found_slot es m t has in
+    some_beside p es n entry.index entry.within (ap (home_place p) entry.object_is ∙ sym same) (beside_none (slot_in es n) refl) where
+      beside_none : (o : Option ℕ) → slot_in es n ≡ o → slot_beside p es n ≡ None
+      beside_none None is = sym (beside_frame_slot p es n is) ∙ none
+      beside_none (Some s) is = let never : None ≡ Some s = sym none ∙ own_frame_slot p es n is in absurd cc
+
+-- a frame slot is a slot of some entry
+pub frame_slot_fits : (p : Plan) {es : List Entry} (n : ℕ) {s : ℕ} → IsDirectory p.geometry es → frame_slot_in p es n ≡ Some s → s < p.geometry.log
+frame_slot_fits p {es} n {s} is frame_slot =
+    let entry = frame_slot_entry p es n s frame_slot in
+    let one = is.each entry.index (record { object = 0; slot = 0 }) entry.within in
+    omega (arith, one.slot, entry.slot_is)
+
+-- ---- the first entry of a home
+
+not_above : (es : List Entry) {a b : ℕ} → AreRising es → a ≤ b → b < length es → (entry_at es a).object ≤ (entry_at es b).object
+not_above es {a} {b} rising le within = elim (cases_lt a b) [
+  | inl less ↦ let one = rising_to es a b rising less within in omega (arith, one)
+  | inr ge ↦ let one : a ≡ b = omega (arith, le, ge) in subst (λ (k : ℕ). (entry_at es a).object ≤ (entry_at es k).object) one (omega arith)
+]
+
+pub not_same : {a b : ℕ} → not (nat_eq a b) ≡ true → a ≡ b → ⊥
+not_same {a} {b} differs same = let never : false ≡ true = ap not (sym (eq-eqb a b same)) ∙ differs in cc
+
+-- is the one behind an entry of another home
+pub first_of : {p : Plan} {es : List Entry} {i : ℕ} → IsPlan p → IsDirectory p.geometry es → i < length es →
+    (0 < i → home_place p (entry_at es (i - 1)).object ≡ home_place p (entry_at es i).object → ⊥) → IsFirst p es i
+first_of {p} {es} {i} fits is within other j less same =
+    let last : i - 1 < length es = omega (arith, within) in
+    let before : j < length es = omega (arith, less, within) in
+    let low : (entry_at es j).object ≤ (entry_at es (i - 1)).object = not_above es is.rising (omega (arith, less)) last in
+    let high : (entry_at es (i - 1)).object ≤ (entry_at es i).object = not_above es is.rising (omega arith) within in
+    let object : (k : ℕ) → k < length es → (entry_at es k).object < count_of p = λ k lt. (is.each k (record { object = 0; slot = 0 }) lt).object in
+    other (omega (arith, less)) (home_between fits (object i within) (object j before) low high (sym same) ∙ same)
+
+-- ---- the search from the first number of a cluster on
+
+module _ (p : Plan) (es : List Entry) (n rank at : ℕ) (fits : IsPlan p) (is : IsDirectory p.geometry es) (lt : n < count_of p)
+    (shape : shape_of p n ≡ Packed rank)
+    (below : (i : ℕ) → i < at → (entry_at es i).object < n - rank) (from : (i : ℕ) → at ≤ i → i < length es → n - rank ≤ (entry_at es i).object) where
+  object : (i : ℕ) → i < length es → (entry_at es i).object < count_of p
+  object i within = (is.each i (record { object = 0; slot = 0 }) within).object
+
+  none_below : (i : ℕ) → i < length es → i < at → home_place p (entry_at es i).object ≡ home_place p n → ⊥
+  none_below i within less same =
+      let least = (begins p n rank fits lt shape).least (entry_at es i).object (object i within) same in
+      let under = below i less in
+      omega (arith, least, under)
+
+  -- the entry there has the home, or none has
+  pub found_there : at < length es → home_place p (entry_at es at).object ≡ home_place p n → slot_beside p es n ≡ Some (entry_at es at).slot
+  found_there within same = beside_at p es n at within (λ j less. none_below j (omega (arith, less, within)) less) same
+
+  pub none_there : (at < length es → home_place p (entry_at es at).object ≡ home_place p n → ⊥) → slot_beside p es n ≡ None
+  none_there other = none_beside p es n (λ i within same. elim (cases_lt i at) [
+    | inl less ↦ none_below i within less same
+    | inr le ↦
+        let first = from at (omega arith) (omega (arith, le, within)) in
+        let start = begins p n rank fits lt shape in
+        let same_start : home_place p (entry_at es i).object ≡ home_place p (n - rank) = same ∙ sym start.home in
+        let up : (entry_at es at).object ≤ (entry_at es i).object = not_above es is.rising le within in
+        let shared = home_between fits (object i within) (omega (arith, lt)) first up same_start in
+        other (omega (arith, le, within)) (shared ∙ start.home)
+  ])
+
+-- ---- places of frames that lie apart
 
 -- ---- where the frame of an object is read
 

@@ -1,9 +1,9 @@
 -- A header is published after calls that change nothing that is stored.
-use Rattle.migrator.proofs.Names.{Publishes, Stays, ℕ, Result, Err, subst, inl, IsErr, Disk, Counts, LeavesOnly, leaves_weaker, leaves_on, counts_on}
-use Rattle.migrator.proofs.Names.{SavedFrames, Holds, LeavesSaved, LeavesEither, Books, Stored, stored_on, IsSoundOn}
+use Rattle.migrator.proofs.Names.{on_err_weaker, on_ok_weaker, Publishes, Stays, ℕ, Result, Err, subst, inl, IsErr, Disk, Counts, LeavesOnly, leaves_weaker}
+use Rattle.migrator.proofs.Names.{leaves_on, counts_on, SavedFrames, Holds, LeavesSaved, LeavesEither, Books, Stored, stored_on, IsSoundOn}
 use Rattle.std.proofs.Common.{◌≡◌, ◌⊎◌, ◌∙◌}
 use Rattle.migrator.proofs.Counting.{err_counts}
-use Rattle.migrator.proofs.Saving.{err_then, no_ok, ok_then, on_err}
+use Rattle.migrator.proofs.Saving.{no_ok, on_err}
 
 -- what leaves the saved state leaves that or the next
 pub either_first : {old new : Disk} {saved next : SavedFrames} → LeavesSaved old new saved → LeavesEither old new saved next
@@ -29,8 +29,8 @@ publishes_after {old = old} {mid = mid} {new = new} {a = a} {b = b} {after = aft
     let saved : SavedFrames = (stored_on old a).saved in
     record {
       stands = is.stands;
-      stored = ok_then r (λ e. e ∙ same) is.stored;
-      unchanged = err_then r (λ e. e ∙ stays.stored) is.unchanged;
+      stored = on_ok_weaker r (λ e. e ∙ same) is.stored;
+      unchanged = on_err_weaker r (λ e. e ∙ stays.stored) is.unchanged;
       plan = is.plan ∙ stays.goes_on.plan;
       sound = is.sound;
       size = is.size ∙ stays.goes_on.size;

@@ -1,16 +1,15 @@
 -- A frame is put into its slot: what then holds of a device and its books.
-use Rattle.migrator.proofs.Names.{MayPut, PutsFrame, Stores, ℕ, Bool, true, false, Option, Some, None, Result, Ok, Err, List, length, set, refl, sym, ap, subst}
-use Rattle.migrator.proofs.Names.{arith, option_map, OnOk, OnErr, Frame, IsKeepable, Image, Disk, Failed, Extent, IsFrameOf, frame_bytes, half_sector}
-use Rattle.migrator.proofs.Names.{place_length, slot_sector, count_of, IsInside, half_extent, bytes_spelt, WritesAt, place_extent, most, Keeps, Books, Place}
-use Rattle.migrator.proofs.Names.{Torn, Whole, slot_of, IsDurable, IsRunning, FrozenPuts, Stored, frozen_generation, frozen_of, seen_by, stored_in, stored_on}
-use Rattle.migrator.proofs.Names.{with_frozen, with_put, with_working, working_generation, Unwritten, mended, Put, Broken, Kept, HasFreeSlot, ArePut, puts_in}
-use Rattle.migrator.proofs.Names.{slot_bytes, slot_frame, Touches, entries_of, slot_for, Counts, IsKept, Spares, SparesKept}
+use Rattle.migrator.proofs.Names.{on_ok_weaker, MayPut, PutsFrame, Stores, ℕ, Bool, true, false, Option, Some, None, Result, Ok, Err, List, length, set, refl}
+use Rattle.migrator.proofs.Names.{sym, ap, subst, arith, option_map, OnOk, OnErr, Frame, IsKeepable, Image, Disk, Failed, Extent, IsFrameOf, frame_bytes}
+use Rattle.migrator.proofs.Names.{half_sector, place_length, slot_sector, count_of, IsInside, half_extent, bytes_spelt, WritesAt, place_extent, most, Keeps}
+use Rattle.migrator.proofs.Names.{Books, Place, Torn, Whole, slot_of, IsDurable, IsRunning, FrozenPuts, Stored, frozen_generation, frozen_of, seen_by}
+use Rattle.migrator.proofs.Names.{stored_in, stored_on, with_frozen, with_put, with_working, working_generation, Unwritten, mended, Put, Broken, Kept}
+use Rattle.migrator.proofs.Names.{HasFreeSlot, ArePut, puts_in, slot_bytes, slot_frame, Touches, entries_of, slot_for, Counts, IsKept, Spares, SparesKept}
 use Rattle.std.proofs.Common.{◌≡◌, ◌⊎◌, ◌∙◌, ◌+◌, ◌<◌, ◌≤◌}
 use Rattle.std.specs.Prelude.{if◌then◌else◌}
 use Rattle.migrator.proofs.Buffered.{entry_of, held_after, without, working_again}
 use Rattle.migrator.proofs.Committing.{frozen_fits}
-use Rattle.migrator.proofs.Completed.{goes_after, kept_with, mid_kept, stored_after}
-use Rattle.migrator.proofs.Completing.{keeps_written, unwritten_inside}
+use Rattle.migrator.proofs.Completing.{goes_after, kept_with, mid_kept, stored_after, keeps_written, unwritten_inside}
 use Rattle.migrator.proofs.GoingOn.{GoesOnSeen, goes_seen, goes_spared, goes_with}
 use Rattle.migrator.proofs.Kept.{stored_stays, kept_on}
 use Rattle.migrator.proofs.Mended.{unmended, writes_mended}
@@ -18,7 +17,6 @@ use Rattle.migrator.proofs.PlacesApart.{place_inside, spares_other}
 use Rattle.migrator.proofs.Putting.{frozen_working, half_spares, homes_spare, later_half, mended as mended_put, other_parity, puts_mended, puts_set}
 use Rattle.migrator.proofs.Putting.{saved_working}
 use Rattle.migrator.proofs.Putting.{set_twice, slot_room, slots_spare, taken_set, torn_put}
-use Rattle.migrator.proofs.Saving.{ok_then}
 use Rattle.migrator.proofs.Spared.{touches}
 
 -- ---- among the frames put since, or for the checkpoint on its way
@@ -196,7 +194,7 @@ module _ {old : Disk} {b : Books} {n : ℕ} (is : IsDurable old b) (lt : n < cou
       → PutsFrame old new b (record b { working = ps }) f (λ put. with_working n put (stored_on old b)) r
   working_puts {new = new} {f = f} {r = r} writes counts {ps} keepable ok err written =
       let wrote = writes_mended b.unwritten writes in
-      let read = ok_then r (λ is_written. working_again old.sectors old.seen b new.seen b.unwritten is.kept is.unwritten n working_room ∙ is_written)
+      let read = on_ok_weaker r (λ is_written. working_again old.sectors old.seen b new.seen b.unwritten is.kept is.unwritten n working_room ∙ is_written)
       written in
       let both = put_either true f is.kept lt working_room wrote r ps keepable ok err read in
       search (goes_seen (put_goes_on true f is.kept lt working_room wrote ps), counts)
@@ -247,7 +245,7 @@ frozen_puts {old = old} {new = new} {b = b} {n = n} {k = k} {f = f} {r = r} may 
     let is = may.stands in
     let has : (j : ℕ) × (b.size ≡ Some j) × (slot_for b.frozen n < j) = (k, may.running, frozen_low is may.running may.object may.room) in
     let wrote = writes_mended b.unwritten writes in
-    let read = ok_then r (λ is_written. ap (λ (image : Image). slot_bytes image b.plan (frozen_generation b) (slot_for b.frozen n) n) (unmended none)
+    let read = on_ok_weaker r (λ is_written. ap (λ (image : Image). slot_bytes image b.plan (frozen_generation b) (slot_for b.frozen n) n) (unmended none)
     ∙ is_written) written in
     let both = put_either false f is.kept may.object has wrote r ps may.keepable ok err read in
     search (without (record b { frozen = ps }) none, goes_seen (put_goes_on false f is.kept may.object has wrote ps), counts)

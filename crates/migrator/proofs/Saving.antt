@@ -124,14 +124,6 @@ pub no_ok : {T E : Type 0} (r : Result T E) → IsErr r → (P : Type 0) → OnO
 no_ok (Ok x) failed P = absurd cc
 no_ok (Err e) failed P = tt
 
-pub ok_then : {T E P Q : Type 0} (r : Result T E) → (P → Q) → OnOk r P → OnOk r Q
-ok_then (Ok x) f p = f p
-ok_then (Err e) f p = tt
-
-pub err_then : {T E P Q : Type 0} (r : Result T E) → (P → Q) → OnErr r P → OnErr r Q
-err_then (Ok x) f p = tt
-err_then (Err e) f p = f p
-
 -- of two results that fail together
 pub ok_as : {T E U F P Q : Type 0} (r : Result T E) (s : Result U F) → is_err s ≡ is_err r → (P → Q) → OnOk r P → OnOk s Q
 ok_as (Ok x) (Ok y) same f p = f p

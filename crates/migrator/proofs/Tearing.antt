@@ -1,13 +1,14 @@
 -- What was put of an object is given up: its slot stays.
-use Rattle.migrator.proofs.Names.{false, MayPut, PutsFrame, Stores, inl, ℕ, Option, Some, length, sym, ap, arith, get_or-set_same, same_Some, Disk, count_of}
-use Rattle.migrator.proofs.Names.{Absent, Broken, put_at, puts_in, HasFreeSlot, Books, FrozenPuts, Stored, frozen_generation, frozen_of, seen_by, stored_on}
-use Rattle.migrator.proofs.Names.{with_frozen, with_put, subst, Result, Err, IsErr, Counts, counts_on, Frame, IsKeepable, IsObject, Plan, Kept, most}
+use Rattle.migrator.proofs.Names.{on_err_weaker, on_ok_weaker, false, MayPut, PutsFrame, Stores, inl, ℕ, Option, Some, length, sym, ap, arith, get_or-set_same}
+use Rattle.migrator.proofs.Names.{same_Some, Disk, count_of, Absent, Broken, put_at, puts_in, HasFreeSlot, Books, FrozenPuts, Stored, frozen_generation}
+use Rattle.migrator.proofs.Names.{frozen_of, seen_by, stored_on, with_frozen, with_put, subst, Result, Err, IsErr, Counts, counts_on, Frame, IsKeepable}
+use Rattle.migrator.proofs.Names.{IsObject, Plan, Kept, most}
 use Rattle.std.proofs.Common.{◌≡◌, ◌∙◌, ◌<◌, option_map}
 use Rattle.migrator.proofs.Counting.{err_counts}
 use Rattle.migrator.proofs.Freezing.{length_puts}
 use Rattle.migrator.proofs.Moving.{goes_trans}
 use Rattle.migrator.proofs.PutFrames.{put_twice}
-use Rattle.migrator.proofs.Saving.{err_then, no_ok, ok_then, on_err}
+use Rattle.migrator.proofs.Saving.{no_ok, on_err}
 
 torn_room : (old mid : Disk) (b c : Books) {size n : ℕ} → b.size ≡ Some size → c.size ≡ Some size →
     stored_on mid c ≡ with_frozen n Broken (stored_on old b) → n < count_of b.plan
@@ -44,8 +45,8 @@ pub puts_after : {T E : Type 0} {old mid new : Disk} {a b c : Books} (n : ℕ) {
     → PutsFrame mid new b c f (λ put. with_frozen n put (stored_on mid b)) r → PutsFrame old new a c f (λ put. with_frozen n put (stored_on old a)) r
 puts_after {old = old} {mid = mid} {new = new} {a = a} {b = b} {c = c} n {f} {r} torn none is = record {
   stands = is.stands;
-  put = ok_then r (λ e. e ∙ ap (with_frozen n (Kept f)) torn.stored ∙ put_twice false (stored_on old a) n Broken (Kept f)) is.put;
-  broken = err_then r (λ e. e ∙ ap (with_frozen n Broken) torn.stored ∙ put_twice false (stored_on old a) n Broken Broken) is.broken;
+  put = on_ok_weaker r (λ e. e ∙ ap (with_frozen n (Kept f)) torn.stored ∙ put_twice false (stored_on old a) n Broken (Kept f)) is.put;
+  broken = on_err_weaker r (λ e. e ∙ ap (with_frozen n Broken) torn.stored ∙ put_twice false (stored_on old a) n Broken Broken) is.broken;
   goes_on = goes_trans old mid new a b c (ap (λ (s : Stored). s.saved) torn.stored) torn.goes_on is.goes_on;
   cause = counts_on none is.cause;
 }

@@ -8,13 +8,12 @@ pub use Rattle.ckpt_log.specs.Places.{directory_extent, place_extent}
 pub use Rattle.device.specs.Calls.{Agrees, Counts, Elsewhere, IsTorn, Narrows, Only, Tears, image_of}
 pub use Rattle.device.specs.Disk.{Disk, Image}
 pub use Rattle.device.specs.Moments.{LeavesOnly, Peeks}
-pub use Rattle.frame_io.specs.Frames.{IsObject}
-pub use Rattle.frame_io.specs.declared.fault.Unreadable.{Unreadable}
 pub use Rattle.home_ranges.specs.Home.{EndsInZeros}
 pub use Rattle.home_ranges.specs.Laws.{home_extent}
 pub use Rattle.layout.specs.Directory.{IsDirectory, entry_at}
 pub use Rattle.layout.specs.Frame.{IsFrameOf}
 unfoldable pub use Rattle.layout.specs.FrameReader.{frame_from}
+pub use Rattle.layout.specs.Frames.{IsObject}
 pub use Rattle.layout.specs.Header.{IsHeader}
 pub use Rattle.layout.specs.Homes.{home_place, place_length, shape_of}
 pub use Rattle.layout.specs.Image.{Encodes, HasDirectory, HasHeader, IsBadBy, SavedState, bytes_at, directory_length}
@@ -22,11 +21,13 @@ pub use Rattle.layout.specs.Image.{directory_sector, frame_in, frame_sector, hal
 pub use Rattle.layout.specs.Image.{slot_in, slot_sector}
 pub use Rattle.layout.specs.Shape.{IsShapeFor, shape_bytes}
 pub use Rattle.layout.specs.Spelt.{AreSpelt, count_of, state_in}
+unfoldable pub use Rattle.layout.specs.Spelt.{frames_read}
 pub use Rattle.layout.specs.Superblock.{IsApart, IsPlan, Plan}
 pub use Rattle.layout.specs.declared.bad_image.BadImage.{BadImage}
 pub use Rattle.layout.specs.declared.bad_image.BadImage.TheVariants.{BadFrame}
 pub use Rattle.layout.specs.declared.directory.Entry.{Entry}
 pub use Rattle.layout.specs.declared.extent.Extent.{Extent}
+pub use Rattle.layout.specs.declared.frame_io.fault.Unreadable.{Unreadable}
 pub use Rattle.layout.specs.declared.header.CheckpointHeader.{CheckpointHeader}
 pub use Rattle.layout.specs.declared.shape.Shape.{Shape}
 pub use Rattle.layout.specs.declared.shape.Shape.TheVariants.{Packed}

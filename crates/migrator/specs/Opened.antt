@@ -5,7 +5,7 @@ use Rattle.migrator.specs.Names.{HasDirectory, frame_in, Unreadable, Holds, Only
 use Rattle.std.specs.Prelude.{◌≡◌}
 use Rattle.layout.specs.declared.bad_image.BadImage.TheVariants as bad
 use Rattle.checkpoint.specs.declared.open_fault.OpenFault.TheVariants as refusal
-use Rattle.frame_io.specs.declared.fault.Unreadable.TheVariants as fault
+use Rattle.layout.specs.declared.frame_io.fault.Unreadable.TheVariants as fault
 use Rattle.migrator.specs.Put.{Absent}
 use Rattle.migrator.specs.Durable.{DurableState, stored_of, is_sound}
 

@@ -1,8 +1,12 @@
--- The memory of a store.
-use Rattle.migrator.specs.Names.{None, length, replicate, vec_capacity, count_of, Plan}
+-- The memory of a store, and what is read into it.
+use Rattle.migrator.specs.Names.{None, List, length, replicate, take, vec_capacity, Frame, Entry, CheckpointHeader}
+use Rattle.migrator.specs.Names.{Image, count_of, Plan, frames_read}
 use Rattle.std.specs.Prelude.{◌≡◌, ◌≤◌}
 use Rattle.migrator.specs.declared.durable.open.Reserve.{Reserve}
+use Rattle.migrator.specs.declared.books.Books.{Books}
+use Rattle.migrator.specs.declared.table.Place.{Place}
 use Rattle.migrator.specs.declared.table.Place.TheVariants.{Nowhere}
+use Rattle.migrator.specs.Opened.{IsRead}
 
 -- memory for two directories, for the places of all objects, where none has one yet, and for a cluster
 pub record IsReserve (p : Plan) (r : Reserve) : Type 0 where
@@ -11,3 +15,23 @@ pub record IsReserve (p : Plan) (r : Reserve) : Type 0 where
   pub frozen : r.tables.frozen ≡ replicate (count_of p) Nowhere
   pub working : r.tables.working ≡ replicate (count_of p) Nowhere
   pub buffer : r.buffer ≡ None
+
+-- all of an image was read into it: the header, the directory, and the frames, which were taken
+pub record IsReadInto {I : Type 0} (Took : I → List Frame → Type 0) (image : Image) (p : Plan) (h : CheckpointHeader)
+    (r : Reserve) (taken : I) : Type 0 where
+  pub read : IsRead image p h r.directories.saved.items
+  pub took : Took taken (frames_read image p h.generation (take h.entries r.directories.saved.items))
+  pub reserved : IsReserve p r
+
+-- the books of an image before a frame is moved or put
+abbrev pub first_books : Plan → CheckpointHeader → List Entry → List Place → List Place → Books
+first_books p h es fs ws = record {
+  plan = p;
+  header = h;
+  directory = take h.entries es;
+  moved = 0;
+  frozen = fs;
+  size = None;
+  working = ws;
+  unwritten = None;
+}

@@ -9,8 +9,8 @@ ghost use Rattle.layout.specs.Homes.{shape_of};
 ghost use Rattle.layout.specs.Image.{sectors_from, slot_sector};
 ghost use Rattle.layout.specs.Shape.{shape_bytes};
 ghost use Rattle.layout.specs.Superblock.{IsPlan};
-ghost use Rattle.frame_io.specs.Calls.{ReadsOnly};
-ghost use Rattle.frame_io.specs.Frames.{IsObject};
+ghost use Rattle.layout.specs.Calls.{ReadsOnly};
+ghost use Rattle.layout.specs.Frames.{IsObject};
 ghost use Rattle.migrator.specs.Completed.{AreComplete, IsComplete, IsFilled, Keeps, KeepsOne};
 ghost use Rattle.migrator.specs.Gathered.{HasZerosAt, IsFirst};
 ghost use Rattle.migrator.specs.Mended.{IfUnwritten, IsSpeltIn, Unwritten, mended};
@@ -20,11 +20,10 @@ use crate::gather::gather;
 use crate::turn::is_first;
 use ckpt_log::Log;
 use device::{Device, Failed};
-use frame_io::read_packed;
 use home_ranges::Home;
 use layout::{
     Body, CLUSTER_BYTES, Entry, NODE_FRAME_BYTES, Scratch, Shape, Superblock, decode_frame,
-    pack_node, unpack_node,
+    pack_node, read_packed, unpack_node,
 };
 use model::{Geometry, ObjectHeader};
 use std::alloc::{AllocError, Global};
@@ -74,25 +73,15 @@ fn fill<D: Device>(
     ensures cause { Counts (D.disk device.old) (D.disk device.new) result }
 {
     let mut whole = [0; CLUSTER_BYTES];
-    gather(
-        device,
-        plan,
-        generation,
-        &[],
-        entry.object - rank,
-        &mut whole,
-    )?;
+    let first = entry.object - rank;
+    gather(device, plan, generation, &[], first, &mut whole)?;
     let log = Log::new(plan);
+    let at = log.slot_sector(generation, entry.slot);
     let mut node = [0; NODE_FRAME_BYTES];
-    read_packed(
-        device,
-        log.slot_sector(generation, entry.slot),
-        rank,
-        &mut node,
-    )?;
+    read_packed(device, at, rank, &mut node)?;
     pack_node(&node, rank as usize, &mut whole);
     let home = Home::new(plan);
-    home.blank_rest(entry.object - rank, &mut whole);
+    home.blank_rest(first, &mut whole);
     cluster.copy_from_slice(&whole);
     Ok(())
 }

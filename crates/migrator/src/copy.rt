@@ -5,7 +5,7 @@ ghost use Rattle.layout.specs.declared.shape.Shape.TheVariants as shape;
 ghost use Rattle.layout.specs.Directory.{IsDirectory};
 ghost use Rattle.layout.specs.Homes.{home_place, place_length, shape_of};
 ghost use Rattle.layout.specs.Image.{sectors_from, slot_in};
-ghost use Rattle.frame_io.specs.Frames.{IsObject};
+ghost use Rattle.layout.specs.Frames.{IsObject};
 ghost use Rattle.home_ranges.specs.Home.{EndsInZeros};
 ghost use Rattle.migrator.specs.Gathered.{HasZerosAt, IsCopied};
 ghost use Rattle.migrator.specs.Spared.{Touches};
@@ -13,9 +13,11 @@ ghost use Rattle.migrator.specs.Spared.{Touches};
 use crate::gather::gather;
 use ckpt_log::Log;
 use device::{Device, Failed};
-use frame_io::{read_sectors, write_sectors};
 use home_ranges::Home;
-use layout::{CLUSTER_BYTES, Entry, NODE_FRAME_BYTES, PAGE_FRAME_BYTES, Shape, Superblock};
+use layout::{
+    CLUSTER_BYTES, Entry, NODE_FRAME_BYTES, PAGE_FRAME_BYTES, Shape, Superblock, read_sectors,
+    write_sectors,
+};
 
 // Copies 2 sectors.
 fn copy_node<D: Device>(device: &mut D, from: u64, to: u64) -> Result<(), Failed>

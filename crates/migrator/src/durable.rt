@@ -2,7 +2,7 @@
 ghost use Rattle.std.specs.Prelude.{◌≡◌, ◌⊎◌, ◌≤◌, Some, OnOk, OnErr, IsErrOf, option_map};
 ghost use Rattle.model.specs.Keepable.{IsKeepable};
 ghost use Rattle.device.specs.Calls.{Counts};
-ghost use Rattle.frame_io.specs.Frames.{IsObject};
+ghost use Rattle.layout.specs.Frames.{IsObject};
 ghost use Rattle.migrator.specs.Put.{Broken, Kept, held_slot, sum_of, HasFreeSlot};
 ghost use Rattle.checkpoint.specs.Saved.{most, LeavesOneOf};
 ghost use Rattle.checkpoint.specs.Snapshots.{committed, next_saved, MayCommit};

@@ -2,7 +2,7 @@
 ghost use Rattle.std.specs.Prelude.{◌≡◌, ◌<◌, ◌≤◌, ℕ, None, length};
 ghost use Rattle.layout.specs.Directory.{AreRising, IsDirectory, entry_at};
 ghost use Rattle.layout.specs.Image.{frame_slot_in, slot_beside, slot_in};
-ghost use Rattle.frame_io.specs.Frames.{IsObject};
+ghost use Rattle.layout.specs.Frames.{IsObject};
 
 use home_ranges::Home;
 use layout::{Entry, Shape, Superblock};

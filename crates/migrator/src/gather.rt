@@ -5,16 +5,15 @@ ghost use Rattle.layout.specs.declared.shape.Shape.TheVariants as shape;
 ghost use Rattle.layout.specs.Directory.{IsDirectory};
 ghost use Rattle.layout.specs.Homes.{shape_of};
 ghost use Rattle.layout.specs.Image.{frame_in};
-ghost use Rattle.frame_io.specs.Calls.{ReadsOnly};
-ghost use Rattle.frame_io.specs.Frames.{IsObject};
+ghost use Rattle.layout.specs.Calls.{ReadsOnly};
+ghost use Rattle.layout.specs.Frames.{IsObject};
 ghost use Rattle.migrator.specs.Gathered.{IsGathered};
 
 use crate::find::find_frame_slot;
 use ckpt_log::Log;
 use device::{Device, Failed};
-use frame_io::read_packed;
 use home_ranges::Home;
-use layout::{Entry, NODE_FRAME_BYTES, Superblock, pack_node};
+use layout::{Entry, NODE_FRAME_BYTES, Superblock, pack_node, read_packed};
 
 // Reads the bytes of the saved frame of a node, which has this rank in its cluster.
 fn read_node<D: Device>(

@@ -5,8 +5,8 @@ ghost use Rattle.device.specs.Calls.{Only};
 ghost use Rattle.layout.specs.Directory.{IsDirectory};
 ghost use Rattle.layout.specs.Image.{HasPlan};
 ghost use Rattle.layout.specs.Spelt.{count_of, IsSpelt, AreSpelt, frame_read, frames_read};
-ghost use Rattle.frame_io.specs.Calls.{ReadsOnly};
-ghost use Rattle.frame_io.specs.Frames.{IsObject};
+ghost use Rattle.layout.specs.Calls.{ReadsOnly};
+ghost use Rattle.layout.specs.Frames.{IsObject};
 ghost use Rattle.migrator.specs.Opened.{IsBadAt, IsRead};
 ghost use Rattle.checkpoint.specs.Opened.{IsBadFor, CountsOpen, OnlyReads};
 
@@ -15,8 +15,7 @@ use crate::read::{read_saved, superblock_of};
 use checkpoint::OpenFault;
 use ckpt_log::Log;
 use device::Device;
-use frame_io::Unreadable;
-use layout::{CheckpointHeader, Entry, Scratch, Superblock};
+use layout::{CheckpointHeader, Entry, Scratch, Superblock, Unreadable};
 use std::alloc::Global;
 
 // Reads the saved frame of an object, which is taken behind those before it.

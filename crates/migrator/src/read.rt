@@ -3,9 +3,9 @@ ghost use Rattle.std.specs.Prelude.{◌≡◌, ◌+◌, ◌<◌, ◌≤◌, ℕ,
 ghost use Rattle.layout.specs.Directory.{IsDirectory};
 ghost use Rattle.layout.specs.Frame.{IsFrameOf, frame_of};
 ghost use Rattle.layout.specs.Image.{HasPlan, frame_in};
-ghost use Rattle.frame_io.specs.Calls.{ReadsOnly};
-ghost use Rattle.frame_io.specs.Fault.{CountsFailed};
-ghost use Rattle.frame_io.specs.Frames.{IsObject, IsRefused};
+ghost use Rattle.layout.specs.Calls.{ReadsOnly};
+ghost use Rattle.layout.specs.Fault.{CountsFailed};
+ghost use Rattle.layout.specs.Frames.{IsObject, IsRefused};
 ghost use Rattle.device.specs.Calls.{Counts};
 ghost use Rattle.layout.specs.Spelt.{IsSpelt, frame_read};
 ghost use Rattle.layout.specs.Shape.{shape_length};
@@ -19,11 +19,10 @@ use crate::find::find_frame_slot;
 use checkpoint::OpenFault;
 use ckpt_log::Log;
 use device::{Device, Failed, SECTOR_SIZE};
-use frame_io::{Unreadable, read_header, read_packed, read_sectors};
 use home_ranges::Home;
 use layout::{
     BadImage, Body, CheckpointHeader, Entry, NODE_FRAME_BYTES, Scratch, Shape, Superblock,
-    decode_superblock, header_in, total_in,
+    Unreadable, decode_superblock, header_in, read_header, read_packed, read_sectors, total_in,
 };
 use model::ObjectHeader;
 

@@ -4,8 +4,8 @@ ghost use Rattle.std.specs.Prelude.{vec_capacity, slice_set, IfSome, IfOk};
 ghost use Rattle.migrator.specs.Table.{place_at, slot_of, slot_for, is_held, has_slot, has_frame, taken_count};
 ghost use Rattle.migrator.specs.Table.{whole_count, entries_from, entries_of};
 
+use collections::NumberSet;
 use layout::Entry;
-use number_set::NumberSet;
 use std::alloc::{AllocError, Global};
 use std::marker::Model;
 

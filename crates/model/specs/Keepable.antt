@@ -40,6 +40,19 @@ Follows g age count (Resume p) = IsNodeNumber g p × IsCount age count
 Follows g age count (Bank b) = IsNodeNumber g b × IsCount age count
 Follows g age count Discrim = count ≡ 0
 
+-- what a capability names is a number of its kind
+abbrev pub IsTarget : Geometry → Capability → Type 0
+IsTarget g Void = Unit {0}
+IsTarget g (Number n) = Unit {0}
+IsTarget g (Page o a) = (g.nodes ≤ o) × (o < object_count g)
+IsTarget g (Node o a) = o < g.nodes
+IsTarget g (Space o h a) = o < g.nodes
+IsTarget g (Process p) = p < g.nodes
+IsTarget g (Start p key) = p < g.nodes
+IsTarget g (Resume p) = p < g.nodes
+IsTarget g (Bank b) = b < g.nodes
+IsTarget g Discrim = Unit {0}
+
 -- a capability that may be held, live or stale
 abbrev pub IsKeptCap : Geometry → ℕ → Cap → Type 0
 IsKeptCap g age c = Follows g age c.count c.what

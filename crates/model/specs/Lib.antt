@@ -1,4 +1,5 @@
 pub mod Names
+pub mod Words
 pub mod Capability
 pub mod Object
 pub mod Frame

@@ -1,9 +1,9 @@
 // Answers to commands.
 ghost use Rattle.std.specs.Prelude.{◌≡◌, IfOk};
 
+use crate::Slots;
 use crate::capability::Capability;
 use crate::object::Object;
-use contents::Slots;
 use std::alloc::{AllocError, Global};
 use std::marker::Model;
 

@@ -1,6 +1,6 @@
 // Capabilities, and capabilities as they are held.
 ghost use Rattle.std.specs.Prelude.{◌≡◌, ◌↔◌, IsTrue};
-ghost use Rattle.model.specs.Capability.{named, diminished};
+ghost use Rattle.model.specs.Capability.{IsWellFormed, diminished, named};
 ghost use Rattle.model.specs.Frame.{void_held};
 ghost use Rattle.model.specs.Order.{is_space};
 ghost use Rattle.model.specs.Sound.{IsSpace};
@@ -114,6 +114,27 @@ impl Capability {
             self,
             Capability::Void | Capability::Page { .. } | Capability::Space { .. }
         )
+    }
+
+    /// Whether its restrictions are some that it can have, and its height is from 1 to 4.
+    #[inline(always)]
+    pub fn is_well_formed(self) -> bool
+        ensures { IsTrue result ↔ IsWellFormed self }
+    {
+        match self {
+            Capability::Page { access, .. } => access.is_valid(),
+            Capability::Node { access, .. } => access.is_valid(),
+            Capability::Space { height, access, .. } => {
+                1 <= height && height <= MAX_HEIGHT && access.is_valid()
+            }
+            Capability::Number(_) => true,
+            Capability::Start { .. } => true,
+            Capability::Void
+            | Capability::Process(_)
+            | Capability::Resume(_)
+            | Capability::Bank(_)
+            | Capability::Discrim => true,
+        }
     }
 }
 

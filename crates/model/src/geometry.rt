@@ -1,4 +1,8 @@
 // How much a device holds, and how far the machine may go.
+ghost use Rattle.std.specs.Prelude.{◌↔◌, IsTrue};
+ghost use Rattle.model.specs.Keepable.{IsTarget};
+
+use crate::capability::Capability;
 
 /// The age at which nothing can be invoked any more, and no checkpoint begun.
 pub const MAX_AGE: u64 = 1 << 62;
@@ -14,4 +18,27 @@ pub struct Geometry {
     pub pages: u64,
     /// How many objects one half of the log holds, and so one checkpoint.
     pub log: u64,
+}
+
+impl Geometry {
+    /// Whether what a capability names is a number of its kind.
+    #[inline(always)]
+    pub fn has_target(self, capability: Capability) -> bool
+        ensures { IsTrue result ↔ IsTarget self capability }
+    {
+        match capability {
+            Capability::Page { object, .. } => {
+                self.nodes <= object && object - self.nodes < self.pages
+            }
+            Capability::Node { object, .. } => object < self.nodes,
+            Capability::Space { object, .. } => object < self.nodes,
+            Capability::Process(process) => process < self.nodes,
+            Capability::Start { process, .. } => process < self.nodes,
+            Capability::Resume(process) => process < self.nodes,
+            Capability::Bank(bank) => bank < self.nodes,
+            Capability::Void => true,
+            Capability::Number(_) => true,
+            Capability::Discrim => true,
+        }
+    }
 }

@@ -3,8 +3,7 @@ ghost use Rattle.std.specs.Prelude.{◌≡◌, IfOk};
 ghost use Rattle.model.specs.Frame.{content_behind};
 ghost use Rattle.model.specs.Object.{role_of, role_number, state_number};
 
-use crate::Cap;
-use contents::{SLOTS, Slots, WORDS, Words};
+use crate::{Cap, SLOTS, Slots, WORDS, Words};
 use std::alloc::{AllocError, Global};
 
 /// What an object is.

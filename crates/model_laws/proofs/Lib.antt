@@ -26,3 +26,9 @@ pub mod Stepping
 pub mod Usage
 pub mod Rows
 mod WorkedRows
+mod ConfinedBanks
+mod ConfinedWorld
+mod ConfinedGates
+mod Kept
+mod ConfinedOrders
+pub mod ConfinedRuns

@@ -1,5 +1,5 @@
 -- Steps of the machine: which the specification allows, and which may be answered `no memory`.
-use Rattle.model_laws.proofs.Names.{Command, Geometry, refusal_of, Up, Down, StepsAllowed, Some, carried_out, WantsMemoryToShow, arith}
+use Rattle.model_laws.proofs.Names.{Command, Geometry, refusal_of, carried_out, Up, Down, StepsAllowed, WantsMemoryToShow, Some, arith}
 use Rattle.model.specs.Machine.{Running}
 use Rattle.std.proofs.Common.{◌≡◌}
 use Rattle.model.specs.declared.answer.Answer.TheVariants as answer

@@ -9,3 +9,5 @@ pub mod WorkedRefusals
 pub mod WorkedSaves
 pub mod WorkedSteps
 pub mod WorkedTexts
+pub mod Confinement
+pub mod WorkedConfinement

@@ -2,7 +2,8 @@
 unfoldable pub use Rattle.model.specs.Bank.{chain}
 pub use Rattle.model.specs.Banking.{freed_by}
 unfoldable pub use Rattle.model.specs.Banking.{on_bank, under}
-pub use Rattle.model.specs.Capability.{IsWeak, diminished, full, weak}
+pub use Rattle.model.specs.Capability.{IsWeak, diminished, full, named, weak}
+pub use Rattle.model.specs.Closed.{IsClosed}
 pub use Rattle.model.specs.Invoke.{Effect}
 unfoldable pub use Rattle.model.specs.Invoke.{invoke}
 pub use Rattle.model.specs.Machine.{Down, Machine, Saved, Up, candidates, opened, touched_count, touching}
@@ -20,6 +21,7 @@ pub use Rattle.model.specs.Text.{Fits, Says, line_of}
 unfoldable pub use Rattle.model.specs.Text.{printed, spelling}
 pub use Rattle.model.specs.World.{World, content_at, is_running_process, object_at, owner_at, register_at, root_at}
 pub use Rattle.model.specs.World.{slot_at}
+unfoldable pub use Rattle.model.specs.World.{with_slot}
 pub use Rattle.model.specs.Worlds.{fresh_root, of_prime_bank, prime_bank, small}
 unfoldable pub use Rattle.model.specs.Worlds.{f0, i0}
 pub use Rattle.model.specs.declared.access.Access.{Access}

@@ -1,7 +1,8 @@
-//! Theorems about the abstract machine: laws that any right definitions must have, that an
-//! invocation keeps a sound world sound, and what the machine answers to worked scripts.
+//! Theorems about the abstract machine: laws that any right definitions must have, that an invocation keeps a sound
+//! world sound, what processes with authority over a set can change, and what the machine answers to worked scripts.
 #![tactic(auto)]
 
+pub mod confinement;
 pub mod laws;
 pub mod soundness;
 pub mod worked;

@@ -1,17 +1,16 @@
 -- A number gets an entry, or has one no more: no object and no frozen frame is another.
-use Rattle.object_cache.proofs.Names.{FrozenPuts, inl, inr, ℕ, Bool, true, false, true≢false, cond, List, length, set, Option, Some, None, option_map, refl}
-use Rattle.object_cache.proofs.Names.{sym, ap, subst, arith, length-set, cases_eq, ne_eqb, get_or-set_same, get_or-set_other, map-set}
-use Rattle.object_cache.proofs.Names.{get_or-map-range_with_len, none-some, same_Some, Cap, Content, Role, header_at, held_at, AreKeepable, Disk, Kept, put_at}
-use Rattle.object_cache.proofs.Names.{most, DurableState, Stored, below_at, stored_of, maps_same, map_set, Entry, Held, entry_at, new_entry, is_some, Memory}
-use Rattle.object_cache.proofs.Names.{FrozenState, Nothing, mark_at, masked, in_staging, put_body, present_body, content_at, present_at, newest_body}
-use Rattle.object_cache.proofs.Names.{below_body, apart_body, frozen_body, frozen_frame, frozen_at, frozen_state_of, frozen_state_body, frozen_state_in_memory}
-use Rattle.object_cache.proofs.Names.{contents_in, frozen_in, frozen_states_in, StoreState, IsCache, IsFetchedIn, cache_of, is_kept, frozen_state_by}
-use Rattle.object_cache.proofs.Names.{frozen_state_at, cached_at, cached_in, with_cached, without}
+use Rattle.object_cache.proofs.Names.{inl, inr, ℕ, Bool, true, false, true≢false, cond, List, length, set, Option, Some, None, option_map, refl, sym, ap, arith}
+use Rattle.object_cache.proofs.Names.{length-set, cases_eq, ne_eqb, get_or-set_same, get_or-set_other, map-set, get_or-map-range_with_len, none-some, same_Some}
+use Rattle.object_cache.proofs.Names.{Cap, Content, Role, header_at, held_at, Disk, put_at, DurableState, Stored, below_at, stored_of, maps_same, map_set}
+use Rattle.object_cache.proofs.Names.{Entry, Held, entry_at, new_entry, is_some, Memory, FrozenState, Nothing, mark_at, masked, in_staging, put_body}
+use Rattle.object_cache.proofs.Names.{present_body, content_at, newest_body, below_body, apart_body, frozen_body, frozen_frame, frozen_at, frozen_state_of}
+use Rattle.object_cache.proofs.Names.{frozen_state_body, frozen_state_in_memory, frozen_states_in, StoreState, IsCache, IsFetchedIn, cache_of, is_kept}
+use Rattle.object_cache.proofs.Names.{frozen_state_by, frozen_state_at, cached_at, cached_in, with_cached, without, with_entry, Shared, Apart}
 use Rattle.std.proofs.Common.{◌≡◌, ◌≢◌, ◌⊎◌, ◌<◌, ◌∷◌, ◌∙◌}
+use Rattle.object_cache.proofs.Objects.{Alike, cached_entry, cached_stay, clean_alike, content_in, contents_alike, entry_found, fetched_known, frozen_alike}
+use Rattle.object_cache.proofs.Objects.{keepable_alike, unwritten_alike, with_objects}
+use Rattle.object_cache.proofs.Outcomes.{IsSeenAs}
 use Rattle.model.specs.declared.object.Role.TheVariants as role
-use Rattle.object_cache.proofs.Changing.{with_objects}
-use Rattle.object_cache.proofs.Leading.{IsSeenAs}
-use Rattle.object_cache.proofs.Objects.{content_in, cached_entry, entry_found}
 
 -- the entry of one number is another, with the same object and the same frozen frame
 pub record Recaches (s : Stored) (m : Memory) (es : List (Option Entry)) (n : ℕ) : Type 0 where
@@ -33,9 +32,6 @@ module _ {s : Stored} {m : Memory} {es : List (Option Entry)} {n : ℕ} (change 
     | inr other ↦ ap (λ o. present_body o (header_at m.headers k).role (newest_body s m k)) (change.entries k other)
   ]
 
-  present_stays : (k : ℕ) → present_at s cached k ≡ present_at s m k
-  present_stays k = ap (λ c. record { header = header_at m.headers k; content = c }) (content_stays k)
-
   frozen_stays : (k : ℕ) → frozen_at s cached k ≡ frozen_at s m k
   frozen_stays k = elim (cases_eq k n) [
     | inl same ↦ ap (frozen_at s cached) same ∙ change.frozen ∙ ap (frozen_at s m) (sym same)
@@ -44,13 +40,8 @@ module _ {s : Stored} {m : Memory} {es : List (Option Entry)} {n : ℕ} (change 
         (below_at s k)) (change.entries k other)
   ]
 
-  pub contents_stay : contents_in s cached ≡ contents_in s m
-  unfolding contents_in
-  contents_stay = maps_same (content_at s cached) (content_at s m) (length m.headers) (λ k below. content_stays k)
-
-  pub frozen_stay : frozen_in s cached ≡ frozen_in s m
-  unfolding frozen_in
-  frozen_stay = maps_same (frozen_at s cached) (frozen_at s m) (length m.headers) (λ k below. frozen_stays k)
+  pub cached_alike : Alike s m s (with_objects m m.headers es)
+  cached_alike = record { headers = refl; content = content_stays; frozen = frozen_stays }
 
   pub frozen_state_changed : (x : FrozenState) → n < length m.headers → frozen_state_in_memory cached n ≡ x →
       frozen_states_in cached ≡ set (frozen_states_in m) n x
@@ -68,12 +59,6 @@ module _ {s : Stored} {m : Memory} {es : List (Option Entry)} {n : ℕ} (change 
 
   pub cached_cache : {left count : ℕ} → IsCache s m left count → IsCache s cached left count
   cached_cache {left} is =
-      let clean : (k : ℕ) → mark_at m.dirty k ≡ false → mark_at m.touched k ≡ true → put_at s.working k ≡ Kept (present_at s cached k) =
-      λ k clean touched. is.clean k clean touched ∙ ap Kept (sym (present_stays k)) in
-      let unwritten : (k : ℕ) → k < length m.headers → mark_at m.touched k ≡ false → present_at s cached k ≡ frozen_at s cached k =
-      λ k below untouched. present_stays k ∙ is.unwritten k below untouched ∙ sym (frozen_stays k) in
-      let keepable : (f : FrozenPuts) → s.frozen ≡ Some f → AreKeepable s.saved.geometry most (frozen_in s cached) =
-      λ f running. subst (AreKeepable s.saved.geometry most) (sym frozen_stay) (is.keepable f running) in
       let apart : (k : ℕ) (e : Entry) → entry_at es k ≡ Some e → (e.kept ≡ None) ⊎ (mark_at m.pending k ≡ true) = λ k e at. elim (cases_eq k n) [
         | inl same ↦ elim (change.apart e (ap (entry_at es) (sym same) ∙ at)) [
           | inl none ↦ inl none
@@ -90,7 +75,7 @@ module _ {s : Stored} {m : Memory} {es : List (Option Entry)} {n : ℕ} (change 
             ]
         | inr other ↦ is.freed k (sym (change.entries k other) ∙ none) pending free
       ] in
-      search (is, change.count ∙ is.entries)
+      search (is, clean_alike cached_alike is, unwritten_alike cached_alike is, keepable_alike cached_alike is, change.count ∙ is.entries)
 
 -- ---- an entry that isn't wanted is dropped
 
@@ -182,10 +167,10 @@ module _ {D : Type 0} (disk : D → Disk) (d : DurableState D) {m : Memory} (lef
       cache_of disk d (with_objects m m.headers es) left order most_entries ≡ record
       (cache_of disk d m left order most_entries) { cached = rs; frozen_state = x }
   seen_cached cached frozen_state = λ k. record (cache_of disk d m left order most_entries) {
-    contents = contents_stay change k;
+    contents = contents_alike (cached_alike change) k;
     cached = cached k;
     frozen_state = frozen_state k;
-    frozen = option_map (λ f. record { frames = frozen_stay change k; size = f.size; left = left }) (stored_of disk d).frozen;
+    frozen = option_map (λ f. record { frames = frozen_alike (cached_alike change) k; size = f.size; left = left }) (stored_of disk d).frozen;
   }
 
 pub cached_set : (es : List (Option Entry)) (n : ℕ) (o : Option Entry) → cached_in (set es n o) ≡ set (cached_in es) n (is_some o)
@@ -319,3 +304,82 @@ module _ {D : Type 0} (disk : D → Disk) {d : DurableState D} {m : Memory} {lef
           (frozen_state_changed new_here (frozen_state_by (mark_at m.pending n) false (mark_at m.touched n)) there
           (frozen_state_new is n c there (no_entry n uncached) present_there)) ∙ ap (with_cached n) view,
     )
+
+-- ---- what an object was frozen as is kept apart from what it holds
+
+-- a body that is both is of an object that is pending and wasn't written since it was frozen
+shared_frozen_state : (e : Entry) (pending touched : Bool) → frozen_state_of (Some e) pending touched ≡ Shared →
+    (pending ≡ true) × (touched ≡ false) × (e.kept ≡ None)
+shared_frozen_state e false touched is = cc
+shared_frozen_state e true touched is = let p = go e.kept touched is in (refl, p.0, p.1)
+  where
+    go : (o : Option (Content Cap)) (t : Bool) → frozen_state_body (is_some o) t ≡ Shared → (t ≡ false) × (o ≡ None)
+    go (Some c) t same = cc
+    go None true same = cc
+    go None false same = (refl, refl)
+
+abbrev pub keeping : Entry → Entry
+keeping e = record e { kept = Some e.present }
+
+module _ (s : Stored) (m : Memory) (n : ℕ) (within : n < length m.entries) (e : Entry) (at : entry_at m.entries n ≡ Some e)
+    (shared : frozen_state_in_memory m n ≡ Shared) where
+  abbrev apart_entries : List (Option Entry)
+  apart_entries = with_entry (keeping) n m.entries
+
+  facts : (mark_at m.pending n ≡ true) × (mark_at m.touched n ≡ false) × (e.kept ≡ None)
+  facts = shared_frozen_state e (mark_at m.pending n) (mark_at m.touched n)
+      (ap (λ o. frozen_state_of o (mark_at m.pending n) (mark_at m.touched n)) (sym at) ∙ shared)
+
+  now : entry_at apart_entries n ≡ Some (keeping e)
+  now = get_or-set_same m.entries n (option_map (keeping) (entry_at m.entries n)) None within ∙ ap (option_map (keeping)) at
+
+  frozen_same : frozen_body (entry_at apart_entries n) (mark_at m.touched n) (below_body s m n) ≡ frozen_body (entry_at m.entries n) (mark_at m.touched n)
+      (below_body s m n)
+  frozen_same =
+      ap (λ o. frozen_body o (mark_at m.touched n) (below_body s m n)) now
+      ∙ sym (ap (λ o. frozen_body o (mark_at m.touched n) (below_body s m n)) at
+      ∙ ap (λ t. apart_body e.kept t e.present (below_body s m n)) facts.1 ∙ ap (λ k. apart_body k false e.present (below_body s m n)) facts.2)
+
+  pub keeps_apart : Recaches s m apart_entries n
+  keeps_apart = record {
+    count = length-set m.entries n (option_map (keeping) (entry_at m.entries n));
+    entries = λ k other. get_or-set_other m.entries n k (option_map (keeping) (entry_at m.entries n)) None other;
+    content =
+        ap (λ o. present_body o (header_at m.headers n).role (newest_body s m n)) now
+        ∙ sym (ap (λ o. present_body o (header_at m.headers n).role (newest_body s m n)) at);
+    frozen = ap (λ c. frozen_frame (mark_at m.pending n) (header_at m.frozen_headers n) c (below_at s n)) frozen_same;
+    apart = λ f here. inr facts.0;
+    freed = λ none pending free. absurd (none-some (keeping e) (sym none ∙ now));
+  }
+
+  pub frozen_state_apart : frozen_state_in_memory (with_objects m m.headers apart_entries) n ≡ Apart
+  frozen_state_apart =
+      ap (λ o. frozen_state_of o (mark_at m.pending n) (mark_at m.touched n)) now ∙ ap (λ p. frozen_state_of (Some (keeping e)) p (mark_at m.touched n)) facts.0
+
+-- the same by what is seen
+module _ {D : Type 0} (disk : D → Disk) {d : DurableState D} {m : Memory} {left count : ℕ} {order : List ℕ} {most_entries : ℕ} {s : StoreState D}
+    (view : cache_of disk d m left order most_entries ≡ s) (is : IsCache (stored_of disk d) m left count) {n : ℕ} (fetched : IsFetchedIn s n)
+    (shared : frozen_state_at s.frozen_state n ≡ Shared) where
+  known_here : n < length m.headers
+  known_here = fetched_known disk view is fetched
+
+  within_shared : n < length m.entries
+  within_shared = omega (arith, known_here, is.headers, is.entries)
+
+  entry_shared : (e : Entry) × (entry_at m.entries n ≡ Some e)
+  entry_shared = entry_found disk view is fetched
+
+  shared_here : frozen_state_in_memory m n ≡ Shared
+  shared_here = sym (frozen_state_entry m n known_here) ∙ ap (λ t. frozen_state_at t.frozen_state n) view ∙ shared
+
+  recaches : Recaches (stored_of disk d) m (with_entry keeping n m.entries) n
+  recaches = keeps_apart (stored_of disk d) m n within_shared entry_shared.0 entry_shared.1 shared_here
+
+  pub apart_next : IsSeenAs disk d (with_objects m m.headers (with_entry keeping n m.entries)) left count order most_entries
+      (record s { frozen_state = set s.frozen_state n Apart })
+  apart_next = search (
+    cached_cache recaches is,
+    seen_cached disk d left order most_entries recaches (cached_stay keeping n m.entries) (frozen_state_changed recaches Apart known_here
+        (frozen_state_apart (stored_of disk d) m n within_shared entry_shared.0 entry_shared.1 shared_here))
+        ∙ ap (λ (t : StoreState D). record t { frozen_state = set t.frozen_state n Apart }) view,
+  )

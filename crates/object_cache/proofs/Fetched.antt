@@ -1,18 +1,260 @@
--- Bodies are read from the device: nothing that is seen is another.
-use Rattle.object_cache.proofs.Names.{FrozenPuts, Held, ℕ, List, length, None, refl, sym, ap, subst, arith, header_at, held_at, Disk, put_at, DurableState}
-use Rattle.object_cache.proofs.Names.{ReadsStore, below_at, newest, stored_of, Memory, masked, in_staging, put_body, present_body, newest_body, contents_in}
-use Rattle.object_cache.proofs.Names.{StoreState, IsCache, GoesOnIn, cache_of, frozen_seen, cached_at, false, set, Some, Cap, Content, new_entry, with_cached}
-use Rattle.object_cache.proofs.Names.{IsFetchedIn, inl, inr, true, cond, option_map, cases_eq, eq-eqb, ne_eqb, same_Some, AreKeepable, object_count, Kept, most}
-use Rattle.object_cache.proofs.Names.{Stored, maps_same, entry_at, mark_at, below_body, content_at, present_at, frozen_body, frozen_frame, frozen_at, frozen_in}
+-- Objects are brought into memory: those used last stay there.
+use Rattle.object_cache.proofs.Names.{inl, inr, ℕ, zero, suc, nat_eq, Bool, true, false, true≢false, List, [], length, take, Option, is_some, Result, Ok, Err}
+use Rattle.object_cache.proofs.Names.{refl, sym, ap, subst, arith, OnOk, OnErr, slice_index_or, cases_eq, cases_lt, eq-eqb, get_or-set_same, length-map}
+use Rattle.object_cache.proofs.Names.{is_member, Disk, DurableState, stored_of, Entry, Memory, without, StoreState, IsCache, IsFetchedIn, cond, ne_eqb}
+use Rattle.object_cache.proofs.Names.{cache_of, cached_at, cached_in, with_cached, IsRecentIn, on_device, on_device_with, take-take, used_in_turn, IsBounded}
+use Rattle.object_cache.proofs.Names.{UsesSome, take_all, length_without, in_either, in_front, one_more, used_anew, used_front, without_absent, without_here}
+use Rattle.object_cache.proofs.Names.{without_tail, length-take, Held, None, header_at, held_at, put_at, ReadsStore, below_at, newest, masked, in_staging}
+use Rattle.object_cache.proofs.Names.{put_body, present_body, newest_body, contents_in, GoesOnIn, frozen_seen, set, Some, Cap, Content, new_entry, option_map}
+use Rattle.object_cache.proofs.Names.{same_Some, object_count, Stored, entry_at, mark_at, below_body, content_at, frozen_body, frozen_frame, frozen_at}
 use Rattle.object_cache.proofs.Names.{frozen_states_in}
-use Rattle.std.proofs.Common.{◌≡◌, ◌<◌, ◌≤◌, ◌∷◌, ◌∙◌}
-use Rattle.object_cache.proofs.Bringing.{cached_fetched}
-use Rattle.object_cache.proofs.Changing.{with_objects}
-use Rattle.object_cache.proofs.Leading.{IsNext, continues_with}
+use Rattle.std.proofs.Common.{◌≡◌, ◌≢◌, ◌+◌, ◌<◌, ◌≤◌, ◌||◌, ◌∷◌, ◌∙◌, ◌-◌, ◌++◌}
+use Rattle.object_cache.proofs.Marking.{still_set, marked_within}
+use Rattle.object_cache.proofs.Objects.{Alike, clean_alike, content_in, contents_alike, contents_count, frozen_alike, keepable_alike, stored_next}
+use Rattle.object_cache.proofs.Objects.{unwritten_alike, with_objects}
+use Rattle.object_cache.proofs.Outcomes.{IsNext, continues_with}
 use Rattle.object_cache.proofs.Freezing.{put_or_body}
-use Rattle.object_cache.proofs.Objects.{content_in}
 use Rattle.object_cache.proofs.Caching.{no_entry, cached_next}
-use Rattle.object_cache.proofs.Marking.{marked_within}
+
+-- ---- the front of an order
+
+front_same : (k j : ℕ) (xs ys : List ℕ) → k ≤ j → take j ys ≡ take j xs → take k ys ≡ take k xs
+front_same k j xs ys few same = sym (take-take k j ys few) ∙ ap (take k) same ∙ take-take k j xs few
+
+or_right : (t a : Bool) → a ≡ true → (t || a) ≡ true
+or_right true a is = refl
+or_right false a is = is
+
+or_keeps : (t a b : Bool) → (a ≡ true → b ≡ true) → (t || a) ≡ true → (t || b) ≡ true
+or_keeps true a b then is = refl
+or_keeps false a b then is = then is
+
+front_within : (k j n : ℕ) (xs : List ℕ) → k ≤ j → is_member (take k xs) n ≡ true → is_member (take j xs) n ≡ true
+front_within zero j n xs few is = absurd (true≢false (sym is))
+front_within (suc k) zero n xs few is = absurd (omega (arith, few))
+front_within (suc k) (suc j) n [] few is = is
+front_within (suc k) (suc j) n (x ∷ xs) few is = or_keeps (nat_eq n x) (is_member (take k xs) n) (is_member (take j xs) n)
+    (front_within k j n xs (omega (arith, few))) is
+
+-- taking a number out of the order brings none further back
+front_without : (n : ℕ) (ns : List ℕ) (k m : ℕ) → m ≢ n → is_member (take k ns) m ≡ true → is_member (take k (without n ns)) m ≡ true
+front_without n [] k m other is = is
+front_without n (a ∷ rest) zero m other is = absurd (true≢false (sym is))
+front_without n (a ∷ rest) (suc k) m other is = elim (cases_eq n a) [
+  | inl same ↦
+      ap (λ t. is_member (take (suc k) (cond t rest (a ∷ without n rest))) m) (eq-eqb n a same)
+      ∙ front_more rest k m (sym (ap (λ t. t || is_member (take k rest) m) (ne_eqb m a (λ there. other (there ∙ sym same)))) ∙ is)
+  | inr differs ↦
+      ap (λ t. is_member (take (suc k) (cond t rest (a ∷ without n rest))) m) (ne_eqb n a differs)
+      ∙ or_keeps (nat_eq m a) (is_member (take k rest) m) (is_member (take k (without n rest)) m) (front_without n rest k m other) is
+]
+  where
+    front_more : (ns : List ℕ) (k m : ℕ) → is_member (take k ns) m ≡ true → is_member (take (suc k) ns) m ≡ true
+    front_more [] zero m is = absurd (true≢false (sym is))
+    front_more [] (suc k) m is = absurd (true≢false (sym is))
+    front_more (b ∷ bs) zero m is = absurd (true≢false (sym is))
+    front_more (b ∷ bs) (suc k) m is = or_keeps (nat_eq m b) (is_member (take k bs) m) (is_member (take (suc k) bs) m) (front_more bs k m) is
+
+front_first : (n k : ℕ) (ns : List ℕ) → 0 < k → is_member (take k (n ∷ ns)) n ≡ true
+front_first n zero ns some = absurd (omega (arith, some))
+front_first n (suc k) ns some = ap (λ t. t || is_member (take k ns) n) (eq-eqb n n refl)
+
+front_pushed : (n m j k : ℕ) (ns : List ℕ) → j < k → is_member (take j ns) m ≡ true → is_member (take k (n ∷ ns)) m ≡ true
+front_pushed n m j zero ns below is = absurd (omega (arith, below))
+front_pushed n m j (suc k) ns below is = or_right (nat_eq m n) (is_member (take k ns) m) (front_within j k m ns (omega (arith, below)) is)
+
+front_used : (n m j k : ℕ) (ns : List ℕ) → j < k → is_member (take j ns) m ≡ true → is_member (take k (n ∷ without n ns)) m ≡ true
+front_used n m j zero ns below is = absurd (omega (arith, below))
+front_used n m j (suc k) ns below is = elim (cases_eq m n) [
+  | inl same ↦ ap (λ t. t || is_member (take k (without n ns)) m) (eq-eqb m n same)
+  | inr other ↦ or_right (nat_eq m n) (is_member (take k (without n ns)) m)
+      (front_within j k m (without n ns) (omega (arith, below)) (front_without n ns j m other is))
+]
+
+-- ---- numbers that have an entry
+
+module _ {D : Type 0} where
+  pub place_recent : (s t : StoreState D) → t ≡ on_device_with s t → take 7 t.order ≡ take 7 s.order →
+      ((n : ℕ) → is_member (take 7 s.order) n ≡ true → cached_at t.cached n ≡ cached_at s.cached n) → (k n : ℕ) → k ≤ 7 → IsRecentIn s k n → IsRecentIn t k n
+  place_recent s t rest order others k n few recent = (
+    record {
+      header = omega (arith, recent.0.header, ap (λ x. length x.headers) rest);
+      content = omega (arith, recent.0.content, ap (λ x. length x.contents) rest);
+      cached = others n (front_within k 7 n s.order few recent.1) ∙ recent.0.cached;
+    },
+    ap (λ ns. is_member ns n) (front_same k 7 s.order t.order few order) ∙ recent.1,
+  )
+
+  pub use_recent : (s : StoreState D) (n j k m : ℕ) → j < k → IsRecentIn s j m → IsRecentIn (record s { order = n ∷ without n s.order }) k m
+  use_recent s n j k m below recent =
+      (record { header = recent.0.header; content = recent.0.content; cached = recent.0.cached }, front_used n m j k s.order below recent.1)
+
+  -- what was put is on the device, and what was read is in memory
+  pub rest_of : (s t : StoreState D) → t ≡ on_device s t → t ≡ on_device_with s t
+  rest_of s t put = put ∙ ap (λ x. record (on_device s t) { cached = x.cached; order = x.order }) (sym put)
+
+  pub rest_on : (s t u : StoreState D) → t ≡ on_device_with s t → u ≡ on_device_with t u → u ≡ on_device_with s u
+  rest_on s t u first second = second ∙ ap (λ x. on_device_with x u) first
+
+  -- what is there once an object was read, or wasn't
+  abbrev pub read_on : StoreState D → StoreState D → StoreState D
+  read_on s t = record s { durable = t.durable }
+
+  pub read_rest : {T E : Type 0} (r : Result T E) (s t : StoreState D) (n : ℕ) → OnOk r (t ≡ with_cached n (read_on s t)) → OnErr r (t ≡ read_on s t) →
+      t ≡ on_device_with s t
+  read_rest (Ok x) s t n ok err = ok ∙ ap (on_device_with s) (sym ok)
+  read_rest (Err e) s t n ok err = err ∙ ap (on_device_with s) (sym err)
+
+  pub read_staging : {T E : Type 0} (r : Result T E) (s t : StoreState D) (n : ℕ) → OnOk r (t ≡ with_cached n (read_on s t)) → OnErr r (t ≡ read_on s t) →
+      t.staging ≡ s.staging
+  read_staging (Ok x) s t n ok err = ap (λ x. x.staging) ok
+  read_staging (Err e) s t n ok err = ap (λ x. x.staging) err
+
+  pub read_first : (s t : StoreState D) (n k : ℕ) → t ≡ with_cached n (read_on s t) → IsFetchedIn t n → 0 < k → IsRecentIn t k n
+  read_first s t n k is there some = (there, ap (λ x. is_member (take k x.order) n) is ∙ front_first n k s.order some)
+
+  pub read_recent : (s t : StoreState D) (n j k m : ℕ) → t ≡ with_cached n (read_on s t) → j < k → IsRecentIn s j m → IsRecentIn t k m
+  read_recent s t n j k m is below recent = (
+    record {
+      header = omega (arith, recent.0.header, ap (λ x. length x.headers) is);
+      content = omega (arith, recent.0.content, ap (λ x. length x.contents) is);
+      cached = ap (λ x. cached_at x.cached m) is ∙ still_set s.cached n m recent.0.cached;
+    },
+    ap (λ x. is_member (take k x.order) m) is ∙ front_pushed n m j k s.order below recent.1,
+  )
+
+cached_count : (es : List (Option Entry)) → length (cached_in es) ≡ length es
+unfolding cached_in
+cached_count es = length-map es is_some
+
+module _ {D : Type 0} (disk : D → Disk) {d : DurableState D} {m : Memory} {left count : ℕ} {order : List ℕ} {most_entries : ℕ} {s : StoreState D}
+    (view : cache_of disk d m left order most_entries ≡ s) (is : IsCache (stored_of disk d) m left count) (n : ℕ) (known : n < length s.headers) where
+  known_cached : n < length s.cached
+  known_cached = omega (
+    arith,
+    known,
+    ap (λ t. length t.headers) view,
+    ap (λ t. length t.cached) view,
+    cached_count m.entries,
+    is.headers,
+    is.entries,
+  )
+
+  pub cached_fetched : IsFetchedIn (with_cached n s) n
+  cached_fetched = search (
+    arith,
+    known,
+    ap (λ t. length t.headers) view,
+    ap (λ t. length t.contents) view,
+    contents_count (stored_of disk d) m,
+    get_or-set_same s.cached n true false known_cached,
+  )
+
+-- ---- the objects of a list
+
+pub recent_on : {D : Type 0} (t u : StoreState D) (ns : List ℕ) (i : ℕ) → i ≤ 7 → ((j k n : ℕ) → j ≤ 7 → j < k → IsRecentIn t j n → IsRecentIn u k n) →
+    ((k : ℕ) → 0 < k → IsRecentIn u k (slice_index_or ns i 0)) → ((k : ℕ) → k < i → IsRecentIn t i (slice_index_or ns k 0)) →
+    (k : ℕ) → k < i + 1 → IsRecentIn u (i + 1) (slice_index_or ns k 0)
+recent_on t u ns i few recent first before k below = elim (cases_lt k i) [
+  | inl earlier ↦ recent i (i + 1) (slice_index_or ns k 0) few (omega arith) (before k earlier)
+  | inr now ↦ subst (λ j. IsRecentIn u (i + 1) (slice_index_or ns j 0)) (omega (arith, now, below)) (first (i + 1) (omega arith))
+]
+
+-- ---- which entries go: a cache keeps the numbers used last, as many as its capacity
+
+-- the front of a front, whichever is shorter
+front_least : (j k : ℕ) (xs : List ℕ) → k ≤ j → take j (take k xs) ≡ take k xs
+front_least j k xs few = take_all j (take k xs) (omega (arith, few, length-take {A = ℕ} k xs))
+
+front_less : (k n : ℕ) (xs : List ℕ) → take k (without n (take (suc k) xs)) ≡ take k (without n xs)
+front_less k n [] = refl
+front_less zero n (m ∷ ms) = refl
+front_less (suc k) n (m ∷ ms) = elim (cases_eq n m) [
+  | inl same ↦
+      ap (take (suc k)) (without_here n m (take (suc k) ms) same)
+      ∙ front_least (suc k) (suc k) ms (omega arith) ∙ sym (ap (take (suc k)) (without_here n m ms same))
+  | inr other ↦
+      ap (take (suc k)) (without_tail n m (take (suc k) ms) other) ∙ ap (λ ys. m ∷ ys) (front_less k n ms) ∙ sym (ap (take (suc k)) (without_tail n m ms other))
+]
+
+-- a use keeps the front, whether or not what lies behind it went before
+use_keeps_front : (most n : ℕ) (xs : List ℕ) → take most (n ∷ without n (take most xs)) ≡ take most (n ∷ without n xs)
+use_keeps_front zero n xs = refl
+use_keeps_front (suc k) n xs = ap (λ ys. n ∷ ys) (front_less k n xs)
+
+pub pushed_to_front : (most n : ℕ) (xs : List ℕ) → 0 < most → n ∷ take (most - 1) xs ≡ take most (n ∷ xs)
+pushed_to_front zero n xs some = absurd (omega (arith, some))
+pushed_to_front (suc k) n xs some = ap (λ j. n ∷ take j xs) (let one : suc k - 1 ≡ k = omega arith in one)
+
+pub same_front : (j : ℕ) (xs ys : List ℕ) → ys ≡ xs → length xs ≤ j → ys ≡ take j xs
+same_front j xs ys same few = same ∙ sym (take_all j xs few)
+
+-- ---- a number is used
+
+-- one that has an entry
+pub used_order : {D : Type 0} (s : StoreState D) (n : ℕ) → IsBounded s → IsFetchedIn s n →
+    n ∷ without n s.order ≡ take s.capacity (n ∷ without n s.order)
+used_order s n bounded there = same_front s.capacity (n ∷ without n s.order) (n ∷ without n s.order) refl
+    (omega (arith, length_without n s.order (bounded.listed n ∙ there.cached), bounded.few))
+
+-- one that has none
+pub brought_order : {D : Type 0} (s : StoreState D) (n : ℕ) (os : List ℕ) → IsBounded s → cached_at s.cached n ≡ false → os ≡ take s.capacity (n ∷ s.order) →
+    os ≡ take s.capacity (n ∷ without n s.order)
+brought_order s n os bounded none is = is ∙ ap (λ ns. take s.capacity (n ∷ ns)) (sym (without_absent n s.order (bounded.listed n ∙ none)))
+
+-- ---- numbers are used in turn
+
+pub used_more : (most i : ℕ) (ns s t u : List ℕ) → i < length ns → t ≡ take most (used_in_turn (take i ns) s) →
+    u ≡ take most (slice_index_or ns i 0 ∷ without (slice_index_or ns i 0) t) → u ≡ take most (used_in_turn (take (i + 1) ns) s)
+used_more most i ns s t u below before is =
+    is ∙ ap (λ ks. take most (slice_index_or ns i 0 ∷ without (slice_index_or ns i 0) ks)) before
+    ∙ use_keeps_front most (slice_index_or ns i 0) (used_in_turn (take i ns) s) ∙ ap (take most) (one_more s (used_in_turn (take i ns) s) ns i below refl)
+
+pub stopped_at : (most i j : ℕ) (ns s t u : List ℕ) → t ≡ take most (used_in_turn (take i ns) s) → most ≤ j + 1 → u ≡ take j t → UsesSome most ns s u
+stopped_at most i j ns s t u before enough is = elim (cases_lt j most) [
+  | inl less ↦ record {
+    used = take i ns;
+    listed = in_front i ns;
+    count = j;
+    enough = enough;
+    order = is ∙ ap (take j) before ∙ take-take j most (used_in_turn (take i ns) s) (omega (arith, less));
+  }
+  | inr more ↦ record {
+    used = take i ns;
+    listed = in_front i ns;
+    count = most;
+    enough = omega arith;
+    order = is ∙ ap (take j) before ∙ front_least j most (used_in_turn (take i ns) s) more;
+  }
+]
+
+-- none was used, and none went
+pub uses_none : (most : ℕ) (ns s u : List ℕ) → u ≡ s → UsesSome most ns s u
+uses_none most ns s u same = record {
+  used = [];
+  listed = λ n is. absurd (true≢false (sym is));
+  count = length s + most;
+  enough = omega arith;
+  order = same_front (length s + most) s u same (omega arith);
+}
+
+-- the first of them were used before
+pub used_then : (most k : ℕ) (ns s t u : List ℕ) → t ≡ used_in_turn (take k ns) s → u ≡ take most (used_in_turn ns t) → u ≡ take most (used_in_turn ns s)
+used_then most k ns s t u first is = is ∙ ap (λ ks. take most (used_in_turn ns ks)) first ∙ ap (take most) (used_anew ns (take k ns) s (in_front k ns))
+
+pub some_then : (most k : ℕ) (ns s t u : List ℕ) → t ≡ used_in_turn (take k ns) s → UsesSome most ns t u → UsesSome most ns s u
+some_then most k ns s t u first later = record {
+  used = take k ns ++ later.used;
+  listed = λ n has. elim (in_either (take k ns) later.used n has) [ inl front ↦ in_front k ns n front | inr there ↦ later.listed n there ];
+  count = later.count;
+  enough = later.enough;
+  order = later.order ∙ ap (λ ks. take later.count (used_in_turn later.used ks)) first ∙ ap (take later.count) (sym (used_front (take k ns) later.used s));
+}
+
+pub stops_none : (most : ℕ) (xs ys : List ℕ) → ys ≡ xs → (j : ℕ) × (most ≤ j + 1) × (ys ≡ take j xs)
+stops_none most xs ys same = (length xs + most, omega arith, same_front (length xs + most) xs ys same (omega arith))
+
+-- ---- bodies are read from the device: nothing that is seen is another
 
 module _ {D : Type 0} (disk : D → Disk) {d : DurableState D} {m : Memory} {left count : ℕ} {order : List ℕ} {most_entries : ℕ} {s : StoreState D}
     (view : cache_of disk d m left order most_entries ≡ s) (is : IsCache (stored_of disk d) m left count) where
@@ -38,10 +280,8 @@ module _ {D : Type 0} (disk : D → Disk) {d : DurableState D} {m : Memory} {lef
   pub read_next : {new : DurableState D} → ReadsStore disk d new → (disk d.beneath).failures ≤ (disk new.beneath).failures →
       IsNext disk s new m left count order most_entries (record s { durable = new })
   read_next {new = new} reads later = record {
-    is = subst (λ t. IsCache t m left count) (sym reads.stored) is;
-    view =
-        ap (λ t. record (cache_of disk d m left order most_entries) { durable = new; contents = contents_in t m; frozen = frozen_seen t m left })
-        reads.stored ∙ ap (λ (t : StoreState D). record t { durable = new }) view;
+    is = (stored_next disk {new = new} view reads.stored is refl refl).is;
+    view = (stored_next disk {new = new} view reads.stored is refl refl).view;
     continues = subst (λ t. GoesOnIn disk t (cache_of disk new m left order most_entries)) view (record {
       goes_on = reads.goes_on;
       snapshots = ap (λ t. record { frozen = frozen_seen t m left; saved = t.saved; to_move = t.to_move }) reads.stored;
@@ -96,32 +336,18 @@ module _ {s : Stored} {m : Memory} {left count : ℕ} (is : IsCache s m left cou
   content_same : (k : ℕ) → content_at s then k ≡ content_at s m k
   content_same k = ap (λ x. present_body (entry_at m.entries k) (header_at m.headers k).role (put_body (put_at s.working k) x)) (below_same k)
 
-  present_same : (k : ℕ) → present_at s then k ≡ present_at s m k
-  present_same k = ap (λ x. record { header = header_at m.headers k; content = x }) (content_same k)
-
   frozen_stays : (k : ℕ) → frozen_at s then k ≡ frozen_at s m k
   frozen_stays k = ap (λ x. frozen_frame (mark_at m.pending k) (header_at m.frozen_headers k)
       (frozen_body (entry_at m.entries k) (mark_at m.touched k) x) (below_at s k)) (below_same k)
 
-  pub taken_frozen : frozen_in s then ≡ frozen_in s m
-  unfolding frozen_in
-  taken_frozen = maps_same (frozen_at s then) (frozen_at s m) (length m.headers) (λ k below. frozen_stays k)
-
-  pub taken_contents : contents_in s then ≡ contents_in s m
-  unfolding contents_in
-  taken_contents = maps_same (content_at s then) (content_at s m) (length m.headers) (λ k below. content_same k)
+  pub taken_alike : Alike s m s (holding_up n c m)
+  taken_alike = record { headers = refl; content = content_same; frozen = frozen_stays }
 
   pub taken_cache : IsCache s then left count
   taken_cache =
-      let clean : (k : ℕ) → mark_at m.dirty k ≡ false → mark_at m.touched k ≡ true → put_at s.working k ≡ Kept (present_at s then k) =
-      λ k clean touched. is.clean k clean touched ∙ ap Kept (sym (present_same k)) in
-      let unwritten : (k : ℕ) → k < length m.headers → mark_at m.touched k ≡ false → present_at s then k ≡ frozen_at s then k =
-      λ k below untouched. present_same k ∙ is.unwritten k below untouched ∙ sym (frozen_stays k) in
-      let keepable : (f : FrozenPuts) → s.frozen ≡ Some f → AreKeepable s.saved.geometry most (frozen_in s then) =
-      λ f f_is. subst (AreKeepable s.saved.geometry most) (sym taken_frozen) (is.keepable f f_is) in
       let held : (h : Held) → then.staging ≡ Some h → mark_at m.pending h.number ≡ true =
       λ h h_is. subst (λ g. mark_at m.pending g.number ≡ true) (same_Some (record { number = n; content = c }) h h_is) pending in
-      search
+      search (clean_alike taken_alike is, unwritten_alike taken_alike is, keepable_alike taken_alike is)
 
 -- the same by what is seen
 module _ {D : Type 0} (disk : D → Disk) {d : DurableState D} {m : Memory} {left count : ℕ} {order : List ℕ} {most_entries : ℕ} {s : StoreState D}
@@ -161,8 +387,8 @@ module _ {D : Type 0} (disk : D → Disk) {d : DurableState D} {m : Memory} {lef
               }) reads.stored
               ∙ (λ k. record (cache_of disk d m left order most_entries) {
                 durable = new;
-                contents = taken_contents is n pending_here empty_here c read k;
-                frozen = option_map (λ f. record { frames = taken_frozen is n pending_here empty_here c read k; size = f.size; left = left })
+                contents = contents_alike (taken_alike is n pending_here empty_here c read) k;
+                frozen = option_map (λ f. record { frames = frozen_alike (taken_alike is n pending_here empty_here c read) k; size = f.size; left = left })
                     (stored_of disk d).frozen;
                 staging = Some (record { number = n; content = c });
               }) ∙ ap (λ (t : StoreState D). record t { durable = new; staging = Some (record { number = n; content = c }) }) view

@@ -103,10 +103,10 @@ pub record IsLeast {D : Type 0} (s : StoreState D) (n : ℕ) : Type 0 where
   pub others : (k : ℕ) → is_member (take 7 s.order) k ≡ true → cached_at (set s.cached n false) k ≡ cached_at s.cached k
 
 module _ {D : Type 0} (disk : D → Disk) {d : DurableState D} {m : Memory} {left count : ℕ} {order : List ℕ} {most_entries : ℕ} {s : StoreState D}
-    (view : cache_of disk d m left order most_entries ≡ s) (is : IsCache (stored_of disk d) m left count) (least : 8 ≤ most_entries)
+    (view : cache_of disk d m left order most_entries ≡ s) (is : IsCache (stored_of disk d) m left count)
     (ordered : AreOrdered (record { at = m.entries; order = order; most = most_entries })) (full : s.capacity ≤ length s.order) where
   long : 8 ≤ length order
-  long = omega (arith, least, full, ap (λ t. t.capacity) view, ap (λ t. length t.order) view)
+  long = omega (arith, ordered.least, full, ap (λ t. t.capacity) view, ap (λ t. length t.order) view)
 
   no_end : (ns : List ℕ) (i : ℕ) → i < length ns → slice_get ns i ≡ None → ⊥
   no_end [] i within none = omega (arith, within)

@@ -5,13 +5,14 @@ use Rattle.object_cache.proofs.Names.{length-map-range_with_len, get_or-map-rang
 use Rattle.object_cache.proofs.Names.{AreKeepable, Disk, Put, Absent, Broken, Kept, put_at, put_or, overlaid, kept_count, sum_of, SavedFrames, LeavesEither}
 use Rattle.object_cache.proofs.Names.{LeavesOneOf, home_saved, DurableState, MayCommit, committed, moved, next_saved, whole, on_snapshots, puts, FrozenPuts}
 use Rattle.object_cache.proofs.Names.{Stored, below_at, frozen_put, left_of, stored_of, maps_same, FrozenFrames, entry_at, Memory, mark_at, in_staging}
-use Rattle.object_cache.proofs.Names.{put_body, present_body, content_at, present_at, frozen_body, frozen_frame, frozen_at, get_or-map, get_or_default}
-use Rattle.object_cache.proofs.Names.{contents_in, frozen_in, StoreState, IsCache, snapshots_of, cache_of, frozen_seen, is_kept}
+use Rattle.object_cache.proofs.Names.{put_body, present_body, content_at, frozen_body, frozen_frame, frozen_at, get_or-map, get_or_default, contents_in}
+use Rattle.object_cache.proofs.Names.{frozen_in, StoreState, IsCache, snapshots_of, cache_of, frozen_seen, is_kept}
 use Rattle.std.proofs.Common.{◌≡◌, ◌+◌, ◌-◌, ◌≤◌, ◌<◌, ◌||◌, ◌∷◌, ◌∙◌, OnOk, OnErr}
 use Rattle.std.specs.Prelude.{◌==◌}
-use Rattle.object_cache.proofs.Leading.{IsSeenAs}
+use Rattle.object_cache.proofs.Outcomes.{IsSeenAs}
 use Rattle.object_cache.proofs.Marking.{one_fewer}
 use Rattle.object_cache.proofs.Turns.{running_in}
+use Rattle.object_cache.proofs.Objects.{Alike, contents_alike, clean_alike, unwritten_alike, stored_next}
 
 -- ---- what is saved goes home
 
@@ -53,16 +54,9 @@ module _ {D : Type 0} (disk : D → Disk) {d : DurableState D} {m : Memory} {lef
     (view : cache_of disk d m left order most_entries ≡ s) (is : IsCache (stored_of disk d) m left count) (new : DurableState D) (amount : ℕ) where
   home_next : (b : Bool) (k : ℕ) → stored_of disk new ≡ stored_with (stored_of disk d) b k →
       IsSeenAs disk new m left count order most_entries (record s { durable = new })
-  home_next b k put = record {
-    is = subst (λ t. IsCache t m left count) (sym put) (home_stands (stored_of disk d) m left count b k is);
-    view =
-        ap (λ t. record (cache_of disk d m left order most_entries) { durable = new; contents = contents_in t m; frozen = frozen_seen t m left }) put
-        ∙ (λ i. record (cache_of disk d m left order most_entries) {
-          durable = new;
-          contents = contents_home (stored_of disk d) m b k i;
-          frozen = option_map (λ f. record { frames = frozen_home (stored_of disk d) m b k i; size = f.size; left = left }) (stored_of disk d).frozen;
-        }) ∙ ap (λ (t : StoreState D). record t { durable = new }) view;
-  }
+  home_next b k put =
+      stored_next disk view put (home_stands (stored_of disk d) m left count b k is) (contents_home (stored_of disk d) m b k)
+      (λ i. option_map (λ f. record { frames = frozen_home (stored_of disk d) m b k i; size = f.size; left = left }) (stored_of disk d).frozen)
 
   pub moved_next : {T E : Type 0} (r : Result T E) → OnOk r (stored_of disk new ≡ on_snapshots (moved amount) (stored_of disk d)) →
       OnErr r ((k : ℕ) × (k ≤ (stored_of disk d).to_move) × (stored_of disk new ≡ record (stored_of disk d) { to_move = k })) →
@@ -150,26 +144,18 @@ module _ {s : Stored} {m : Memory} {count : ℕ} (is : IsCache s m 0 count) (f :
     content_stays n = ap (λ g. present_body (entry_at m.entries n) (header_at m.headers n).role
         (put_body (put_at s.working n) (in_staging m.staging n g.content))) (below_stays n)
 
-    present_stays : (n : ℕ) → present_at after m n ≡ present_at s m n
-    present_stays n = ap (λ c. record { header = header_at m.headers n; content = c }) (content_stays n)
-
     frozen_stays : (n : ℕ) → frozen_at after m n ≡ frozen_at s m n
     frozen_stays n = ap (λ g. frozen_frame (mark_at m.pending n) (header_at m.frozen_headers n)
         (frozen_body (entry_at m.entries n) (mark_at m.touched n) (in_staging m.staging n g.content)) g) (below_stays n)
 
-    pub contents_saved : contents_in after m ≡ contents_in s m
-    unfolding contents_in
-    contents_saved = maps_same (content_at after m) (content_at s m) (length m.headers) (λ n below. content_stays n)
+    pub saved_alike : Alike s m (on_snapshots (committed puts age f) s) m
+    saved_alike = record { headers = refl; content = content_stays; frozen = frozen_stays }
 
     pub saved_stands : IsCache after m 0 count
     saved_stands =
-        let clean : (k : ℕ) → mark_at m.dirty k ≡ false → mark_at m.touched k ≡ true → put_at s.working k ≡ Kept (present_at after m k) =
-        λ n clean touched. is.clean n clean touched ∙ ap Kept (sym (present_stays n)) in
-        let unwritten : (k : ℕ) → k < length m.headers → mark_at m.touched k ≡ false → present_at after m k ≡ frozen_at after m k =
-        λ n below untouched. present_stays n ∙ is.unwritten n below untouched ∙ sym (frozen_stays n) in
         let running : (g : FrozenPuts) → None ≡ Some g → AreFrozen g m.pending 0 = λ g g_is. absurd (none-some g g_is) in
         let keepable : (g : FrozenPuts) → None ≡ Some g → AreKeepable s.saved.geometry most (frozen_in after m) = λ g g_is. absurd (none-some g g_is) in
-        search (length_over ∙ is.frames, none_pending)
+        search (clean_alike saved_alike is, unwritten_alike saved_alike is, length_over ∙ is.frames, none_pending)
 
 -- the same by what is seen
 module _ {D : Type 0} (disk : D → Disk) {d : DurableState D} {m : Memory} {left count : ℕ} {order : List ℕ} {most_entries : ℕ} {s : StoreState D}
@@ -238,7 +224,7 @@ module _ {D : Type 0} (disk : D → Disk) {d : DurableState D} {m : Memory} {lef
         OnOk r (snapshots_of disk (cache_of disk new m left order most_entries) ≡ committed whole age f (snapshots_of disk s))
     save_next new (Ok x) done undone =
         let now = done found.0 found.1 in
-        let contents = ap (λ t. contents_in t m) now ∙ contents_saved stands_here found.0 found.1 age ∙ ap (λ t. t.contents) view in (
+        let contents = ap (λ t. contents_in t m) now ∙ contents_alike (saved_alike stands_here found.0 found.1 age) ∙ ap (λ t. t.contents) view in (
           record {
             is = subst (λ t. IsCache t m left count) (sym now)
                 (subst (λ k. IsCache (on_snapshots (committed puts age found.0) (stored_of disk d)) m k count) (sym none_left)

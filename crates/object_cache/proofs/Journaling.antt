@@ -14,10 +14,10 @@ use Rattle.std.proofs.Common.{◌≡◌, ◌≢◌, ◌⊎◌, ◌<◌, ◌∙�
 use Rattle.model.specs.declared.object.Role.TheVariants as role
 use Rattle.layout.specs.declared.body.Body.TheVariants as body
 use Rattle.model.specs.declared.answer.Refusal.TheVariants as refusal
-use Rattle.object_store.specs.Journal as journal
+use Rattle.checkpoint.specs.Journal as journal
 use Rattle.object_cache.proofs.Freezing.{none_of, put_or_body}
-use Rattle.object_cache.proofs.Leading.{IsSeenAs}
-use Rattle.object_cache.proofs.Objects.{content_in}
+use Rattle.object_cache.proofs.Outcomes.{IsSeenAs}
+use Rattle.object_cache.proofs.Objects.{content_in, stored_next}
 use Rattle.object_cache.proofs.Caching.{no_staging}
 
 as_page : (o : Option Entry) (c : Content Cap) → present_body o role.Page c ≡ entry_body o c
@@ -223,19 +223,10 @@ module _ {D : Type 0} (disk : D → Disk) {d : DurableState D} {m : Memory} {lef
         let none = none_of left_of st.frozen there.0 in
         let page = role_is_page header.role there.1 in
         let now = done_is there done in
-        let seen : cache_of disk new m left order most_entries ≡ record s { durable = new } =
-        ap (λ t. record (cache_of disk d m left order most_entries) { durable = new; contents = contents_in t m; frozen = frozen_seen t m left }) now
-        ∙ (λ k. record (cache_of disk d m left order most_entries) {
-          durable = new;
-          contents = journal_contents is none n page age (content_page there.1) k;
-          frozen = journal_frozen is none n page age (content_page there.1) k;
-        })
-        ∙ ap (λ (t : StoreState D). record t { durable = new }) view in (
-          record {
-            is = subst (λ t. IsCache t m left count) (sym now) (journal_stands is none n page age (content_page there.1));
-            view = seen;
-          },
-          ap (snapshots_of disk) seen
+        let next = stored_next disk view now (journal_stands is none n page age (content_page there.1))
+        (journal_contents is none n page age (content_page there.1)) (journal_frozen is none n page age (content_page there.1)) in (
+          next,
+          ap (snapshots_of disk) next.view
               ∙ ap (λ t. let a : Snapshots FrozenFrames = record { frozen = s.frozen; saved = t.saved; to_move = t.to_move } in a) done
               ∙ ap (λ ws. journaled age n ws (record { frozen = s.frozen; saved = st.saved; to_move = st.to_move })) (words_seen none there.1)
               ∙ ap (λ t. journaled age n (words_in (held_at s.contents n))
@@ -243,12 +234,7 @@ module _ {D : Type 0} (disk : D → Disk) {d : DurableState D} {m : Memory} {lef
           tt,
         )
     journal_next (Err e) there done undone = (
-      record {
-        is = subst (λ t. IsCache t m left count) (sym undone) is;
-        view =
-            ap (λ t. record (cache_of disk d m left order most_entries) { durable = new; contents = contents_in t m; frozen = frozen_seen t m left })
-            undone ∙ ap (λ (t : StoreState D). record t { durable = new }) view;
-      },
+      stored_next disk view undone is refl refl,
       tt,
       ap (λ t. let a : Snapshots FrozenFrames = record { frozen = frozen_seen t m left; saved = t.saved; to_move = t.to_move } in a) undone
           ∙ ap (λ t. snapshots_of disk t) view,

@@ -1,14 +1,15 @@
 -- Numbers are marked that are to be written: no object and no frozen frame is another.
-use Rattle.object_cache.proofs.Names.{put_at, FrozenPuts, Kept, Absent, present_at, inl, inr, ℕ, zero, suc, Bool, true, false, true≢false, List, [], length}
-use Rattle.object_cache.proofs.Names.{set, Option, Some, None, option_map, refl, sym, ap, subst, arith, length-set, slice_index_or, Contains, cases_eq}
-use Rattle.object_cache.proofs.Names.{get_or-set_other, get_or-set_same, Cap, Frame, ObjectHeader, Content, header_at, AreKeepable, touched_count, touching}
-use Rattle.object_cache.proofs.Names.{Disk, most, DurableState, Stored, below_at, stored_of, maps_same, Entry, entry_at, Memory, Shared, mark_at, apart_body}
-use Rattle.object_cache.proofs.Names.{below_body, frozen_body, frozen_frame, frozen_at, frozen_state_of, frozen_state_body, frozen_state_in_memory, contents_in}
-use Rattle.object_cache.proofs.Names.{frozen_in, frozen_states_in, StoreState, IsCache, cache_of, frozen_state_at, is_some, length-map-range_with_len, Image}
-use Rattle.object_cache.proofs.Names.{peeks_started, goes_none, content_at, IsAnnouncedIn, GoesOnIn}
+use Rattle.object_cache.proofs.Names.{put_at, Kept, Absent, present_at, inl, inr, ℕ, zero, suc, Bool, true, false, true≢false, List, [], length, set, Option}
+use Rattle.object_cache.proofs.Names.{Some, None, option_map, refl, sym, ap, subst, arith, length-set, slice_index_or, Contains, cases_eq, get_or-set_other}
+use Rattle.object_cache.proofs.Names.{get_or-set_same, Cap, Frame, ObjectHeader, Content, header_at, touched_count, touching, Disk, DurableState, Stored}
+use Rattle.object_cache.proofs.Names.{below_at, stored_of, maps_same, Entry, entry_at, Memory, Shared, mark_at, apart_body, below_body, frozen_body}
+use Rattle.object_cache.proofs.Names.{frozen_frame, frozen_at, frozen_state_of, frozen_state_body, frozen_state_in_memory, contents_in, frozen_states_in}
+use Rattle.object_cache.proofs.Names.{StoreState, IsCache, cache_of, frozen_state_at, is_some, length-map-range_with_len, Image, peeks_started, goes_none}
+use Rattle.object_cache.proofs.Names.{content_at, IsAnnouncedIn, GoesOnIn}
 use Rattle.std.proofs.Common.{◌≡◌, ◌≢◌, ◌⊎◌, ◌<◌, ◌≤◌, ◌∷◌, ◌∙◌}
 use Rattle.object_cache.proofs.Marking.{length-touching, set-marked, still_marked}
 use Rattle.object_cache.proofs.Caching.{frozen_state_entry}
+use Rattle.object_cache.proofs.Objects.{Alike, frozen_alike, keepable_alike}
 
 -- a mark is as it was, or is of a number that was listed
 marked_or : (ts : List Bool) (ns : List ℕ) (k : ℕ) → (mark_at (touching ts ns) k ≡ mark_at ts k) ⊎ Contains ns k
@@ -85,9 +86,8 @@ module _ {s : Stored} {m : Memory} {left count : ℕ} (is : IsCache s m left cou
         (apart k has)
   ]
 
-  pub marked_frozen : frozen_in s (marking ns m) ≡ frozen_in s m
-  unfolding frozen_in
-  marked_frozen = maps_same (frozen_at s (marking ns m)) (frozen_at s m) (length m.headers) (λ k below. frozen_stays k)
+  pub marked_alike : Alike s m s (marking ns m)
+  marked_alike = record { headers = refl; content = λ k. refl; frozen = frozen_stays }
 
   pub marked_frozen_state : frozen_states_in (marking ns m) ≡ frozen_states_in m
   unfolding frozen_states_in
@@ -122,9 +122,7 @@ module _ {s : Stored} {m : Memory} {left count : ℕ} (is : IsCache s m left cou
       let unwritten : (k : ℕ) → k < length m.headers → mark_at (touching m.touched ns) k ≡ false →
       present_at s (marking ns m) k ≡ frozen_at s (marking ns m) k =
       λ k below untouched. is.unwritten k below (unmarked m.touched k untouched) ∙ sym (frozen_stays k) in
-      let keepable : (f : FrozenPuts) → s.frozen ≡ Some f → AreKeepable s.saved.geometry most (frozen_in s (marking ns m)) =
-      λ f running. subst (AreKeepable s.saved.geometry most) (sym marked_frozen) (is.keepable f running) in
-      search (is, length-touching m.touched ns ∙ is.marks, length-touching m.dirty ns ∙ is.dirty_marks)
+      search (is, keepable_alike marked_alike is, length-touching m.touched ns ∙ is.marks, length-touching m.dirty ns ∙ is.dirty_marks)
 
 -- the same by what is seen
 module _ {D : Type 0} (disk : D → Disk) {d : DurableState D} {m : Memory} {left count : ℕ} {order : List ℕ} {most_entries : ℕ} {s : StoreState D}
@@ -148,7 +146,8 @@ module _ {D : Type 0} (disk : D → Disk) {d : DurableState D} {m : Memory} {lef
         touched = touching m.touched ns;
         dirty = touching m.dirty ns;
         frozen_state = marked_frozen_state is ns known_here apart_here k;
-        frozen = option_map (λ f. record { frames = marked_frozen is ns known_here apart_here k; size = f.size; left = left }) (stored_of disk d).frozen;
+        frozen = option_map (λ f. record { frames = frozen_alike (marked_alike is ns known_here apart_here) k; size = f.size; left = left })
+            (stored_of disk d).frozen;
       }) ∙ ap (λ (t : StoreState D). record t { touched = touching t.touched ns; dirty = touching t.dirty ns }) view
 
 -- ---- numbers are made ready to be written: first copies of frozen bodies, and marks last

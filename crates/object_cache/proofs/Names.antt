@@ -8,11 +8,15 @@ pub use Rattle.capability.proofs.FrameLists.{frame_in, length_in}
 pub use Rattle.capability.proofs.Keeping.{keepable_at}
 pub use Rattle.capability.specs.Objects.{changed_root, with_root_in, with_slots_in}
 pub use Rattle.capability.specs.Parts.{Becomes, HaveTheirRoles, fresh_content}
+pub use Rattle.checkpoint.proofs.Journaling.{content_is_page, journal_there, known_page, next_same, page_is, role_is_page}
 pub use Rattle.checkpoint.proofs.Lists.{maps_same}
+pub use Rattle.checkpoint.specs.Journal.{is_page_role, next_journaled}
 pub use Rattle.checkpoint.specs.Opened.{OnlyReads}
 pub use Rattle.checkpoint.specs.Refused.{IsCommitAnswer, IsJournalAnswer}
 pub use Rattle.checkpoint.specs.Saved.{Holds, LeavesEither, LeavesOneOf, LeavesSaved, SavedFrames, home_saved, journaled_saved, most, with_words}
 pub use Rattle.checkpoint.specs.Snapshots.{MayCommit, Snapshots, committed, freezing, journaled, moved, next_saved}
+pub use Rattle.checkpoint.specs.Store.{FrozenFrames, OpensStore, all_frozen, stabilized, whole}
+pub use Rattle.collections.specs.Marks.{HasNoneMarked}
 pub use Rattle.device.proofs.Moments.{counted_ok, counts_on, leaves_on, leaves_weaker, peeks_started}
 pub use Rattle.device.specs.Calls.{Counts, Only}
 pub use Rattle.device.specs.Disk.{Disk, Image}
@@ -20,6 +24,7 @@ pub use Rattle.device.specs.Moments.{LeavesOnly}
 pub use Rattle.layout.specs.Frame.{content_of, frame_of}
 pub use Rattle.layout.specs.declared.body.Body.{Body}
 pub use Rattle.layout.specs.declared.body.Scratch.{Scratch}
+pub use Rattle.migrator.proofs.Counting.{ok_counts}
 pub use Rattle.migrator.proofs.Kept.{map_set}
 pub use Rattle.migrator.proofs.Moving.{goes_none, goes_trans}
 pub use Rattle.migrator.proofs.Saving.{on_err, on_ok}
@@ -44,10 +49,6 @@ pub use Rattle.model.specs.declared.frame.Frame.{Frame}
 pub use Rattle.model.specs.declared.frame.ObjectHeader.{ObjectHeader}
 pub use Rattle.model.specs.declared.object.Content.{Content}
 pub use Rattle.model.specs.declared.object.Role.{Role}
-pub use Rattle.number_set.specs.Marks.{HasNoneMarked}
-pub use Rattle.object_store.proofs.Journaling.{content_is_page, journal_there, known_page, next_same, page_is, role_is_page}
-pub use Rattle.object_store.specs.Journal.{is_page_role, next_journaled}
-pub use Rattle.object_store.specs.Store.{FrozenFrames, OpensStore, all_frozen, stabilized, whole}
 pub use Rattle.std.proofs.Common.{Bool, Err, IsSome, List, None, Ok, Option, Result, Some, [], ap, arith, cond, eqb, false, get_or, inl, inr, is_some, length}
 pub use Rattle.std.proofs.Common.{length-set, map, nat_eq, nat_lt, option_map, refl, replicate, rules, set, subst, suc, sym, take, true, true≢false, zero, ℕ}
 pub use Rattle.std.proofs.Math.ListN.{get_or-map}
@@ -61,6 +62,7 @@ pub use Rattle.std.proofs.lemmas.List.Folds.{sum_by-replicate}
 pub use Rattle.std.proofs.lemmas.List.FromFn.{get_or-map-range_with_len, length-map-range_with_len}
 pub use Rattle.std.proofs.lemmas.List.Sums.{sum_by-cons, sum_by-set}
 pub use Rattle.std.proofs.lemmas.Option.{none-some, same_Some}
+pub use Rattle.std.proofs.lemmas.Result.{on_err_weaker, on_ok_weaker}
 pub use Rattle.std.specs.List.{Contains, list_any, range_with_len, slice_get}
 pub use Rattle.std.specs.Prelude.{OnErr, OnOk, count_by, slice_index_or}
 pub use Rattle.object_cache.specs.Journaled.{entry_body, held_now}
@@ -73,7 +75,6 @@ pub use Rattle.object_cache.specs.Prepared.{IsRecentIn, UsesSome, on_device_with
 pub use Rattle.object_cache.specs.PresentLaws.{continues_same, goes_on_same, goes_on_twice}
 pub use Rattle.object_cache.specs.StoreState.{AreAll, AreFrozen, AreInserted, AreTaken, ContinuesIn, GoesOnIn, HaveRoom, HoldBodies, IsAnnouncedIn, IsBounded}
 pub use Rattle.object_cache.specs.StoreState.{IsCache, IsFetchedIn, IsJustOpened, IsOpenOver, IsUnkept, IsWhole, MayPutFrozen, PutsBy, StoreState, TakenState}
-pub use Rattle.object_cache.specs.StoreState.{all_of}
-pub use Rattle.object_cache.specs.StoreState.{bodies_of, cache_of, cached_at, frozen_seen, frozen_state_at, is_kept, on_device, on_device_frozen, parts_of}
-pub use Rattle.object_cache.specs.StoreState.{pending_count, snapshots_of, view_of, with_body, with_cached, with_content_in, without_cached}
+pub use Rattle.object_cache.specs.StoreState.{all_of, bodies_of, cache_of, cached_at, frozen_seen, frozen_state_at, is_kept, on_device, on_device_frozen}
+pub use Rattle.object_cache.specs.StoreState.{parts_of, pending_count, snapshots_of, view_of, with_body, with_cached, with_content_in, without_cached}
 unfoldable pub use Rattle.object_cache.specs.StoreState.{cached_in}

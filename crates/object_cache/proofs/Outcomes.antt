@@ -1,17 +1,44 @@
--- What calls that may fail leave, by their outcome.
-use Rattle.object_cache.proofs.Names.{Bool, true, false, Result, Ok, Err, refl, sym, subst, OnOk, OnErr, ℕ, None, set, ap, arith, Disk, Counts, without}
-use Rattle.object_cache.proofs.Names.{Nothing, released, mark_at, StoreState, on_device, frozen_state_at, without_cached}
+-- Why one value of a cache continues as another.
+use Rattle.object_cache.proofs.Names.{ℕ, Bool, List, Option, sym, ap, Disk, stored_of, Held, FrozenState, StoreState, GoesOnIn, on_device, DurableState}
+use Rattle.object_cache.proofs.Names.{IsCache, Memory, cache_of, true, false, Result, Ok, Err, refl, subst, OnOk, OnErr, None, set, without, Nothing, released}
+use Rattle.object_cache.proofs.Names.{mark_at, frozen_state_at, without_cached}
 use Rattle.std.proofs.Common.{◌≡◌, ◌∙◌}
 use Rattle.object_cache.proofs.Marking.{set_there}
-use Rattle.object_cache.proofs.Leading.{on_device_as}
 
-pub ok_then : {T E P Q : Type 0} (r : Result T E) → OnOk r P → (P → Q) → OnOk r Q
-ok_then (Ok t) ok next = next ok
-ok_then (Err e) ok next = ok
+-- what always holds does of the fields of a cache, and this is seen of them
+pub record IsSeenAs {D : Type 0} (disk : D → Disk) (d : DurableState D) (m : Memory) (left count : ℕ) (order : List ℕ) (most_entries : ℕ) (s : StoreState D) :
+    Type 0 where
+  pub is : IsCache (stored_of disk d) m left count
+  pub view : cache_of disk d m left order most_entries ≡ s
 
-pub err_then : {T E P Q : Type 0} (r : Result T E) → OnErr r P → (P → Q) → OnErr r Q
-err_then (Ok t) err next = err
-err_then (Err e) err next = next err
+-- what always holds does of the fields of a cache after a step, this is seen of them, and the store goes on
+pub record IsNext {D : Type 0} (disk : D → Disk) (s : StoreState D) (d : DurableState D) (m : Memory) (left count : ℕ) (order : List ℕ) (most_entries : ℕ)
+    (t : StoreState D) : Type 0 where
+  pub is : IsCache (stored_of disk d) m left count
+  pub view : cache_of disk d m left order most_entries ≡ t
+  pub continues : GoesOnIn disk s (cache_of disk d m left order most_entries)
+
+module _ {D : Type 0} {disk : D → Disk} {s t : StoreState D} {d : DurableState D} {m : Memory} {left count : ℕ} {order : List ℕ} {most_entries : ℕ}
+    (next : IsNext disk s d m left count order most_entries t) where
+  pub next_as : {u : StoreState D} → t ≡ u → IsNext disk s d m left count order most_entries u
+  next_as same = record { is = next.is; view = next.view ∙ same; continues = next.continues }
+
+module _ {D : Type 0} where
+  -- what was put is on the device
+  pub on_device_as : (s : StoreState D) {t u : StoreState D} → t ≡ u → u ≡ on_device s u → t ≡ on_device s t
+  on_device_as s is same = is ∙ same ∙ ap (on_device s) (sym is)
+
+  pub put_on : (s t u : StoreState D) → t ≡ on_device s t → u ≡ on_device t u → u ≡ on_device s u
+  put_on s t u first second = second ∙ ap (λ x. on_device x u) first
+
+module _ {D : Type 0} (disk : D → Disk) where
+  -- what is in memory doesn't matter
+  pub continues_with : {s t : StoreState D} (cached : List Bool) (frozen_state : List FrozenState) (order : List ℕ) (staging : Option Held) → GoesOnIn disk s
+      t →
+      GoesOnIn disk s (record t { cached = cached; frozen_state = frozen_state; order = order; staging = staging })
+  continues_with cached frozen_state order staging first = search
+
+-- ---- what calls that may fail leave, by their outcome
 
 pub ok_both : {T E P Q R : Type 0} (r : Result T E) → OnOk r P → OnOk r Q → (P → Q → R) → OnOk r R
 ok_both (Ok t) first second next = next first second
@@ -23,13 +50,6 @@ whichever true P x y z if_true if_false on_true on_false = subst P (sym (if_true
 whichever false P x y z if_true if_false on_true on_false = subst P (sym (if_false refl)) on_false
 
 -- ---- an entry's frozen and present frames are written, and it is dropped: the outcome, call by call
-
--- none is counted where all calls succeeded
-pub ok_counts : {T E : Type 0} {old new : Disk} {value : T} → new.failures ≡ old.failures → Counts {T = T} {E = E} old new (Ok value)
-ok_counts {old = old} {new = new} same = record {
-  never_falls = omega (arith, same);
-  cause = (λ failed. absurd cc, λ rose. absurd (omega (arith, same, rose)));
-}
 
 module _ {D : Type 0} {T E : Type 0} where
   -- its frozen frame

@@ -1,15 +1,15 @@
 -- The present body of an object in an entry is put, or was to be.
-use Rattle.object_cache.proofs.Names.{frozen_at, None, inl, inr, ℕ, zero, suc, Bool, true, false, true≢false, cond, List, [], length, set, Some, option_map}
-use Rattle.object_cache.proofs.Names.{refl, sym, ap, subst, arith, length-set, cases_eq, get_or-set_same, get_or-set_other, sum_by-cons, none-some, Cap}
-use Rattle.object_cache.proofs.Names.{ObjectHeader, Content, header_at, held_at, IsKeepable, touched_count, Disk, Put, Absent, Broken, Kept, put_at, held_slot}
-use Rattle.object_cache.proofs.Names.{sum_of, HasFreeSlot, most, DurableState, Stored, GoesOn, stored_of, with_working, maps_same, Entry, entry_at, present_of}
-use Rattle.object_cache.proofs.Names.{Memory, mark_at, put_body, present_body, content_at, present_at, newest_body, below_body, contents_in, frozen_in}
-use Rattle.object_cache.proofs.Names.{frozen_states_in, StoreState, IsCache, IsFetchedIn, GoesOnIn, cache_of, is_kept, frozen_seen}
+use Rattle.object_cache.proofs.Names.{None, inl, inr, ℕ, zero, suc, Bool, true, false, true≢false, cond, List, [], length, set, Some, option_map, refl, sym, ap}
+use Rattle.object_cache.proofs.Names.{subst, arith, length-set, cases_eq, get_or-set_same, get_or-set_other, sum_by-cons, none-some, Cap, ObjectHeader, Content}
+use Rattle.object_cache.proofs.Names.{header_at, held_at, IsKeepable, touched_count, Disk, Put, Absent, Broken, Kept, put_at, held_slot, sum_of, HasFreeSlot}
+use Rattle.object_cache.proofs.Names.{most, DurableState, Stored, GoesOn, stored_of, with_working, Entry, entry_at, present_of, Memory, mark_at, put_body}
+use Rattle.object_cache.proofs.Names.{present_body, content_at, present_at, newest_body, below_body, contents_in, frozen_in, frozen_states_in, StoreState}
+use Rattle.object_cache.proofs.Names.{IsCache, IsFetchedIn, GoesOnIn, cache_of, is_kept, frozen_seen}
 use Rattle.std.proofs.Common.{◌≡◌, ◌≢◌, ◌⊎◌, ◌<◌, ◌≤◌, ◌∷◌, ◌∙◌}
 use Rattle.model.specs.declared.object.Role.TheVariants as role
-use Rattle.object_cache.proofs.Leading.{IsNext, next_as}
+use Rattle.object_cache.proofs.Outcomes.{IsNext, next_as}
 use Rattle.object_cache.proofs.Marking.{one_fewer}
-use Rattle.object_cache.proofs.Objects.{entry_found, fetched_known, content_in, present_is}
+use Rattle.object_cache.proofs.Objects.{Alike, content_in, contents_alike, entry_found, fetched_known, present_alike, present_is, unwritten_alike}
 
 -- ---- slots
 
@@ -90,12 +90,11 @@ module _ {s : Stored} {m : Memory} {left count : ℕ} (is : IsCache s m left cou
     | inr other ↦ ap (λ q. present_body (entry_at m.entries k) (header_at m.headers k).role (put_body q (below_body s m k))) (put_elsewhere k other)
   ]
 
-  present_stays : (k : ℕ) → present_at after (with_dirty m ds) k ≡ present_at s m k
-  present_stays k = ap (λ c. record { header = header_at m.headers k; content = c }) (content_stays k)
+  pub put_alike : Alike s m (with_working n p s) (with_dirty m ds)
+  put_alike = record { headers = refl; content = content_stays; frozen = λ k. refl }
 
-  pub contents_put : contents_in after (with_dirty m ds) ≡ contents_in s m
-  unfolding contents_in
-  contents_put = maps_same (content_at after (with_dirty m ds)) (content_at s m) (length m.headers) (λ k below. content_stays k)
+  present_stays : (k : ℕ) → present_at after (with_dirty m ds) k ≡ present_at s m k
+  present_stays = present_alike put_alike
 
   pub put_cache : IsCache after (with_dirty m ds) left count
   unfolding frozen_in
@@ -114,14 +113,12 @@ module _ {s : Stored} {m : Memory} {left count : ℕ} (is : IsCache s m left cou
       ] in
       let unput : (k : ℕ) → mark_at m.touched k ≡ false → put_at after.working k ≡ Absent = λ k untouched.
       put_elsewhere k (λ same. true≢false (sym (is.marked n dirty) ∙ ap (mark_at m.touched) (sym same) ∙ untouched)) ∙ is.unput k untouched in
-      let unwritten : (k : ℕ) → k < length m.headers → mark_at m.touched k ≡ false →
-      present_at after (with_dirty m ds) k ≡ frozen_at after (with_dirty m ds) k = λ k below untouched. present_stays k ∙ is.unwritten k below untouched in
       let freed : (k : ℕ) → entry_at m.entries k ≡ None → mark_at m.pending k ≡ true → (header_at m.frozen_headers k).role ≡ role.Free →
       (is_kept (put_at after.working k) ≡ true) ⊎ ((header_at m.headers k).role ≡ role.Free) = λ k none pending free. elim (is.freed k none pending free) [
         | inl put ↦ inl (ap is_kept (put_elsewhere k (λ same. none-some e (sym none ∙ ap (entry_at m.entries) same ∙ at))) ∙ put)
         | inr was_free ↦ inr was_free
       ] in
-      search (is, size ∙ is.dirty_marks, length-set s.working n p ∙ is.puts)
+      search (is, unwritten_alike put_alike is, size ∙ is.dirty_marks, length-set s.working n p ∙ is.puts)
 
 -- ---- the same by what is seen
 
@@ -161,7 +158,7 @@ module _ {D : Type 0} (disk : D → Disk) {d : DurableState D} {m : Memory} {lef
         ∙ (λ k. record (view k) {
           durable = new;
           dirty = ds;
-          contents = (contents_put is n known_here entry_here.0 entry_here.1 dirty_here p ds size others here ∙ ap (λ t. t.contents) view) k;
+          contents = (contents_alike (put_alike is n known_here entry_here.0 entry_here.1 dirty_here p ds size others here) ∙ ap (λ t. t.contents) view) k;
         })
 
     put_next : IsNext disk s new (with_dirty m ds) left count order most_entries (record s { durable = new; dirty = ds })

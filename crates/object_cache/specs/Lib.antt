@@ -1,6 +1,6 @@
 pub use Rattle.cache_entries.specs.Entries
 pub use Rattle.cache_entries.specs.Order
-pub use Rattle.object_store.specs.Store
+pub use Rattle.checkpoint.specs.Store
 pub mod Names
 pub mod Memory
 pub mod StoreState

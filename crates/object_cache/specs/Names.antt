@@ -2,8 +2,10 @@
 pub use Rattle.cache_entries.specs.Entries.{Entry, changing, entry_at, new_entry}
 pub use Rattle.cache_entries.specs.Order.{AllDiffer, EntriesState, used_in_turn, with_entry_of, without}
 pub use Rattle.capability.specs.Parts.{HaveTheirRoles, Parts, frames_of}
+pub use Rattle.checkpoint.specs.Journal.{is_same_page}
 pub use Rattle.checkpoint.specs.Saved.{Holds, most}
 pub use Rattle.checkpoint.specs.Snapshots.{Snapshots}
+pub use Rattle.checkpoint.specs.Store.{Continues, FrozenFrames, View, stabilized}
 pub use Rattle.device.proofs.Moments.{ends, leaves_on, leaves_weaker, peeks_started}
 pub use Rattle.device.specs.Disk.{Disk, Image}
 pub use Rattle.device.specs.Moments.{Peeks}
@@ -27,8 +29,6 @@ pub use Rattle.model.specs.declared.frame.ObjectHeader.{ObjectHeader}
 pub use Rattle.model.specs.declared.object.Content.{Content}
 pub use Rattle.model.specs.declared.object.ContentRef.{ContentRef}
 pub use Rattle.model.specs.declared.object.Role.{Role}
-pub use Rattle.object_store.specs.Journal.{is_same_page}
-pub use Rattle.object_store.specs.Store.{Continues, FrozenFrames, View, stabilized}
 pub use Rattle.std.proofs.Common.{ap, arith, refl}
 pub use Rattle.std.specs.List.{range_with_len}
 pub use Rattle.std.specs.Prelude.{Bool, IsSome, List, None, Option, Some, count_by, false, is_some, length, map, nat_le}

@@ -196,7 +196,6 @@ pub record IsJustOpened (s : Stored) (hs : List ObjectHeader) : Type 0 where
 pub record HoldBodies (e : EntriesState) (fs : List Frame) : Type 0 where
   pub each : length e.at ≡ length fs
   pub bodies : (n : ℕ) (x : Entry) → entry_at e.at n ≡ Some x → x ≡ new_entry (frame_at fs n).content
-  pub least : 8 ≤ e.most
 
 -- each number has an entry
 abbrev pub AreAll : EntriesState → Type 0
@@ -224,7 +223,6 @@ IsUnkept o = (c : Content Cap) × (o ≡ Some (new_entry c))
 pub record HaveRoom (e : EntriesState) (taken count : ℕ) : Type 0 where
   pub each : length e.at ≡ count
   pub most : e.most ≡ all_of count
-  pub least : 8 ≤ e.most
   pub later : (n : ℕ) → taken ≤ n → n < count → IsUnkept (entry_at e.at n)
 
 -- of `count` numbers only those below `k` have an entry, without a frozen copy

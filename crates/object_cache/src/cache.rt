@@ -16,11 +16,11 @@ use crate::headers::Headers;
 use crate::staging::Staging;
 use cache_entries::Entries;
 use capability::{Fresh, ObjectTable, RootChange};
+use collections::NumberSet;
 use device::{Device, Failed};
 use layout::Scratch;
 use migrator::Durable;
 use model::{Cap, ContentRef, Geometry, Role};
-use number_set::NumberSet;
 use std::marker::Model;
 
 mod fetch;
@@ -70,7 +70,6 @@ fn role_of(fresh: Fresh) -> Role
 }
 
 impl<D: Device> Model for Cache<D> {
-    ghost use Rattle.std.specs.Prelude.{◌≤◌};
     ghost use Rattle.migrator.specs.Durable.{stored_of};
     ghost use Rattle.object_cache.specs.Memory.{memory_of};
     ghost use Rattle.object_cache.specs.StoreState.{StoreState, IsCache, cache_of};
@@ -83,7 +82,7 @@ impl<D: Device> Model for Cache<D> {
 
     ghost invariant = { λ s. IsCache (stored_of D.disk s.durable)
         (memory_of s.table s.frozen_headers s.touched s.dirty s.pending s.entries.at s.staging)
-        s.left s.count × (8 ≤ s.entries.most) };
+        s.left s.count };
 }
 
 impl<D: Device> Cache<D> {

@@ -4,8 +4,8 @@ ghost use Rattle.model.specs.Frame.{header_at};
 ghost use Rattle.object_cache.specs.Memory.{mark_at};
 
 use capability::ObjectTable;
+use collections::NumberSet;
 use model::ObjectHeader;
-use number_set::NumberSet;
 use std::alloc::{AllocError, Global};
 use std::marker::Model;
 

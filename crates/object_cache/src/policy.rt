@@ -30,7 +30,6 @@ pub trait Policy: Drop {
 pub(crate) fn capacity_for_all(count: usize) -> Capacity
     requires few { count ≤ 8192 }
     ensures all { result ≡ all_of count }
-    ensures least { 8 ≤ all_of count }
     ensures whole { count ≤ all_of count }
 {
     let most = if MAX_FETCHED <= count {

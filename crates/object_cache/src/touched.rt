@@ -3,7 +3,7 @@ ghost use Rattle.std.specs.Prelude.{◌≡◌, ◌+◌, ◌<◌, IsTrue, length,
 ghost use Rattle.std.specs.List.{All};
 ghost use Rattle.model.specs.Machine.{touching, touched_count};
 
-use number_set::NumberSet;
+use collections::NumberSet;
 
 /// Whether all numbers of a list are marked.
 pub(crate) fn are_ready(touched: &NumberSet, written: &[u64]) -> bool

@@ -1,8 +1,7 @@
 -- The names that the proofs here cite: of other crates, and of the definitions of this one.
 pub use Rattle.capability.proofs.FrameLists.{length_objects}
 pub use Rattle.capability.specs.Parts.{OnlyFetches, objects_in}
-pub use Rattle.confinement.proofs.Runs.{run_confined}
-pub use Rattle.confinement.specs.Confinement.{AreBy, IsKept, with_free}
+pub use Rattle.collections.specs.Marks.{is_marked}
 pub use Rattle.model.specs.Capability.{IsWeak, named}
 pub use Rattle.model.specs.Closed.{IsClosed, StaysInside}
 unfoldable pub use Rattle.model.specs.Frame.{frames_in, objects_of}
@@ -17,13 +16,13 @@ pub use Rattle.model.specs.declared.frame.ObjectHeader.{ObjectHeader}
 pub use Rattle.model.specs.declared.object.Content.{Content}
 pub use Rattle.model.specs.declared.object.Object.{Object}
 pub use Rattle.model.specs.declared.object.Root.{Root}
-pub use Rattle.number_set.specs.Marks.{is_marked}
-pub use Rattle.script.proofs.Fronts.{text_fails, writes_after, writes_fail}
-pub use Rattle.script.specs.Writing.{Writes}
+pub use Rattle.model_laws.proofs.ConfinedRuns.{run_confined}
+pub use Rattle.model_laws.specs.Confinement.{AreBy, IsKept, with_free}
+pub use Rattle.script.proofs.Fronts.{text_fails, writes_after, writes_fail, wrote_trans}
+pub use Rattle.script.specs.Writing.{Writes, Wrote}
 pub use Rattle.std.proofs.Common.{Bool, Err, List, None, Option, Some, Vec, [], add-one, ap, append-nil, append_assoc, arith, codes, decimal, drop, false}
 pub use Rattle.std.proofs.Common.{get_or, inl, inr, is_some, length, length-set, length-take-le, max, nat_eq, nat_lt, not, option_and_then, refl, replicate}
 pub use Rattle.std.proofs.Common.{reverse, rules, slice_set, subst, suc, sym, take, true, zero, ℕ, ⊎_elim}
-pub use Rattle.std.proofs.KnownBytes.{Appends-trans}
 pub use Rattle.std.proofs.Math.Seq.{take-suc}
 pub use Rattle.std.proofs.lemmas.Bool.{cases_eq, cases_lt}
 pub use Rattle.std.proofs.lemmas.Bool.Decides.{nat_tests}
@@ -32,7 +31,6 @@ pub use Rattle.std.proofs.lemmas.List.{get_or-set_other, get_or-set_same, get_or
 pub use Rattle.std.proofs.lemmas.List.{take-append-drop, take_all, take_more}
 pub use Rattle.std.proofs.lemmas.Option.{same_Some}
 pub use Rattle.std.proofs.lemmas.Result.{err_from_is_err_and}
-pub use Rattle.std.specs.Io.KnownBytes.{Appends}
 pub use Rattle.std.specs.List.{All, Contains, count_by, enumerate_from, find, flat_map}
 pub use Rattle.std.specs.Prelude.{IsTrue, slice_index_or}
 pub use Rattle.std.specs.declared.alloc.Global.{Global}

@@ -1,5 +1,5 @@
 -- The names of other crates that the definitions here cite.
-pub use Rattle.confinement.specs.Confinement.{AreBy, IsKept, with_free}
+pub use Rattle.collections.specs.Marks.{is_marked}
 pub use Rattle.model.specs.Capability.{IsWeak, named}
 pub use Rattle.model.specs.Closed.{IsClosed, StaysInside}
 pub use Rattle.model.specs.Machine.{Running, Up, touched_count}
@@ -14,7 +14,7 @@ pub use Rattle.model.specs.declared.capability.Capability.TheVariants.{Bank, Pro
 pub use Rattle.model.specs.declared.geometry.Geometry.{Geometry}
 pub use Rattle.model.specs.declared.object.Content.{Content}
 pub use Rattle.model.specs.declared.object.Object.{Object}
-pub use Rattle.number_set.specs.Marks.{is_marked}
+pub use Rattle.model_laws.specs.Confinement.{AreBy, IsKept, with_free}
 pub use Rattle.std.specs.List.{All, Contains, count_by, enumerate_from, flat_map}
 pub use Rattle.std.specs.Prelude.{Bool, IsTrue, List, None, Option, Some, Vec, [], codes, decimal, false, length, not}
 pub use Rattle.std.specs.Prelude.{slice_index_or, true, ℕ}

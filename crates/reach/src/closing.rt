@@ -1,13 +1,13 @@
 // The least closed set.
 ghost use Rattle.std.specs.Prelude.{◌≡◌, ◌<◌, length, IfOk};
 ghost use Rattle.std.specs.List.{All};
-ghost use Rattle.number_set.specs.Marks.{is_marked};
+ghost use Rattle.collections.specs.Marks.{is_marked};
 ghost use Rattle.reach.specs.Reached.{AreSoundObjects, BoundsRuns, IsReach};
 
 use crate::following::follow_member;
 use crate::frontier::Frontier;
+use collections::NumberSet;
 use model::Object;
-use number_set::NumberSet;
 use std::alloc::{AllocError, Global};
 
 /// The least closed set that contains the numbers `starts`, in a sound world. A closed set contains

@@ -11,8 +11,7 @@ ghost use Rattle.reach.specs.declared.step.Way.TheVariants.{Owner};
 use crate::printing::{line_of_held, line_of_object};
 use crate::step::{Step, Way};
 use model::{Content, Object};
-use script::{LineText, RunFault};
-use std::io::Write;
+use script::{LineText, Output, RunFault};
 
 // What an object is called.
 fn kind_at(objects: &[Object], number: u64) -> &'static [u8]
@@ -83,8 +82,12 @@ fn line_of_step(objects: &[Object], step: Step) -> LineText
 }
 
 // Writes the lines of steps.
-fn print_steps<W: Write>(objects: &[Object], steps: &[Step], writer: &mut W) -> Result<(), RunFault>
-    ensures { Writes (W.contents writer.old) (W.contents writer.new) result
+fn print_steps<W: Output>(
+    objects: &[Object],
+    steps: &[Step],
+    writer: &mut W,
+) -> Result<(), RunFault>
+    ensures { Writes (W.written writer.old) (W.written writer.new) result
         (flat_map (step_line objects.now) steps.now) }
 {
     for step in steps {
@@ -94,8 +97,8 @@ fn print_steps<W: Write>(objects: &[Object], steps: &[Step], writer: &mut W) -> 
 }
 
 // Writes the line of an object.
-fn print_object<W: Write>(objects: &[Object], number: u64, writer: &mut W) -> Result<(), RunFault>
-    ensures { Writes (W.contents writer.old) (W.contents writer.new) result
+fn print_object<W: Output>(objects: &[Object], number: u64, writer: &mut W) -> Result<(), RunFault>
+    ensures { Writes (W.written writer.old) (W.written writer.new) result
         (line_of (spaced (words_of number (object_at objects.now number)))) }
 {
     match objects.get(number as usize) {
@@ -105,13 +108,13 @@ fn print_object<W: Write>(objects: &[Object], number: u64, writer: &mut W) -> Re
 }
 
 // Writes the lines of a chain to an object.
-fn print_to<W: Write>(
+fn print_to<W: Output>(
     objects: &[Object],
     object: u64,
     steps: &[Step],
     writer: &mut W,
 ) -> Result<(), RunFault>
-    ensures { Writes (W.contents writer.old) (W.contents writer.new) result
+    ensures { Writes (W.written writer.old) (W.written writer.new) result
         (steps_text objects.now steps.now object) }
 {
     print_steps(objects, steps, writer)?;
@@ -123,13 +126,13 @@ fn print_to<W: Write>(
 ///
 /// `RunFault::Write` if the writer fails or takes nothing: then a beginning of that text was written.
 /// It takes no memory.
-pub fn print_chain<W: Write>(
+pub fn print_chain<W: Output>(
     objects: &[Object],
     object: u64,
     chain: &Option<Vec<Step>>,
     writer: &mut W,
 ) -> Result<(), RunFault>
-    ensures { Writes (W.contents writer.old) (W.contents writer.new) result
+    ensures { Writes (W.written writer.old) (W.written writer.new) result
         (chain_text objects.now object chain.now) }
 {
     match chain {

@@ -4,7 +4,7 @@ ghost use Rattle.std.specs.List.{All};
 ghost use Rattle.model.specs.Closed.{StaysInside};
 ghost use Rattle.model.specs.Object.{is_free};
 ghost use Rattle.model.specs.World.{content_at, owner_at};
-ghost use Rattle.number_set.specs.Marks.{is_marked};
+ghost use Rattle.collections.specs.Marks.{is_marked};
 ghost use Rattle.reach.specs.Frontier.{Grows, IsWithin, NamesWithin};
 ghost use Rattle.reach.specs.Reached.{AreSoundObjects, IsClosedAt};
 

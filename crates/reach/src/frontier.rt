@@ -1,10 +1,10 @@
 // Numbers that were found, and those that are still to be followed.
 ghost use Rattle.std.specs.Prelude.{◌≡◌, ℕ, length, true};
-ghost use Rattle.number_set.specs.Marks.{is_marked};
+ghost use Rattle.collections.specs.Marks.{is_marked};
 
 use crate::authority::authority;
+use collections::NumberSet;
 use model::Capability;
-use number_set::NumberSet;
 use std::alloc::{AllocError, Global};
 
 /// The numbers that were found, and which of them are still to be followed.
@@ -19,7 +19,7 @@ pub(crate) struct Frontier {
 impl Frontier {
     ghost use Rattle.std.specs.Prelude.{◌≡◌, ℕ, ◌<◌, Bool, None, length, replicate, false, IfOk, IfSome, IsTrue};
     ghost use Rattle.model.specs.Closed.{StaysInside};
-    ghost use Rattle.number_set.specs.Marks.{is_marked};
+    ghost use Rattle.collections.specs.Marks.{is_marked};
     ghost use Rattle.reach.specs.Frontier.{Grows, HasNoneLeft, IsWithin, NamesWithin, Takes};
 
     /// None of `count` numbers. Fails only where memory runs out.

@@ -8,10 +8,9 @@ ghost use Rattle.script.specs.Writing.{Writes};
 ghost use Rattle.reach.specs.Lines.{held_text, member_line, member_pulls, object_pulls, pull_line, pull_lines, pulls};
 ghost use Rattle.reach.specs.Lines.{reach_text, words_of};
 
+use collections::NumberSet;
 use model::{Capability, Content, Object};
-use number_set::NumberSet;
-use script::{LineText, RunFault};
-use std::io::Write;
+use script::{LineText, Output, RunFault};
 
 // Begins the line of an object.
 fn begin(name: &[u8], number: u64, owner: u64) -> LineText
@@ -49,14 +48,14 @@ pub(crate) fn line_of_object(number: u64, object: &Object) -> LineText
 }
 
 // Writes the line of a member.
-fn print_member<W: Write>(
+fn print_member<W: Output>(
     inside: &NumberSet,
     number: usize,
     object: &Object,
     writer: &mut W,
 ) -> Result<(), RunFault>
     requires { number < length inside.now }
-    ensures { Writes (W.contents writer.old) (W.contents writer.new) result
+    ensures { Writes (W.written writer.old) (W.written writer.new) result
         (member_line inside.now (number, object.now)) }
 {
     if !inside.contains(number) {
@@ -100,7 +99,7 @@ pub(crate) fn line_of_held(
 }
 
 // Writes the line of a capability that pulls in another process or another bank.
-fn print_pull<W: Write>(
+fn print_pull<W: Output>(
     name: &[u8],
     number: u64,
     place: &[u8],
@@ -110,7 +109,7 @@ fn print_pull<W: Write>(
 ) -> Result<(), RunFault>
     requires name { length name.now ≤ 8 }
     requires place { length place.now ≤ 8 }
-    ensures { Writes (W.contents writer.old) (W.contents writer.new) result
+    ensures { Writes (W.written writer.old) (W.written writer.new) result
         (pull_line name.now number place.now (index, capability)) }
 {
     if !pulls(number, capability) {
@@ -120,13 +119,13 @@ fn print_pull<W: Write>(
 }
 
 // Writes the lines of the members.
-fn print_members<W: Write>(
+fn print_members<W: Output>(
     objects: &[Object],
     inside: &NumberSet,
     writer: &mut W,
 ) -> Result<(), RunFault>
     requires { length inside.now ≡ length objects.now }
-    ensures { Writes (W.contents writer.old) (W.contents writer.new) result
+    ensures { Writes (W.written writer.old) (W.written writer.new) result
         (flat_map (member_line inside.now) (enumerate_from 0 objects.now)) }
 {
     for (number, object) in objects.iter().enumerate() {
@@ -136,7 +135,7 @@ fn print_members<W: Write>(
 }
 
 // Writes the lines of the capabilities of an object that pull in processes and banks.
-fn print_pulls<W: Write>(
+fn print_pulls<W: Output>(
     name: &[u8],
     number: u64,
     place: &[u8],
@@ -145,7 +144,7 @@ fn print_pulls<W: Write>(
 ) -> Result<(), RunFault>
     requires name { length name.now ≤ 8 }
     requires place { length place.now ≤ 8 }
-    ensures { Writes (W.contents writer.old) (W.contents writer.new) result
+    ensures { Writes (W.written writer.old) (W.written writer.new) result
         (pull_lines name.now number place.now capabilities.now) }
 {
     for (index, capability) in capabilities.iter().enumerate() {
@@ -168,13 +167,13 @@ pub(crate) fn slots_of(objects: &[Object], number: u64) -> &[Capability]
 }
 
 // Writes what an object pulls in: a process by the registers of its annex.
-fn print_object_pulls<W: Write>(
+fn print_object_pulls<W: Output>(
     objects: &[Object],
     number: u64,
     object: &Object,
     writer: &mut W,
 ) -> Result<(), RunFault>
-    ensures { Writes (W.contents writer.old) (W.contents writer.new) result
+    ensures { Writes (W.written writer.old) (W.written writer.new) result
         (object_pulls objects.now number object.now) }
 {
     match &object.content {
@@ -188,7 +187,7 @@ fn print_object_pulls<W: Write>(
 }
 
 // Writes what a member pulls in.
-fn print_member_pulls<W: Write>(
+fn print_member_pulls<W: Output>(
     objects: &[Object],
     inside: &NumberSet,
     number: usize,
@@ -196,7 +195,7 @@ fn print_member_pulls<W: Write>(
     writer: &mut W,
 ) -> Result<(), RunFault>
     requires { number < length inside.now }
-    ensures { Writes (W.contents writer.old) (W.contents writer.new) result
+    ensures { Writes (W.written writer.old) (W.written writer.new) result
         (member_pulls objects.now inside.now (number, object.now)) }
 {
     if !inside.contains(number) {
@@ -206,13 +205,13 @@ fn print_member_pulls<W: Write>(
 }
 
 // Writes what the members pull in.
-fn print_all_pulls<W: Write>(
+fn print_all_pulls<W: Output>(
     objects: &[Object],
     inside: &NumberSet,
     writer: &mut W,
 ) -> Result<(), RunFault>
     requires { length inside.now ≡ length objects.now }
-    ensures { Writes (W.contents writer.old) (W.contents writer.new) result
+    ensures { Writes (W.written writer.old) (W.written writer.new) result
         (flat_map (member_pulls objects.now inside.now) (enumerate_from 0 objects.now)) }
 {
     for (number, object) in objects.iter().enumerate() {
@@ -240,13 +239,13 @@ fn count_members(inside: &NumberSet, total: usize) -> u64
 ///
 /// `RunFault::Write` if the writer fails or takes nothing: then a beginning of that text was written.
 /// It takes no memory.
-pub fn print_reach<W: Write>(
+pub fn print_reach<W: Output>(
     objects: &[Object],
     inside: &NumberSet,
     writer: &mut W,
 ) -> Result<(), RunFault>
     requires { length inside.now ≡ length objects.now }
-    ensures { Writes (W.contents writer.old) (W.contents writer.new) result
+    ensures { Writes (W.written writer.old) (W.written writer.new) result
         (reach_text objects.now inside.now) }
 {
     print_members(objects, inside, writer)?;

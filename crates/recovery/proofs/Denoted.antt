@@ -1,18 +1,9 @@
 -- An image denotes at most one saved part, and one that denotes a saved part isn't bad.
-use Rattle.std.proofs.Common.{◌≡◌, ℕ, zero, suc, List, [], ◌∷◌, refl, sym, ap, subst, ◌∙◌, ⊎_elim, inl, arith}
-use Rattle.std.specs.List.{Contains}
-use Rattle.model.specs.declared.geometry.Geometry.{Geometry}
-use Rattle.model.specs.Machine.{Saved}
-use Rattle.model.specs.Sound.{IsSound}
-use Rattle.device.specs.Disk.{Image, Disk}
-use Rattle.layout.specs.declared.bad_image.BadImage.{BadImage}
-use Rattle.layout.proofs.Images.{one_state}
-use Rattle.checkpoint.specs.Saved.{SavedFrames, Holds, kept_of}
-use Rattle.consistency.proofs.Unsound.{inconsistent_is_unsound}
-use Rattle.layout.proofs.Denoted.{frames_not_bad}
-use Rattle.recovery.specs.Denotes.{saved_of, IsSoundSaved, Denotes, DenotesOne, Leaves}
-use Rattle.recovery.specs.Laws.{DenoteOneSaved, DenotedIsNotBad, DenotedIsOneOf, DenotedIsSound}
-use Rattle.recovery.specs.Recovered.{IsBad}
+use Rattle.recovery.proofs.Names.{ℕ, zero, suc, List, [], refl, sym, ap, subst, ⊎_elim, inl, arith, Contains, Geometry, Saved, IsSound, Image, Disk, BadImage}
+use Rattle.recovery.proofs.Names.{one_state, SavedFrames, Holds, kept_of, frames_not_bad, saved_of, IsSoundSaved, Denotes, DenotesOne, Leaves, DenoteOneSaved}
+use Rattle.recovery.proofs.Names.{DenotedIsNotBad, DenotedIsOneOf, DenotedIsSound, IsBad}
+use Rattle.std.proofs.Common.{◌≡◌, ◌∷◌, ◌∙◌}
+use Rattle.recovery.proofs.Unsound.{inconsistent_is_unsound}
 
 -- frames that are held are denoted
 pub denoted_by : (g : Geometry) (size : ℕ) (c : Image) (fs : SavedFrames) → IsSoundSaved g fs → Holds size c fs → Denotes g size c (saved_of fs)

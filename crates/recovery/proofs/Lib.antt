@@ -1,3 +1,14 @@
+mod Names
+pub mod Looking
+pub mod Named
+pub mod Notes
+pub mod Sound
+mod Standing
+pub mod Tables
+mod Taking
+mod Trees
+pub mod BankFaults
+pub mod Unsound
 pub mod Denoted
 mod Recovered
 pub mod Renewed

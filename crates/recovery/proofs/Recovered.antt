@@ -1,34 +1,12 @@
 -- A device that was opened, and one that was refused.
-use Rattle.std.proofs.Common.{◌≡◌, ◌↔◌, ℕ, ◌<◌, ◌≤◌, Bool, Option, None, Some, List, refl, sym, ap, ◌∙◌, subst}
-use Rattle.std.proofs.Common.{inr, arith}
-use Rattle.std.specs.Prelude.{Result, Ok, Err, IsErrOf}
-use Rattle.model.specs.declared.frame.Frame.{Frame}
-use Rattle.model.specs.declared.frame.ObjectHeader.{ObjectHeader}
-use Rattle.model.specs.declared.geometry.Geometry.{Geometry}
-use Rattle.model.specs.Frame.{frames_in, objects_of}
-use Rattle.model.specs.Keepable.{IsSoundFrames, world_at}
-use Rattle.model.specs.Machine.{Frozen, Saved, opened, touched_count, untouched}
-use Rattle.model.specs.World.{World}
-use Rattle.device.specs.Calls.{Only}
-use Rattle.device.specs.Disk.{Image, Disk}
-use Rattle.device.specs.Moments.{Peeks}
-use Rattle.device.proofs.Moments.{CountsNow, ends, leaves_on, leaves_weaker}
-use Rattle.layout.specs.declared.bad_image.BadImage.{BadImage}
-use Rattle.checkpoint.specs.declared.open_fault.OpenFault.{OpenFault}
+use Rattle.recovery.proofs.Names.{ℕ, Bool, Option, None, Some, List, refl, sym, ap, subst, inr, arith, Result, Ok, Err, IsErrOf, Frame, ObjectHeader, Geometry}
+use Rattle.recovery.proofs.Names.{frames_in, objects_of, IsSoundFrames, world_at, Frozen, Saved, opened, touched_count, untouched, World, Only, Image, Disk}
+use Rattle.recovery.proofs.Names.{Peeks, CountsNow, ends, leaves_on, leaves_weaker, BadImage, OpenFault, OnlyReads, Holds, OnlyFetches, Parts, frames_of}
+use Rattle.recovery.proofs.Names.{objects_in, untouched_count, Snapshots, FrozenFrames, Continues, OpensStore, View, unrisen, AreCounted, BanksState}
+use Rattle.recovery.proofs.Names.{IsInconsistent, Live, saved_of, IsSoundSaved, IsWhy, Recovers, RefusesToOpen, AreSoundTogether, base_of, frozen_of}
+use Rattle.recovery.proofs.Names.{renewed_since, running}
+use Rattle.std.proofs.Common.{◌≡◌, ◌↔◌, ◌<◌, ◌≤◌, ◌∙◌}
 use Rattle.checkpoint.specs.declared.open_fault.OpenFault.TheVariants as fault
-use Rattle.checkpoint.specs.Opened.{OnlyReads}
-use Rattle.checkpoint.specs.Saved.{Holds}
-use Rattle.capability.specs.Parts.{OnlyFetches, Parts, frames_of, objects_in}
-use Rattle.capability.proofs.Untouched.{untouched_count}
-use Rattle.checkpoint.specs.Snapshots.{Snapshots}
-use Rattle.object_store.specs.Store.{FrozenFrames, Continues, OpensStore, View}
-use Rattle.space_bank.proofs.Renewing.{unrisen}
-use Rattle.space_bank.specs.Banks.{AreCounted, BanksState}
-use Rattle.consistency.specs.Consistency.{IsInconsistent}
-use Rattle.recovery.specs.declared.live.Live.{Live}
-use Rattle.recovery.specs.Denotes.{saved_of, IsSoundSaved}
-use Rattle.recovery.specs.Recovered.{IsWhy, Recovers, RefusesToOpen}
-use Rattle.recovery.specs.Live.{AreSoundTogether, base_of, frozen_of, renewed_since, running}
 use Rattle.recovery.proofs.Denoted.{leaves_saved}
 use Rattle.recovery.proofs.Renewed.{allocations_at, base_saved, none_renewed}
 

@@ -1,15 +1,8 @@
 -- Which numbers were renewed since the last checkpoint or restart, by their counts of allocations.
-use Rattle.std.proofs.Common.{◌≡◌, ℕ, ◌+◌, ◌<◌, ◌==◌, Bool, false, not, Option, None, Some, List, length, replicate, slice_index_or, refl, ap, ◌∙◌, sym, arith}
-use Rattle.std.proofs.lemmas.Bool.{eq-eqb}
-use Rattle.std.proofs.lemmas.List.{ext_get_or, get_or-replicate, length-replicate}
-use Rattle.std.proofs.lemmas.List.FromFn.{get_or-map-range_with_len, length-map-range_with_len}
-use Rattle.model.specs.declared.frame.Frame.{Frame}
-use Rattle.model.specs.declared.geometry.Geometry.{Geometry}
-use Rattle.model.specs.Frame.{frame_at}
-use Rattle.model.specs.Machine.{untouched}
-use Rattle.checkpoint.specs.Snapshots.{Snapshots}
-use Rattle.object_store.specs.Store.{FrozenFrames}
-use Rattle.recovery.specs.Live.{base_of, renewed_since}
+use Rattle.recovery.proofs.Names.{ℕ, Bool, false, not, Option, None, Some, List, length, replicate, slice_index_or, refl, ap, sym, arith, eq-eqb, ext_get_or}
+use Rattle.recovery.proofs.Names.{get_or-replicate, length-replicate, get_or-map-range_with_len, length-map-range_with_len, Frame, Geometry, frame_at}
+use Rattle.recovery.proofs.Names.{untouched, Snapshots, FrozenFrames, base_of, renewed_since}
+use Rattle.std.proofs.Common.{◌≡◌, ◌+◌, ◌<◌, ◌==◌, ◌∙◌}
 
 -- the count of allocations of a number, among frames
 abbrev pub allocations_at : List Frame → ℕ → ℕ

@@ -1,4 +1,8 @@
+pub use Rattle.space_bank.specs.Banks
 pub mod Names
+pub mod Consistency
+pub mod Noted
+pub mod ConsistencyLaws
 pub mod Denotes
 pub mod Live
 pub mod Recovered

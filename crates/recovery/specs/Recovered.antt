@@ -1,7 +1,8 @@
 -- The outcomes of opening a device.
 use Rattle.recovery.specs.Names.{ℕ, opened, Only, Image, Disk, BadImage, IsBadBy, OpenFault, OnlyReads, SavedFrames}
-use Rattle.recovery.specs.Names.{Holds, Parts, frames_of, View, IsInconsistent}
+use Rattle.recovery.specs.Names.{Holds, Parts, frames_of, View}
 use Rattle.std.specs.Prelude.{◌≡◌, ◌⊎◌, ◌<◌}
+use Rattle.recovery.specs.Consistency.{IsInconsistent}
 use Rattle.checkpoint.specs.declared.open_fault.OpenFault.TheVariants as fault
 use Rattle.recovery.specs.declared.live.Live.{Live}
 use Rattle.recovery.specs.Denotes.{saved_of}

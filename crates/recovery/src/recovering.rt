@@ -3,16 +3,15 @@ ghost use Rattle.std.specs.Prelude.{◌↔◌, ◌<◌, ◌≤◌, ◌^◌, IfOk
 ghost use Rattle.model.specs.Keepable.{AreKeepable, IsSoundFrames};
 ghost use Rattle.capability.specs.Parts.{OnlyFetches, frames_of, objects_in};
 ghost use Rattle.space_bank.specs.Banks.{AreCounted};
-ghost use Rattle.consistency.specs.Consistency.{IsInconsistent};
+ghost use Rattle.recovery.specs.Consistency.{IsInconsistent};
 ghost use Rattle.recovery.specs.Recovered.{Recovers, RefusesToOpen};
 
 use crate::live::Live;
+use crate::{check, opening_fault};
 use capability::Frames;
-use checkpoint::{OpenFault, OpenRefused};
-use consistency::{check, opening_fault};
+use checkpoint::{ObjectStore, OpenFault, OpenRefused};
 use device::Device;
 use layout::BadImage;
-use object_store::ObjectStore;
 use space_bank::Banks;
 use std::alloc::Global;
 

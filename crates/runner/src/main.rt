@@ -2,27 +2,34 @@
 #![tactic(auto)]
 
 ghost use Rattle.std.specs.Prelude.{◌≡◌, IfOk};
-ghost use Rattle.file_device.specs.FileDevice.{file_disk};
+ghost use Rattle.devices.specs.FileDevice.{file_disk};
 
+use checkpoint::ObjectStore;
 use command_line::{Job, JobFault, Script, job};
 use device::{Device, MAX_SECTORS};
-use file_device::{FileDevice, FileFault};
+use devices::{FileDevice, FileFault, Fuse};
 use image_builder::{Blueprint, OldImage};
 use jobs::{
     Fault, Focus, ShellInput, Sizes, build_image, check_image, describe_image, draw_image,
     explain_description, explain_image, finish, info_image, reach_image, run_image, run_shell,
     run_traced, upgrade_opened,
 };
-use memory_device::Fuse;
 use object_cache::{BoundedCache, Capacity, PlainStore};
-use object_store::ObjectStore;
 use runs::{ScriptReader, TraceOptions, Tracer};
+use script::{BufferedOutput, CountedWriter};
+use std::alloc::Global;
 use std::fmt::Display;
 use std::fs::{self, File};
-use std::io::{self, BufWriter, ErrorKind, IsTerminal, Read, Stderr, Stdout, Write};
+use std::io::{self, BufWriter, ErrorKind, IsTerminal, Read, Stderr, Stdout};
 use std::os::unix::fs::{FileTypeExt, MetadataExt};
 use std::process::ExitCode;
 use toml::Table;
+
+// Standard output, behind a buffer.
+type StandardOutput = BufferedOutput<Stdout, Global>;
+
+// Standard error.
+type StandardError = CountedWriter<Stderr>;
 
 // The fault where the system refused something: that memory ran out, or something else.
 fn of_io(error: &io::Error, otherwise: Fault) -> Fault {
@@ -87,8 +94,16 @@ fn create(rt: &HostRuntime, sectors: u64, source: &str, path: &str) -> Result<Fi
 }
 
 // What standard output is written through.
-fn output(rt: &HostRuntime) -> Result<BufWriter<Stdout>, Fault> {
-    BufWriter::new(rt.alloc(), rt.stdout()).map_err(|_| Fault::NoMemory)
+fn output(rt: &HostRuntime) -> Result<StandardOutput, Fault> {
+    match BufWriter::new(rt.alloc(), rt.stdout()) {
+        Ok(buffer) => Ok(BufferedOutput::new(buffer)),
+        Err(_) => Err(Fault::NoMemory),
+    }
+}
+
+// Standard error.
+fn errors_of(rt: &HostRuntime) -> StandardError {
+    CountedWriter::new(rt.stderr())
 }
 
 // The device of an image that is there.
@@ -128,8 +143,8 @@ fn build(
     rt: &HostRuntime,
     description: &str,
     image: &str,
-    writer: &mut BufWriter<Stdout>,
-    errors: &mut Stderr,
+    writer: &mut StandardOutput,
+    errors: &mut StandardError,
 ) -> Result<u8, Fault> {
     let blueprint = read_blueprint(rt, description)?;
     let mut device = create(rt, blueprint.sectors(), description, image)?;
@@ -151,11 +166,11 @@ fn trace_by<D: Device + Drop, S: ObjectStore<D>, R: Read + Drop>(
     setting: S::Setting,
     script: R,
     options: TraceOptions,
-    writer: &mut BufWriter<Stdout>,
-    errors: &mut Stderr,
+    writer: &mut StandardOutput,
+    errors: &mut StandardError,
 ) -> u8 {
     let mut script = ScriptReader::new(script);
-    let mut tracer = Tracer::new(rt.stderr(), options);
+    let mut tracer = Tracer::new(errors_of(rt), options);
     let done = run_traced::<D, S, _, _, _, _>(
         rt.alloc(),
         device,
@@ -175,11 +190,11 @@ fn shell_by<D: Device + Drop, S: ObjectStore<D>, R: Read + Drop>(
     device: D,
     setting: S::Setting,
     lines: R,
-    writer: &mut BufWriter<Stdout>,
-    errors: &mut Stderr,
+    writer: &mut StandardOutput,
+    errors: &mut StandardError,
 ) -> u8 {
     let is_prompting = rt.stdin().is_terminal() && rt.stderr().is_terminal();
-    let mut input = ShellInput::new(lines, rt.stderr(), is_prompting);
+    let mut input = ShellInput::new(lines, errors_of(rt), is_prompting);
     let done = run_shell::<D, S, _, _, _>(rt.alloc(), device, setting, &mut input, writer, errors);
     done.status
 }
@@ -191,8 +206,8 @@ fn run_by<D: Device + Drop, S: ObjectStore<D>, R: Read + Drop>(
     setting: S::Setting,
     script: R,
     mode: Mode,
-    writer: &mut BufWriter<Stdout>,
-    errors: &mut Stderr,
+    writer: &mut StandardOutput,
+    errors: &mut StandardError,
 ) -> u8 {
     match mode {
         Mode::Plain => {
@@ -221,8 +236,8 @@ fn run_on<D: Device + Drop, R: Read + Drop>(
     cache: Option<Capacity>,
     script: R,
     mode: Mode,
-    writer: &mut BufWriter<Stdout>,
-    errors: &mut Stderr,
+    writer: &mut StandardOutput,
+    errors: &mut StandardError,
 ) -> u8 {
     match cache {
         Some(capacity) => {
@@ -239,8 +254,8 @@ fn run_script<D: Device + Drop>(
     script: &Script<'_>,
     cache: Option<Capacity>,
     mode: Mode,
-    writer: &mut BufWriter<Stdout>,
-    errors: &mut Stderr,
+    writer: &mut StandardOutput,
+    errors: &mut StandardError,
 ) -> Result<u8, Fault> {
     match script {
         Script::Input => Ok(run_on(rt, device, cache, rt.stdin(), mode, writer, errors)),
@@ -259,8 +274,8 @@ fn run(
     cache: Option<Capacity>,
     mode: Mode,
     stop_after: Option<u64>,
-    writer: &mut BufWriter<Stdout>,
-    errors: &mut Stderr,
+    writer: &mut StandardOutput,
+    errors: &mut StandardError,
 ) -> Result<u8, Fault> {
     let device = open(rt, image)?;
     match stop_after {
@@ -276,8 +291,8 @@ fn run(
 fn check(
     rt: &HostRuntime,
     image: &str,
-    writer: &mut BufWriter<Stdout>,
-    errors: &mut Stderr,
+    writer: &mut StandardOutput,
+    errors: &mut StandardError,
 ) -> Result<u8, Fault> {
     let device = open_to_read(rt, image)?;
     let done = check_image(rt.alloc(), device, writer, errors);
@@ -290,8 +305,8 @@ fn upgrade(
     rt: &HostRuntime,
     old: &str,
     new: &str,
-    writer: &mut BufWriter<Stdout>,
-    errors: &mut Stderr,
+    writer: &mut StandardOutput,
+    errors: &mut StandardError,
 ) -> Result<u8, Fault> {
     let device = open_to_read(rt, old)?;
     let image = OldImage::open(rt.alloc(), device).map_err(Fault::Upgrade)?;
@@ -304,8 +319,8 @@ fn describe(
     rt: &HostRuntime,
     image: &str,
     sizes: Sizes,
-    writer: &mut BufWriter<Stdout>,
-    errors: &mut Stderr,
+    writer: &mut StandardOutput,
+    errors: &mut StandardError,
 ) -> Result<u8, Fault> {
     let device = open_to_read(rt, image)?;
     let done = describe_image(rt.alloc(), device, sizes, writer, errors);
@@ -317,8 +332,8 @@ fn draw(
     rt: &HostRuntime,
     image: &str,
     focus: Focus,
-    writer: &mut BufWriter<Stdout>,
-    errors: &mut Stderr,
+    writer: &mut StandardOutput,
+    errors: &mut StandardError,
 ) -> Result<u8, Fault> {
     let device = open_to_read(rt, image)?;
     let done = draw_image(rt.alloc(), device, focus, writer, errors);
@@ -329,8 +344,8 @@ fn draw(
 fn info(
     rt: &HostRuntime,
     image: &str,
-    writer: &mut BufWriter<Stdout>,
-    errors: &mut Stderr,
+    writer: &mut StandardOutput,
+    errors: &mut StandardError,
 ) -> Result<u8, Fault> {
     let device = open_to_read(rt, image)?;
     let done = info_image(rt.alloc(), device, writer, errors);
@@ -343,8 +358,8 @@ fn reach(
     image: &str,
     processes: &[u64],
     shows: Option<u64>,
-    writer: &mut BufWriter<Stdout>,
-    errors: &mut Stderr,
+    writer: &mut StandardOutput,
+    errors: &mut StandardError,
 ) -> Result<u8, Fault> {
     let device = open_to_read(rt, image)?;
     let done = reach_image(rt.alloc(), device, processes, shows, writer, errors);
@@ -372,8 +387,8 @@ fn capacity_of(cache: Option<u64>) -> Result<Option<Capacity>, u8> {
 }
 
 // Writes why a file can't be explained, and gives the status.
-fn refuse_file<C: Display + Drop>(file: &str, cause: C, errors: &mut Stderr) -> u8 {
-    let _reported = writeln!(errors, "eros: {file}: {cause}");
+fn refuse_file<C: Display + Drop>(rt: &HostRuntime, file: &str, cause: C) -> u8 {
+    let _reported = eprintln!(rt; "eros: {file}: {cause}");
     1
 }
 
@@ -381,16 +396,13 @@ fn refuse_file<C: Display + Drop>(file: &str, cause: C, errors: &mut Stderr) -> 
 fn explain_file(
     rt: &HostRuntime,
     image: &str,
-    writer: &mut BufWriter<Stdout>,
-    errors: &mut Stderr,
+    writer: &mut StandardOutput,
+    errors: &mut StandardError,
 ) -> Result<u8, Fault> {
     match FileDevice::open_to_read(rt, image) {
         Ok(device) => Ok(explain_image(rt.alloc(), device, writer, errors).status),
         Err(FileFault::NoMemory) => Err(Fault::NoMemory),
-        Err(fault) => {
-            let _reported = writeln!(errors, "eros: {image}: {fault}");
-            Ok(1)
-        }
+        Err(fault) => Ok(refuse_file(rt, image, fault)),
     }
 }
 
@@ -399,13 +411,13 @@ fn explain_file(
 fn explain_regular(
     rt: &HostRuntime,
     file: &str,
-    writer: &mut BufWriter<Stdout>,
-    errors: &mut Stderr,
+    writer: &mut StandardOutput,
+    errors: &mut StandardError,
 ) -> Result<u8, Fault> {
     let bytes = match fs::read(rt, file) {
         Ok(bytes) => bytes,
         Err(error) if error.kind() == ErrorKind::OutOfMemory => return Err(Fault::NoMemory),
-        Err(error) => return Ok(refuse_file(file, &error, errors)),
+        Err(error) => return Ok(refuse_file(rt, file, &error)),
     };
     match str::from_utf8(&bytes) {
         Ok(text) if !bytes.contains(&0) => {
@@ -420,20 +432,20 @@ fn explain_regular(
 fn explain(
     rt: &HostRuntime,
     file: &str,
-    writer: &mut BufWriter<Stdout>,
-    errors: &mut Stderr,
+    writer: &mut StandardOutput,
+    errors: &mut StandardError,
 ) -> Result<u8, Fault> {
     let kind = match fs::metadata(rt, file) {
         Ok(found) => found.file_type(),
         Err(error) if error.kind() == ErrorKind::OutOfMemory => return Err(Fault::NoMemory),
-        Err(error) => return Ok(refuse_file(file, &error, errors)),
+        Err(error) => return Ok(refuse_file(rt, file, &error)),
     };
     if kind.is_block_device() {
         explain_file(rt, file, writer, errors)
     } else if kind.is_file() {
         explain_regular(rt, file, writer, errors)
     } else {
-        Ok(refuse_file(file, "not a regular file", errors))
+        Ok(refuse_file(rt, file, "not a regular file"))
     }
 }
 
@@ -441,8 +453,8 @@ fn explain(
 fn serve(
     rt: &HostRuntime,
     job: &Job<'_>,
-    writer: &mut BufWriter<Stdout>,
-    errors: &mut Stderr,
+    writer: &mut StandardOutput,
+    errors: &mut StandardError,
 ) -> Result<u8, Fault> {
     match job {
         Job::Build { description, image } => build(rt, description, image, writer, errors),
@@ -496,7 +508,7 @@ fn serve(
 
 // Does a job, passes on what it wrote, and gives the status.
 fn serve_whole(rt: &HostRuntime, job: &Job<'_>) -> Result<u8, Fault> {
-    let (mut writer, mut errors) = (output(rt)?, rt.stderr());
+    let (mut writer, mut errors) = (output(rt)?, errors_of(rt));
     match serve(rt, job, &mut writer, &mut errors) {
         Ok(status) => Ok(finish(&mut writer, status, &mut errors)),
         Err(fault) => Err(fault),
@@ -554,7 +566,7 @@ fn main(rt: HostRuntime) -> ExitCode {
     let status = match work(&rt) {
         Ok(status) => status,
         Err(fault) => {
-            let _reported = fault.tell(&mut rt.stderr());
+            let _reported = fault.tell(&mut errors_of(&rt));
             1
         }
     };

@@ -1,7 +1,8 @@
 -- What a run over a kernel changes, where its lines are by processes of a closed set.
 use Rattle.runs.proofs.Names.{ℕ, Bool, List, [], Option, Ok, Err, ap, sym, subst, ⊎_elim, append-nil, Result, Consumes, All-cons, All-head, All-nil, All-tail}
 use Rattle.runs.proofs.Names.{Geometry, Line, Machine, Running, Up, Down, IsRun, Turn, lines_of, IsSound, Says, Disk, AreBy, IsLineBy, with_free, run_confined}
-use Rattle.runs.proofs.Names.{Parts, View, Power, Stands, RunFault, AreAll, AreFirst, AreLines, AreLinesBy, BeginsWith, Does, IsConfined, RunsOver, lines_in}
+use Rattle.runs.proofs.Names.{Written, Parts, View, Power, Stands, RunFault, AreAll, AreFirst, AreLines, AreLinesBy, BeginsWith, Does, IsConfined, RunsOver}
+use Rattle.runs.proofs.Names.{lines_in}
 use Rattle.std.proofs.Common.{◌≡◌, ◌∷◌, ◌++◌, ◌∙◌}
 use Rattle.kernel.specs.Power as power
 use Rattle.script.specs.declared.fault.RunFault.TheVariants as fault
@@ -27,7 +28,7 @@ all_or_with_rest : (text : List ℕ) (left : Option (List ℕ)) (lines : List (L
 all_or_with_rest text left lines are = ⊎_elim (λ some. with_rest text lines some.0 some.1) (λ whole. all_of text lines whole.1) are
 
 -- the lines that were taken are the first of the text that was read
-lines_read : (turns : List Turn) (input left output written : Option (List ℕ)) (result : Result (Unit {0}) RunFault) →
+lines_read : (turns : List Turn) (input left : Option (List ℕ)) (output written : Written) (result : Result (Unit {0}) RunFault) →
     Does turns input left output written result →
     (text : List ℕ) × Consumes input left text × AreOf text (lines_in turns)
 lines_read turns input left output written (Ok a) does = (does.0, does.1, all_of does.0 (lines_in turns) does.3)
@@ -63,7 +64,7 @@ module _ {D S : Type 0} (disk : D → Disk) (view : S → View D) (parts : S →
   sound_world g (power.Down d) s up = absurd up
   sound_world g power.Between s up = absurd up
 
-  pub run_is_confined : (old new : Power D S) (input left output written : Option (List ℕ)) (result : Result (Unit {0}) RunFault) →
+  pub run_is_confined : (old new : Power D S) (input left : Option (List ℕ)) (output written : Written) (result : Result (Unit {0}) RunFault) →
       RunsOver disk view parts old new input left output written result → IsConfined disk view parts old new input left
   run_is_confined old new input left output written result runs g s t first last =
       let made = runs g (Up s) first in

@@ -5,3 +5,6 @@ mod ScriptLines
 mod Tracing
 mod TurnLists
 mod Turning
+mod Agreeing
+mod ConfinedRuns
+mod Surviving

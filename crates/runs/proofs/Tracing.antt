@@ -2,11 +2,10 @@
 use Rattle.runs.proofs.Names.{ℕ, min, Bool, true, false, not, Option, None, Some, List, [], codes, refl, sym, ap, subst, IfNone, IfSome, Answer, Command}
 use Rattle.runs.proofs.Names.{Geometry, ResultCode, Reply, Nothing, BadLine, Reported, Turn, Says, line_of, spaced, says_one, LineFault, command_name}
 use Rattle.runs.proofs.Names.{IsFaultOf, Cause, Stop, Tracer, reported_code, Ends, EndsIf, IsCauseIn, IsCauseOf, IsOutcome, IsTrace, IsTraced, Notes, Sees}
-use Rattle.runs.proofs.Names.{cause_text, place_text}
+use Rattle.runs.proofs.Names.{cause_text, place_text, Written}
 use Rattle.std.proofs.Common.{◌≡◌, ◌+◌, ◌-◌, ◌^◌, ◌∷◌, ◌++◌, ◌∙◌}
 use Rattle.model.specs.declared.line.Line.TheVariants as line
 use Rattle.runs.specs.declared.cause.Cause.TheVariants as cause
-use Rattle.runs.proofs.TurnLists.{appends_none}
 
 -- ---- where a strict run ends
 
@@ -23,17 +22,17 @@ ended g t true (Some w) place on stop ends some none =
 
 -- ---- what is seen of a turn
 
-module _ {V : Type 0} (contents : V → Option (List ℕ)) (g : Geometry) (t : Turn) (old new : Tracer V) (on : Bool) where
-  module _ (place : ℕ) (text : List ℕ) (why : Option Cause) (noted : Notes contents place text why old new on) (next : place ≡ min (old.line + 1) (2 ^ 64 - 1))
+module _ {V : Type 0} (written : V → Written) (g : Geometry) (t : Turn) (old new : Tracer V) (on : Bool) where
+  module _ (place : ℕ) (text : List ℕ) (why : Option Cause) (noted : Notes written place text why old new on) (next : place ≡ min (old.line + 1) (2 ^ 64 - 1))
     where
       seen : IsTrace g place t t.reply (line_of text) → IfSome why (IsCauseOf g t) → IfNone why ((w : Cause) → IsCauseOf g t w → ⊥) →
-          Sees contents g t old new on
+          Sees written g t old new on
       seen trace some none = record {
         options = noted.options;
         place = noted.place ∙ next;
         text = line_of text;
         trace = subst (λ (p : ℕ). IsTrace g p t t.reply (line_of text)) (sym noted.place) trace;
-        written = noted.written;
+        traced = noted.traced;
         ends = subst (λ (p : ℕ). Ends g p t old.options.strict on new.stop) (sym noted.place)
             (ended g t old.options.strict why place on new.stop noted.ends some none);
       }
@@ -70,16 +69,16 @@ module _ {V : Type 0} (contents : V → Option (List ℕ)) (g : Geometry) (t : T
         no_causes (Some w) none = tt
 
         pub answer_seen : (outcome : List ℕ) → IsOutcome reported a outcome → text ≡ spaced (place_text place ∷ (command_name c ++ codes ":") ∷ outcome ∷ []) →
-            IfSome why (IsCauseIn a reported) → IfNone why ((w : Cause) → IsCauseIn a reported w → ⊥) → Sees contents g t old new on
+            IfSome why (IsCauseIn a reported) → IfNone why ((w : Cause) → IsCauseIn a reported w → ⊥) → Sees written g t old new on
         answer_seen outcome is spelt some none =
             seen (subst (λ (r : Reply). IsTrace g place t r (line_of text)) (sym reply)
             (c, says, outcome, subst (λ (k : Option ResultCode). IsOutcome k a outcome) (sym coded) is, ap line_of spelt)) (some_causes why some)
             (no_causes why none)
 
   -- a bad line
-  pub bad_seen : (place : ℕ) (text : List ℕ) (fault : LineFault) → Notes contents place text (Some (cause.BadLine fault)) old new on →
+  pub bad_seen : (place : ℕ) (text : List ℕ) (fault : LineFault) → Notes written place text (Some (cause.BadLine fault)) old new on →
       place ≡ min (old.line + 1) (2 ^ 64 - 1) →
-      t.reply ≡ BadLine → IsFaultOf t.line fault → text ≡ spaced (place_text place ∷ cause_text (cause.BadLine fault) ∷ []) → Sees contents g t old new on
+      t.reply ≡ BadLine → IsFaultOf t.line fault → text ≡ spaced (place_text place ∷ cause_text (cause.BadLine fault) ∷ []) → Sees written g t old new on
   bad_seen place text fault noted next reply is spelt =
       seen place text (Some (cause.BadLine fault)) noted next
       (subst (λ (r : Reply). IsTrace g place t r (line_of text)) (sym reply) (fault, is, ap line_of spelt)) (reply, is) tt

@@ -1,7 +1,7 @@
 -- Turns of a run, one after another, and what they write.
-use Rattle.runs.proofs.Names.{ℕ, List, [], Option, None, Some, refl, sym, ap, append_assoc, append-nil, Appends, Keeps, flat_map-append, Geometry, Machine}
-use Rattle.runs.proofs.Names.{Turn, IsTurn, IsRun, reply_text, output_of, lines_in}
-use Rattle.std.proofs.Common.{◌≡◌, ◌∷◌, ◌++◌, ◌∙◌}
+use Rattle.runs.proofs.Names.{ℕ, List, [], Option, None, Some, refl, sym, ap, subst, append-nil, Appends, Appends-trans, AppendsFront, Written, Wrote}
+use Rattle.runs.proofs.Names.{WroteFront, flat_map-append, Geometry, Machine, wrote_trans, Turn, IsTurn, IsRun, reply_text, output_of, lines_in}
+use Rattle.std.proofs.Common.{◌≡◌, ◌<◌, ◌∷◌, ◌++◌, ◌∙◌}
 
 -- one more turn
 pub run_more : (g : Geometry) (m : Machine) (ts : List Turn) (mid : Machine) (t : Turn) →
@@ -16,19 +16,27 @@ lines_more (u ∷ us) t = ap (λ (ls : List (List ℕ)). u.line ∷ ls) (lines_m
 pub output_more : (ts : List Turn) (t : Turn) → output_of (ts ++ t ∷ []) ≡ output_of ts ++ reply_text t.reply
 output_more ts t = simp (flat_map-append (λ (u : Turn). reply_text u.reply) ts (t ∷ []), append-nil)
 
--- what is known to be written, one text after another
-pub appends_more : (a b c : Option (List ℕ)) (x y : List ℕ) → Appends a b x → Appends b c y → Appends a c (x ++ y)
-appends_more None b c x y p q = tt
-appends_more (Some xs) None c x y p q = absurd p
-appends_more (Some xs) (Some ys) None x y p q = absurd q
-appends_more (Some xs) (Some ys) (Some zs) x y p q = q ∙ ap (λ (l : List ℕ). l ++ y) p ∙ append_assoc xs x y
-
-pub appends_none : (old : Option (List ℕ)) → Appends old old []
+-- no text is written where nothing changes
+appends_none : (old : Option (List ℕ)) → Appends old old []
 appends_none None = tt
 appends_none (Some xs) = sym (append-nil xs)
 
-pub appends_kept : (a b c : Option (List ℕ)) (x : List ℕ) → Appends a b x → Keeps b c → Appends a c x
-appends_kept None b c x p q = tt
-appends_kept (Some xs) None c x p q = absurd p
-appends_kept (Some xs) (Some ys) None x p q = absurd q
-appends_kept (Some xs) (Some ys) (Some zs) x p q = q ∙ p
+pub wrote_none : (old : Written) → Wrote old old []
+wrote_none old = record { taken = appends_none old.contents; none_failed = refl }
+
+-- what was written stays where nothing more is
+pub wrote_kept : (a b c : Written) (text : List ℕ) → Wrote a b text → Wrote b c [] → Wrote a c text
+wrote_kept a b c text wrote kept = subst (Wrote a c) (append-nil text) (wrote_trans a b c text [] wrote kept)
+
+nothing_in_front : (a b : Option (List ℕ)) → AppendsFront a b [] → Appends a b []
+nothing_in_front a b ([], rest, is, appends) = appends
+nothing_in_front a b (x ∷ xs, rest, is, appends) = cc
+
+-- a text was written, and then a call failed that was to pass it on
+pub wrote_and_failed : (a b c : Written) (text : List ℕ) → Wrote a b text → WroteFront b c [] →
+    Appends a.contents c.contents text × (a.failures < c.failures)
+wrote_and_failed a b c text wrote failed = (
+  subst (Appends a.contents c.contents) (append-nil text)
+      (Appends-trans a.contents b.contents c.contents text [] wrote.taken (nothing_in_front b.contents c.contents failed.taken)),
+  subst (λ (n : ℕ). n < c.failures) wrote.none_failed failed.failed,
+)

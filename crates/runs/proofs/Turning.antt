@@ -1,11 +1,12 @@
 -- Turns of a kernel, one after another.
 use Rattle.runs.proofs.Names.{ℕ, suc, take, drop, length, Bool, true, false, List, [], Option, None, Some, Ok, Err, refl, sym, ap, subst, ⊎_elim, inl, inr}
-use Rattle.runs.proofs.Names.{append_assoc, append-nil, arith, slice_index_or, IfErr, IsTrue, Result, Consumes-trans, Appends, Consumes, IsAtEnd, Keeps, Answer}
-use Rattle.runs.proofs.Names.{Command, Geometry, Line, ResultCode, Machine, Running, Saved, Up, Down, candidates, Reply, Nothing, BadLine, Reported, Turn}
-use Rattle.runs.proofs.Names.{Replies, lines_of, reply_text, output_of, second, Says, bad_line, Image, Disk, LeavesOnly, leaves_weaker, started, Parts, View}
-use Rattle.runs.proofs.Names.{Power, DenotesOne, saved_of, IsCaused, Serves, Stands, disk_of, RunFault, LineBuffer, Holds, IsOneLine, AppendsFront, AreFirst}
-use Rattle.runs.proofs.Names.{AreLines, AreSeen, AreTurnsOf, BeginsWith, Does, IsCutShort, IsLeftIn, IsRunOf, IsReportedBy, IsTurnOf, EndsBy, RunsOver}
-use Rattle.runs.proofs.Names.{RunsSeen, lines_in, tells_fault, reported_code, Ended, IsWritten, SoFar, Stopped, StopsBy, TakesLine, TakesTurn}
+use Rattle.runs.proofs.Names.{append_assoc, append-nil, arith, slice_index_or, IsTrue, Result, Appends-trans, Consumes-trans, Consumes, IsAtEnd, Answer}
+use Rattle.runs.proofs.Names.{ReadsPiece, Writes, Written, Wrote, WroteFront, wrote_trans, Command, Geometry, Line, ResultCode, Machine, Running, Saved, Up}
+use Rattle.runs.proofs.Names.{Down, candidates, Reply, Nothing, BadLine, Reported, Turn, Replies, lines_of, reply_text, output_of, second, Says, bad_line}
+use Rattle.runs.proofs.Names.{Image, Disk, LeavesOnly, leaves_weaker, started, Parts, View, Power, DenotesOne, saved_of, IsCaused, Serves, Stands, disk_of}
+use Rattle.runs.proofs.Names.{RunFault, LineBuffer, Holds, IsOneLine, AreFirst, AreLines, AreSeen, AreTurnsOf, BeginsWith, Does, IsCutShort, IsLeftIn, IsRunOf}
+use Rattle.runs.proofs.Names.{IsReportedBy, IsTurnOf, EndsBy, RunsOver, RunsSeen, lines_in, tells_fault, reported_code, Ended, IsWritten, SoFar, Stopped}
+use Rattle.runs.proofs.Names.{StopsBy, TakesLine, TakesTurn}
 use Rattle.std.proofs.Common.{◌≡◌, ◌≢◌, ◌⊎◌, ◌<◌, ◌∷◌, ◌++◌, ◌∙◌}
 use Rattle.std.specs.Prelude.{◌↔◌}
 use Rattle.model.specs.declared.answer.Answer.TheVariants as answer
@@ -14,7 +15,7 @@ use Rattle.model.specs.declared.line.Line.TheVariants as line
 use Rattle.kernel.specs.Power as power
 use Rattle.script.specs.declared.fault.RunFault.TheVariants as fault
 use Rattle.runs.proofs.ScriptLines.{begins_with, bytes_more, line_more, line_taken, lines_whole, lines_with_rest, no_lines}
-use Rattle.runs.proofs.TurnLists.{appends_kept, appends_more, appends_none, lines_more, output_more, run_more}
+use Rattle.runs.proofs.TurnLists.{lines_more, output_more, run_more, wrote_and_failed, wrote_kept, wrote_none}
 
 -- ---- what a crash leaves
 
@@ -85,7 +86,7 @@ module _ {D S O : Type 0} (disk : D → Disk) (view : S → View D) (parts : S �
   here g m power.Between stands = absurd stands
 
   -- a line that is no command
-  no_command : (g : Geometry) (m : Machine) (text : List ℕ) (says : Line) (p : Power D S) (before seen : O) (written wrote : Option (List ℕ))
+  no_command : (g : Geometry) (m : Machine) (text : List ℕ) (says : Line) (p : Power D S) (before seen : O) (written wrote : Written)
       (result : Result Bool RunFault) (reply : Reply) (on : Bool) →
       Stands disk view parts g p m → Replies g says m reply m → tells_fault reply ≡ false →
       sees g (record { line = text; before = m; reply = reply; after = m }) before seen on →
@@ -108,14 +109,14 @@ module _ {D S O : Type 0} (disk : D → Disk) (view : S → View D) (parts : S �
         writes = writes;
       }
 
-  pub skipped : (g : Geometry) (m : Machine) (text : List ℕ) (says : Line) (p : Power D S) (before seen : O) (on : Bool) (written : Option (List ℕ)) →
+  pub skipped : (g : Geometry) (m : Machine) (text : List ℕ) (says : Line) (p : Power D S) (before seen : O) (on : Bool) (written : Written) →
       says ≡ line.Skip → Stands disk view parts g p m →
       ((t : Turn) → t.reply ≡ Nothing → sees g t before seen on) → TakesTurn disk view parts sees g m text says p p before seen written written (Ok on)
   skipped g m text says p before seen on written is stands saw =
       subst (λ (x : Line). TakesTurn disk view parts sees g m text x p p before seen written written (Ok on)) (sym is)
-      (no_command g m text line.Skip p before seen written written (Ok on) Nothing on stands (refl, refl) refl (saw _ refl) (refl, appends_none written))
+      (no_command g m text line.Skip p before seen written written (Ok on) Nothing on stands (refl, refl) refl (saw _ refl) (refl, wrote_none written))
 
-  pub is_bad : (g : Geometry) (m : Machine) (text : List ℕ) (says : Line) (p : Power D S) (before seen : O) (on : Bool) (written wrote : Option (List ℕ))
+  pub is_bad : (g : Geometry) (m : Machine) (text : List ℕ) (says : Line) (p : Power D S) (before seen : O) (on : Bool) (written wrote : Written)
       (result : Result Bool RunFault) →
       says ≡ line.Bad → Stands disk view parts g p m → ((t : Turn) → t.line ≡ text → t.reply ≡ BadLine → sees g t before seen on) →
       IsWritten written wrote result on bad_line → TakesTurn disk view parts sees g m text says p p before seen written wrote result
@@ -125,7 +126,7 @@ module _ {D S O : Type 0} (disk : D → Disk) (view : S → View D) (parts : S �
 
   pub answered : (g : Geometry) (m : Machine) (text : List ℕ) (says : Line) (c : Command) (a : Answer) (code : Option ResultCode) (p q : Power D S)
       (before seen : O) (on : Bool)
-      (written wrote : Option (List ℕ)) (result : Result Bool RunFault) → says ≡ line.Command c → Says text says →
+      (written wrote : Written) (result : Result Bool RunFault) → says ≡ line.Command c → Says text says →
       Stands disk view parts g p m → Serves disk view parts p c a q → IsCaused (disk_of disk view parts p) (disk_of disk view parts q) a →
       code ≡ reported_code g m c a →
       ((t : Turn) → Says t.line (line.Command c) → t.reply ≡ Reported a → reported_code g t.before c a ≡ code → sees g t before seen on) →
@@ -153,7 +154,7 @@ module _ {D S O : Type 0} (disk : D → Disk) (view : S → View D) (parts : S �
 
   -- ---- a run
 
-  pub begun : (g : Geometry) (m : Machine) (p : Power D S) (seen : O) (line : LineBuffer) (output : Option (List ℕ)) → Holds line [] →
+  pub begun : (g : Geometry) (m : Machine) (p : Power D S) (seen : O) (line : LineBuffer) (output : Written) → Holds line [] →
       Stands disk view parts g p m →
       SoFar disk view parts sees g m p p seen seen [] line output output
   begun g m p seen line output empty stands = record {
@@ -163,7 +164,7 @@ module _ {D S O : Type 0} (disk : D → Disk) (view : S → View D) (parts : S �
     are_seen = (refl, refl);
     lines = no_lines;
     held = empty;
-    written = appends_none output;
+    written = wrote_none output;
   }
 
   -- a turn more
@@ -175,7 +176,7 @@ module _ {D S O : Type 0} (disk : D → Disk) (view : S → View D) (parts : S �
 
   -- more bytes of a line
   pub longer : (g : Geometry) (m : Machine) (old new : Power D S) (first seen : O) (text : List ℕ) (line longer : LineBuffer)
-      (output output_left : Option (List ℕ)) (bytes : List ℕ) →
+      (output output_left : Written) (bytes : List ℕ) →
       SoFar disk view parts sees g m old new first seen text line output output_left → IsOneLine bytes →
       ((l : List ℕ) → Holds line l → Holds longer (l ++ bytes)) →
       SoFar disk view parts sees g m old new first seen (text ++ bytes) longer output output_left
@@ -191,7 +192,7 @@ module _ {D S O : Type 0} (disk : D → Disk) (view : S → View D) (parts : S �
 
   -- a line is at its end, and this the text that it ends
   module _ (g : Geometry) (m : Machine) (old mid new : Power D S) (first before seen : O) (begins : List ℕ) (held next : LineBuffer)
-      (output written wrote : Option (List ℕ))
+      (output written wrote : Written)
       (so_far : SoFar disk view parts sees g m old mid first before begins held output written) (text rest : List ℕ)
       (lines : AreLines text (lines_in so_far.turns) rest) (empty : Holds next [])
       (result : Result Bool RunFault) (taken : TakesLine disk view parts sees g so_far.run.after rest mid new before seen written wrote result) where
@@ -232,19 +233,20 @@ module _ {D S O : Type 0} (disk : D → Disk) (view : S → View D) (parts : S �
     seen_on : true ≡ turn.on → AreSeen (sees g) first seen turns_on true
     seen_on on = subst (AreSeen (sees g) first seen turns_on) (sym on) all_seen
 
-    all_written : Appends written wrote (reply_text turn.reply) → Appends output wrote (output_of turns_on)
-    all_written all = subst (Appends output wrote) (sym (output_more so_far.turns turn_of))
-        (appends_more output written wrote (output_of so_far.turns) (reply_text turn.reply) so_far.written all)
+    all_written : Wrote written wrote (reply_text turn.reply) → Wrote output wrote (output_of turns_on)
+    all_written all = subst (Wrote output wrote) (sym (output_more so_far.turns turn_of))
+        (wrote_trans output written wrote (output_of so_far.turns) (reply_text turn.reply) so_far.written all)
 
-    cut_short : AppendsFront written wrote (reply_text turn.reply) → IsCutShort turns_on output wrote
+    cut_short : WroteFront written wrote (reply_text turn.reply) → IsCutShort turns_on output wrote
     cut_short cut = record {
       front = so_far.turns;
       last = turn_of;
       turns_are = refl;
-      reported = cut.0;
-      cut = cut.1;
-      answer = cut.2;
-      written = appends_more output written wrote (output_of so_far.turns) cut.0 so_far.written cut.3;
+      reported = cut.taken.0;
+      cut = cut.taken.1;
+      answer = cut.taken.2;
+      written = Appends-trans output.contents written.contents wrote.contents (output_of so_far.turns) cut.taken.0 so_far.written.taken cut.taken.3;
+      failed = subst (λ (n : ℕ). n < wrote.failures) so_far.written.none_failed cut.failed;
     }
 
     stops_by : (r : Result Bool RunFault) (e : RunFault) → Ending r e → IsWritten written wrote r turn.on (reply_text turn.reply) →
@@ -260,7 +262,7 @@ module _ {D S O : Type 0} (disk : D → Disk) (view : S → View D) (parts : S �
         (line_more text (lines_in so_far.turns) rest lines)
 
     -- by its newline
-    pub goes_on : true ≡ turn.on → Appends written wrote (reply_text turn.reply) → SoFar disk view parts sees g m old new first seen (text ++ 10 ∷ []) next
+    pub goes_on : true ≡ turn.on → Wrote written wrote (reply_text turn.reply) → SoFar disk view parts sees g m old new first seen (text ++ 10 ∷ []) next
         output wrote
     goes_on on all = record { turns = turns_on; rest = []; run = more_run; are_seen = seen_on on; lines = whole_lines; held = empty; written = all_written all }
 
@@ -279,7 +281,7 @@ module _ {D S O : Type 0} (disk : D → Disk) (view : S → View D) (parts : S �
     last_lines : (rest ≡ [] → ⊥) → lines_of text ≡ lines_in turns_on
     last_lines some = lines_with_rest text (lines_in so_far.turns) rest lines some ∙ sym (lines_more so_far.turns turn_of)
 
-    pub ended_by_rest : (rest ≡ [] → ⊥) → true ≡ turn.on → Appends written wrote (reply_text turn.reply) →
+    pub ended_by_rest : (rest ≡ [] → ⊥) → true ≡ turn.on → Wrote written wrote (reply_text turn.reply) →
         Ended disk view parts sees g m old new first seen text output wrote
     ended_by_rest some on all = record { turns = turns_on; run = more_run; are_seen = seen_on on; lines = last_lines some; written = all_written all }
 
@@ -289,7 +291,7 @@ module _ {D S O : Type 0} (disk : D → Disk) (view : S → View D) (parts : S �
         record { turns = turns_on; run = more_run; on = turn.on; are_seen = all_seen; lines = last_lines some; stops = stops_by result e ending turn.writes }
 
   -- nothing is left of the input
-  pub ended : (g : Geometry) (m : Machine) (old new : Power D S) (first seen : O) (text : List ℕ) (line : LineBuffer) (output written : Option (List ℕ))
+  pub ended : (g : Geometry) (m : Machine) (old new : Power D S) (first seen : O) (text : List ℕ) (line : LineBuffer) (output written : Written)
       (so_far : SoFar disk view parts sees g m old new first seen text line output written) → so_far.rest ≡ [] →
       Ended disk view parts sees g m old new first seen text output written
   ended g m old new first seen text line output written so_far none = record {
@@ -303,9 +305,9 @@ module _ {D S O : Type 0} (disk : D → Disk) (view : S → View D) (parts : S �
   -- ---- a piece
 
   -- from a kernel, an observer, a line and a writer on, these bytes were read
-  module _ (first : Power D S) (saw : O) (begun_line : LineBuffer) (had : Option (List ℕ)) where
-    abbrev pub Goes : List ℕ → Power D S → O → LineBuffer → Option (List ℕ) → Type 0
-    Goes read k seen line written = (g : Geometry) (m : Machine) (start : Power D S) (begins : O) (text : List ℕ) (output : Option (List ℕ)) →
+  module _ (first : Power D S) (saw : O) (begun_line : LineBuffer) (had : Written) where
+    abbrev pub Goes : List ℕ → Power D S → O → LineBuffer → Written → Type 0
+    Goes read k seen line written = (g : Geometry) (m : Machine) (start : Power D S) (begins : O) (text : List ℕ) (output : Written) →
         SoFar disk view parts sees g m start first begins saw text begun_line output had → SoFar disk view parts sees g m start k begins seen (text ++ read)
         line output written
 
@@ -313,7 +315,7 @@ module _ {D S O : Type 0} (disk : D → Disk) (view : S → View D) (parts : S �
     none_read g m start begins text output so_far = subst (λ (t : List ℕ). SoFar disk view parts sees g m start first begins saw t begun_line output had)
         (sym (append-nil text)) so_far
 
-    pub goes_longer : (read : List ℕ) (k : Power D S) (seen : O) (line longer_line : LineBuffer) (written : Option (List ℕ)) (bytes : List ℕ) →
+    pub goes_longer : (read : List ℕ) (k : Power D S) (seen : O) (line longer_line : LineBuffer) (written : Written) (bytes : List ℕ) →
         Goes read k seen line written → IsOneLine bytes →
         ((l : List ℕ) → Holds line l → Holds longer_line (l ++ bytes)) → Goes (read ++ bytes) k seen longer_line written
     goes_longer read k seen line longer_line written bytes goes one extended g m start begins text output so_far =
@@ -321,11 +323,11 @@ module _ {D S O : Type 0} (disk : D → Disk) (view : S → View D) (parts : S �
         (longer g m start k begins seen (text ++ read) line longer_line output written bytes (goes g m start begins text output so_far) one extended)
 
     -- so were the first bytes of a piece, and these are left
-    abbrev pub GoesTo : List ℕ → List ℕ → Power D S → O → LineBuffer → Option (List ℕ) → Type 0
+    abbrev pub GoesTo : List ℕ → List ℕ → Power D S → O → LineBuffer → Written → Type 0
     GoesTo piece rest k seen line written = (read : List ℕ) × (piece ≡ read ++ rest) × Goes read k seen line written
 
     -- a line is at its end, and these are its last bytes
-    module _ (read : List ℕ) (k new : Power D S) (before seen : O) (line next : LineBuffer) (written wrote : Option (List ℕ))
+    module _ (read : List ℕ) (k new : Power D S) (before seen : O) (line next : LineBuffer) (written wrote : Written)
         (goes : Goes read k before line written) (bytes : List ℕ) (one : IsOneLine bytes)
         (empty : (held : List ℕ) → Holds line held → Holds next []) (result : Result Bool RunFault)
         (turn : (g : Geometry) (m : Machine) (held : List ℕ) → Stands disk view parts g k m → Holds line held →
@@ -336,7 +338,7 @@ module _ {D S O : Type 0} (disk : D → Disk) (view : S → View D) (parts : S �
           ap (λ (t : List ℕ). text ++ t) (sym (append_assoc read bytes (10 ∷ [])))
 
       -- the line with its newline, in a run so far
-      module _ (g : Geometry) (m : Machine) (start : Power D S) (begins : O) (text : List ℕ) (output : Option (List ℕ))
+      module _ (g : Geometry) (m : Machine) (start : Power D S) (begins : O) (text : List ℕ) (output : Written)
           (so_far : SoFar disk view parts sees g m start first begins saw text begun_line output had) where
         abbrev now : SoFar disk view parts sees g m start k begins before (text ++ read) line output written
         now = goes g m start begins text output so_far
@@ -344,7 +346,7 @@ module _ {D S O : Type 0} (disk : D → Disk) (view : S → View D) (parts : S �
         abbrev taken : TakesLine disk view parts sees g now.run.after (now.rest ++ bytes) k new before seen written wrote result
         taken = turn g now.run.after now.rest now.run.stands now.held
 
-        on_by_newline : true ≡ taken.2.on → Appends written wrote (reply_text taken.2.reply) →
+        on_by_newline : true ≡ taken.2.on → Wrote written wrote (reply_text taken.2.reply) →
             SoFar disk view parts sees g m start new begins seen (text ++ ((read ++ bytes) ++ 10 ∷ [])) next output wrote
         on_by_newline on all =
             subst (λ (t : List ℕ). SoFar disk view parts sees g m start new begins seen t next output wrote) (text_is text)
@@ -360,7 +362,7 @@ module _ {D S O : Type 0} (disk : D → Disk) (view : S → View D) (parts : S �
             (bytes_more (text ++ read) (lines_in now.turns) now.rest bytes now.lines one) (empty now.rest now.held) result taken more e ending)
 
     -- what is left of a piece begins with the end of a line, which was taken
-    module _ (piece rest : List ℕ) (k new : Power D S) (before seen : O) (line next : LineBuffer) (written wrote : Option (List ℕ))
+    module _ (piece rest : List ℕ) (k new : Power D S) (before seen : O) (line next : LineBuffer) (written wrote : Written)
         (goes : GoesTo piece rest k before line written)
         (end : ℕ) (within : end < length rest) (one : IsOneLine (take end rest)) (newline : slice_index_or rest end 0 ≡ 10)
         (empty : (held : List ℕ) → Holds line held → Holds next []) where
@@ -380,7 +382,7 @@ module _ {D S O : Type 0} (disk : D → Disk) (view : S → View D) (parts : S �
       pub stops_in_piece : (result : Result Bool RunFault) (e : RunFault) → Ending result e →
           ((g : Geometry) (m : Machine) (held : List ℕ) → Stands disk view parts g k m → Holds line held →
           TakesLine disk view parts sees g m (held ++ take end rest) k new before seen written wrote result) →
-          (g : Geometry) (m : Machine) (start : Power D S) (begins : O) (text : List ℕ) (output : Option (List ℕ)) →
+          (g : Geometry) (m : Machine) (start : Power D S) (begins : O) (text : List ℕ) (output : Written) →
           SoFar disk view parts sees g m start first begins saw text begun_line output had →
           Stopped disk view parts sees (BeginsWith (text ++ piece)) e g m start new begins seen output wrote
       stops_in_piece result e ending turn g m start begins text output so_far =
@@ -389,7 +391,7 @@ module _ {D S O : Type 0} (disk : D → Disk) (view : S → View D) (parts : S �
           (line_taken piece goes.0 rest end goes.1 within newline)
 
     -- or it has no newline
-    pub goes_to_end : (piece rest : List ℕ) (k : Power D S) (seen : O) (line longer_line : LineBuffer) (written : Option (List ℕ)) →
+    pub goes_to_end : (piece rest : List ℕ) (k : Power D S) (seen : O) (line longer_line : LineBuffer) (written : Written) →
         GoesTo piece rest k seen line written → IsOneLine rest →
         ((l : List ℕ) → Holds line l → Holds longer_line (l ++ rest)) → Goes piece k seen longer_line written
     goes_to_end piece rest k seen line longer_line written goes one extended =
@@ -399,7 +401,7 @@ module _ {D S O : Type 0} (disk : D → Disk) (view : S → View D) (parts : S �
   -- ---- a run
 
   -- whichever machine the first kernel stands for
-  abbrev pub RunsSoFar : Power D S → Power D S → O → O → List ℕ → LineBuffer → Option (List ℕ) → Option (List ℕ) → Type 0
+  abbrev pub RunsSoFar : Power D S → Power D S → O → O → List ℕ → LineBuffer → Written → Written → Type 0
   RunsSoFar old new first seen text line output output_left = (g : Geometry) (m : Machine) → Stands disk view parts g old m →
       SoFar disk view parts sees g m old new first seen text line output output_left
 
@@ -408,13 +410,13 @@ module _ {D S O : Type 0} (disk : D → Disk) (view : S → View D) (parts : S �
   no_text (Some xs) = refl
 
   -- a text was read, and the run is that of its lines
-  abbrev pub HasRead : Power D S → Power D S → O → O → LineBuffer → Option (List ℕ) → Option (List ℕ) → Option (List ℕ) → Option (List ℕ) → Type 0
+  abbrev pub HasRead : Power D S → Power D S → O → O → LineBuffer → Option (List ℕ) → Option (List ℕ) → Written → Written → Type 0
   HasRead old new first seen line input input_left output output_left =
       (text : List ℕ) × Consumes input input_left text × RunsSoFar old new first seen text line output output_left
 
   -- what was written stays so
-  kept_so_far : (g : Geometry) (m : Machine) (old new : Power D S) (first seen : O) (text : List ℕ) (line : LineBuffer) (output written kept : Option (List ℕ))
-      → Keeps written kept →
+  kept_so_far : (g : Geometry) (m : Machine) (old new : Power D S) (first seen : O) (text : List ℕ) (line : LineBuffer) (output written kept : Written)
+      → Wrote written kept [] →
       SoFar disk view parts sees g m old new first seen text line output written → SoFar disk view parts sees g m old new first seen text line output kept
   kept_so_far g m old new first seen text line output written kept keeps so_far = record {
     turns = so_far.turns;
@@ -423,22 +425,39 @@ module _ {D S O : Type 0} (disk : D → Disk) (view : S → View D) (parts : S �
     are_seen = so_far.are_seen;
     lines = so_far.lines;
     held = so_far.held;
-    written = appends_kept output written kept (output_of so_far.turns) so_far.written keeps;
+    written = wrote_kept output written kept (output_of so_far.turns) so_far.written keeps;
   }
 
-  pub nothing_read : (k : Power D S) (seen : O) (line : LineBuffer) (input output : Option (List ℕ)) → Holds line [] →
+  pub nothing_read : (k : Power D S) (seen : O) (line : LineBuffer) (input : Option (List ℕ)) (output : Written) → Holds line [] →
       HasRead k k seen seen line input input output output
   nothing_read k seen line input output empty = ([], no_text input, λ g m stands. begun g m k seen line output empty stands)
 
-  module _ (old mid : Power D S) (first before : O) (line : LineBuffer) (input read left output written : Option (List ℕ))
+  module _ (old mid : Power D S) (first before : O) (line : LineBuffer) (input read left : Option (List ℕ)) (output written : Written)
       (so_far : HasRead old mid first before line input read output written) where
     -- what was written was passed on, or wasn't
-    module _ (passed : Option (List ℕ)) (kept : Keeps written passed) where
+    module _ (passed : Written) (kept : Wrote written passed []) where
       pub passed_on : HasRead old mid first before line input read output passed
       passed_on = (so_far.0, so_far.1, λ g m stands. kept_so_far g m old mid first before so_far.0 line output written passed kept (so_far.2 g m stands))
 
-    module _ (bytes : List ℕ) (new : Power D S) (seen : O) (wrote : Option (List ℕ)) (more : Consumes read left bytes) where
-      pub piece_on : (next : LineBuffer) → ((g : Geometry) (m : Machine) (start : Power D S) (begins : O) (text : List ℕ) (out : Option (List ℕ)) →
+    pub not_passed_on : (passed : Written) (e : RunFault) → Writes written passed (Err e) [] →
+        RunsSeen disk view parts sees old mid first before input read output passed (Err e)
+    not_passed_on passed e failed = subst (λ (f : RunFault). RunsSeen disk view parts sees old mid first before input read output passed (Err f)) (sym failed.0)
+        (λ g m stands.
+        let s = so_far.2 g m stands in
+        let wrote = wrote_and_failed output written passed (output_of s.turns) s.written failed.1 in
+        (s.turns, s.run, (so_far.0, so_far.1, inr (inl (s.rest, s.lines), wrote.0, wrote.1)), true, s.are_seen, tt))
+
+    -- the reader failed
+    pub none_was_read : (piece : List ℕ) (e : RunFault) → ReadsPiece read left piece (Err e) →
+        RunsSeen disk view parts sees old mid first before input left output written (Err e)
+    none_was_read piece e failed = subst (λ (f : RunFault). RunsSeen disk view parts sees old mid first before input left output written (Err f)) (sym failed.0)
+        (λ g m stands.
+        let s = so_far.2 g m stands in
+        let consumed = subst (Consumes input left) (append-nil so_far.0) (Consumes-trans input read left so_far.0 [] so_far.1 failed.1) in
+        (s.turns, s.run, (so_far.0, s.rest, consumed, s.lines, s.written), true, s.are_seen, refl))
+
+    module _ (bytes : List ℕ) (new : Power D S) (seen : O) (wrote : Written) (more : Consumes read left bytes) where
+      pub piece_on : (next : LineBuffer) → ((g : Geometry) (m : Machine) (start : Power D S) (begins : O) (text : List ℕ) (out : Written) →
           SoFar disk view parts sees g m start mid begins before text line out written → SoFar disk view parts sees g m start new begins seen (text ++ bytes)
           next out wrote) →
           HasRead old new first seen next input left output wrote
@@ -457,7 +476,7 @@ module _ {D S O : Type 0} (disk : D → Disk) (view : S → View D) (parts : S �
       does_stop AreTaken text consumed are fault.Write g m s = ((text, consumed, inl (are (lines_in s.turns) s.lines, s.stops)), tt)
       does_stop AreTaken text consumed are fault.Stopped g m s = ((text, consumed, are (lines_in s.turns) s.lines, s.stops.1), s.stops.0)
 
-      pub piece_stops : (e : RunFault) → ((g : Geometry) (m : Machine) (start : Power D S) (begins : O) (text : List ℕ) (out : Option (List ℕ)) →
+      pub piece_stops : (e : RunFault) → ((g : Geometry) (m : Machine) (start : Power D S) (begins : O) (text : List ℕ) (out : Written) →
           SoFar disk view parts sees g m start mid begins before text line out written → Stopped disk view parts sees (BeginsWith (text ++ bytes)) e g m start
           new begins seen out wrote) →
           RunsSeen disk view parts sees old new first seen input left output wrote (Err e)
@@ -468,11 +487,11 @@ module _ {D S O : Type 0} (disk : D → Disk) (view : S → View D) (parts : S �
           (s.turns, s.run, does.0, s.on, s.are_seen, does.1)
 
     -- the input is at its end
-    module _ (new : Power D S) (seen : O) (wrote : Option (List ℕ)) (none : Consumes read left []) (end : IsAtEnd left) where
+    module _ (new : Power D S) (seen : O) (wrote : Written) (none : Consumes read left []) (end : IsAtEnd left) where
       all_read : Consumes input left so_far.0
       all_read = subst (Consumes input left) (append-nil so_far.0) (Consumes-trans input read left so_far.0 [] so_far.1 none)
 
-      pub rest_stops_run : (e : RunFault) → ((g : Geometry) (m : Machine) (start : Power D S) (begins : O) (text : List ℕ) (out : Option (List ℕ)) →
+      pub rest_stops_run : (e : RunFault) → ((g : Geometry) (m : Machine) (start : Power D S) (begins : O) (text : List ℕ) (out : Written) →
           SoFar disk view parts sees g m start mid begins before text line out written → Stopped disk view parts sees (λ lines. lines_of text ≡ lines) e g m
           start new begins seen out wrote) →
           RunsSeen disk view parts sees old new first seen input left output wrote (Err e)
@@ -482,35 +501,36 @@ module _ {D S O : Type 0} (disk : D → Disk) (view : S → View D) (parts : S �
           (s.turns, s.run, does.0, s.on, s.are_seen, does.1)
 
       -- and the answers were passed on, or weren't
-      pub end_passed_on : (passed : Option (List ℕ)) → Keeps wrote passed →
-          ((g : Geometry) (m : Machine) (start : Power D S) (begins : O) (text : List ℕ) (out : Option (List ℕ)) →
+      pub end_passed_on : (passed : Written) →
+          ((g : Geometry) (m : Machine) (start : Power D S) (begins : O) (text : List ℕ) (out : Written) →
           SoFar disk view parts sees g m start mid begins before text line out written → Ended disk view parts sees g m start new begins seen text out wrote) →
-          (result : Result (Unit {0}) RunFault) → IfErr result (λ e. e ≡ fault.Write) → RunsSeen disk view parts sees old new first seen input left output
+          (result : Result (Unit {0}) RunFault) → Writes wrote passed result [] → RunsSeen disk view parts sees old new first seen input left output
           passed result
-      end_passed_on passed kept ends (Ok a) write g m stands =
+      end_passed_on passed ends (Ok a) kept g m stands =
           let e = ends g m old first so_far.0 output (so_far.2 g m stands) in
-          (e.turns, e.run, (so_far.0, all_read, end, e.lines, appends_kept output wrote passed (output_of e.turns) e.written kept), true, e.are_seen, refl)
-      end_passed_on passed kept ends (Err d) write g m stands =
-          let e = ends g m old first so_far.0 output (so_far.2 g m stands) in (
+          (e.turns, e.run, (so_far.0, all_read, end, e.lines, wrote_kept output wrote passed (output_of e.turns) e.written kept), true, e.are_seen, refl)
+      end_passed_on passed ends (Err d) failed g m stands =
+          let e = ends g m old first so_far.0 output (so_far.2 g m stands) in
+          let cut = wrote_and_failed output wrote passed (output_of e.turns) e.written failed.1 in (
             e.turns,
             e.run,
-            subst (λ (d : RunFault). Does e.turns input left output passed (Err d)) (sym write)
-                (so_far.0, all_read, inr (inr (end, e.lines), appends_kept output wrote passed (output_of e.turns) e.written kept)),
+            subst (λ (d : RunFault). Does e.turns input left output passed (Err d)) (sym failed.0)
+                (so_far.0, all_read, inr (inr (end, e.lines), cut.0, cut.1)),
             true,
             e.are_seen,
-            subst (λ (d : RunFault). EndsBy true (Err d)) (sym write) tt,
+            subst (λ (d : RunFault). EndsBy true (Err d)) (sym failed.0) tt,
           )
 
   -- ---- the rest at the end
 
-  module _ (k new : Power D S) (before seen : O) (line : LineBuffer) (next : LineBuffer) (written wrote : Option (List ℕ)) (empty : Holds next [])
+  module _ (k new : Power D S) (before seen : O) (line : LineBuffer) (next : LineBuffer) (written wrote : Written) (empty : Holds next [])
       (is_empty : Bool) (tells : (l : List ℕ) → Holds line l → (IsTrue is_empty ↔ (l ≡ []))) (some : is_empty ≡ false) (result : Result Bool RunFault)
       (turn : (g : Geometry) (m : Machine) (held : List ℕ) → Stands disk view parts g k m → Holds line held →
       TakesLine disk view parts sees g m held k new before seen written wrote result) where
     not_none : (l : List ℕ) → Holds line l → l ≡ [] → ⊥
     not_none l held none = let reported : IsTrue is_empty = (tells l held).1 none in cc
 
-    pub rest_ends : result ≡ Ok true → (g : Geometry) (m : Machine) (start : Power D S) (begins : O) (text : List ℕ) (output : Option (List ℕ)) →
+    pub rest_ends : result ≡ Ok true → (g : Geometry) (m : Machine) (start : Power D S) (begins : O) (text : List ℕ) (output : Written) →
         SoFar disk view parts sees g m start k begins before text line output written → Ended disk view parts sees g m start new begins seen text output wrote
     rest_ends ok g m start begins text output so_far =
         let taken = turn g so_far.run.after so_far.rest so_far.run.stands so_far.held in
@@ -518,7 +538,7 @@ module _ {D S O : Type 0} (disk : D → Disk) (view : S → View D) (parts : S �
         ended_by_rest g m start k new begins before seen text line next output written wrote so_far text so_far.rest so_far.lines empty result taken
         (not_none so_far.rest so_far.held) writes.0 writes.1
 
-    pub rest_stops : (e : RunFault) → Ending result e → (g : Geometry) (m : Machine) (start : Power D S) (begins : O) (text : List ℕ) (output : Option (List ℕ))
+    pub rest_stops : (e : RunFault) → Ending result e → (g : Geometry) (m : Machine) (start : Power D S) (begins : O) (text : List ℕ) (output : Written)
         →
         SoFar disk view parts sees g m start k begins before text line output written → Stopped disk view parts sees (λ lines. lines_of text ≡ lines) e g m
         start new begins seen output wrote
@@ -529,6 +549,6 @@ module _ {D S O : Type 0} (disk : D → Disk) (view : S → View D) (parts : S �
 
   -- ---- what the observer adds is left out
 
-  pub run_of_seen : (old new : Power D S) (first seen : O) (input left output wrote : Option (List ℕ)) (result : Result (Unit {0}) RunFault) →
+  pub run_of_seen : (old new : Power D S) (first seen : O) (input left : Option (List ℕ)) (output wrote : Written) (result : Result (Unit {0}) RunFault) →
       RunsSeen disk view parts sees old new first seen input left output wrote result → RunsOver disk view parts old new input left output wrote result
   run_of_seen old new first seen input left output wrote result runs g m stands = let r = runs g m stands in (r.0, r.1, r.2)

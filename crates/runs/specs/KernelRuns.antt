@@ -1,9 +1,9 @@
 -- Runs of a script over a kernel.
 use Rattle.runs.specs.Names.{ℕ, Bool, true, false, List, [], map, Option, Result, Ok, Err, All, flat_map, Appends}
-use Rattle.runs.specs.Names.{Consumes, IsAtEnd, Command, Geometry, Line, IsClosed, Machine, Running, Up, candidates}
-use Rattle.runs.specs.Names.{Reply, Reported, Turn, IsRun, lines_of, reply_text, output_of, second, Says, line_of}
-use Rattle.runs.specs.Names.{object_at, Image, Disk, LeavesOnly, IsKept, IsLineBy, with_free, Parts, View, Power}
-use Rattle.runs.specs.Names.{DenotesOne, Stands, disk_of, RunFault, IsOneLine}
+use Rattle.runs.specs.Names.{Written, Wrote, Consumes, IsAtEnd, Command, Geometry, Line, IsClosed, Machine, Running, Up}
+use Rattle.runs.specs.Names.{candidates, Reply, Reported, Turn, IsRun, lines_of, reply_text, output_of, second, Says}
+use Rattle.runs.specs.Names.{line_of, object_at, Image, Disk, LeavesOnly, IsKept, IsLineBy, with_free, Parts, View}
+use Rattle.runs.specs.Names.{Power, DenotesOne, Stands, disk_of, RunFault, IsOneLine}
 use Rattle.std.specs.Prelude.{◌≡◌, ◌⊎◌, ◌↔◌, ◌<◌, ◌≤◌, ◌∷◌, ◌++◌}
 use Rattle.model.specs.declared.answer.Answer.TheVariants as answer
 use Rattle.model.specs.declared.answer.Refusal.TheVariants as refusal
@@ -51,34 +51,36 @@ AreAll text input_left lines = ((rest : List ℕ) × AreLines text lines rest) �
     (IsAtEnd input_left × (lines_of text ≡ lines))
 
 -- only the answer to the last of the turns may be cut short
-pub record IsCutShort (turns : List Turn) (output output_left : Option (List ℕ)) : Type 0 where
+pub record IsCutShort (turns : List Turn) (output output_left : Written) : Type 0 where
   pub front : List Turn
   pub last : Turn
   pub turns_are : turns ≡ front ++ last ∷ []
   pub reported : List ℕ
   pub cut : List ℕ
   pub answer : reply_text last.reply ≡ reported ++ cut
-  pub written : Appends output output_left (output_of front ++ reported)
+  pub written : Appends output.contents output_left.contents (output_of front ++ reported)
+  pub failed : output.failures < output_left.failures
 
 -- What a run with these turns read and wrote. At Ok all of the input was read, and each line of it is a turn whose
 -- answer was written. Where the reader failed the same holds of the lines read whole. Where the writer failed the
 -- turns are the first of the lines read whole, or all lines of an input at its end, and only the answer to the last
 -- may be cut short; or it took the answers to all of these lines, and didn't pass them on. Where the observer ended the
 -- run the turns are the first of the lines read whole, or all lines of an input at its end, and each was answered.
-abbrev pub Does : List Turn → Option (List ℕ) → Option (List ℕ) → Option (List ℕ) → Option (List ℕ) →
-    Result (Unit {0}) RunFault → Type 0
+abbrev pub Does : List Turn → Option (List ℕ) → Option (List ℕ) → Written → Written → Result (Unit {0}) RunFault →
+    Type 0
 Does turns input input_left output output_left (Ok a) =
-    (text : List ℕ) × Consumes input input_left text × IsAtEnd input_left × (lines_of text ≡ lines_in turns) × Appends
+    (text : List ℕ) × Consumes input input_left text × IsAtEnd input_left × (lines_of text ≡ lines_in turns) × Wrote
     output output_left (output_of turns)
 Does turns input input_left output output_left (Err fault.Read) =
-    (text : List ℕ) × (rest : List ℕ) × Consumes input input_left text × AreLines text (lines_in turns) rest × Appends
+    (text : List ℕ) × (rest : List ℕ) × Consumes input input_left text × AreLines text (lines_in turns) rest × Wrote
     output output_left (output_of turns)
 Does turns input input_left output output_left (Err fault.Write) =
     (text : List ℕ) × Consumes input input_left text
     × ((AreFirst text input_left (lines_in turns) × IsCutShort turns output output_left) ⊎
-    (AreAll text input_left (lines_in turns) × Appends output output_left (output_of turns)))
+    (AreAll text input_left (lines_in turns) × Appends output.contents output_left.contents (output_of turns)
+    × (output.failures < output_left.failures)))
 Does turns input input_left output output_left (Err fault.Stopped) =
-    (text : List ℕ) × Consumes input input_left text × AreFirst text input_left (lines_in turns) × Appends output
+    (text : List ℕ) × Consumes input input_left text × AreFirst text input_left (lines_in turns) × Wrote output
     output_left (output_of turns)
 
 -- the device failed exactly where that was answered
@@ -133,7 +135,7 @@ module _ {D S : Type 0} (disk : D → Disk) (view : S → View D) (parts : S →
     pub each : AreTurnsOf g old new turns
 
   -- whichever machine the kernel stands for, what was read and written is that of such a run
-  abbrev pub RunsOver : Power D S → Power D S → Option (List ℕ) → Option (List ℕ) → Option (List ℕ) → Option (List ℕ) →
+  abbrev pub RunsOver : Power D S → Power D S → Option (List ℕ) → Option (List ℕ) → Written → Written →
       Result (Unit {0}) RunFault → Type 0
   RunsOver old new input input_left output output_left result =
       (g : Geometry) (m : Machine) → Stands disk view parts g old m →
@@ -141,7 +143,7 @@ module _ {D S : Type 0} (disk : D → Disk) (view : S → View D) (parts : S →
 
   -- the same of a run that an observer saw, each of whose turns it saw
   abbrev pub RunsSeen : {O : Type 0} → (Geometry → Turn → O → O → Bool → Type 0) → Power D S → Power D S → O → O
-      → Option (List ℕ) → Option (List ℕ) → Option (List ℕ) → Option (List ℕ) → Result (Unit {0}) RunFault → Type 0
+      → Option (List ℕ) → Option (List ℕ) → Written → Written → Result (Unit {0}) RunFault → Type 0
   RunsSeen sees old new before after input input_left output output_left result =
       (g : Geometry) (m : Machine) → Stands disk view parts g old m →
       (turns : List Turn) × IsRunOf g m old new turns × Does turns input input_left output output_left result

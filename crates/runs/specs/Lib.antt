@@ -5,3 +5,4 @@ pub mod Taking
 pub mod Tracing
 pub mod Reader
 pub mod Unsaved
+pub mod Laws

@@ -1,8 +1,8 @@
 -- A run of a script in its course.
-use Rattle.runs.specs.Names.{ℕ, Bool, true, false, List, [], length, take, Option, Result, Ok, Err, Appends, Consumes}
-use Rattle.runs.specs.Names.{IsAtEnd, Command, Geometry, Line, Machine, candidates, Reply, Turn, Replies, lines_of}
-use Rattle.runs.specs.Names.{reply_text, output_of, second, Says, Disk, LeavesOnly, Parts, View, Power, DenotesOne}
-use Rattle.runs.specs.Names.{Stands, disk_of, RunFault, LineBuffer, Holds, AppendsFront}
+use Rattle.runs.specs.Names.{ℕ, Bool, true, false, List, [], length, take, Option, Result, Ok, Err, Written, Wrote}
+use Rattle.runs.specs.Names.{WroteFront, Consumes, IsAtEnd, Command, Geometry, Line, Machine, candidates, Reply, Turn}
+use Rattle.runs.specs.Names.{Replies, lines_of, reply_text, output_of, second, Says, Disk, LeavesOnly, Parts, View}
+use Rattle.runs.specs.Names.{Power, DenotesOne, Stands, disk_of, RunFault, LineBuffer, Holds}
 use Rattle.std.specs.Prelude.{◌≡◌, ◌⊎◌, ◌≤◌}
 use Rattle.model.specs.declared.line.Line.TheVariants as line
 use Rattle.script.specs.declared.fault.RunFault.TheVariants as fault
@@ -18,16 +18,16 @@ ReadsPiece old new bytes (Ok piece.Nothing) = Consumes old new []
 ReadsPiece old new bytes (Err e) = (e ≡ fault.Read) × Consumes old new []
 
 -- the answer was written, and the observer let the run go on or not; or the writer failed
-abbrev pub IsWritten : Option (List ℕ) → Option (List ℕ) → Result Bool RunFault → Bool → List ℕ → Type 0
-IsWritten written wrote (Ok goes_on) on text = (goes_on ≡ on) × Appends written wrote text
-IsWritten written wrote (Err e) on text = (e ≡ fault.Write) × AppendsFront written wrote text
+abbrev pub IsWritten : Written → Written → Result Bool RunFault → Bool → List ℕ → Type 0
+IsWritten written wrote (Ok goes_on) on text = (goes_on ≡ on) × Wrote written wrote text
+IsWritten written wrote (Err e) on text = (e ≡ fault.Write) × WroteFront written wrote text
 
 -- The parameters are ghost members of a device, of an object store, and of an observer.
 module _ {D S O : Type 0} (disk : D → Disk) (view : S → View D) (parts : S → Parts)
     (sees : Geometry → Turn → O → O → Bool → Type 0) where
   -- a line was taken: the machine after it, what a crash leaves in its course, and what the observer made of it
   pub record TakesTurn (g : Geometry) (m : Machine) (text : List ℕ) (says : Line) (old new : Power D S)
-      (before seen : O) (written wrote : Option (List ℕ)) (result : Result Bool RunFault) : Type 0 where
+      (before seen : O) (written wrote : Written) (result : Result Bool RunFault) : Type 0 where
     pub reply : Reply
     pub after : Machine
     pub replies : Replies g says m reply after
@@ -43,40 +43,40 @@ module _ {D S O : Type 0} (disk : D → Disk) (view : S → View D) (parts : S �
     pub writes : IsWritten written wrote result on (reply_text reply)
 
   -- the same, whatever the line says
-  abbrev pub TakesLine : Geometry → Machine → List ℕ → Power D S → Power D S → O → O → Option (List ℕ) →
-      Option (List ℕ) → Result Bool RunFault → Type 0
+  abbrev pub TakesLine : Geometry → Machine → List ℕ → Power D S → Power D S → O → O → Written → Written →
+      Result Bool RunFault → Type 0
   TakesLine g m text old new before seen written wrote result = (says : Line) × Says text says × TakesTurn g m text says
       old new before seen written wrote result
 
   -- a run so far: its turns, what was read of a line that isn't whole, and the answers written
   pub record SoFar (g : Geometry) (m : Machine) (old new : Power D S) (before seen : O) (text : List ℕ)
-      (line : LineBuffer) (output output_left : Option (List ℕ)) : Type 0 where
+      (line : LineBuffer) (output output_left : Written) : Type 0 where
     pub turns : List Turn
     pub rest : List ℕ
     pub run : IsRunOf disk view parts g m old new turns
     pub are_seen : AreSeen (sees g) before seen turns true
     pub lines : AreLines text (lines_in turns) rest
     pub held : Holds line rest
-    pub written : Appends output output_left (output_of turns)
+    pub written : Wrote output output_left (output_of turns)
 
   -- a run of all lines of a text
   pub record Ended (g : Geometry) (m : Machine) (old new : Power D S) (before seen : O) (text : List ℕ)
-      (output output_left : Option (List ℕ)) : Type 0 where
+      (output output_left : Written) : Type 0 where
     pub turns : List Turn
     pub run : IsRunOf disk view parts g m old new turns
     pub are_seen : AreSeen (sees g) before seen turns true
     pub lines : lines_of text ≡ lines_in turns
-    pub written : Appends output output_left (output_of turns)
+    pub written : Wrote output output_left (output_of turns)
 
   -- the last answer wasn't written whole, or the observer ended the run there
-  abbrev pub StopsBy : RunFault → List Turn → Bool → Option (List ℕ) → Option (List ℕ) → Type 0
+  abbrev pub StopsBy : RunFault → List Turn → Bool → Written → Written → Type 0
   StopsBy fault.Read turns on output output_left = ⊥
   StopsBy fault.Write turns on output output_left = IsCutShort turns output output_left
-  StopsBy fault.Stopped turns on output output_left = (on ≡ false) × Appends output output_left (output_of turns)
+  StopsBy fault.Stopped turns on output output_left = (on ≡ false) × Wrote output output_left (output_of turns)
 
   -- a run of such lines that ended early
   pub record Stopped (AreTaken : List (List ℕ) → Type 0) (e : RunFault) (g : Geometry) (m : Machine)
-      (old new : Power D S) (before seen : O) (output output_left : Option (List ℕ)) : Type 0 where
+      (old new : Power D S) (before seen : O) (output output_left : Written) : Type 0 where
     pub turns : List Turn
     pub run : IsRunOf disk view parts g m old new turns
     pub on : Bool

@@ -1,8 +1,8 @@
 -- What a trace says of a run, and where a strict run ends.
-use Rattle.runs.specs.Names.{ℕ, min, Bool, true, false, Option, None, Some, List, [], codes, decimal, Appends, Answer}
-use Rattle.runs.specs.Names.{Command, Geometry, ResultCode, code_number, Reply, Nothing, BadLine, Reported, Turn, Says}
-use Rattle.runs.specs.Names.{line_of, refusal_text, spaced, LineFault, IsAnswerText, command_name, IsFaultOf}
-use Rattle.runs.specs.Names.{line_fault_text, AppendsFront, reported_code}
+use Rattle.runs.specs.Names.{ℕ, min, Bool, true, false, Option, None, Some, List, [], codes, decimal, Answer, Command}
+use Rattle.runs.specs.Names.{Geometry, ResultCode, code_number, Reply, Nothing, BadLine, Reported, Turn, Says, line_of}
+use Rattle.runs.specs.Names.{refusal_text, spaced, LineFault, IsAnswerText, command_name, IsFaultOf, line_fault_text}
+use Rattle.runs.specs.Names.{Written, Wrote, WroteFront, reported_code}
 use Rattle.std.specs.Prelude.{◌≡◌, ◌≢◌, ◌+◌, ◌-◌, ◌^◌, ◌∷◌, ◌++◌}
 use Rattle.model.specs.declared.answer.Answer.TheVariants as answer
 use Rattle.model.specs.declared.line.Line.TheVariants as line
@@ -81,21 +81,21 @@ Ends g place t true false None = ⊥
 Ends g place t true false (Some stop) = (stop.line ≡ place) × IsCauseOf g t stop.cause
 
 -- A text was written; or writing it failed, and then it is lost with all that follow. If none are wanted, none is.
-abbrev pub IsTraced : Bool → Bool → Bool → Option (List ℕ) → Option (List ℕ) → List ℕ → Type 0
-IsTraced true false false old new text = Appends old new text
-IsTraced true false true old new text = AppendsFront old new text
+abbrev pub IsTraced : Bool → Bool → Bool → Written → Written → List ℕ → Type 0
+IsTraced true false false old new text = Wrote old new text
+IsTraced true false true old new text = WroteFront old new text
 IsTraced true true true old new text = new ≡ old
 IsTraced false was_lost is_lost old new text = (new ≡ old) × (is_lost ≡ was_lost)
 IsTraced true true false old new text = ⊥
 
 -- what a tracer makes of a turn: the number of the line rises by 1, up to the greatest of 64 bits
-pub record Sees {V : Type 0} (contents : V → Option (List ℕ)) (g : Geometry) (t : Turn) (old new : Tracer V) (on : Bool)
+pub record Sees {V : Type 0} (written : V → Written) (g : Geometry) (t : Turn) (old new : Tracer V) (on : Bool)
     : Type 0 where
   pub options : new.options ≡ old.options
   pub place : new.line ≡ min (old.line + 1) (2 ^ 64 - 1)
   pub text : List ℕ
   pub trace : IsTrace g new.line t t.reply text
-  pub written : IsTraced old.options.trace old.is_lost new.is_lost (contents old.errors) (contents new.errors) text
+  pub traced : IsTraced old.options.trace old.is_lost new.is_lost (written old.errors) (written new.errors) text
   pub ends : Ends g new.line t old.options.strict on new.stop
 
 -- a tracer that saw no line
@@ -120,11 +120,11 @@ EndsIf false None place on stop = on ≡ true
 EndsIf false (Some why) place on stop = on ≡ true
 
 -- a line was counted, and its trace written
-pub record Notes {V : Type 0} (contents : V → Option (List ℕ)) (at : ℕ) (text : List ℕ) (why : Option Cause)
+pub record Notes {V : Type 0} (written : V → Written) (at : ℕ) (text : List ℕ) (why : Option Cause)
     (old new : Tracer V) (on : Bool) : Type 0 where
   pub options : new.options ≡ old.options
   pub place : new.line ≡ at
-  pub written : IsTraced old.options.trace old.is_lost new.is_lost (contents old.errors) (contents new.errors)
+  pub traced : IsTraced old.options.trace old.is_lost new.is_lost (written old.errors) (written new.errors)
       (line_of text)
   pub ends : EndsIf old.options.strict why at on new.stop
 

@@ -1,9 +1,9 @@
-//! Runs of scripts over a kernel.
+//! Runs of scripts over a kernel, and theorems about them.
 #![tactic(auto)]
 
 mod cause;
+pub mod laws;
 mod observer;
-mod output;
 mod running;
 mod script_pieces;
 mod script_reader;
@@ -12,7 +12,6 @@ mod unsaved;
 
 pub use cause::{Cause, Stop};
 pub use observer::{Observer, Silent};
-pub use output::Output;
 pub use running::{run, run_observed};
 pub use script_pieces::{Piece, Script};
 pub use script_reader::ScriptReader;

@@ -1,27 +1,26 @@
 // Runs of scripts over a kernel.
-ghost use Rattle.std.specs.Prelude.{◌≡◌, ◌≢◌, ◌<◌, ◌++◌, ℕ, List, [], Option, length, option_map, slice_index_or, take};
-ghost use Rattle.std.specs.Prelude.{OnOk, IfErr, IfOk, IsErrOf, IfNone, IfSome, false, true};
+ghost use Rattle.std.specs.Prelude.{◌≡◌, ◌≢◌, ◌++◌, ℕ, List, [], option_map, take};
+ghost use Rattle.std.specs.Prelude.{OnOk, IfErr, IfOk, IsErrOf, IfSome, false, true};
 ghost use Rattle.model.specs.declared.geometry.Geometry.{Geometry};
 ghost use Rattle.model.specs.Machine.{Machine};
 ghost use Rattle.model.specs.Run.{lines_of};
 ghost use Rattle.kernel.specs.Power.{Power};
 ghost use Rattle.kernel.specs.Standing.{Stands};
 ghost use Rattle.model.specs.Text.{Says};
-ghost use Rattle.script.specs.Lines.{Holds, IsOneLine, IsTextOf};
+ghost use Rattle.script.specs.Lines.{Holds, IsTextOf};
+ghost use Rattle.script.specs.Writing.{Written};
 ghost use Rattle.runs.specs.KernelRuns.{BeginsWith, IsConfined, IsCounted, RunsOver, RunsSeen};
 ghost use Rattle.runs.specs.Taking.{Ended, SoFar, Stopped, TakesLine, TakesTurn};
 
 use crate::observer::{Observer, Silent};
-use crate::output::Output;
 use crate::script_pieces::{Piece, Script};
+use checkpoint::ObjectStore;
 use device::Device;
 use kernel::Kernel;
 use memchr::memchr;
 use model::Line;
-use object_store::ObjectStore;
-use script::{LineBuffer, RunFault, parse_line, print_answer, print_bad_line};
+use script::{LineBuffer, Output, RunFault, parse_line, print_answer, print_bad_line};
 use std::alloc::Global;
-use std::io::Write;
 
 // How many bytes a read requests.
 const PIECE_SIZE: usize = 4096;
@@ -29,7 +28,7 @@ const PIECE_SIZE: usize = 4096;
 // Does what a line says, shows the observer what became of it, and writes the answer. It returns
 // whether the observer lets the run go on. The text is the line, or `None` where that is too long.
 #[inline(never)]
-fn take<D: Device, S: ObjectStore<D>, W: Write, O: Observer>(
+fn take<D: Device, S: ObjectStore<D>, W: Output, O: Observer>(
     alloc: Global,
     kernel: &mut Kernel<D, S>,
     text: Option<&[u8]>,
@@ -41,7 +40,7 @@ fn take<D: Device, S: ObjectStore<D>, W: Write, O: Observer>(
     ensures turn { (g : Geometry) (m : Machine) (whole : List ℕ) → Stands D.disk S.view S.parts g kernel.old m
         → IsTextOf (option_map (λ t. t.now) text.entry) whole → Says whole line.now
         → TakesTurn D.disk S.view S.parts O.sees g m whole line.now kernel.old kernel.new observer.old observer.new
-        (W.contents writer.old) (W.contents writer.new) result }
+        (W.written writer.old) (W.written writer.new) result }
     ensures goes_on { IfOk result (λ on. O.may_end ≡ false → on ≡ true) }
     ensures fault { IfErr result (λ e. e ≡ RunFault.Write) }
 {
@@ -61,18 +60,9 @@ fn take<D: Device, S: ObjectStore<D>, W: Write, O: Observer>(
     }
 }
 
-// Where the first line ends.
-fn end_of_line(bytes: &[u8]) -> Option<usize>
-    ensures some { IfSome result (λ end. (end < length bytes.now)
-        × IsOneLine (take end bytes.now) × (slice_index_or bytes.now end 0 ≡ 10)) }
-    ensures none { IfNone result (IsOneLine bytes.now) }
-{
-    memchr(b'\n', bytes)
-}
-
 // Takes the line that ends with `bytes`, and begins another.
 #[inline(always)]
-fn take_line<D: Device, S: ObjectStore<D>, W: Write, O: Observer>(
+fn take_line<D: Device, S: ObjectStore<D>, W: Output, O: Observer>(
     alloc: Global,
     kernel: &mut Kernel<D, S>,
     line: &mut LineBuffer,
@@ -83,7 +73,7 @@ fn take_line<D: Device, S: ObjectStore<D>, W: Write, O: Observer>(
     ensures turn { (g : Geometry) (m : Machine) (held : List ℕ) → Stands D.disk S.view S.parts g kernel.old m
         → Holds line.old held
         → TakesLine D.disk S.view S.parts O.sees g m (held ++ bytes.now) kernel.old kernel.new observer.old observer.new
-        (W.contents writer.old) (W.contents writer.new) result }
+        (W.written writer.old) (W.written writer.new) result }
     ensures begun { (held : List ℕ) → Holds line.old held → Holds line.new [] }
     ensures goes_on { IfOk result (λ on. O.may_end ≡ false → on ≡ true) }
     ensures fault { IfErr result (λ e. e ≡ RunFault.Write) }
@@ -98,7 +88,7 @@ fn take_line<D: Device, S: ObjectStore<D>, W: Write, O: Observer>(
 
 // Takes the line that was gathered, and begins another.
 #[inline(never)]
-fn take_held<D: Device, S: ObjectStore<D>, W: Write, O: Observer>(
+fn take_held<D: Device, S: ObjectStore<D>, W: Output, O: Observer>(
     alloc: Global,
     kernel: &mut Kernel<D, S>,
     line: &mut LineBuffer,
@@ -108,7 +98,7 @@ fn take_held<D: Device, S: ObjectStore<D>, W: Write, O: Observer>(
     ensures turn { (g : Geometry) (m : Machine) (held : List ℕ) → Stands D.disk S.view S.parts g kernel.old m
         → Holds line.old held
         → TakesLine D.disk S.view S.parts O.sees g m held kernel.old kernel.new observer.old observer.new
-        (W.contents writer.old) (W.contents writer.new) result }
+        (W.written writer.old) (W.written writer.new) result }
     ensures begun { Holds line.new [] }
     ensures goes_on { IfOk result (λ on. O.may_end ≡ false → on ≡ true) }
     ensures fault { IfErr result (λ e. e ≡ RunFault.Write) }
@@ -119,7 +109,7 @@ fn take_held<D: Device, S: ObjectStore<D>, W: Write, O: Observer>(
 }
 
 // Takes each line that ends in a piece, in place where it lies in it whole, and keeps the beginning of the next.
-fn take_piece<D: Device, S: ObjectStore<D>, W: Write, O: Observer>(
+fn take_piece<D: Device, S: ObjectStore<D>, W: Output, O: Observer>(
     alloc: Global,
     kernel: &mut Kernel<D, S>,
     line: &mut LineBuffer,
@@ -128,22 +118,22 @@ fn take_piece<D: Device, S: ObjectStore<D>, W: Write, O: Observer>(
     observer: &mut O,
 ) -> Result<(), RunFault>
     ensures goes_on { OnOk result
-        ((g : Geometry) (m : Machine) (start : Power D S) (first : O) (text : List ℕ) (output : Option (List ℕ))
+        ((g : Geometry) (m : Machine) (start : Power D S) (first : O) (text : List ℕ) (output : Written)
         → SoFar D.disk S.view S.parts O.sees g m start kernel.old first observer.old text line.old output
-        (W.contents writer.old)
+        (W.written writer.old)
         → SoFar D.disk S.view S.parts O.sees g m start kernel.new first observer.new (text ++ piece.now) line.new output
-        (W.contents writer.new)) }
+        (W.written writer.new)) }
     ensures stops { IfErr result
-        (λ e. (g : Geometry) (m : Machine) (start : Power D S) (first : O) (text : List ℕ) (output : Option (List ℕ))
+        (λ e. (g : Geometry) (m : Machine) (start : Power D S) (first : O) (text : List ℕ) (output : Written)
         → SoFar D.disk S.view S.parts O.sees g m start kernel.old first observer.old text line.old output
-        (W.contents writer.old)
+        (W.written writer.old)
         → Stopped D.disk S.view S.parts O.sees (BeginsWith (text ++ piece.now)) e g m start kernel.new first
-        observer.new output (W.contents writer.new)) }
+        observer.new output (W.written writer.new)) }
     ensures fault { IfErr result (λ e. e ≢ RunFault.Read) }
     ensures unstopped { O.may_end ≡ false → IfErr result (λ e. e ≢ RunFault.Stopped) }
 {
     let mut rest = piece;
-    while let Some(end) = end_of_line(rest) {
+    while let Some(end) = memchr(b'\n', rest) {
         let goes_on = take_line(alloc, kernel, line, &rest[..end], writer, observer)?;
         if !goes_on {
             return Err(RunFault::Stopped);
@@ -155,7 +145,7 @@ fn take_piece<D: Device, S: ObjectStore<D>, W: Write, O: Observer>(
 }
 
 // Takes the rest at the end of the input, where it isn't empty.
-fn take_rest<D: Device, S: ObjectStore<D>, W: Write, O: Observer>(
+fn take_rest<D: Device, S: ObjectStore<D>, W: Output, O: Observer>(
     alloc: Global,
     kernel: &mut Kernel<D, S>,
     line: &mut LineBuffer,
@@ -163,17 +153,17 @@ fn take_rest<D: Device, S: ObjectStore<D>, W: Write, O: Observer>(
     observer: &mut O,
 ) -> Result<(), RunFault>
     ensures ends { OnOk result
-        ((g : Geometry) (m : Machine) (start : Power D S) (first : O) (text : List ℕ) (output : Option (List ℕ))
+        ((g : Geometry) (m : Machine) (start : Power D S) (first : O) (text : List ℕ) (output : Written)
         → SoFar D.disk S.view S.parts O.sees g m start kernel.old first observer.old text line.old output
-        (W.contents writer.old)
+        (W.written writer.old)
         → Ended D.disk S.view S.parts O.sees g m start kernel.new first observer.new text output
-        (W.contents writer.new)) }
+        (W.written writer.new)) }
     ensures stops { IfErr result
-        (λ e. (g : Geometry) (m : Machine) (start : Power D S) (first : O) (text : List ℕ) (output : Option (List ℕ))
+        (λ e. (g : Geometry) (m : Machine) (start : Power D S) (first : O) (text : List ℕ) (output : Written)
         → SoFar D.disk S.view S.parts O.sees g m start kernel.old first observer.old text line.old output
-        (W.contents writer.old)
+        (W.written writer.old)
         → Stopped D.disk S.view S.parts O.sees (λ lines. lines_of text ≡ lines) e g m start kernel.new first
-        observer.new output (W.contents writer.new)) }
+        observer.new output (W.written writer.new)) }
     ensures fault { IfErr result (λ e. e ≢ RunFault.Read) }
     ensures unstopped { O.may_end ≡ false → IfErr result (λ e. e ≢ RunFault.Stopped) }
 {
@@ -196,7 +186,7 @@ fn run_turns<D: Device, S: ObjectStore<D>, R: Script, W: Output, O: Observer>(
     observer: &mut O,
 ) -> Result<(), RunFault>
     ensures watched { RunsSeen D.disk S.view S.parts O.sees kernel.old kernel.new observer.old observer.new
-        (R.unread reader.old) (R.unread reader.new) (W.contents writer.old) (W.contents writer.new) result }
+        (R.unread reader.old) (R.unread reader.new) (W.written writer.old) (W.written writer.new) result }
     ensures none_waits { OnOk result (W.waiting writer.new ≡ []) }
     ensures read_failed { IsCounted (IsErrOf result RunFault.Read) (R.failures reader.old) (R.failures reader.new) }
     ensures unstopped { O.may_end ≡ false → IfErr result (λ e. e ≢ RunFault.Stopped) }
@@ -234,7 +224,7 @@ fn run_turns<D: Device, S: ObjectStore<D>, R: Script, W: Output, O: Observer>(
 /// their owner (EROS: confinement). Exception: capabilities to members may become void.
 ///
 /// `RunFault::Read` exactly where a read failed: then each line whose newline was read was answered.
-/// `RunFault::Write` where the writer fails or takes nothing: then the lines taken are the first of
+/// `RunFault::Write` exactly where a call of the writer failed: then the lines taken are the first of
 /// those read whole, or all of an input at its end, and only the answer to the last may be cut
 /// short; where it fails to pass on what it took, all of those lines were answered. The kernel then
 /// stands where the lines taken left it. A read that was interrupted is tried again. Reading lines
@@ -246,7 +236,7 @@ pub fn run<D: Device, S: ObjectStore<D>, R: Script, W: Output>(
     writer: &mut W,
 ) -> Result<(), RunFault>
     ensures runs { RunsOver D.disk S.view S.parts kernel.old kernel.new (R.unread reader.old)
-        (R.unread reader.new) (W.contents writer.old) (W.contents writer.new) result }
+        (R.unread reader.new) (W.written writer.old) (W.written writer.new) result }
     ensures none_waits { OnOk result (W.waiting writer.new ≡ []) }
     ensures read_failed { IsCounted (IsErrOf result RunFault.Read) (R.failures reader.old) (R.failures reader.new) }
     ensures confined { IsConfined D.disk S.view S.parts kernel.old kernel.new (R.unread reader.old)
@@ -269,14 +259,14 @@ pub fn run_observed<D: Device, S: ObjectStore<D>, R: Script, W: Output, O: Obser
     observer: &mut O,
 ) -> Result<(), RunFault>
     ensures runs { RunsOver D.disk S.view S.parts kernel.old kernel.new (R.unread reader.old)
-        (R.unread reader.new) (W.contents writer.old) (W.contents writer.new) result }
+        (R.unread reader.new) (W.written writer.old) (W.written writer.new) result }
     ensures none_waits { OnOk result (W.waiting writer.new ≡ []) }
     ensures read_failed { IsCounted (IsErrOf result RunFault.Read) (R.failures reader.old) (R.failures reader.new) }
     ensures confined { IsConfined D.disk S.view S.parts kernel.old kernel.new (R.unread reader.old)
         (R.unread reader.new) }
     ensures unstopped { O.may_end ≡ false → IfErr result (λ e. e ≢ RunFault.Stopped) }
     ensures watched { RunsSeen D.disk S.view S.parts O.sees kernel.old kernel.new observer.old observer.new
-        (R.unread reader.old) (R.unread reader.new) (W.contents writer.old) (W.contents writer.new) result }
+        (R.unread reader.old) (R.unread reader.new) (W.written writer.old) (W.written writer.new) result }
 {
     run_turns(alloc, kernel, reader, writer, observer)
 }

@@ -3,8 +3,7 @@ ghost use Rattle.std.specs.Prelude.{◌≡◌, ◌<◌, ℕ, List, [], Option, l
 ghost use Rattle.runs.specs.KernelRuns.{IsCounted};
 ghost use Rattle.runs.specs.Taking.{ReadsPiece};
 
-use crate::output::Output;
-use script::RunFault;
+use script::{Output, RunFault};
 
 /// What one read gave.
 #[derive(Clone, Copy)]

@@ -3,11 +3,10 @@ ghost use Rattle.std.specs.Prelude.{◌≡◌, ◌+◌, ◌-◌, ◌^◌, OnOk, 
 ghost use Rattle.std.specs.Io.KnownBytes.{ReadConsumes};
 ghost use Rattle.runs.specs.Reader.{failed_reads, left_to_read, read_from};
 
-use crate::output::Output;
 use crate::script_pieces::{Piece, Script};
-use script::RunFault;
+use collections::Tally;
+use script::{Output, RunFault};
 use std::io::{ErrorKind, Read};
-use tally::Tally;
 
 /// Reads a script from a reader, and counts the reads that fail. After 2^64 - 1 reads it fails each.
 #[derive(Drop)]

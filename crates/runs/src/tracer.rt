@@ -11,8 +11,7 @@ ghost use Rattle.runs.specs.Tracing.{cause_text, place_text};
 use crate::cause::{Cause, Stop, add_code};
 use crate::observer::Observer;
 use model::{Answer, Command, Line, ResultCode};
-use script::{LineFault, LineText, answer_line, command_word, why_bad};
-use std::io::Write;
+use script::{LineFault, LineText, Output, answer_line, command_word, why_bad};
 
 /// What a run does beside writing the answers.
 #[derive(Clone, Copy, PartialEq, Eq, Debug)]
@@ -38,7 +37,7 @@ pub struct Tracer<V> {
     stop: Option<Stop>,
 }
 
-impl<V: Write> Tracer<V> {
+impl<V: Output> Tracer<V> {
     /// A tracer that saw no line, and writes to `errors`.
     pub fn new(errors: V, options: TraceOptions) -> Tracer<V>
         ensures { IsNewTracer errors options result }
@@ -63,7 +62,7 @@ impl<V: Write> Tracer<V> {
     fn write(&mut self, line: LineText)
         requires { length line < 320 }
         ensures traced { IsTraced self.old.options.trace self.old.is_lost self.new.is_lost
-            (V.contents self.old.errors) (V.contents self.new.errors) (line_of line) }
+            (V.written self.old.errors) (V.written self.new.errors) (line_of line) }
         ensures same { IsSame self.old self.new }
     {
         if !self.options.trace {
@@ -89,7 +88,7 @@ impl<V: Write> Tracer<V> {
     // whether the run goes on.
     fn note(&mut self, place: u64, text: LineText, cause: Option<Cause>) -> bool
         requires { length text < 320 }
-        ensures { Notes V.contents place text cause self.old self.new result }
+        ensures { Notes V.written place text cause self.old self.new result }
     {
         self.line = place;
         self.write(text);
@@ -185,8 +184,8 @@ fn cause_of(answer: &Answer, code: Option<ResultCode>) -> Option<Cause>
     }
 }
 
-impl<V: Write> Observer for Tracer<V> {
-    ghost sees = { λ g t old new on. Sees V.contents g t old new on };
+impl<V: Output> Observer for Tracer<V> {
+    ghost sees = { λ g t old new on. Sees V.written g t old new on };
 
     ghost may_end = { true };
 

@@ -1,15 +1,12 @@
 -- What a writer is left with, put together.
 use Rattle.script.proofs.Names.{ℕ, List, [], Option, None, Some, Result, Ok, Err, length, take, drop, sym, ap, subst, append_assoc, append-nil, arith}
 use Rattle.script.proofs.Names.{take-append-drop, take_all, length-drop, take-add, Appends-trans, Appends-kept, Appends, Keeps, line_of, RunFault, AppendsFront}
-use Rattle.script.proofs.Names.{Writes}
-use Rattle.std.proofs.Common.{◌≡◌, ◌+◌, ◌-◌, ◌++◌, ◌∙◌}
+use Rattle.script.proofs.Names.{Writes, Written, Wrote, WroteFront}
+use Rattle.std.proofs.Common.{◌≡◌, ◌+◌, ◌-◌, ◌<◌, ◌++◌, ◌∙◌}
 
 -- the first n bytes are a beginning
 pub front_at : (a b : Option (List ℕ)) (bytes : List ℕ) (n : ℕ) → Appends a b (take n bytes) → AppendsFront a b bytes
 front_at a b bytes n h = (take n bytes, drop n bytes, sym (take-append-drop n bytes), h)
-
-pub front_kept : (a b c : Option (List ℕ)) (bytes : List ℕ) (n : ℕ) → Appends a b (take n bytes) → Keeps b c → AppendsFront a c bytes
-front_kept a b c bytes n h k = front_at a c bytes n (Appends-kept a b c (take n bytes) h k)
 
 pub kept_nil : (a b : Option (List ℕ)) → Appends a b [] → Keeps a b
 kept_nil None b h = tt
@@ -34,45 +31,68 @@ pub front_before : (a b : Option (List ℕ)) (first second : List ℕ) → Appen
 front_before a b first second (front, rest, is, k) =
     (front, rest ++ second, ap (λ (xs : List ℕ). xs ++ second) is ∙ append_assoc front rest second, k)
 
+-- one text was written, and then another
+pub wrote_trans : (a b c : Written) (first second : List ℕ) → Wrote a b first → Wrote b c second → Wrote a c (first ++ second)
+wrote_trans a b c first second h k = record {
+  taken = Appends-trans a.contents b.contents c.contents first second h.taken k.taken;
+  none_failed = k.none_failed ∙ h.none_failed;
+}
+
+-- a beginning of the second text, after the first
+pub second_front : (a b c : Written) (first second : List ℕ) → Wrote a b first → WroteFront b c second → WroteFront a c (first ++ second)
+second_front a b c first second h k = record {
+  taken = front_after a.contents b.contents c.contents first second h.taken k.taken;
+  failed = subst (λ (n : ℕ). n < c.failures) h.none_failed k.failed;
+}
+
+-- a beginning of the first text
+pub first_front : (a b : Written) (first second : List ℕ) → WroteFront a b first → WroteFront a b (first ++ second)
+first_front a b first second h = record { taken = front_before a.contents b.contents first second h.taken; failed = h.failed }
+
 -- the first text was written, and then the second or a beginning of it
-pub writes_after : (a b c : Option (List ℕ)) (r : Result (Unit {0}) RunFault) (first second : List ℕ) → Appends a b first → Writes b c r second →
+pub writes_after : (a b c : Written) (r : Result (Unit {0}) RunFault) (first second : List ℕ) → Wrote a b first → Writes b c r second →
     Writes a c r (first ++ second)
-writes_after a b c (Ok x) first second h w = Appends-trans a b c first second h w
-writes_after a b c (Err e) first second h w = (w.0, front_after a b c first second h w.1)
+writes_after a b c (Ok x) first second h w = wrote_trans a b c first second h w
+writes_after a b c (Err e) first second h w = (w.0, second_front a b c first second h w.1)
 
 -- a step failed that began the second text, and a third was to follow
-pub writes_fail : (a b c : Option (List ℕ)) (e : RunFault) (first second third text : List ℕ) → text ≡ (first ++ second) ++ third
-    → Appends a b first → Writes b c (Err e) second → Writes a c (Err e) text
+pub writes_fail : (a b c : Written) (e : RunFault) (first second third text : List ℕ) → text ≡ (first ++ second) ++ third
+    → Wrote a b first → Writes b c (Err e) second → Writes a c (Err e) text
 writes_fail a b c e first second third text is h w =
-    (w.0, subst (AppendsFront a c) (sym is) (front_before a c (first ++ second) third (front_after a b c first second h w.1)))
+    (w.0, subst (WroteFront a c) (sym is) (first_front a c (first ++ second) third (second_front a b c first second h w.1)))
 
 -- the first text failed
-pub text_fails : (a b : Option (List ℕ)) (e : RunFault) (first second text : List ℕ) → text ≡ first ++ second → Writes a b (Err e) first →
+pub text_fails : (a b : Written) (e : RunFault) (first second text : List ℕ) → text ≡ first ++ second → Writes a b (Err e) first →
     Writes a b (Err e) text
-text_fails a b e first second text is w = (w.0, subst (AppendsFront a b) (sym is) (front_before a b first second w.1))
+text_fails a b e first second text is w = (w.0, subst (WroteFront a b) (sym is) (first_front a b first second w.1))
 
 -- the first line failed
-pub line_fails : (a b : Option (List ℕ)) (e : RunFault) (line spelled second text : List ℕ) → line ≡ spelled → text ≡ line_of spelled ++ second
+pub line_fails : (a b : Written) (e : RunFault) (line spelled second text : List ℕ) → line ≡ spelled → text ≡ line_of spelled ++ second
     → Writes a b (Err e) (line_of line) → Writes a b (Err e) text
 line_fails a b e line spelled second text same is w =
-    (w.0, subst (AppendsFront a b) (ap (λ (t : List ℕ). line_of t ++ second) same ∙ sym is) (front_before a b (line_of line) second w.1))
+    (w.0, subst (WroteFront a b) (ap (λ (t : List ℕ). line_of t ++ second) same ∙ sym is) (first_front a b (line_of line) second w.1))
 
 -- the first line was written, and then the second text or a beginning of it
-pub line_and : (a b c : Option (List ℕ)) (r : Result (Unit {0}) RunFault) (line spelled second text : List ℕ) → line ≡ spelled →
+pub line_and : (a b c : Written) (r : Result (Unit {0}) RunFault) (line spelled second text : List ℕ) → line ≡ spelled →
     text ≡ line_of spelled ++ second
-    → Appends a b (line_of line) → Writes b c r second → Writes a c r text
+    → Wrote a b (line_of line) → Writes b c r second → Writes a c r text
 line_and a b c r line spelled second text same is h w =
     subst (Writes a c r) (ap (λ (t : List ℕ). line_of t ++ second) same ∙ sym is) (writes_after a b c r (line_of line) second h w)
 
-pub writes_same : (a b : Option (List ℕ)) (r : Result (Unit {0}) RunFault) (text other : List ℕ) → text ≡ other → Writes a b r text → Writes a b r other
+pub writes_same : (a b : Written) (r : Result (Unit {0}) RunFault) (text other : List ℕ) → text ≡ other → Writes a b r text → Writes a b r other
 writes_same a b r text other same w = subst (Writes a b r) same w
+
+-- a call failed after the first n bytes were taken
+pub broke_off : (a b : Written) (bytes : List ℕ) (n failures : ℕ) → Appends a.contents b.contents (take n bytes) → failures ≡ a.failures →
+    b.failures ≡ failures + 1 → WroteFront a b bytes
+broke_off a b bytes n failures h same failed = record { taken = front_at a.contents b.contents bytes n h; failed = omega arith }
 
 -- all bytes were taken
 pub taken_all : (a b : Option (List ℕ)) (bytes : List ℕ) (n : ℕ) → n ≡ length bytes → Appends a b (take n bytes) → Appends a b bytes
 taken_all a b bytes n all h = subst (Appends a b) (take_all n bytes (omega arith)) h
 
 -- the first n bytes were written, and then the rest or a beginning of it
-pub rest_written : (a b c : Option (List ℕ)) (r : Result (Unit {0}) RunFault) (bytes : List ℕ) (n : ℕ) → Appends a b (take n bytes)
+pub rest_written : (a b c : Written) (r : Result (Unit {0}) RunFault) (bytes : List ℕ) (n : ℕ) → Wrote a b (take n bytes)
     → Writes b c r (take (length bytes - n) (drop n bytes)) → Writes a c r bytes
 rest_written a b c r bytes n h w =
     let whole : take (length bytes - n) (drop n bytes) ≡ drop n bytes = take_all (length bytes - n) (drop n bytes) (omega (arith, length-drop n bytes)) in

@@ -53,7 +53,7 @@ pub use Rattle.script.specs.Named.{access_words, kind_name, object_of, one_of}
 unfoldable pub use Rattle.script.specs.Named.{access_at, access_in, capability_at, capability_words, height_at, key_at}
 pub use Rattle.script.specs.Reading.{Gives, Words, first_end, first_word, one_at, words_left, words_of}
 unfoldable pub use Rattle.script.specs.Reading.{arguments_at, invocation_at, number_at, number_in, numbers_at, register_at, registers_at}
-pub use Rattle.script.specs.Writing.{AppendsFront, Writes}
+pub use Rattle.script.specs.Writing.{AppendsFront, Writes, Written, Wrote, WroteFront}
 pub use Rattle.script.specs.declared.fault.RunFault.{RunFault}
 pub use Rattle.script.specs.declared.keyword.Keyword.{Keyword}
 pub use Rattle.script.specs.declared.keyword.Keyword.TheVariants.{Invoke}

@@ -6,3 +6,4 @@ pub mod Lines
 pub mod Named
 pub mod Reading
 pub mod Writing
+pub mod Counted

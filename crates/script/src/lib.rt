@@ -1,6 +1,7 @@
 //! The text of scripts: what a line says, and what is written for an answer.
 #![tactic(auto)]
 
+mod counted;
 mod fault;
 mod keyword;
 mod line_fault;
@@ -9,20 +10,21 @@ mod lines;
 mod loads;
 mod named;
 mod number;
+mod output;
 mod parse;
 mod print;
 mod short;
 mod shown;
 mod words;
-mod writing;
 
+pub use counted::{BufferedOutput, CountedWriter};
 pub use fault::RunFault;
 pub use keyword::command_word;
 pub use line_fault::{LineFault, why_bad};
 pub use line_text::LineText;
 pub use lines::LineBuffer;
 pub use named::{capability_of, state_of};
+pub use output::Output;
 pub use parse::parse_line;
 pub use print::{answer_line, print_answer, print_bad_line, refusal_line};
 pub use shown::state_word;
-pub use writing::write_fully;

@@ -5,11 +5,10 @@ ghost use Rattle.model.specs.Text.{access_text, capability_text, line_of, spaced
 ghost use Rattle.script.specs.Writing.{Writes};
 
 use crate::fault::RunFault;
-use crate::writing::write_fully;
+use crate::output::Output;
 use bitflags::Flags;
 use itoa::Buffer;
 use model::{Access, Capability};
-use std::io::Write;
 use std::marker::Model;
 
 /// A line of text of at most 320 bytes that is put together before it is written.
@@ -220,18 +219,18 @@ impl LineText {
     }
 
     /// Writes the line, and a newline. What it then holds isn't said.
-    pub fn print<W: Write>(&mut self, writer: &mut W) -> Result<(), RunFault>
+    pub fn print<W: Output>(&mut self, writer: &mut W) -> Result<(), RunFault>
         requires { length self.old < 320 }
-        ensures { Writes (W.contents writer.old) (W.contents writer.new) result (line_of self.old) }
+        ensures { Writes (W.written writer.old) (W.written writer.new) result (line_of self.old) }
     {
         self.byte(b'\n');
-        write_fully(writer, &self.bytes[..self.size])
+        writer.write_fully(&self.bytes[..self.size])
     }
 
     /// Writes the line, and a newline.
-    pub fn write_to<W: Write>(mut self, writer: &mut W) -> Result<(), RunFault>
+    pub fn write_to<W: Output>(mut self, writer: &mut W) -> Result<(), RunFault>
         requires { length self < 320 }
-        ensures { Writes (W.contents writer.old) (W.contents writer.new) result (line_of self) }
+        ensures { Writes (W.written writer.old) (W.written writer.new) result (line_of self) }
     {
         self.print(writer)
     }

@@ -6,10 +6,9 @@ ghost use Rattle.script.specs.Writing.{Writes};
 
 use crate::fault::RunFault;
 use crate::line_text::LineText;
+use crate::output::Output;
 use crate::shown::print_object;
-use crate::writing::write_fully;
 use model::{Answer, Description, Refusal, Unjournaled};
-use std::io::Write;
 
 // The line of the refusal to journal a page.
 fn unjournaled_line(why: Unjournaled) -> LineText
@@ -77,9 +76,9 @@ fn place_line(generation: u64, age: u64) -> LineText
 
 // Writes a line that has a word and a number.
 #[inline(never)]
-fn print_numbered<W: Write>(word: &[u8], number: u64, writer: &mut W) -> Result<(), RunFault>
+fn print_numbered<W: Output>(word: &[u8], number: u64, writer: &mut W) -> Result<(), RunFault>
     requires { length word.now ≤ 298 }
-    ensures { Writes (W.contents writer.old) (W.contents writer.new) result
+    ensures { Writes (W.written writer.old) (W.written writer.new) result
         (line_of (spaced (word.now ∷ decimal number ∷ []))) }
 {
     let mut line = LineText::empty();
@@ -90,8 +89,8 @@ fn print_numbered<W: Write>(word: &[u8], number: u64, writer: &mut W) -> Result<
 
 // Writes at which generation and age the machine stands.
 #[inline(never)]
-fn print_place<W: Write>(generation: u64, age: u64, writer: &mut W) -> Result<(), RunFault>
-    ensures { Writes (W.contents writer.old) (W.contents writer.new) result
+fn print_place<W: Output>(generation: u64, age: u64, writer: &mut W) -> Result<(), RunFault>
+    ensures { Writes (W.written writer.old) (W.written writer.new) result
         (line_of (spaced (codes "at" ∷ decimal generation ∷ decimal age ∷ []))) }
 {
     let mut line = LineText::empty();
@@ -103,8 +102,8 @@ fn print_place<W: Write>(generation: u64, age: u64, writer: &mut W) -> Result<()
 
 // Writes a refusal.
 #[inline(never)]
-fn print_refusal<W: Write>(refusal: Refusal, writer: &mut W) -> Result<(), RunFault>
-    ensures { Writes (W.contents writer.old) (W.contents writer.new) result
+fn print_refusal<W: Output>(refusal: Refusal, writer: &mut W) -> Result<(), RunFault>
+    ensures { Writes (W.written writer.old) (W.written writer.new) result
         (line_of (refusal_text refusal)) }
 {
     refusal_line(refusal).write_to(writer)
@@ -112,8 +111,8 @@ fn print_refusal<W: Write>(refusal: Refusal, writer: &mut W) -> Result<(), RunFa
 
 // Writes the lines of an object; the last one is `end`.
 #[inline(never)]
-fn print_shown<W: Write>(shown: &Description, writer: &mut W) -> Result<(), RunFault>
-    ensures { Writes (W.contents writer.old) (W.contents writer.new) result (object_text
+fn print_shown<W: Output>(shown: &Description, writer: &mut W) -> Result<(), RunFault>
+    ensures { Writes (W.written writer.old) (W.written writer.new) result (object_text
         shown.now.number shown.now.object shown.now.registers shown.now.used ++ line_of (codes "end")) }
 {
     print_object(
@@ -123,7 +122,7 @@ fn print_shown<W: Write>(shown: &Description, writer: &mut W) -> Result<(), RunF
         shown.used,
         writer,
     )?;
-    write_fully(writer, b"end\n")
+    writer.write_fully(b"end\n")
 }
 
 /// Writes the text of an answer: one line, or for an object several, with `end` as the last one.
@@ -131,11 +130,11 @@ fn print_shown<W: Write>(shown: &Description, writer: &mut W) -> Result<(), RunF
 /// `Err(RunFault::Write)` where the writer fails or takes nothing: what was written is then a
 /// beginning of that text. It takes no memory.
 #[tactic(auto, using(crate::proofs::Fronts::writes_same), unfolding(model::specs::Text::printed))]
-pub fn print_answer<W: Write>(answer: &Answer, writer: &mut W) -> Result<(), RunFault>
-    ensures { Writes (W.contents writer.old) (W.contents writer.new) result (printed answer.now) }
+pub fn print_answer<W: Output>(answer: &Answer, writer: &mut W) -> Result<(), RunFault>
+    ensures { Writes (W.written writer.old) (W.written writer.new) result (printed answer.now) }
 {
     match answer {
-        Answer::Done => write_fully(writer, b"done\n"),
+        Answer::Done => writer.write_fully(b"done\n"),
         Answer::Value(word) => print_numbered(b"value", *word, writer),
         Answer::MemoryFault(fault) => print_numbered(b"memory fault", *fault as u64, writer),
         Answer::Frozen(count) => print_numbered(b"frozen", *count, writer),
@@ -152,8 +151,8 @@ pub fn print_answer<W: Write>(answer: &Answer, writer: &mut W) -> Result<(), Run
 ///
 /// `Err(RunFault::Write)` where the writer fails or takes nothing: what was written is then a
 /// beginning of that text.
-pub fn print_bad_line<W: Write>(writer: &mut W) -> Result<(), RunFault>
-    ensures { Writes (W.contents writer.old) (W.contents writer.new) result bad_line }
+pub fn print_bad_line<W: Output>(writer: &mut W) -> Result<(), RunFault>
+    ensures { Writes (W.written writer.old) (W.written writer.new) result bad_line }
 {
-    write_fully(writer, b"bad line\n")
+    writer.write_fully(b"bad line\n")
 }

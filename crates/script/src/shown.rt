@@ -6,8 +6,8 @@ ghost use Rattle.script.specs.Writing.{Writes};
 
 use crate::fault::RunFault;
 use crate::line_text::LineText;
+use crate::output::Output;
 use model::{Capability, Content, Object, Root, Slots, State};
-use std::io::Write;
 
 // Begins the line `NAME number owner OWNER` with the part that is the same for all objects.
 fn begin_heading(line: &mut LineText, name: &[u8], number: u64, owner: u64)
@@ -62,13 +62,13 @@ fn begin_bank(line: &mut LineText, number: u64, owner: u64, limit: u64, used: u6
 }
 
 // Writes the line of a word that isn't 0.
-fn print_word<W: Write>(
+fn print_word<W: Output>(
     line: &mut LineText,
     index: usize,
     word: u64,
     writer: &mut W,
 ) -> Result<(), RunFault>
-    ensures { Writes (W.contents writer.old) (W.contents writer.new) result
+    ensures { Writes (W.written writer.old) (W.written writer.new) result
         (word_line (index, word)) }
 {
     if word == 0 {
@@ -81,8 +81,12 @@ fn print_word<W: Write>(
 }
 
 // Writes the lines of the words that aren't 0.
-fn print_words<W: Write>(line: &mut LineText, words: &[u64], writer: &mut W) -> Result<(), RunFault>
-    ensures { Writes (W.contents writer.old) (W.contents writer.new) result (word_lines words.now) }
+fn print_words<W: Output>(
+    line: &mut LineText,
+    words: &[u64],
+    writer: &mut W,
+) -> Result<(), RunFault>
+    ensures { Writes (W.written writer.old) (W.written writer.new) result (word_lines words.now) }
 {
     for (index, word) in words.iter().enumerate() {
         print_word(line, index, *word, writer)?;
@@ -91,7 +95,7 @@ fn print_words<W: Write>(line: &mut LineText, words: &[u64], writer: &mut W) -> 
 }
 
 // Writes the line of a capability that isn't void.
-fn print_capability<W: Write>(
+fn print_capability<W: Output>(
     line: &mut LineText,
     name: &[u8],
     index: usize,
@@ -99,7 +103,7 @@ fn print_capability<W: Write>(
     writer: &mut W,
 ) -> Result<(), RunFault>
     requires { length name.now ≤ 8 }
-    ensures { Writes (W.contents writer.old) (W.contents writer.new) result
+    ensures { Writes (W.written writer.old) (W.written writer.new) result
         (capability_line name.now (index, capability)) }
 {
     if let Capability::Void = capability {
@@ -112,14 +116,14 @@ fn print_capability<W: Write>(
 }
 
 // Writes the lines of the capabilities that aren't void.
-fn print_capabilities<W: Write>(
+fn print_capabilities<W: Output>(
     line: &mut LineText,
     name: &[u8],
     capabilities: &[Capability],
     writer: &mut W,
 ) -> Result<(), RunFault>
     requires { length name.now ≤ 8 }
-    ensures { Writes (W.contents writer.old) (W.contents writer.new) result
+    ensures { Writes (W.written writer.old) (W.written writer.new) result
         (capability_lines name.now capabilities.now) }
 {
     for (index, capability) in capabilities.iter().enumerate() {
@@ -140,14 +144,14 @@ fn held_by(registers: &Option<Slots<Capability>>) -> &[Capability]
 
 /// Writes the lines of an object but the last.
 #[inline(never)]
-pub fn print_object<W: Write>(
+pub fn print_object<W: Output>(
     number: u64,
     object: &Object,
     registers: &Option<Slots<Capability>>,
     used: u64,
     writer: &mut W,
 ) -> Result<(), RunFault>
-    ensures { Writes (W.contents writer.old) (W.contents writer.new) result
+    ensures { Writes (W.written writer.old) (W.written writer.new) result
         (object_text number object.now registers.now used) }
 {
     let owner = object.owner;

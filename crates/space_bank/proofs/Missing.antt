@@ -1,12 +1,190 @@
--- Numbers that aren't free, found by the marks of nodes and of pages.
-use Rattle.space_bank.proofs.Names.{ℕ, zero, suc, Bool, true, false, List, length, inl, inr, refl, sym, ap, subst, arith, filter, range_with_len, cases_lt}
-use Rattle.space_bank.proofs.Names.{ne_eqb, get_or-append_right, get_or_append_left, Object, is_free, content_at, Parts, objects_in, length_objects}
-use Rattle.space_bank.proofs.Names.{keepable_count, is_marked, IsNextUnmarked, HasAllMarked, BanksState, AreFree, HasNoneUsed, IsNextUsed, is_listed, MayServe}
-use Rattle.space_bank.proofs.Names.{chain, chain_prime, list_any, nat_eq, not, owner_at, AreCounted, Geometry, append_assoc, cond, [], append-nil, owned_by}
-use Rattle.space_bank.proofs.Names.{under, listed_by}
-use Rattle.std.proofs.Common.{◌≡◌, ◌≢◌, ◌+◌, ◌-◌, ◌<◌, ◌≤◌, ◌++◌, ◌∙◌, ◌∷◌}
-use Rattle.std.specs.Prelude.{◌&&◌}
+-- The least free numbers, and numbers that aren't free, found by marks. What is counted, a number at a time. Usages, added up over the numbers.
+use Rattle.space_bank.proofs.Names.{ℕ, zero, suc, None, Some, Bool, cond, List, [], length, ⊎_elim, refl, sym, ap, subst, zero-add, arith, cases_lt}
+use Rattle.space_bank.proofs.Names.{range_with_len, Geometry, Object, are_free, free_nodes, free_pages, is_free, content_at, MakeProcess, process_at}
+use Rattle.space_bank.proofs.Names.{AreCounted, BanksState, AreMarked, HasNoneMarked, IsNextMarked, is_marked, map, IsTrue, slice_index, SomeIff}
+use Rattle.space_bank.proofs.Names.{get_or-map-range_with_len, length-map-range_with_len, map-range_with_len_more, Cap, Capability, Frame, ObjectHeader}
+use Rattle.space_bank.proofs.Names.{Content, usage, conveyed, frames_in, held_at, objects_of, Role, is_bank, is_root, limit_in, role_of, object_count, Parts}
+use Rattle.space_bank.proofs.Names.{objects_in, content_there, mapped, AreKept, kept_number, ContentRef, content_behind, true, false, inl, inr, filter, ne_eqb}
+use Rattle.space_bank.proofs.Names.{get_or-append_right, get_or_append_left, length_objects, keepable_count, IsNextUnmarked, HasAllMarked, AreFree, HasNoneUsed}
+use Rattle.space_bank.proofs.Names.{IsNextUsed, is_listed, MayServe, chain, chain_prime, list_any, nat_eq, not, owner_at, append_assoc, append-nil, owned_by}
+use Rattle.space_bank.proofs.Names.{under, listed_by, take, get_or, count_by, enumerate_from, cases_eq, eq-eqb, get_or_past, length-take, take_all}
+use Rattle.space_bank.proofs.Names.{length-enumerate_from, get_or-enumerate_from, count_by-le-length, count_by_more_no, count_by_more_yes, is_under, free}
+use Rattle.space_bank.proofs.Names.{is_member, object_at, IsTree, chain_once, IsRaised}
+use Rattle.std.proofs.Common.{◌≡◌, ◌+◌, ◌-◌, ◌<◌, ◌≤◌, ◌∙◌, ◌∷◌, ◌^◌, ◌++◌, ◌≢◌, ◌==◌, ◌&&◌}
+use Rattle.model.specs.declared.object.Content.TheVariants as content
+use Rattle.model.specs.declared.object.ContentRef.TheVariants as content_ref
+use Rattle.model.specs.declared.object.Role.TheVariants as role
 use Rattle.space_bank.proofs.Tallies.{marks_counted}
+
+-- marks of the numbers from a base on
+module _ (os : List Object) (base : ℕ) (marks : List Bool) (same : (n : ℕ) → n < length marks → is_marked marks n ≡ is_free (content_at os (base + n))) where
+  -- what is free from a mark on
+  abbrev pub free_from : ℕ → List ℕ
+  free_from from = are_free os (range_with_len (base + from) (length marks - from))
+
+  free_one : (from : ℕ) → from < length marks → free_from from ≡ cond (is_marked marks from) ((base + from) ∷ free_from (from + 1)) (free_from (from + 1))
+  free_one from inside =
+      let k : length marks - from ≡ suc (length marks - (from + 1)) = omega arith in
+      let next : base + from + 1 ≡ base + (from + 1) = omega arith in
+      rw (k, same from inside, next) refl
+
+  next_by : (k from n : ℕ) → n ≡ from + k → IsNextMarked marks from n → free_from from ≡ (base + n) ∷ free_from (n + 1)
+  next_by zero from n is next =
+      let here : from ≡ n = omega arith in
+      let inside : from < length marks = omega (arith, next.inside) in
+      free_one from inside ∙ ap (λ (b : Bool). cond b ((base + from) ∷ free_from (from + 1)) (free_from (from + 1))) (ap (is_marked marks) here ∙ next.marked)
+      ∙ ap (λ (m : ℕ). (base + m) ∷ free_from (m + 1)) here
+  next_by (suc k) from n is next =
+      let inside : from < length marks = omega (arith, next.inside) in
+      free_one from inside
+      ∙ ap (λ (b : Bool). cond b ((base + from) ∷ free_from (from + 1)) (free_from (from + 1))) (next.least from (omega arith) (omega arith))
+      ∙ next_by k (from + 1) n (omega arith) (record {
+        past = omega arith;
+        inside = next.inside;
+        marked = next.marked;
+        least = λ m late early. next.least m (omega arith) early;
+      })
+
+  -- the least number that is free from a mark on
+  pub next_free : (from n : ℕ) → IsNextMarked marks from n → free_from from ≡ (base + n) ∷ free_from (n + 1)
+  next_free from n next = next_by (n - from) from n (omega (arith, next.past)) next
+
+  none_by : (k from : ℕ) → from + k ≡ length marks → HasNoneMarked marks from → free_from from ≡ []
+  none_by zero from is none =
+      let k : length marks - from ≡ 0 = omega arith in
+      rw k refl
+  none_by (suc k) from is none =
+      let inside : from < length marks = omega arith in
+      free_one from inside ∙ ap (λ (b : Bool). cond b ((base + from) ∷ free_from (from + 1)) (free_from (from + 1))) (none from (omega arith))
+      ∙ none_by k (from + 1) (omega arith) (λ m late. none m (omega arith))
+
+  pub none_free : (from : ℕ) → HasNoneMarked marks from → free_from from ≡ []
+  none_free from none = ⊎_elim (λ (past : length marks < from). let k : length marks - from ≡ 0 = omega arith in rw k refl)
+      (λ (inside : from ≤ length marks). none_by (length marks - from) from (omega arith) none) (cases_lt (length marks) from)
+
+  whole : are_free os (range_with_len base (length marks)) ≡ free_from 0
+  whole =
+      let start : base ≡ base + 0 = omega arith in
+      let all : length marks ≡ length marks - 0 = omega arith in
+      ap (λ (k : ℕ). are_free os (range_with_len base k)) all ∙ ap (λ (m : ℕ). are_free os (range_with_len m (length marks - 0))) start
+
+  pub found_none : HasNoneMarked marks 0 → are_free os (range_with_len base (length marks)) ≡ []
+  found_none none = whole ∙ none_free 0 none
+
+  pub found_one : (n : ℕ) → IsNextMarked marks 0 n → are_free os (range_with_len base (length marks)) ≡ (base + n) ∷ free_from (n + 1)
+  found_one n first = whole ∙ next_free 0 n first
+
+  pub found_only : (n : ℕ) → IsNextMarked marks 0 n → HasNoneMarked marks (n + 1) → are_free os (range_with_len base (length marks)) ≡ (base + n) ∷ []
+  found_only n first none = found_one n first ∙ ap (λ (xs : List ℕ). (base + n) ∷ xs) (none_free (n + 1) none)
+
+  pub found_two : (n m : ℕ) → IsNextMarked marks 0 n → IsNextMarked marks (n + 1) m → are_free os (range_with_len base (length marks)) ≡ (base + n) ∷ (base + m)
+      ∷ free_from (m + 1)
+  found_two n m first second = found_one n first ∙ ap (λ (xs : List ℕ). (base + n) ∷ xs) (next_free (n + 1) m second)
+
+-- a process is made of the first two nodes that are free
+module _ (os : List Object) (marks : List Bool) (same : (n : ℕ) → n < length marks → is_marked marks n ≡ is_free (content_at os (0 + n))) (b n : ℕ) where
+  pub process_missing : IsNextMarked marks 0 n → HasNoneMarked marks (n + 1) → None ≡ process_at b (are_free os (range_with_len 0 (length marks)))
+  process_missing first none = ap (process_at b) (sym (found_only os 0 marks same n first none))
+
+  pub process_found : (m : ℕ) → IsNextMarked marks 0 n → IsNextMarked marks (n + 1) m →
+      Some (MakeProcess n m b) ≡ process_at b (are_free os (range_with_len 0 (length marks)))
+  process_found m first second =
+      ap (λ (r : ℕ). Some (MakeProcess r m b)) (sym (zero-add n)) ∙ ap (λ (a : ℕ). Some (MakeProcess (0 + n) a b)) (sym (zero-add m))
+      ∙ ap (process_at b) (sym (found_two os 0 marks same n m first second))
+
+-- the marks that are read are those that are counted, so what is made of the numbers that they mark is made of those that are free
+module _ {g : Geometry} {os : List Object} {s : BanksState} (h : AreCounted g os s) {marks : List Bool} {X : Type 0} (make : List ℕ → X) {x : X} where
+  pub made_of_nodes : marks ≡ s.free_nodes →
+      ((us : List Object) → AreMarked us 0 (length marks) marks → x ≡ make (are_free us (range_with_len 0 (length marks)))) → x ≡ make (free_nodes g os)
+  unfolding free_nodes
+  made_of_nodes are made =
+      let all : g.nodes ≡ length marks = omega (arith, h.nodes, ap (λ (m : List Bool). length m) are) in
+      made os (subst (λ (m : List Bool). AreMarked os 0 (length m) m) (sym are) (record {
+        size = refl;
+        each = λ n inside. h.node n (omega (arith, inside, h.nodes)) ∙ ap (λ (m : ℕ). is_free (content_at os m)) (sym (zero-add n));
+      })) ∙ ap (λ (k : ℕ). make (are_free os (range_with_len 0 k))) (sym all)
+
+  pub made_of_pages : marks ≡ s.free_pages → (first : ℕ) → first ≡ g.nodes →
+      ((us : List Object) → AreMarked us first (length marks) marks → x ≡ make (are_free us (range_with_len first (length marks)))) → x ≡ make (free_pages g os)
+  unfolding free_pages
+  made_of_pages are first is made =
+      let all : g.pages ≡ length marks = omega (arith, h.pages, ap (λ (m : List Bool). length m) are) in
+      made os (subst (λ (n : ℕ). AreMarked os n (length marks) marks) (sym is) (subst (λ (m : List Bool). AreMarked os g.nodes (length m) m) (sym are) (record {
+        size = refl;
+        each = λ n inside. h.page n (omega (arith, inside, h.pages));
+      }))) ∙ (λ k. make (are_free os (range_with_len (is k) (sym all k))))
+
+-- no number is kept of an object with another role
+pub kept_other : (r : Role) (c : Content Capability) → (role_of c ≡ r → ⊥) → kept_number r c ≡ 0
+kept_other role.Root (content.Root r) other = absurd (other refl)
+kept_other role.Bank (content.Bank limit) other = absurd (other refl)
+kept_other r c other = refl
+
+pub no_limit : (r : ContentRef) → ((x : ℕ) → r ≡ content_ref.Bank x → ⊥) → limit_in (content_behind r) ≡ 0
+no_limit (content_ref.Bank limit) bank = absurd (bank limit refl)
+no_limit c bank = refl
+
+-- the limit of what is held at a number
+pub limit_held : (p : Parts) (n : ℕ) (c : Content Cap) → n < length p.headers → c ≡ held_at p.contents n →
+    limit_in c ≡ limit_in (content_at (objects_in p) n)
+limit_held p n c known is =
+    sym ((mapped (conveyed p.headers) c).limit) ∙ sym (ap (λ (d : Content Capability). limit_in d) (content_there p n known c (sym is)))
+
+-- a read-only call leaves the objects
+pub objects_looked : (old now : Parts) → now.headers ≡ old.headers → now.contents ≡ old.contents → objects_in now ≡ objects_in old
+objects_looked old now headers contents =
+    ap (λ (fs : List Frame). objects_of fs) (ap (λ (hs : List ObjectHeader). frames_in hs now.contents) headers ∙ ap (frames_in old.headers) contents)
+
+-- one number more, read after a read-only call
+pub numbers_more : (old now : Parts) (r : Role) (n one : ℕ) (kept new : List ℕ) → now.headers ≡ old.headers → now.contents ≡ old.contents →
+    one ≡ kept_number r (content_at (objects_in now) n) →
+    kept ≡ map (λ m. kept_number r (content_at (objects_in old) m)) (range_with_len 0 n) → new ≡ kept ++ one ∷ [] →
+    new ≡ map (λ m. kept_number r (content_at (objects_in old) m)) (range_with_len 0 (n + 1))
+numbers_more old now r n one kept new headers contents is so more =
+    let f : ℕ → ℕ = λ m. kept_number r (content_at (objects_in old) m) in
+    let here : one ≡ f n = is ∙ ap (λ (os : List Object). kept_number r (content_at os n)) (objects_looked old now headers contents) in
+    more ∙ ap (λ (xs : List ℕ). xs ++ one ∷ []) so ∙ ap (λ (m : ℕ). map f (range_with_len 0 n) ++ m ∷ []) here
+    ∙ sym (map-range_with_len_more f 0 n n (zero-add n))
+
+-- numbers of nodes and pages fit, since there is a header for each
+pub numbers_fit : (p : Parts) (hs : List ObjectHeader) (h : Geometry) (count : ℕ) → hs ≡ p.headers → count ≡ length hs → count < 2 ^ 64 → h ≡ p.geometry →
+    length p.headers ≡ object_count p.geometry → h.nodes + h.pages < 2 ^ 64
+numbers_fit p hs h count table is fits same all =
+    omega (arith, ap (λ (ks : List ObjectHeader). length ks) table, ap (λ (k : Geometry). k.nodes) same, ap (λ (k : Geometry). k.pages) same)
+
+pub room_replying : (count room : ℕ) → SomeIff (Some room) (count + 2 < 2 ^ 64) (count + 2) → room ≡ count + 2
+room_replying count room is = is.1
+
+-- what is counted, part by part
+module _ (g : Geometry) (os : List Object) (s : BanksState) (below : (b : ℕ) → IsTrue (is_bank (content_at os b)) → b < g.nodes)
+    (process_below : (p : ℕ) → IsTrue (is_root (content_at os p)) → p < g.nodes) where
+  counted_parts : AreMarked os 0 g.nodes s.free_nodes → AreMarked os g.nodes g.pages s.free_pages → length s.usages ≡ g.nodes →
+      ((b : ℕ) → IsTrue (is_bank (content_at os b)) → slice_index s.usages b ≡ usage os b) →
+      AreKept os g.nodes s.limits s.annexes → object_count g + 2 ≤ s.room → AreCounted g os s
+  counted_parts nodes pages size usages kept room =
+      let f : ℕ → ℕ = λ n. kept_number role.Bank (content_at os n) in
+      let h : ℕ → ℕ = λ n. kept_number role.Root (content_at os n) in
+      record {
+        nodes = nodes.size;
+        pages = pages.size;
+        node = λ n inside. nodes.each n inside ∙ ap (λ (m : ℕ). is_free (content_at os m)) (zero-add n);
+        page = pages.each;
+        usage_each = size;
+        limit_each = ap length kept.limits_are ∙ length-map-range_with_len f 0 g.nodes;
+        annex_each = ap length kept.annexes_are ∙ length-map-range_with_len h 0 g.nodes;
+        usage = usages;
+        limit = λ b bank. ap (λ (xs : List ℕ). slice_index xs b) kept.limits_are ∙ get_or-map-range_with_len f 0 g.nodes b b 0 (below b bank) (zero-add b);
+        annex = λ p root. ap (λ (xs : List ℕ). slice_index xs p) kept.annexes_are ∙ get_or-map-range_with_len h 0 g.nodes p p 0 (process_below p root)
+            (zero-add p);
+        room = room;
+      }
+
+  pub counted_from : (h : Geometry) → h ≡ g → AreMarked os 0 h.nodes s.free_nodes → AreMarked os h.nodes h.pages s.free_pages → length s.usages ≡ h.nodes →
+      ((b : ℕ) → IsTrue (is_bank (content_at os b)) → slice_index s.usages b ≡ usage os b) →
+      AreKept os g.nodes s.limits s.annexes → object_count g + 2 ≤ s.room → AreCounted g os s
+  counted_from h is nodes pages size =
+      counted_parts (subst (λ (k : Geometry). AreMarked os 0 k.nodes s.free_nodes) is nodes)
+      (subst (λ (k : Geometry). AreMarked os k.nodes k.pages s.free_pages) is pages) (size ∙ ap (λ (k : Geometry). k.nodes) is)
 
 -- one number more
 cond_append : (b : Bool) (x : ℕ) (ys zs : List ℕ) → cond b (x ∷ (ys ++ zs)) (ys ++ zs) ≡ cond b (x ∷ ys) ys ++ zs
@@ -147,3 +325,79 @@ module _ {p : Parts} {s : BanksState} {b : ℕ} (h : MayServe p s b) where
   -- also with other numbers listed
   pub bank_listing : {t : BanksState} {list : List ℕ} → t ≡ record s { listed = list } → MayServe p t b
   bank_listing is = record { sound = h.sound; counted = counted_listed is h.counted; bank = h.bank }
+
+-- how many of the objects below a number a bank accounts for
+abbrev pub is_used : List Object → ℕ → ℕ × Object → Bool
+is_used os b p = not (p.0 == b) && is_under os b p.1
+
+abbrev pub used_below : List Object → ℕ → ℕ → ℕ
+used_below os b n = count_by (is_used os b) (take n (enumerate_from 0 os))
+
+module _ (os : List Object) (b n : ℕ) (inside : n < length os) where
+  there : get_or (enumerate_from 0 os) n (0, free) ≡ (n, object_at os n)
+  there = get_or-enumerate_from 0 os n (0, free) inside ∙ ap (λ (m : ℕ). (m, object_at os n)) (zero-add n)
+
+  known : n < length (enumerate_from 0 os)
+  known = rw (length-enumerate_from 0 os) inside
+
+  used_more : is_used os b (n, object_at os n) ≡ true → used_below os b (n + 1) ≡ used_below os b n + 1
+  used_more is = count_by_more_yes (is_used os b) (enumerate_from 0 os) n (0, free) known (ap (is_used os b) there ∙ is)
+
+  used_same : is_used os b (n, object_at os n) ≡ false → used_below os b (n + 1) ≡ used_below os b n
+  used_same is = count_by_more_no (is_used os b) (enumerate_from 0 os) n (0, free) known (ap (is_used os b) there ∙ is)
+
+  used_by : (adds : Bool) → is_used os b (n, object_at os n) ≡ adds → used_below os b (n + 1) ≡ used_below os b n + cond adds 1 0
+  used_by true is = used_more is
+  used_by false is = omega (arith, used_same is)
+
+pub used_whole : (os : List Object) (b n : ℕ) → length os ≤ n → usage os b ≡ used_below os b n
+unfolding usage
+used_whole os b n whole = ap (count_by (is_used os b)) (sym (take_all n (enumerate_from 0 os) (rw (length-enumerate_from 0 os) whole)))
+
+-- number 0 is accounted for by none
+not_empty : (os : List Object) → IsTree os → 0 < length os
+not_empty os t = elim (cases_lt 0 (length os)) [
+  | inl some ↦ some
+  | inr none ↦
+      let past : is_bank (content_at os 0) ≡ false = ap (λ (o : Object). is_bank o.content) (get_or_past os 0 free none) in
+      absurd (let wrong : true ≡ false = sym t.prime.0 ∙ past in cc)
+]
+
+pub used_first : (os : List Object) → IsTree os → (b : ℕ) → used_below os b 1 ≡ 0
+used_first os t b = used_same os b 0 (not_empty os t) (elim (cases_eq 0 b) [
+  | inl e ↦ rw (eq-eqb 0 b e) refl
+  | inr other ↦
+      let none : list_any (nat_eq b) (chain os (owner_at os 0)) ≡ false =
+      ap (λ (m : ℕ). list_any (nat_eq b) (chain os m)) t.prime.1 ∙ ap (list_any (nat_eq b)) (chain_prime os) ∙ rw (ne_eqb b 0 (λ e. other (sym e))) refl in
+      rw (none, and_false (not (is_free (content_at os 0))), and_false (not (0 == b))) refl
+])
+
+-- a number that is free, and one that isn't, whose owner's chain is raised by one
+pub used_free : (os : List Object) (b n : ℕ) → n < length os → is_free (content_at os n) ≡ true → used_below os b (n + 1) ≡ used_below os b n
+used_free os b n inside none = used_same os b n inside (rw none (and_false (not (n == b))))
+
+used_under : (os : List Object) → IsTree os → (b n : ℕ) → IsTrue (is_bank (content_at os b)) → 1 ≤ n → is_free (content_at os n) ≡ false →
+    is_used os b (n, object_at os n) ≡ is_member (chain os (owner_at os n)) b
+used_under os t b n bank later used = elim (cases_eq n b) [
+  | inl e ↦
+      rw (eq-eqb n b e) (sym (ap (λ (m : ℕ). is_member (chain os (owner_at os m)) b) e ∙ chain_once os t b bank (λ zero. omega (arith, e, zero))))
+  | inr other ↦ rw (ne_eqb n b other, used) refl
+]
+
+pub used_raised : (os : List Object) → IsTree os → (b n owner : ℕ) (old new : List ℕ) → IsTrue (is_bank (content_at os b)) → n < length os → 1 ≤ n →
+    is_free (content_at os n) ≡ false → owner ≡ owner_at os n → IsRaised (chain os owner) 1 old new → slice_index old b ≡ used_below os b n →
+    slice_index new b ≡ used_below os b (n + 1)
+used_raised os t b n owner old new bank inside later used is raised so =
+    let more : slice_index new b ≡ slice_index old b + cond (is_member (chain os (owner_at os n)) b) 1 0 =
+    raised.each b ∙ ap (λ (m : ℕ). slice_index old b + cond (is_member (chain os m) b) 1 0) is in
+    let counted = used_by os b n inside (is_member (chain os (owner_at os n)) b) (used_under os t b n bank later used) in
+    more ∙ ap (λ (k : ℕ). k + cond (is_member (chain os (owner_at os n)) b) 1 0) so ∙ sym counted
+
+pub owner_of_used : (os : List Object) → IsTree os → (n owner : ℕ) → is_free (content_at os n) ≡ false → owner ≡ owner_at os n →
+    IsTrue (is_bank (content_at os owner))
+owner_of_used os t n owner used is =
+    subst (λ (m : ℕ). IsTrue (is_bank (content_at os m))) (sym is) (t.owners n (λ none. let wrong : false ≡ true = sym used ∙ none in cc))
+
+pub raise_fits : (os : List Object) (b n count usage : ℕ) → usage ≡ used_below os b n → n < count → count < 2 ^ 64 → usage + 1 < 2 ^ 64
+raise_fits os b n count usage so inside fits =
+    omega (arith, count_by-le-length (is_used os b) (take n (enumerate_from 0 os)), length-take n (enumerate_from 0 os))

@@ -12,6 +12,7 @@ pub use Rattle.capability.specs.declared.order.BankChange.{BankChange}
 pub use Rattle.capability.specs.declared.order.BankChange.TheVariants.{GiveUp, Make, MakeProcess, Transfer}
 pub use Rattle.capability.specs.declared.order.OrderPlan.{OrderPlan}
 pub use Rattle.capability.specs.declared.present.Fresh.{Fresh}
+pub use Rattle.collections.specs.Marks.{HasAllMarked, HasNoneMarked, IsNextMarked, IsNextUnmarked, is_marked}
 pub use Rattle.model.specs.Bank.{chain_within, is_under}
 unfoldable pub use Rattle.model.specs.Bank.{chain, usage}
 pub use Rattle.model.specs.Banking.{allocated, are_free, bank_allocated, freed, freed_by, least, left_of, new_annex, new_root, process_allocated, transferred}
@@ -19,7 +20,7 @@ unfoldable pub use Rattle.model.specs.Banking.{free_nodes, free_pages, has_quota
 pub use Rattle.model.specs.Capability.{full}
 pub use Rattle.model.specs.Frame.{content_behind, conveyed, given_up, header_at, held_at}
 unfoldable pub use Rattle.model.specs.Frame.{frames_in, objects_of}
-pub use Rattle.model.specs.Keepable.{AreCurrent, AreKeepable, IsSoundFrames, world_at}
+pub use Rattle.model.specs.Keepable.{AreCurrent, AreKeepable, world_at}
 pub use Rattle.model.specs.Object.{free, is_bank, is_free, is_root, limit_in, map_content, role_of, root_in}
 pub use Rattle.model.specs.OrderOutcome.{OrderOutcome, made, refused, replying_three}
 pub use Rattle.model.specs.Revoke.{is_given_up, is_member, names_member, void_where, without}
@@ -57,7 +58,6 @@ pub use Rattle.model_laws.proofs.SoundBanks.{member_passes}
 pub use Rattle.model_laws.proofs.SoundOrders.{IsNow}
 pub use Rattle.model_laws.proofs.SoundParts.{IsFramed, nearly_from}
 pub use Rattle.model_laws.proofs.Usage.{SameFrame, chain_same, frame_refl, tests_at, usage_same}
-pub use Rattle.number_set.specs.Marks.{HasAllMarked, HasNoneMarked, IsNextMarked, IsNextUnmarked, is_marked}
 pub use Rattle.std.proofs.Common.{Bool, Global, List, None, Some, Vec, [], add-one, ap, append_assoc, arith, cond, drop, false, get_or, inl, inr, length, map}
 pub use Rattle.std.proofs.Common.{min, nat_eq, not, refl, rules, subst, suc, sym, take, true, vec_len, zero, zero-add, ℕ, ⊎_elim}
 pub use Rattle.std.proofs.lemmas.Bool.{and_parts, cases_Bool, cases_eq, cases_lt, eq-eqb, eqb-true, false_from_ne_true, false≢true, le-leb, leb-true, lt-leb}

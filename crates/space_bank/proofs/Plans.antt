@@ -1,22 +1,165 @@
--- The plan of an order is its effect.
-use Rattle.space_bank.proofs.Names.{ℕ, Bool, true, false, List, [], Some, length, refl, sym, ap, subst, arith, IsTrue, nat_lt, eq-eqb, ne_eqb, append-nil}
-use Rattle.space_bank.proofs.Names.{length-append, Capability, Void, Page, Node, Process, Geometry, Content, Object, Arguments, BankOrder, ResultCode, chain}
-use Rattle.space_bank.proofs.Names.{usage, allocated, bank_allocated, free_nodes, free_pages, freed, freed_by, has_quota, inherited, on_bank, owned_by}
-use Rattle.space_bank.proofs.Names.{process_allocated, remaining, under, with_new, full, OrderOutcome, made, refused, replying_three, is_bank, is_root}
-use Rattle.space_bank.proofs.Names.{limit_in, rescind, MayBeHeld, content_at, owner_at, BankChange, OrderPlan, Fresh, bank_changed, reply_of_code, Parts}
-use Rattle.space_bank.proofs.Names.{fresh_content, objects_in, freed_alike, nodes_alike, owned_alike, pages_alike, remaining_alike, room_alike, under_alike}
-use Rattle.space_bank.proofs.Names.{IsNow, SameFrame, chain_same, frame_refl, usage_same, keepable_count, root_number, New, allocated_by, allocating, count_of}
-use Rattle.space_bank.proofs.Names.{given_for, is_deep, made_for, new_at, new_of, process_at, BanksState, IsPlanned, MayMake, MayServe, PlansAs, annex_among}
-use Rattle.space_bank.proofs.Names.{annex_of}
-use Rattle.std.proofs.Common.{◌≡◌, ◌+◌, ◌<◌, ◌≤◌, ◌++◌, ◌∙◌, ◌∷◌}
-use Rattle.std.specs.Prelude.{if◌then◌else◌, not}
+-- Chains of banks, walked from owner to owner. The plan of an order is its effect, and what orders plan may be made.
+use Rattle.space_bank.proofs.Names.{ℕ, suc, Bool, true, false, List, [], length, map, min, nat_eq, refl, sym, ap, subst, arith, IsTrue, nat_le, slice_index}
+use Rattle.space_bank.proofs.Names.{list_all, list_any, eq-eqb, le-leb, lt-leb, ne_eqb, ObjectHeader, Object, chain, chain_within, usage, has_quota, least}
+use Rattle.space_bank.proofs.Names.{left_of, remaining, is_bank, limit_in, content_at, owner_at, Parts, objects_in, bank_used, length_objects, bank_number, All}
+use Rattle.space_bank.proofs.Names.{BanksState, MayServe, all_members, cases_lt, inl, inr, HasLeft, Some, nat_lt, append-nil, length-append, Capability, Void}
+use Rattle.space_bank.proofs.Names.{Page, Node, Process, Geometry, Content, Arguments, BankOrder, ResultCode, allocated, bank_allocated, free_nodes, free_pages}
+use Rattle.space_bank.proofs.Names.{freed, freed_by, inherited, on_bank, owned_by, process_allocated, under, with_new, full, OrderOutcome, made, refused}
+use Rattle.space_bank.proofs.Names.{replying_three, is_root, rescind, MayBeHeld, BankChange, OrderPlan, Fresh, bank_changed, reply_of_code, fresh_content}
+use Rattle.space_bank.proofs.Names.{freed_alike, nodes_alike, owned_alike, pages_alike, remaining_alike, room_alike, under_alike, IsNow, SameFrame, chain_same}
+use Rattle.space_bank.proofs.Names.{frame_refl, usage_same, keepable_count, root_number, New, allocated_by, allocating, count_of, given_for, is_deep, made_for}
+use Rattle.space_bank.proofs.Names.{new_at, new_of, process_at, IsPlanned, MayMake, PlansAs, annex_among, annex_of, not, range_with_len, false≢true, ltb-true}
+use Rattle.space_bank.proofs.Names.{are_free, is_free, is_member, NamesItsKind, member_head, member_tail, owner_bank, tree_of, AllDiffer, filter_once, found_in}
+use Rattle.space_bank.proofs.Names.{tests_at, Make, MakeProcess, IsFreshAt, numbers_of, GivesUp, Transfers, IsMadeUnder, MayGiveUp, and_parts, cases_eq}
+use Rattle.space_bank.proofs.Names.{eqb-true, false_from_ne_true, or_cases, is_under, object_at, destroyed_fits, freed_fits, freed_set, under_found}
+use Rattle.space_bank.proofs.Names.{under_given_up, under_once, usage_destroyed, usage_freed, IsTree, chain_banks, chain_longer, chain_nonempty, chain_once}
+use Rattle.space_bank.proofs.Names.{chain_shorter, chain_zero}
+use Rattle.std.specs.Prelude.{◌==◌, ◌&&◌, if◌then◌else◌}
+use Rattle.std.proofs.Common.{◌≡◌, ◌+◌, ◌-◌, ◌<◌, ◌≤◌, ◌∙◌, ◌∷◌, ◌++◌, ◌≢◌}
 use Rattle.model.specs.declared.object.Content.TheVariants as content
 use Rattle.model.specs.declared.order.BankOrder.TheVariants as bank
 use Rattle.model.specs.declared.order.ResultCode.TheVariants as code
 use Rattle.capability.specs.declared.order.Change.TheVariants as change
 use Rattle.capability.specs.declared.present.Fresh.TheVariants as fresh
 use Rattle.space_bank.specs.declared.planning_new.New.TheVariants as new
-use Rattle.space_bank.proofs.Walks.{node_of_bank}
+use Rattle.space_bank.proofs.Tallies.{chain_bank}
+use Rattle.space_bank.proofs.Renewing.{once_of_differ}
+
+pub inside_read : (p : Parts) (hs : List ObjectHeader) (count n : ℕ) → hs ≡ p.headers → count ≡ length hs → n < count → n < length (objects_in p)
+inside_read p hs count n table is inside =
+    omega (arith, ap (λ (ks : List ObjectHeader). length ks) table, length_objects p.headers p.contents)
+
+pub past_read : (p : Parts) (hs : List ObjectHeader) (count n : ℕ) → hs ≡ p.headers → count ≡ length hs → count ≤ n → length (objects_in p) ≤ n
+past_read p hs count n table is past =
+    omega (arith, ap (λ (ks : List ObjectHeader). length ks) table, length_objects p.headers p.contents)
+
+-- A walk along a chain, where i banks were passed: it stands at the bank that is sought, at the last, goes on with
+-- the owner, or has passed 16.
+pub chain_here : (os : List Object) (i b sought : ℕ) → i < 16 → b ≡ sought → list_any (nat_eq sought) (chain_within (16 - i) os b) ≡ true
+chain_here os i b sought inside same =
+    let k : 16 - i ≡ suc (15 - i) = omega arith in
+    rw (k, eq-eqb sought b (sym same)) refl
+
+pub chain_last : (os : List Object) (i b : ℕ) → i < 16 → b ≡ 0 → chain_within (16 - i) os b ≡ b ∷ []
+chain_last os i b inside root =
+    let k : 16 - i ≡ suc (15 - i) = omega arith in
+    rw (k, eq-eqb b 0 root) refl
+
+pub chain_next : (os : List Object) (i b owner : ℕ) → i < 16 → (b ≡ 0 → ⊥) → owner ≡ owner_at os b →
+    chain_within (16 - i) os b ≡ b ∷ chain_within (16 - (i + 1)) os owner
+chain_next os i b owner inside inner is =
+    let k : 16 - i ≡ suc (15 - i) = omega arith in
+    let l : 16 - (i + 1) ≡ 15 - i = omega arith in
+    rw (k, l, is, ne_eqb b 0 inner) refl
+
+pub chain_past : (os : List Object) (i b : ℕ) → 16 ≤ i → chain_within (16 - i) os b ≡ []
+chain_past os i b past =
+    let k : 16 - i ≡ 0 = omega arith in
+    rw k refl
+
+pub chain_begun : (os : List Object) (b : ℕ) → chain os b ≡ chain_within (16 - 0) os b
+unfolding chain
+chain_begun os b = refl
+
+-- whether the bank that is sought is in the rest
+module _ (os : List Object) (i b sought : ℕ) (other : b ≡ sought → ⊥) where
+  pub sought_last : i < 16 → b ≡ 0 → list_any (nat_eq sought) (chain_within (16 - i) os b) ≡ false
+  sought_last inside root =
+      ap (list_any (nat_eq sought)) (chain_last os i b inside root) ∙ rw (ne_eqb sought b (λ e. other (sym e))) refl
+
+  pub sought_next : (owner : ℕ) → i < 16 → (b ≡ 0 → ⊥) → owner ≡ owner_at os b →
+      list_any (nat_eq sought) (chain_within (16 - i) os b) ≡ list_any (nat_eq sought) (chain_within (16 - (i + 1)) os owner)
+  sought_next owner inside inner is =
+      ap (list_any (nat_eq sought)) (chain_next os i b owner inside inner is) ∙ rw (ne_eqb sought b (λ e. other (sym e))) refl
+
+-- whether this number of further objects passes no limit: it is at most the least that is left
+fits_left : (count used limit : ℕ) → used ≤ limit → nat_le count (limit - used) ≡ nat_le (used + count) limit
+fits_left count used limit within = elim (cases_lt limit (used + count)) [
+  | inl over ↦ rw (lt-leb count (limit - used) (omega arith), lt-leb (used + count) limit over) refl
+  | inr fits ↦ rw (le-leb count (limit - used) (omega arith), le-leb (used + count) limit fits) refl
+]
+
+fits_both : (count m n : ℕ) → nat_le count (min m n) ≡ (nat_le count m && nat_le count n)
+fits_both count m n = elim (cases_lt m count) [
+  | inl over ↦ rw (lt-leb count (min m n) (omega arith), lt-leb count m over) refl
+  | inr fits ↦ rw (le-leb count m fits) (elim (cases_lt n count) [
+    | inl over ↦ rw (lt-leb count (min m n) (omega arith), lt-leb count n over) refl
+    | inr both ↦ rw (le-leb count (min m n) (omega arith), le-leb count n both) refl
+  ])
+]
+
+all_left : (os : List Object) (count m : ℕ) (cs : List ℕ) → All (λ c. usage os c ≤ limit_in (content_at os c)) cs →
+    nat_le count (least m (map (left_of os) cs)) ≡ (nat_le count m && list_all (λ c. nat_le (usage os c + count) (limit_in (content_at os c))) cs)
+all_left os count m [] within = elim (cases_lt m count) [ inl over ↦ rw (lt-leb count m over) refl | inr fits ↦ rw (le-leb count m fits) refl ]
+all_left os count m (c ∷ cs) within =
+    all_left os count (min m (left_of os c)) cs (λ k d inside. within (suc k) d (omega arith))
+    ∙ rw (fits_both count m (left_of os c), fits_left count (usage os c) (limit_in (content_at os c)) (within 0 0 (omega arith))) (grouped (nat_le count m) _ _)
+  where
+    grouped : (a b c : Bool) → ((a && b) && c) ≡ (a && (b && c))
+    grouped true b c = refl
+    grouped false b c = refl
+
+pub quota_is : (os : List Object) (b count : ℕ) → All (λ c. usage os c ≤ limit_in (content_at os c)) (chain os b) →
+    has_quota os b count ≡ nat_le count (remaining os b)
+unfolding has_quota remaining chain
+quota_is os b count within =
+    let rest : List ℕ = if b == 0 then [] else chain_within 15 os (owner_at os b) in
+    let least_twice : min (left_of os b) (left_of os b) ≡ left_of os b = omega arith in
+    sym (ap (λ (m : ℕ). nat_le count (least m (map (left_of os) rest))) least_twice
+    ∙ all_left os count (left_of os b) rest (λ k d inside. within (suc k) d (omega arith))
+    ∙ ap (λ (t : Bool). t && list_all (λ c. nat_le (usage os c + count) (limit_in (content_at os c))) rest)
+    (fits_left count (usage os b) (limit_in (content_at os b)) (within 0 0 (omega arith))))
+
+-- the least that is left in the rest
+pub least_begun : (os : List Object) (b m : ℕ) → m ≡ left_of os b → remaining os b ≡ least m (map (left_of os) (chain_within (16 - 0) os b))
+unfolding remaining
+least_begun os b m is =
+    ap (λ (cs : List ℕ). least (left_of os b) (map (left_of os) cs)) (chain_begun os b)
+    ∙ ap (λ (k : ℕ). least k (map (left_of os) (chain_within (16 - 0) os b))) (sym is)
+
+pub least_on : (os : List Object) (m : ℕ) (cs ds : List ℕ) → cs ≡ ds → least m (map (left_of os) cs) ≡ least m (map (left_of os) ds)
+least_on os m cs ds same = ap (λ (es : List ℕ). least m (map (left_of os) es)) same
+
+module _ (os : List Object) (i b m left now : ℕ) (inside : i < 16) (here : left ≡ left_of os b) (is : now ≡ min m left) where
+  least_here : (rest : List ℕ) → least (min m (left_of os b)) (map (left_of os) rest) ≡ least now (map (left_of os) rest)
+  least_here rest = ap (λ (k : ℕ). least k (map (left_of os) rest)) (ap (min m) (sym here) ∙ sym is)
+
+  pub least_last : b ≡ 0 → least m (map (left_of os) (chain_within (16 - i) os b)) ≡ now
+  least_last root = least_on os m (chain_within (16 - i) os b) (b ∷ []) (chain_last os i b inside root) ∙ least_here []
+
+  pub least_next : (owner : ℕ) → (b ≡ 0 → ⊥) → owner ≡ owner_at os b →
+      least m (map (left_of os) (chain_within (16 - i) os b)) ≡ least now (map (left_of os) (chain_within (16 - (i + 1)) os owner))
+  least_next owner inner at =
+      least_on os m (chain_within (16 - i) os b) (b ∷ chain_within (16 - (i + 1)) os owner) (chain_next os i b owner inside inner at)
+      ∙ least_here (chain_within (16 - (i + 1)) os owner)
+
+-- what is counted of a bank that there is
+module _ {p : Parts} {s : BanksState} {b : ℕ} (h : MayServe p s b) where
+  pub node_of_bank : b < p.geometry.nodes
+  node_of_bank = bank_number p.geometry b (content_at (objects_in p) b) (h.sound.1.sound.kinds b) h.bank
+
+  pub left_there : HasLeft s b
+  left_there = record {
+    usage = omega (arith, node_of_bank, h.counted.usage_each);
+    limit = omega (arith, node_of_bank, h.counted.limit_each);
+    within = omega (arith, h.sound.1.sound.limits b h.bank, h.counted.usage b h.bank, h.counted.limit b h.bank);
+  }
+
+  -- the limits of its chain aren't passed
+  pub chain_within_limits : All (λ c. usage (objects_in p) c ≤ limit_in (content_at (objects_in p) c)) (chain (objects_in p) b)
+  chain_within_limits = all_members _ (chain (objects_in p) b) (λ c member. h.sound.1.sound.limits c (chain_bank h c member))
+
+  pub left_counted : slice_index s.limits b - slice_index s.usages b ≡ left_of (objects_in p) b
+  left_counted = omega (arith, h.counted.usage b h.bank, h.counted.limit b h.bank)
+
+  -- its owner is one too
+  pub owner_is_bank : {owner : ℕ} → owner ≡ owner_at (objects_in p) b → MayServe p s owner
+  owner_is_bank is = record {
+    sound = h.sound;
+    counted = h.counted;
+    bank = subst (λ (n : ℕ). IsTrue (is_bank (content_at (objects_in p) n))) (sym is)
+        (h.sound.1.sound.owners b (λ free. let used = bank_used (content_at (objects_in p) b) h.bank in cc));
+  }
 
 -- a plan that refuses, one that makes a change of a bank, and one that replies three words
 abbrev pub refusal : ResultCode → OrderPlan
@@ -207,3 +350,150 @@ pub annex_kept : {p : Parts} {s : BanksState} {b : ℕ} (c : Capability) → May
     annex_among s.annexes c ≡ annex_of (objects_in p) c
 annex_kept (Process q) h sent = ap (λ (n : ℕ). n ∷ []) (h.counted.annex q sent.1)
 annex_kept c h sent = refl
+
+-- what a capability frees, where a bank owns it
+pub freed_list : (g : Geometry) (os : List Object) (b : ℕ) (c : Capability) (list : List ℕ) → IsNow g os → IsTrue (is_bank (content_at os b)) →
+    NamesItsKind os c → freed_by os c ≡ list → 0 < length list → owner_at os (slice_index list 0) ≡ b → MayGiveUp os b list
+freed_list g os b c [] h is names frees some own = absurd (omega arith)
+freed_list g os b c (n ∷ ns) h is names frees some own =
+    let set = freed_set g os h.frame c n ns names frees in
+    record {
+      once = once_of_differ (n ∷ ns) set.given_up.once;
+      used = set.given_up.used;
+      apart = λ x above.
+          false_from_ne_true (is_member (n ∷ ns) x) (λ member. false≢true (sym (set.no_bank x member) ∙ chain_banks os (tree_of g os h.frame) b x is above));
+      lowered = λ x bank stays. omega (arith, usage_freed g os c b n ns h own frees names x bank, freed_fits g os c b n ns h own frees names x bank);
+    }
+
+-- no bank above another is under it
+module _ (os : List Object) (t : IsTree os) (b : ℕ) (is : IsTrue (is_bank (content_at os b))) (on : b ≢ 0) where
+  no_loop : (x : ℕ) → is_member (chain os (owner_at os b)) x ≡ true → is_member (chain os (owner_at os x)) b ≡ true → ⊥
+  no_loop x above below =
+      let bank = chain_banks os t (owner_at os b) x (owner_bank os t b is) above in
+      let down = chain_shorter os t (owner_at os x) b (owner_bank os t x bank) below in
+      let longer = chain_longer os t b is on in
+      elim (cases_eq x 0) [
+        | inr far ↦ omega (arith, (chain_shorter os t (owner_at os b) x (owner_bank os t b is) above), down, longer, chain_longer os t x bank far)
+        | inl end ↦
+            let prime : owner_at os x ≡ 0 = ap (λ (m : ℕ). owner_at os m) end ∙ t.prime.1 in
+            let one : length (chain os (owner_at os x)) ≡ 1 = ap (λ (xs : List ℕ). length xs) (chain_zero os (owner_at os x) prime) ∙ refl in
+            omega (arith, one, down, longer, chain_nonempty os t (owner_at os b) (owner_bank os t b is))
+      ]
+
+  pub above_apart : (x : ℕ) → is_member (chain os (owner_at os b)) x ≡ true → is_member (under os b) x ≡ false
+  above_apart x above = false_from_ne_true (is_member (under os b) x) (λ member.
+      elim (or_cases (x == b) (is_under os b (object_at os x)) (under_found os b x member).1) [
+        | inl same ↦
+            false≢true (sym (chain_once os t b is on) ∙ (ap (λ (m : ℕ). is_member (chain os (owner_at os b)) m) (sym (eqb-true x b same)) ∙ above))
+        | inr below ↦
+            no_loop x above (and_parts (not (is_free (content_at os x))) (list_any (nat_eq b) (chain os (owner_at os x))) below).1
+      ])
+
+-- a bank with all that is under it
+pub destroyed_gives : (g : Geometry) (os : List Object) (b : ℕ) → IsNow g os → IsTrue (is_bank (content_at os b)) → b ≢ 0 →
+    MayGiveUp os (owner_at os b) (under os b)
+destroyed_gives g os b h is on = record {
+  once = once_of_differ (under os b) (under_once os b);
+  used = (under_given_up g os h.frame b is on).used;
+  apart = above_apart os (tree_of g os h.frame) b is on;
+  lowered = λ x bank stays. omega (arith, usage_destroyed g os b h is on x stays, destroyed_fits g os b h is on x stays);
+}
+
+-- a free number among the `count` numbers from `from` on
+pub record IsFreeAmong (os : List Object) (from count n : ℕ) : Type 0 where
+  pub from_on : from ≤ n
+  pub below : n < from + count
+  pub unused : IsTrue (is_free (content_at os n))
+
+free_among : (os : List Object) (from count n : ℕ) → is_member (are_free os (range_with_len from count)) n ≡ true → IsFreeAmong os from count n
+free_among os from count n member =
+    let found = found_in (λ m. is_free (content_at os m)) from count n member in
+    record { from_on = found.0; below = found.1; unused = found.2 }
+
+first_free : (os : List Object) (from count n : ℕ) (ns : List ℕ) → are_free os (range_with_len from count) ≡ n ∷ ns → IsFreeAmong os from count n
+first_free os from count n ns are = free_among os from count n (ap (λ (xs : List ℕ). is_member xs n) are ∙ member_head n n ns refl)
+
+-- one new object, at the first of the free numbers
+one_may : (g : Geometry) (os : List Object) (b from count : ℕ) (f : Fresh) (c : BankChange) → IsTrue (is_bank (content_at os b)) → IsTrue (has_quota os b 1)
+    → ((n : ℕ) → IsFreeAmong os from count n → IsFreshAt g n f) → IsMadeUnder os b f → (ns : List ℕ) → are_free os (range_with_len from count) ≡ ns
+    → new_at b f ns ≡ Some c → MayMake g os (numbers_of c) c
+one_may g os b from count f c bank room place kind [] are is = cc
+one_may g os b from count f c bank room place kind (n ∷ ns) are is =
+    let e : Make n f b ≡ c = cc in
+    let free = first_free os from count n ns are in
+    subst (λ (x : BankChange). MayMake g os (numbers_of x) x) e
+    (record { listed = refl; bank = bank; room = room; unused = free.unused; place = place n free; kind = kind })
+
+-- a new process, at the first two
+two_may : (g : Geometry) (os : List Object) (b : ℕ) (c : BankChange) → IsTrue (is_bank (content_at os b)) → IsTrue (has_quota os b 2) → (ns : List ℕ)
+    → are_free os (range_with_len 0 g.nodes) ≡ ns → process_at b ns ≡ Some c → MayMake g os (numbers_of c) c
+two_may g os b c bank room [] are is = cc
+two_may g os b c bank room (r ∷ []) are is = cc
+two_may g os b c bank room (r ∷ a ∷ ns) are is =
+    let e : MakeProcess r a b ≡ c = cc in
+    let first = first_free os 0 g.nodes r (a ∷ ns) are in
+    let differ = subst (λ (xs : List ℕ). AllDiffer xs) are (filter_once (λ n. is_free (content_at os n)) 0 g.nodes) in
+    let other : a ≢ r = λ same. false≢true (sym differ.0 ∙ member_head r a ns (sym same)) in
+    let second = free_among os 0 g.nodes a (ap (λ (xs : List ℕ). is_member xs a) are ∙ (member_tail a r (a ∷ ns) other ∙ member_head a a ns refl)) in
+    subst (λ (x : BankChange). MayMake g os (numbers_of x) x) e (record {
+      listed = refl;
+      bank = bank;
+      room = room;
+      unused = first.unused;
+      annex_unused = second.unused;
+      two = other;
+      place = omega (arith, first.below);
+      annex_place = omega (arith, second.below);
+    })
+
+short_chain : (length_of : ℕ) (short : Bool) → nat_lt length_of 16 ≡ short → not short ≡ false → length_of < 16
+short_chain n true is e = ltb-true n 16 is
+short_chain n false is e = cc
+
+new_may : (g : Geometry) (os : List Object) (b : ℕ) (c : BankChange) → IsTrue (is_bank (content_at os b)) → (kind : New) →
+    IsTrue (has_quota os b (count_of kind)) → made_for g os b kind ≡ Some c → is_deep os b kind ≡ false → MayMake g os (numbers_of c) c
+unfolding free_nodes free_pages
+new_may g os b c bank new.Page room some short =
+    one_may g os b g.nodes g.pages fresh.Page c bank room (λ n free. free.from_on) tt (are_free os (range_with_len g.nodes g.pages)) refl some
+new_may g os b c bank new.Node room some short =
+    one_may g os b 0 g.nodes fresh.Node c bank room (λ n free. omega (arith, free.below)) tt (are_free os (range_with_len 0 g.nodes)) refl some
+new_may g os b c bank new.Process room some short = two_may g os b c bank room (are_free os (range_with_len 0 g.nodes)) refl some
+new_may g os b c bank (new.Bank limit) room some short =
+    one_may g os b 0 g.nodes (fresh.Bank limit) c bank room (λ n free. omega (arith, free.below))
+    (short_chain (length (chain os b)) (nat_lt (length (chain os b)) 16) refl short) (are_free os (range_with_len 0 g.nodes)) refl some
+
+-- what a capability names is of its kind where the frame is the same
+names_there : (os us : List Object) → SameFrame os us → (c : Capability) (n : ℕ) (ns : List ℕ) → freed_by os c ≡ n ∷ ns → NamesItsKind os c → NamesItsKind us c
+names_there os us frame (Page o a) n ns some names = (tests_at os us frame o).page ∙ names
+names_there os us frame (Node o a) n ns some names = (tests_at os us frame o).node ∙ names
+names_there os us frame (Process p) n ns some names = (tests_at os us frame p).root ∙ names
+names_there os us frame c n ns some names = cc
+
+module _ {p : Parts} {s : BanksState} {b : ℕ} (h : MayServe p s b) {us : List Object} (frame : SameFrame (objects_in p) us) (now : IsNow p.geometry us) where
+  bank_there : IsTrue (is_bank (content_at us b))
+  bank_there = (tests_at (objects_in p) us frame b).bank ∙ h.bank
+
+  pub may_new : (kind : New) (c : BankChange) → has_quota (objects_in p) b (count_of kind) ≡ true → made_for p.geometry (objects_in p) b kind ≡ Some c →
+      is_deep (objects_in p) b kind ≡ false → MayMake p.geometry us (numbers_of c) c
+  may_new kind c room some short =
+      new_may p.geometry us b c bank_there kind (room_alike (objects_in p) us frame b (count_of kind) ∙ room)
+      (made_alike (objects_in p) us frame p.geometry b kind ∙ some) (deep_alike (objects_in p) us frame p.geometry b kind ∙ short)
+
+  pub may_free : (c : Capability) (n : ℕ) (ns : List ℕ) → NamesItsKind (objects_in p) c → freed_by (objects_in p) c ≡ n ∷ ns → owner_at (objects_in p) n ≡ b →
+      GivesUp us (n ∷ ns) b
+  may_free c n ns names some own = record {
+    bank = bank_there;
+    gives = freed_list p.geometry us b c (n ∷ ns) now bank_there (names_there (objects_in p) us frame c n ns some names)
+        (freed_alike (objects_in p) us frame c ∙ some) (omega arith) ((frame.alike n).owner ∙ own);
+  }
+
+  pub may_destroy : b ≢ 0 → (above : ℕ) → above ≡ owner_at (objects_in p) b → GivesUp us (under (objects_in p) b) above
+  may_destroy on above is =
+      rw (is ∙ sym (frame.alike b).owner) (record {
+        bank = owner_bank us (tree_of p.geometry us now.frame) b bank_there;
+        gives = subst (λ (ns : List ℕ). MayGiveUp us (owner_at us b) ns) (under_alike (objects_in p) us frame b)
+            (destroyed_gives p.geometry us b now bank_there on);
+      })
+
+  pub may_return : b ≢ 0 → Transfers us (b ∷ owned_by (objects_in p) b) b
+  may_return on = record { bank = bank_there; other = on; listed = ap (λ (ns : List ℕ). b ∷ ns) (sym (owned_alike (objects_in p) us frame b)) }

@@ -1,9 +1,18 @@
--- Counts of allocations where objects are given up, and where none is.
+-- Counts of allocations, and what is left of what is counted, where objects are given up. A bank that is returned to its parent.
 use Rattle.space_bank.proofs.Names.{ℕ, Bool, true, false, not, List, sym, ap, arith, Capability, ObjectHeader, Content, Object, with_new, given_up, header_at}
 use Rattle.space_bank.proofs.Names.{is_free, is_given_up, is_member, rescind, content_at, new_used, none_given_up, rescinded_given_up, AreGivenUp, Parts}
-use Rattle.space_bank.proofs.Names.{Renews, objects_in, ⊎_elim, cases_lt}
-use Rattle.std.proofs.Common.{◌≡◌, ◌+◌, ◌<◌, ◌≤◌, ◌&&◌, ◌∙◌}
-use Rattle.std.specs.Prelude.{if◌then◌else◌}
+use Rattle.space_bank.proofs.Names.{Renews, objects_in, ⊎_elim, cases_lt, zero, suc, [], drop, take, length, refl, subst, IsTrue, slice_index, slice_index_or}
+use Rattle.space_bank.proofs.Names.{All, eq-eqb, false_from_ne_true, false≢true, take_rest, list_any_at, Geometry, chain, usage, AreCurrent, AreKeepable, free}
+use Rattle.space_bank.proofs.Names.{is_bank, is_root, limit_in, names_member, void_where, without, object_at, AllDiffer, member_tail, free_rescinded}
+use Rattle.space_bank.proofs.Names.{at_rescind, IsOnce, KeepsRest, frames_of, IsMapped, without_mapped, AreCounted, BanksState, KeepsObjects, CarriesOut}
+use Rattle.space_bank.proofs.Names.{MayGiveUp, MayServe, marks_of, IsRaised, is_marked, inl, inr, add-one, slice_set, cases_Bool, cases_eq, ext_get_or}
+use Rattle.space_bank.proofs.Names.{get_or-set_other, get_or-set_same, length-map, transferred, inherited, owned_by, owner_at, owned_found, used_where}
+use Rattle.space_bank.proofs.Names.{returned_fits, usage_returned, chain_banks, chain_once, member_head, owner_bank, all_members, found_in, only_member}
+use Rattle.space_bank.proofs.Names.{stands_in, at_map, AreTransferred}
+use Rattle.std.proofs.Common.{◌≡◌, ◌+◌, ◌<◌, ◌≤◌, ◌&&◌, ◌∙◌, ◌-◌, ◌^◌, ◌++◌, ◌∷◌, ◌≢◌, ◌==◌}
+use Rattle.std.specs.Prelude.{if◌then◌else◌, nat_eq}
+use Rattle.space_bank.proofs.Tallies.{chain_bank, few_allocations, few_calls, serve_count, serve_now, serve_tree, annex_in, counted_from, marks_counted}
+use Rattle.space_bank.proofs.Tallies.{transferred_same}
 
 -- a count that neither fell nor rose is the same
 pub unrisen : (m n : ℕ) → m ≤ n → (m < n → ⊥) → n ≡ m
@@ -17,12 +26,12 @@ abbrev pub SameFree : Parts → Parts → Type 0
 SameFree p q = (n : ℕ) → is_free (content_at (objects_in q) n) ≡ is_free (content_at (objects_in p) n)
 
 -- a count of allocations by whether the object was given up
-counted : (gone : Bool) (member : Bool) (h k : ObjectHeader) → gone ≡ member → k ≡ (if member then given_up h else h) →
+given_or_kept : (gone : Bool) (member : Bool) (h k : ObjectHeader) → gone ≡ member → k ≡ (if member then given_up h else h) →
     k.allocations ≡ h.allocations + (if gone then 1 else 0)
-counted true true h k e is = ap (λ (x : ObjectHeader). x.allocations) is
-counted false false h k e is = let same = ap (λ (x : ObjectHeader). x.allocations) is in omega (arith, same)
-counted true false h k e is = cc
-counted false true h k e is = cc
+given_or_kept true true h k e is = ap (λ (x : ObjectHeader). x.allocations) is
+given_or_kept false false h k e is = let same = ap (λ (x : ObjectHeader). x.allocations) is in omega (arith, same)
+given_or_kept true false h k e is = cc
+given_or_kept false true h k e is = cc
 
 stayed : (gone : Bool) (m n : ℕ) → gone ≡ false → m ≡ n → m ≡ n + (if gone then 1 else 0)
 stayed false m n e same = omega (arith, same)
@@ -40,7 +49,7 @@ renews_none p q same stays = record {
 pub renews_rescinded : (p q : Parts) (set : List ℕ) → AreGivenUp set p q → objects_in q ≡ rescind set (objects_in p)
     → ((n : ℕ) → is_member set n ≡ true → is_free (content_at (objects_in p) n) ≡ false) → Renews p q
 renews_rescinded p q set given objects used = record {
-  each = λ n. counted (is_given_up (objects_in p) (objects_in q) n) (is_member set n) (header_at p.headers n) (header_at q.headers n)
+  each = λ n. given_or_kept (is_given_up (objects_in p) (objects_in q) n) (is_member set n) (header_at p.headers n) (header_at q.headers n)
       (ap (λ (us : List Object). is_given_up (objects_in p) us n) objects ∙ rescinded_given_up set (objects_in p) used n) (given.headers n);
 }
 
@@ -63,3 +72,295 @@ renews_then o p q renews same free = record {
 pub new_stays : (os us : List Object) (n b : ℕ) (c : Content Capability) → is_free c ≡ false → us ≡ with_new os n b c
     → (m : ℕ) → is_free (content_at os m) ≡ false → is_free (content_at us m) ≡ false
 new_stays os us n b c some is m used = ap (λ (vs : List Object). is_free (content_at vs m)) is ∙ new_used os n b c some m used
+
+-- lists of numbers
+
+pub member_at : (ns : List ℕ) (i : ℕ) → i < length ns → is_member ns (slice_index ns i) ≡ true
+member_at ns i inside = list_any_at (nat_eq (slice_index ns i)) ns i 0 inside (eq-eqb (slice_index ns i) (slice_index ns i) refl)
+
+pub once_of_differ : (ns : List ℕ) → AllDiffer ns → IsOnce ns
+once_of_differ [] differ i inside = absurd (omega arith)
+once_of_differ (n ∷ ns) differ zero inside = refl
+once_of_differ (n ∷ ns) differ (suc i) inside =
+    member_tail (slice_index ns i) n (take i ns) (λ e. false≢true (sym differ.0 ∙ (ap (λ m. is_member ns m) (sym e) ∙ member_at ns i (omega arith))))
+    ∙ once_of_differ ns differ.1 i (omega arith)
+
+-- contents after a rescind
+
+module _ (set : List ℕ) (os : List Object) (n : ℕ) where
+  went : is_member set n ≡ true → object_at (rescind set os) n ≡ free
+  went e = at_rescind set os n ∙ ap (λ (b : Bool). if b then free else without (names_member set) (object_at os n)) e
+
+  kept : is_member set n ≡ false → object_at (rescind set os) n ≡ without (names_member set) (object_at os n)
+  kept e = at_rescind set os n ∙ ap (λ (b : Bool). if b then free else without (names_member set) (object_at os n)) e
+
+  pub used_stays : is_free (content_at (rescind set os) n) ≡ false → is_member set n ≡ false
+  used_stays used = false_from_ne_true (is_member set n) (λ e. false≢true (sym used ∙ ap (λ (o : Object). is_free o.content) (went e)))
+
+  pub bank_stays : IsTrue (is_bank (content_at (rescind set os) n)) → is_member set n ≡ false
+  bank_stays is = false_from_ne_true (is_member set n) (λ e. false≢true (sym (ap (λ (o : Object). is_bank o.content) (went e)) ∙ is))
+
+  root_stays : IsTrue (is_root (content_at (rescind set os) n)) → is_member set n ≡ false
+  root_stays is = false_from_ne_true (is_member set n) (λ e. false≢true (sym (ap (λ (o : Object). is_root o.content) (went e)) ∙ is))
+
+  was : is_member set n ≡ false → IsMapped (void_where (names_member set)) (content_at os n) (content_at (rescind set os) n)
+  was stays =
+      subst (λ (o : Object). IsMapped (void_where (names_member set)) (content_at os n) o.content) (sym (kept stays))
+      (without_mapped (names_member set) (object_at os n))
+
+-- The chain of a bank accounts for `count` objects fewer, and a set is marked as free.
+pub record IsReleased (banks : List ℕ) (count : ℕ) (s t : BanksState) (set : List ℕ) : Type 0 where
+  pub usages : IsRaised banks count t.usages s.usages
+  pub nodes : length t.free_nodes ≡ length s.free_nodes
+  pub pages : length t.free_pages ≡ length s.free_pages
+  pub limits : t.limits ≡ s.limits
+  pub annexes : t.annexes ≡ s.annexes
+  pub room : t.room ≡ s.room
+  pub marks : (n : ℕ) → is_marked (marks_of t) n ≡ (if is_member set n then true else is_marked (marks_of s) n)
+
+-- A set of objects that have the contents of those that are counted is given up.
+pub counted_gone : {g : Geometry} {os : List Object} (vs : List Object) {s t : BanksState} {set banks : List ℕ} {count : ℕ} → AreCounted g os s
+    → ((n : ℕ) → content_at vs n ≡ content_at os n) → IsReleased banks count s t set
+    → ((x : ℕ) → IsTrue (is_bank (content_at os x)) → is_member set x ≡ false → usage (rescind set vs) x + (if is_member banks x then count else 0) ≡ usage os
+    x) → AreCounted g (rescind set vs) t
+counted_gone {g} {os} vs {s} {t} {set} {banks} {count} counted same released usages =
+    counted_from (rescind set vs) t counted (record {
+      nodes = released.nodes;
+      pages = released.pages;
+      usages = sym released.usages.size;
+      limits = ap (λ (xs : List ℕ). length xs) released.limits;
+      annexes = ap (λ (xs : List ℕ). length xs) released.annexes;
+      room = released.room;
+    }) (λ n known.
+    released.marks n
+    ∙ (ap (λ (b : Bool). if is_member set n then true else b) (marks_counted counted n known ∙ ap (λ (c : Content Capability). is_free c) (sym (same n)))
+    ∙ sym (free_rescinded set vs n))) (λ x is.
+    let was = was_bank x is in
+    omega (arith, released.usages.each x, counted.usage x was, usages x was (bank_stays set vs x is))) (λ x is.
+    ap (λ (xs : List ℕ). slice_index xs x) released.limits
+    ∙ (counted.limit x (was_bank x is) ∙ (ap (λ (c : Content Capability). limit_in c) (sym (same x)) ∙ sym (was set vs x (bank_stays set vs x is)).limit)))
+    (λ x is.
+    let before = was set vs x (root_stays set vs x is) in
+    ap (λ (xs : List ℕ). slice_index xs x) released.annexes
+    ∙ (counted.annex x (ap is_root (sym (same x)) ∙ (sym before.root ∙ is)) ∙ (ap annex_in (sym (same x)) ∙ sym before.annex)))
+  where
+    was_bank : (x : ℕ) → IsTrue (is_bank (content_at (rescind set vs) x)) → IsTrue (is_bank (content_at os x))
+    was_bank x is = ap is_bank (sym (same x)) ∙ (sym (was set vs x (bank_stays set vs x is)).bank ∙ is)
+
+-- counts can rise
+module _ {p : Parts} {s : BanksState} {b : ℕ} (asks : MayServe p s b) (n : ℕ) (known : n < length p.headers) where
+  pub serve_allocations : (header_at p.headers n).allocations < 2 ^ 64 - 1
+  serve_allocations = omega (arith, few_allocations p.geometry asks.sound.0 p asks.sound.1.keepable n known, asks.sound.1.sound.age)
+
+  pub serve_calls : (header_at p.headers n).calls < 2 ^ 64 - 1
+  serve_calls = omega (arith, few_calls p.geometry asks.sound.0 p asks.sound.1.keepable n known, asks.sound.1.sound.age)
+
+-- what the banks of the chain account for is enough
+pub enough_used : {p : Parts} {s : BanksState} {above : ℕ} {list : List ℕ} → MayServe p s above → MayGiveUp (objects_in p) above list
+    → (x : ℕ) → is_member (chain (objects_in p) above) x ≡ true → length list ≤ slice_index s.usages x
+enough_used {p} {s} {above} {list} asks gives x member =
+    let bank = chain_bank asks x member in
+    let all : (if is_member (chain (objects_in p) above) x then length list else 0) ≡ length list = rw member refl in
+    omega (arith, asks.counted.usage x bank, gives.lowered x bank (gives.apart x member), all)
+
+-- what lies beside the objects where a set is given up
+module _ {S : Type 0} (parts : S → Parts) (Fetched Announced : S → ℕ → Type 0) (Continues : S → S → Type 0) where
+  pub ended_snapshots : (old new : S) (set : List ℕ) → AreGivenUp set (parts old) (parts new) → objects_in (parts new) ≡ rescind set (objects_in (parts old))
+      → ((n : ℕ) → is_member set n ≡ true → is_free (content_at (objects_in (parts old)) n) ≡ false)
+      → ((n : ℕ) → is_member set n ≡ false → Fetched old n → Fetched new n) → ((n : ℕ) → is_member set n ≡ false → Announced old n → Announced new n)
+      → Continues old new → KeepsObjects parts Fetched Announced Continues old new
+  ended_snapshots old new set given objects used fetched announced continues = record {
+    count = given.header_count;
+    renews = renews_rescinded (parts old) (parts new) set given objects used;
+    touched = given.touched;
+    geometry = given.geometry;
+    failures = given.failures;
+    fetched = λ n used f. fetched n (stays n used) f;
+    announced = λ n used f. announced n (stays n used) f;
+    continues = continues;
+  }
+    where
+      stays : (n : ℕ) → is_free (content_at (objects_in (parts new)) n) ≡ false → is_member set n ≡ false
+      stays n used = used_stays set (objects_in (parts old)) n (sym (ap (λ (os : List Object). is_free (content_at os n)) objects) ∙ used)
+
+  pub snapshots_then_ended : (twice : (s t u : S) → Continues s t → Continues t u → Continues s u) (old mid new : S) →
+      KeepsRest parts Fetched Announced Continues old mid
+      → SameFree (parts old) (parts mid) → KeepsObjects parts Fetched Announced Continues mid new → KeepsObjects parts Fetched Announced Continues old new
+  snapshots_then_ended twice old mid new a free b = record {
+    count = b.count ∙ a.count;
+    renews = renews_after (parts old) (parts mid) (parts new) a.allocations free b.renews;
+    touched = b.touched ∙ a.touched;
+    geometry = b.geometry ∙ a.geometry;
+    failures = b.failures ∙ a.failures;
+    fetched = λ n used f. b.fetched n used (a.fetched n f);
+    announced = λ n used f. b.announced n used (a.announced n f);
+    continues = twice old mid new a.continues b.continues;
+  }
+
+  pub snapshots_alone : (old new : S) → KeepsRest parts Fetched Announced Continues old new
+      → ((n : ℕ) → is_free (content_at (objects_in (parts old)) n) ≡ false → is_free (content_at (objects_in (parts new)) n) ≡ false)
+      → KeepsObjects parts Fetched Announced Continues old new
+  snapshots_alone old new a stays = record {
+    count = a.count;
+    renews = renews_none (parts old) (parts new) a.allocations stays;
+    touched = a.touched;
+    geometry = a.geometry;
+    failures = a.failures;
+    fetched = λ n used f. a.fetched n f;
+    announced = λ n used f. a.announced n f;
+    continues = a.continues;
+  }
+
+-- the rest of a list, as a slice of it
+pub rest_is : (xs ys : List ℕ) (i : ℕ) → xs ≡ ys → take (length xs - i) (drop i xs) ≡ drop i ys
+rest_is xs ys i same = take_rest xs i ∙ ap (λ (zs : List ℕ). drop i zs) same
+
+pub listed_rest : {xs : List ℕ} {r v : BanksState} (s : BanksState) (i : ℕ) → xs ≡ v.listed → v ≡ r → r ≡ record s { usages = r.usages } →
+    take (length xs - i) (drop i xs) ≡ drop i s.listed
+listed_rest s i value same kept = rest_is _ s.listed i (value ∙ (ap (λ (k : BanksState). k.listed) same ∙ ap (λ (k : BanksState). k.listed) kept))
+
+-- each number of a list has an object
+abbrev pub AreKnown : Parts → List ℕ → Type 0
+AreKnown p list = All (λ n. n < length p.headers) list
+
+module _ {p : Parts} {s : BanksState} {b : ℕ} (asks : MayServe p s b) (list : List ℕ) (known : AreKnown p list) where
+  pub list_allocations : All (λ n. (header_at p.headers n).allocations < 2 ^ 64 - 1) list
+  list_allocations k d inside = serve_allocations asks (slice_index_or list k d) (known k d inside)
+
+  pub list_calls : All (λ n. (header_at p.headers n).calls < 2 ^ 64 - 1) list
+  list_calls k d inside = serve_calls asks (slice_index_or list k d) (known k d inside)
+
+  pub list_marks : All (λ n. n < length s.free_nodes + length s.free_pages) list
+  list_marks k d inside = omega (arith, known k d inside, serve_count asks, asks.counted.nodes, asks.counted.pages)
+
+-- fewer are accounted for, and then numbers are marked as free
+pub released_then : {banks : List ℕ} {count : ℕ} {s r v : BanksState} {nodes pages : List Bool} (set : List ℕ) → IsRaised banks count r.usages s.usages
+    → r ≡ record s { usages = r.usages } → v ≡ r → length nodes ≡ length v.free_nodes → length pages ≡ length v.free_pages
+    → ((n : ℕ) → is_marked (nodes ++ pages) n ≡ (if is_member set n then true else is_marked (v.free_nodes ++ v.free_pages) n))
+    → IsReleased banks count s (record v { free_nodes = nodes; free_pages = pages }) set
+released_then {banks} {count} {s} {r} {v} {nodes} {pages} set raised kept same nodes_same pages_same marks = record {
+  usages = subst (λ (us : List ℕ). IsRaised banks count us s.usages) (sym (ap (λ (k : BanksState). k.usages) same)) raised;
+  nodes = nodes_same ∙ (ap (λ (k : BanksState). length k.free_nodes) same ∙ ap (λ (k : BanksState). length k.free_nodes) kept);
+  pages = pages_same ∙ (ap (λ (k : BanksState). length k.free_pages) same ∙ ap (λ (k : BanksState). length k.free_pages) kept);
+  limits = ap (λ (k : BanksState). k.limits) same ∙ ap (λ (k : BanksState). k.limits) kept;
+  annexes = ap (λ (k : BanksState). k.annexes) same ∙ ap (λ (k : BanksState). k.annexes) kept;
+  room = ap (λ (k : BanksState). k.room) same ∙ ap (λ (k : BanksState). k.room) kept;
+  marks = λ n.
+      marks n ∙ ap (λ (b : Bool). if is_member set n then true else b)
+      (ap (λ (k : BanksState). is_marked (marks_of k) n) same ∙ ap (λ (k : BanksState). is_marked (marks_of k) n) kept);
+}
+
+-- what is left once a list is given up
+pub ended_carried : {p q : Parts} {s t : BanksState} {above : ℕ} {list : List ℕ} → MayServe p s above → MayGiveUp (objects_in p) above list
+    → IsReleased (chain (objects_in p) above) (length list) s t list → objects_in q ≡ rescind list (objects_in p)
+    → AreCurrent (frames_of q) → ((age : ℕ) → age + 1 < 2 ^ 64 → AreKeepable p.geometry age (frames_of p) → AreKeepable p.geometry (age + 1) (frames_of q))
+    → CarriesOut p q t
+ended_carried {p} {q} {s} {t} asks gives released objects current keepable = record {
+  counted = subst (λ (us : List Object). AreCounted p.geometry us t) (sym objects)
+      (counted_gone (objects_in p) asks.counted (λ n. refl) released gives.lowered);
+  current = current;
+  keepable = keepable;
+}
+
+-- lists
+
+drop_suc : (l : List ℕ) (i x : ℕ) (ys : List ℕ) → drop i l ≡ x ∷ ys → drop (suc i) l ≡ ys
+drop_suc [] zero x ys is = cc
+drop_suc [] (suc i) x ys is = cc
+drop_suc (y ∷ l) zero x ys is = cc
+drop_suc (y ∷ l) (suc i) x ys is = drop_suc l i x ys is
+
+pub drop_next : (l : List ℕ) (i x : ℕ) (ys : List ℕ) → drop i l ≡ x ∷ ys → drop (i + 1) l ≡ ys
+drop_next l i x ys is = ap (λ (n : ℕ). drop n l) (add-one i) ∙ drop_suc l i x ys is
+
+pub one_all : (P : ℕ → Type 0) (n : ℕ) → P n → All P (n ∷ [])
+one_all P n h zero d inside = h
+one_all P n h (suc k) d inside = absurd (omega arith)
+
+pub rest_all : (P : ℕ → Type 0) (n : ℕ) (ns : List ℕ) → All P (n ∷ ns) → All P ns
+rest_all P n ns all k d inside = all (suc k) d (omega arith)
+
+-- one number is marked as free
+pub mark_one : (before now : List Bool) (n : ℕ) → n < length before → now ≡ slice_set before n true
+    → (m : ℕ) → is_marked now m ≡ (if is_member (n ∷ []) m then true else is_marked before m)
+mark_one before now n inside is m =
+    ap (λ (bs : List Bool). is_marked bs m) is ∙ elim (cases_eq m n) [
+      | inl e ↦
+          ap (λ (k : ℕ). is_marked (slice_set before n true) k) e
+          ∙ (get_or-set_same before n true false inside ∙ sym (ap (λ b. if b then true else is_marked before m) (member_head m n [] e)))
+      | inr differ ↦
+          get_or-set_other before n m true false differ ∙ sym (ap (λ b. if b then true else is_marked before m) (member_tail m n [] differ))
+    ]
+
+-- a bank alone is there
+pub only_used : (os : List Object) (b : ℕ) → IsTrue (is_bank (content_at os b)) → (n : ℕ) → is_member (b ∷ []) n ≡ true → is_free (content_at os n) ≡ false
+only_used os b is n member = subst (λ (k : ℕ). is_free (content_at os k) ≡ false) (sym (only_member b n member)) (used_where is_bank refl (content_at os b) is)
+
+-- what a bank owns is transferred
+pub owned_used : (os : List Object) (b : ℕ) → All (λ n. is_free (content_at os n) ≡ false) (owned_by os b)
+owned_used os b = all_members (λ n. is_free (content_at os n) ≡ false) (owned_by os b) (λ n member. (owned_found os b n member).1)
+
+owned_member : (os : List Object) (b n : ℕ) → n < length os → is_member (owned_by os b) n ≡ (not (is_free (content_at os n)) && (owner_at os n == b))
+unfolding owned_by
+owned_member os b n inside =
+    let test : ℕ → Bool = λ m. not (is_free (content_at os m)) && (owner_at os m == b) in
+    elim (cases_Bool (test n)) [
+      | inl passes ↦ stands_in test 0 (length os) n (omega arith) (omega arith) passes ∙ sym passes
+      | inr fails ↦
+          false_from_ne_true _ (λ member. false≢true (sym fails ∙ (found_in test 0 (length os) n member).2)) ∙ sym fails
+    ]
+
+pub inherited_by : (os us : List Object) (b : ℕ) → AreTransferred (owned_by os b) (owner_at os b) os us → us ≡ inherited os b
+unfolding inherited
+inherited_by os us b are =
+    let change : Object → Object = transferred b (owner_at os b) in
+    ext_get_or free us (inherited os b) (are.size ∙ sym (length-map os (transferred b (owner_at os b)))) (λ n inside.
+    are.each n
+    ∙ (ap (λ t. if t then record { owner = owner_at os b; content = content_at os n } else object_at os n) (owned_member os b n (omega (arith, are.size)))
+    ∙ sym (at_map (transferred b (owner_at os b)) os n free refl)))
+
+module _ {p : Parts} {s : BanksState} {b : ℕ} (asks : MayServe p s b) (on : b ≢ 0) where
+  abbrev before : List Object
+  before = objects_in p
+
+  -- each bank above accounts for the bank
+  pub one_enough : (x : ℕ) → is_member (chain before (owner_at before b)) x ≡ true → 1 ≤ slice_index s.usages x
+  one_enough x member =
+      let t = serve_tree asks in
+      let bank = chain_banks before t (owner_at before b) x (owner_bank before t b asks.bank) member in
+      let differ : x ≢ b = λ e. false≢true
+      (sym (chain_once before t b asks.bank on) ∙ (ap (λ (m : ℕ). is_member (chain before (owner_at before b)) m) (sym e) ∙ member)) in
+      let all = ap {B = ℕ} (λ t. if t then 1 else 0) member in
+      omega (arith, asks.counted.usage x bank, returned_fits p.geometry before b (serve_now asks) asks.bank on x differ, all)
+
+  -- what is left once the bank is gone
+  pub returned_carried : {q : Parts} {t : BanksState} {us : List Object} → AreTransferred (owned_by before b) (owner_at before b) before us
+      → IsReleased (chain before (owner_at before b)) 1 s t (b ∷ []) → objects_in q ≡ rescind (b ∷ []) us → AreCurrent (frames_of q)
+      → ((age : ℕ) → age + 1 < 2 ^ 64 → AreKeepable p.geometry age (frames_of p) → AreKeepable p.geometry (age + 1) (frames_of q)) → CarriesOut p q t
+  returned_carried {q} {t} {us} are released objects current keepable =
+      record {
+        counted = subst (λ (vs : List Object). AreCounted p.geometry vs t) (sym objects) (counted_gone us asks.counted
+            (transferred_same (owned_by before b) (owner_at before b) before us are) released (λ x bank stays.
+            let differ : x ≢ b = λ e. false≢true (sym stays ∙ member_head x b [] e) in
+            let after : usage (rescind (b ∷ []) us) x ≡ usage (rescind (b ∷ []) (inherited before b)) x = ap
+            (λ (vs : List Object). usage (rescind (b ∷ []) vs) x) (inherited_by before us b are) in
+            omega (
+              arith,
+              after,
+              usage_returned p.geometry before b (serve_now asks) asks.bank on x differ,
+              returned_fits p.geometry before b (serve_now asks) asks.bank on x differ,
+            )));
+        current = current;
+        keepable = keepable;
+      }
+
+  -- the bank's counts can rise after what it owns is transferred
+  module _ (q : Parts) (keepable : (age : ℕ) → AreKeepable p.geometry age (frames_of p) → AreKeepable p.geometry age (frames_of q))
+      (known : b < length q.headers) where
+    pub transferred_allocations : (header_at q.headers b).allocations < 2 ^ 64 - 1
+    transferred_allocations =
+        omega (arith, few_allocations p.geometry asks.sound.0 q (keepable asks.sound.0 asks.sound.1.keepable) b known, asks.sound.1.sound.age)
+
+    pub transferred_calls : (header_at q.headers b).calls < 2 ^ 64 - 1
+    transferred_calls =
+        omega (arith, few_calls p.geometry asks.sound.0 q (keepable asks.sound.0 asks.sound.1.keepable) b known, asks.sound.1.sound.age)

@@ -1,13 +1,262 @@
--- What is counted, where objects come and go.
-use Rattle.space_bank.proofs.Names.{inl, inr, ℕ, Bool, true, false, List, take, length, refl, sym, ap, subst, arith, IsTrue, slice_index, slice_index_or}
-use Rattle.space_bank.proofs.Names.{slice_set, cases_eq, cases_lt, get_or-append_right, get_or_append_left, get_or-set_other, get_or-set_same, length-append}
-use Rattle.space_bank.proofs.Names.{length-set, Capability, Geometry, Content, Object, chain, usage, new_annex, new_root, with_new, is_bank, is_free, is_root}
-use Rattle.space_bank.proofs.Names.{limit_in, root_in, is_member, object_count, content_at, IsTree, at_new, at_other, chain_new, length_new, new_bank_kept}
-use Rattle.space_bank.proofs.Names.{tree_new, usage_new, usage_new_bank, AreCounted, BanksState, marks_of, IsRaised, is_marked}
-use Rattle.std.proofs.Common.{◌≡◌, ◌≢◌, ◌+◌, ◌-◌, ◌<◌, ◌||◌, ◌∙◌}
-use Rattle.std.specs.Prelude.{if◌then◌else◌}
-use Rattle.space_bank.proofs.Owners.{taken_before, taken_here}
+-- What sound frames that are counted say of their objects. What is counted, where objects come, go or are transferred. A walk along a chain, owner by owner.
+use Rattle.space_bank.proofs.Names.{ℕ, true, false, List, length, refl, sym, ap, arith, IsTrue, nat_le, slice_index, leb-true, Cap, Capability, Geometry}
+use Rattle.space_bank.proofs.Names.{Content, Object, chain, usage, has_quota, conveyed, header_at, held_at, AreKeepable, world_at, is_free, limit_in}
+use Rattle.space_bank.proofs.Names.{map_content, role_of, is_member, HasShape, object_count, content_at, IsTree, chain_banks, tree_of, member_passes, IsNow}
+use Rattle.space_bank.proofs.Names.{IsFramed, nearly_from, Parts, frames_of, objects_in, content_there, keepable_at, keepable_count, BanksState, HaveTheirRoles}
+use Rattle.space_bank.proofs.Names.{MayServe, is_bank, keepable_roles, MayShift, inl, inr, Bool, [], subst, slice_set, cases_eq, get_or-set_other}
+use Rattle.space_bank.proofs.Names.{get_or-set_same, length-set, owner_at, chain_itself, chain_length, chain_longer, chain_nonempty, chain_once, chain_unfolds}
+use Rattle.space_bank.proofs.Names.{chain_zero, member_tail, owner_bank, IsRaised, IsShifted, take, eq-eqb, ne_eqb, list_any_more, free, object_at}
+use Rattle.space_bank.proofs.Names.{AreTransferred, slice_index_or, cases_lt, get_or-append_right, get_or_append_left, length-append, new_annex, new_root}
+use Rattle.space_bank.proofs.Names.{with_new, is_root, root_in, at_new, at_other, chain_new, length_new, new_bank_kept, tree_new, usage_new, usage_new_bank}
+use Rattle.space_bank.proofs.Names.{AreCounted, marks_of, is_marked, Void, AreCurrent, Fresh, FreshFits, fresh_content, length_objects, keepable_later}
+use Rattle.space_bank.proofs.Names.{CarriesOut, IsFreshAt, IsMadeUnder, IsMade, MakesOne, MakesTwo}
+use Rattle.std.proofs.Common.{◌≡◌, ◌≢◌, ◌+◌, ◌^◌, ◌<◌, ◌≤◌, ◌∙◌, ◌-◌, ◌||◌, ◌∷◌}
+use Rattle.std.specs.Prelude.{if◌then◌else◌, nat_eq}
 use Rattle.model.specs.declared.object.Content.TheVariants as content
+use Rattle.model.specs.declared.object.Role.TheVariants as role
+use Rattle.capability.specs.declared.present.Fresh.TheVariants as fresh
+
+-- what stands where nothing is has the role of what is free
+role_free : (f : Cap → Capability) (c : Content Cap) → is_free (map_content f c) ≡ true → role_of c ≡ role.Free
+role_free f content.Free is = refl
+role_free f c is = cc
+
+role_used : (f : Cap → Capability) (c : Content Cap) → is_free (map_content f c) ≡ false → role_of c ≢ role.Free
+role_used f content.Free is e = cc
+role_used f c is e = cc
+
+module _ (g : Geometry) (age : ℕ) (p : Parts) (k : AreKeepable g age (frames_of p)) (n : ℕ) (known : n < length p.headers) where
+  there : content_at (objects_in p) n ≡ map_content (conveyed p.headers) (held_at p.contents n)
+  there = content_there p n known (held_at p.contents n) refl
+
+  pub free_header : IsTrue (is_free (content_at (objects_in p) n)) → (header_at p.headers n).role ≡ role.Free
+  free_header is =
+      (keepable_at g age p n known k).kept.role
+      ∙ role_free (conveyed p.headers) (held_at p.contents n) (sym (ap (λ (c : Content Capability). is_free c) there) ∙ is)
+
+  pub used_header : is_free (content_at (objects_in p) n) ≡ false → (header_at p.headers n).role ≢ role.Free
+  used_header is e =
+      role_used (conveyed p.headers) (held_at p.contents n) (sym (ap (λ (c : Content Capability). is_free c) there) ∙ is)
+      (sym (keepable_at g age p n known k).kept.role ∙ e)
+
+  -- counts are no more than the age
+  pub few_allocations : (header_at p.headers n).allocations ≤ age
+  few_allocations = (keepable_at g age p n known k).kept.allocations.0
+
+  pub few_calls : (header_at p.headers n).calls ≤ age
+  few_calls = (keepable_at g age p n known k).kept.calls.0
+
+limit_shape : (c : Content Capability) → HasShape c → limit_in c < 2 ^ 64
+limit_shape (content.Bank limit) shape = shape
+limit_shape c shape = omega arith
+
+-- quota in a chain
+pub room_within : (os : List Object) (b count x : ℕ) → IsTrue (has_quota os b count) → is_member (chain os b) x ≡ true →
+    usage os x + count ≤ limit_in (content_at os x)
+unfolding has_quota
+room_within os b count x room member =
+    leb-true (usage os x + count) (limit_in (content_at os x))
+    (member_passes (λ c. nat_le (usage os c + count) (limit_in (content_at os c))) (chain os b) x room member)
+
+module _ {p : Parts} {s : BanksState} {b : ℕ} (asks : MayServe p s b) where
+  pub serve_now : IsNow p.geometry (objects_in p)
+  serve_now = nearly_from p.geometry (world_at asks.sound.0 (frames_of p)) asks.sound.1.sound
+
+  pub serve_framed : IsFramed p.geometry (objects_in p)
+  serve_framed = serve_now.frame
+
+  pub serve_tree : IsTree (objects_in p)
+  serve_tree = tree_of p.geometry (objects_in p) serve_framed
+
+  pub serve_count : length p.headers ≡ object_count p.geometry
+  serve_count = keepable_count p.geometry asks.sound.0 p asks.sound.1.keepable
+
+  pub serve_roles : HaveTheirRoles (frames_of p)
+  serve_roles = keepable_roles p.geometry asks.sound.0 (frames_of p) asks.sound.1.keepable
+
+  -- the usages of a chain are below its limits, and these are numbers of 64 bits
+  pub chain_bank : (x : ℕ) → is_member (chain (objects_in p) b) x ≡ true → IsTrue (is_bank (content_at (objects_in p) x))
+  chain_bank x member = chain_banks (objects_in p) serve_tree b x asks.bank member
+
+  limit_few : (x : ℕ) → limit_in (content_at (objects_in p) x) < 2 ^ 64
+  limit_few x = limit_shape (content_at (objects_in p) x) (asks.sound.1.sound.shapes x)
+
+  pub room_fits : (count : ℕ) → IsTrue (has_quota (objects_in p) b count) → (x : ℕ) → is_member (chain (objects_in p) b) x ≡ true →
+      MayShift count 0 (slice_index s.usages x)
+  room_fits count room x member = record {
+    few = omega (arith, asks.counted.usage x (chain_bank x member), room_within (objects_in p) b count x room member, limit_few x);
+    enough = omega arith;
+  }
+
+  pub lowered_fits : (count : ℕ) → ((x : ℕ) → is_member (chain (objects_in p) b) x ≡ true → count ≤ slice_index s.usages x) → (x : ℕ) →
+      is_member (chain (objects_in p) b) x ≡ true → MayShift 0 count (slice_index s.usages x)
+  lowered_fits count enough x member =
+      let bank = chain_bank x member in
+      record {
+        few = omega (arith, asks.counted.usage x bank, asks.sound.1.sound.limits x bank, limit_few x);
+        enough = omega (arith, enough x member);
+      }
+
+  pub free_role : (n : ℕ) → n < length p.headers → IsTrue (is_free (content_at (objects_in p) n)) → (header_at p.headers n).role ≡ role.Free
+  free_role n known is = free_header p.geometry asks.sound.0 p asks.sound.1.keepable n known is
+
+-- what a bank adds to each in its chain
+abbrev pub share : List Object → ℕ → ℕ → ℕ → ℕ
+share os c count x = if is_member (chain os c) x then count else 0
+
+-- A walk from the bank b stands at the bank c, where i banks were passed.
+pub record Climbs (os : List Object) (b i c : ℕ) : Type 0 where
+  pub bank : IsTrue (is_bank (content_at os c))
+  pub short : length (chain os c) + i ≤ 16
+  pub within : (x : ℕ) → is_member (chain os c) x ≡ true → is_member (chain os b) x ≡ true
+
+-- `more` is added, and `less` subtracted, at the banks of b's chain that aren't in that of c.
+pub record IsShifting (os : List Object) (b c more less : ℕ) (old now : List ℕ) : Type 0 where
+  pub size : length now ≡ length old
+  pub each : (x : ℕ) → slice_index now x + share os b less x + share os c more x ≡ slice_index old x + share os b more x + share os c less x
+
+pub climb_starts : {os : List Object} {b : ℕ} → IsTrue (is_bank (content_at os b)) → Climbs os b 0 b
+climb_starts {os} {b} is = record { bank = is; short = omega (arith, chain_length os b); within = λ x member. member }
+
+pub shifting_starts : {os : List Object} {b more less : ℕ} {old : List ℕ} → IsShifting os b b more less old old
+shifting_starts = record { size = refl; each = λ x. omega arith }
+
+module _ {os : List Object} (t : IsTree os) {b i c : ℕ} (at : Climbs os b i c) where
+  climb_itself : is_member (chain os b) c ≡ true
+  climb_itself = at.within c (chain_itself os t c at.bank)
+
+  pub climb_ended : 16 ≤ i → ⊥
+  climb_ended past = omega (arith, at.short, chain_nonempty os t c at.bank)
+
+  pub climbs_on : c ≢ 0 → Climbs os b (i + 1) (owner_at os c)
+  climbs_on on = record {
+    bank = owner_bank os t c at.bank;
+    short = omega (arith, at.short, chain_longer os t c at.bank on);
+    within = λ x member. elim (cases_eq x c) [
+      | inl e ↦ subst (λ (y : ℕ). is_member (chain os b) y ≡ true) (sym e) climb_itself
+      | inr differ ↦
+          at.within x (ap (λ xs. is_member xs x) (chain_unfolds os t c at.bank on) ∙ (member_tail x c (chain os (owner_at os c)) differ ∙ member))
+    ];
+  }
+
+  share_here : (count : ℕ) → share os c count c ≡ count
+  share_here count = rw (chain_itself os t c at.bank) refl
+
+  share_first : (count : ℕ) → share os b count c ≡ count
+  share_first count = rw climb_itself refl
+
+  share_owner : (count : ℕ) → c ≢ 0 → share os (owner_at os c) count c ≡ 0
+  share_owner count on = rw (chain_once os t c at.bank on) refl
+
+  share_other : (count x : ℕ) → c ≢ 0 → x ≢ c → share os c count x ≡ share os (owner_at os c) count x
+  share_other count x on differ =
+      let same : is_member (chain os c) x ≡ is_member (chain os (owner_at os c)) x =
+      ap (λ xs. is_member xs x) (chain_unfolds os t c at.bank on) ∙ member_tail x c (chain os (owner_at os c)) differ in
+      rw same refl
+
+  share_prime : (count x : ℕ) → c ≡ 0 → x ≢ c → share os c count x ≡ 0
+  share_prime count x end differ =
+      let none : is_member (chain os c) x ≡ false = ap (λ xs. is_member xs x) (chain_zero os c end) ∙ member_tail x c [] differ in
+      rw none refl
+
+  module _ {more less : ℕ} {old now : List ℕ} (each : (x : ℕ) → IsTrue (is_bank (content_at os x)) → x < length old)
+      (fits : (x : ℕ) → is_member (chain os b) x ≡ true → MayShift more less (slice_index old x)) (r : IsShifting os b c more less old now) where
+    inside : c < length now
+    inside = omega (arith, each c at.bank, r.size)
+
+    -- the usage of a bank before its turn comes
+    same_here : slice_index now c ≡ slice_index old c
+    same_here = omega (arith, r.each c, share_here more, share_here less, share_first more, share_first less)
+
+    pub still_fits : MayShift more less (slice_index now c)
+    still_fits = subst (λ (n : ℕ). MayShift more less n) (sym same_here) (fits c climb_itself)
+
+    pub shifts_on : c ≢ 0 → IsShifting os b (owner_at os c) more less old (slice_set now c (slice_index now c + more - less))
+    shifts_on on = record {
+      size = length-set now c (slice_index now c + more - less) ∙ r.size;
+      each = λ x. elim (cases_eq x c) [
+        | inl e ↦ rw (e, get_or-set_same now c (slice_index now c + more - less) 0 inside)
+            (omega (arith, still_fits.enough, same_here, share_first more, share_first less, share_owner more on, share_owner less on))
+        | inr differ ↦ rw (get_or-set_other now c x (slice_index now c + more - less) 0 differ)
+            (omega (arith, r.each x, share_other more x on differ, share_other less x on differ))
+      ];
+    }
+
+    pub shifted_last : c ≡ 0 → IsShifted (chain os b) more less old (slice_set now c (slice_index now c + more - less))
+    shifted_last end = record {
+      size = length-set now c (slice_index now c + more - less) ∙ r.size;
+      each = λ x. elim (cases_eq x c) [
+        | inl e ↦ rw (e, get_or-set_same now c (slice_index now c + more - less) 0 inside)
+            (omega (arith, still_fits.enough, same_here, share_first more, share_first less))
+        | inr differ ↦ rw (get_or-set_other now c x (slice_index now c + more - less) 0 differ)
+            (omega (arith, r.each x, share_prime more x end differ, share_prime less x end differ))
+      ];
+    }
+
+-- a usage is only added, or only subtracted
+nothing : (is : Bool) → ◌≡◌ {A = ℕ} (if is then 0 else 0) 0
+nothing true = refl
+nothing false = refl
+
+module _ {banks : List ℕ} {count : ℕ} {old new : List ℕ} where
+  pub raised_of : IsShifted banks count 0 old new → IsRaised banks count old new
+  raised_of s = record { size = s.size; each = λ b. omega (arith, s.each b, nothing (is_member banks b)) }
+
+  pub lowered_of : IsShifted banks 0 count old new → IsRaised banks count new old
+  lowered_of s = record { size = sym s.size; each = λ b. omega (arith, s.each b, nothing (is_member banks b)) }
+
+-- an object with another owner, where it is transferred
+abbrev pub transferred : Bool → ℕ → Object → Object
+transferred goes b o = if goes then record { owner = b; content = o.content } else o
+
+pub transferred_content : (goes : Bool) (b : ℕ) (o : Object) → (transferred goes b o).content ≡ o.content
+transferred_content true b o = refl
+transferred_content false b o = refl
+
+-- objects that are transferred hold what they held
+pub transferred_same : (list : List ℕ) (b : ℕ) (os us : List Object) → AreTransferred list b os us → (n : ℕ) → content_at us n ≡ content_at os n
+transferred_same list b os us are n = ap (λ (o : Object). o.content) (are.each n) ∙ transferred_content (is_member list n) b (object_at os n)
+
+pub transferred_used : (list : List ℕ) (b : ℕ) (os us : List Object) → AreTransferred list b os us → (n : ℕ) → is_free (content_at os n) ≡ false →
+    is_free (content_at us n) ≡ false
+transferred_used list b os us are n used = ap (λ (c : Content Capability). is_free c) (transferred_same list b os us are n) ∙ used
+
+-- one more of a list
+either : (b : Bool) → (b || true) ≡ true
+either true = refl
+either false = refl
+
+neither : (b : Bool) → (b || false) ≡ b
+neither true = refl
+neither false = refl
+
+module _ (list : List ℕ) (i n : ℕ) (inside : i < length list) where
+  pub taken_here : n ≡ slice_index list i → is_member (take (i + 1) list) n ≡ true
+  taken_here e = list_any_more (nat_eq n) list i 0 inside
+      ∙ (ap (λ b. is_member (take i list) n || b) (eq-eqb n (slice_index list i) e) ∙ either (is_member (take i list) n))
+
+  pub taken_before : n ≢ slice_index list i → is_member (take (i + 1) list) n ≡ is_member (take i list) n
+  taken_before differ = list_any_more (nat_eq n) list i 0 inside
+      ∙ (ap (λ b. is_member (take i list) n || b) (ne_eqb n (slice_index list i) differ) ∙ neither (is_member (take i list) n))
+
+pub transferred_more : (list : List ℕ) (i b : ℕ) (os us vs : List Object) → i < length list → slice_index list i < length us →
+    AreTransferred (take i list) b os us
+    → vs ≡ slice_set us (slice_index list i) (record { owner = b; content = content_at us (slice_index list i) }) → AreTransferred (take (i + 1) list) b os vs
+transferred_more list i b os us vs inside known are is =
+    let m = slice_index list i in
+    let next : Object = record { owner = b; content = content_at us m } in
+    record {
+      size = ap (λ (xs : List Object). length xs) is ∙ (length-set us m next ∙ are.size);
+      each = λ n. ap (λ (xs : List Object). object_at xs n) is ∙ elim (cases_eq n m) [
+        | inl e ↦
+            let here : object_at (slice_set us m next) n ≡ next = ap (λ (k : ℕ). object_at (slice_set us m next) k) e ∙ get_or-set_same us m next free known in
+            here ∙ (ap (λ (c : Content Capability). let o : Object = record { owner = b; content = c } in o)
+            (transferred_same (take i list) b os us are m ∙ ap (λ (k : ℕ). content_at os k) (sym e))
+            ∙ sym (ap (λ (goes : Bool). transferred goes b (object_at os n)) (taken_here list i n inside e)))
+        | inr differ ↦ get_or-set_other us m n next free differ
+            ∙ (are.each n ∙ sym (ap (λ (goes : Bool). transferred goes b (object_at os n)) (taken_before list i n inside differ)))
+      ];
+    }
 
 -- one more of a list was marked as free
 pub marked_more : (before now next : List Bool) (list : List ℕ) (i : ℕ) → i < length list → slice_index list i < length now
@@ -230,3 +479,95 @@ module _ {g : Geometry} {os : List Object} (size : length os ≡ object_count g)
       twice : (is : Bool) → (if is then 2 else 0) ≡ (if is then 1 else 0) + (if is then 1 else 0)
       twice true = refl
       twice false = refl
+
+-- more is accounted for, and then a number taken
+pub taken_one : {banks : List ℕ} {count n : ℕ} {s r t : BanksState} → IsRaised banks count s.usages r.usages → r ≡ record s { usages = r.usages } →
+    IsMade r t n → IsTaken banks count s t (slice_set (marks_of s) n false)
+taken_one {banks} {count} {n} {s} raised kept made = record {
+  usages = subst (λ (us : List ℕ). IsRaised banks count s.usages us) (sym (ap (λ (k : BanksState). k.usages) made.kept)) raised;
+  nodes = made.nodes ∙ ap (λ (k : BanksState). length k.free_nodes) kept;
+  pages = made.pages ∙ ap (λ (k : BanksState). length k.free_pages) kept;
+  limits = ap (λ (k : BanksState). k.limits) made.kept ∙ ap (λ (k : BanksState). k.limits) kept;
+  annexes = ap (λ (k : BanksState). k.annexes) made.kept ∙ ap (λ (k : BanksState). k.annexes) kept;
+  room = ap (λ (k : BanksState). k.room) made.kept ∙ ap (λ (k : BanksState). k.room) kept;
+  marks_are = made.marks ∙ ap (λ (k : BanksState). slice_set (marks_of k) n false) kept;
+}
+
+-- and one more
+pub taken_two : {banks : List ℕ} {count n : ℕ} {s r t : BanksState} {marks : List Bool} → IsTaken banks count s r marks → IsMade r t n →
+    IsTaken banks count s t (slice_set marks n false)
+taken_two {banks} {count} {n} {s} taken made = record {
+  usages = subst (λ (us : List ℕ). IsRaised banks count s.usages us) (sym (ap (λ (k : BanksState). k.usages) made.kept)) taken.usages;
+  nodes = made.nodes ∙ taken.nodes;
+  pages = made.pages ∙ taken.pages;
+  limits = ap (λ (k : BanksState). k.limits) made.kept ∙ taken.limits;
+  annexes = ap (λ (k : BanksState). k.annexes) made.kept ∙ taken.annexes;
+  room = ap (λ (k : BanksState). k.room) made.kept ∙ taken.room;
+  marks_are = made.marks ∙ ap (λ (bs : List Bool). slice_set bs n false) taken.marks_are;
+}
+
+-- what is free beside a new object has the role of what is free
+pub still_free : (g : Geometry) (age : ℕ) (p q : Parts) (n m b : ℕ) (c : Content Capability) → AreKeepable g age (frames_of q) →
+    length q.headers ≡ length p.headers → objects_in q ≡ with_new (objects_in p) n b c → m < length p.headers → m ≢ n
+    → IsTrue (is_free (content_at (objects_in p) m)) → (header_at q.headers m).role ≡ role.Free
+still_free g age p q n m b c k count objects known two unused =
+    free_header g age q k m (omega arith)
+    (ap (λ (os : List Object). is_free (content_at os m)) objects ∙ (ap (λ (o : Object). is_free o.content) (at_other (objects_in p) n b c m two) ∙ unused))
+
+-- what is new isn't free
+pub fresh_used : (f : Fresh) → is_free (fresh_content Void f) ≡ false
+fresh_used fresh.Page = refl
+fresh_used c = refl
+
+-- a page or a node is neither a bank nor a process
+pub record IsPlain (f : Fresh) : Type 0 where
+  pub fits : FreshFits f
+  pub bank : is_bank (fresh_content Void f) ≡ false
+  pub root : is_root (fresh_content Void f) ≡ false
+
+pub plain_under : (os : List Object) (b : ℕ) (f : Fresh) → ((limit : ℕ) → f ≡ fresh.Bank limit → ⊥) → IsMadeUnder os b f → IsPlain f
+plain_under os b (fresh.Bank limit) other under = absurd (other limit refl)
+plain_under os b (fresh.Root annex) other under = absurd under
+plain_under os b fresh.Annex other under = absurd under
+plain_under os b c other under = record { fits = tt; bank = refl; root = refl }
+
+inside_objects : (p : Parts) (n : ℕ) → n < length p.headers → n < length (objects_in p)
+inside_objects p n known = omega (arith, length_objects p.headers p.contents)
+
+module _ {p : Parts} {s : BanksState} {b : ℕ} (asks : MayServe p s b) {q : Parts} (current : AreCurrent (frames_of p) → AreCurrent (frames_of q)) where
+  carried : (us : List Object) (u : BanksState) → objects_in q ≡ us →
+      ((age : ℕ) → AreKeepable p.geometry age (frames_of p) → AreKeepable p.geometry age (frames_of q)) → AreCounted p.geometry us u → CarriesOut p q u
+  carried us u objects keepable counted = record {
+    counted = subst (λ (os : List Object). AreCounted p.geometry os u) (sym objects) counted;
+    current = current asks.sound.1.current;
+    keepable = λ age few k. keepable_later p.geometry age (age + 1) (frames_of q) (omega arith) (keepable age k);
+  }
+
+  module _ {n : ℕ} (known : n < length p.headers) where
+    module _ {f : Fresh} {u : BanksState} (may : MakesOne p.geometry (objects_in p) (n ∷ []) n f b)
+        (objects : objects_in q ≡ with_new (objects_in p) n b (fresh_content Void f))
+        (keepable : (age : ℕ) → FreshFits f → AreKeepable p.geometry age (frames_of p) → AreKeepable p.geometry age (frames_of q))
+        (taken : IsTaken (chain (objects_in p) b) 1 s u (slice_set (marks_of s) n false)) where
+      pub plain_carried : IsPlain f → CarriesOut p q u
+      plain_carried plain = carried (with_new (objects_in p) n b (fresh_content Void f)) u objects (λ age k. keepable age plain.fits k)
+          (counted_alone (serve_framed asks).size (serve_tree asks) asks.counted b asks.bank n (inside_objects p n known) may.unused (fresh_content Void f)
+          (fresh_used f) plain.bank plain.root taken)
+
+      pub bank_carried : (limit : ℕ) (v : BanksState) → f ≡ fresh.Bank limit → limit < 2 ^ 64 →
+          v ≡ record u { usages = slice_set u.usages n 0; limits = slice_set u.limits n limit } → CarriesOut p q v
+      bank_carried limit v is few after = carried (with_new (objects_in p) n b (content.Bank limit)) v
+          (objects ∙ ap (λ (h : Fresh). with_new (objects_in p) n b (fresh_content Void h)) is)
+          (λ age k. keepable age (subst (λ (h : Fresh). FreshFits h) (sym is) few) k)
+          (counted_bank (serve_framed asks).size (serve_tree asks) asks.counted b asks.bank n (inside_objects p n known) may.unused limit v
+          (subst (λ (h : Fresh). IsMadeUnder (objects_in p) b h) is may.kind) (subst (λ (h : Fresh). IsFreshAt p.geometry n h) is may.place) taken after)
+
+    pub process_carried : {m : ℕ} {u : BanksState} (v : BanksState) → MakesTwo p.geometry (objects_in p) (n ∷ m ∷ []) n m b →
+        objects_in q ≡ with_new (with_new (objects_in p) n b (new_root m)) m b new_annex →
+        ((age : ℕ) → AreKeepable p.geometry age (frames_of p) → AreKeepable p.geometry age (frames_of q)) → m < length p.headers →
+        IsTaken (chain (objects_in p) b) 2 s u (slice_set (slice_set (marks_of s) n false) m false) → v ≡ record u { annexes = slice_set u.annexes n m } →
+        CarriesOut p q v
+    process_carried {m} {u} v may objects keepable within taken is =
+        carried (with_new (with_new (objects_in p) n b (new_root m)) m b new_annex) v objects keepable
+        (counted_process (serve_framed asks).size (serve_tree asks) asks.counted b asks.bank n (inside_objects p n known) may.unused m v
+        (inside_objects p m within) may.two may.place
+        may.annex_unused taken is)

@@ -5,6 +5,7 @@ pub use Rattle.capability.specs.declared.order.BankChange.{BankChange}
 pub use Rattle.capability.specs.declared.order.Change.{Change}
 pub use Rattle.capability.specs.declared.order.OrderPlan.{OrderPlan}
 pub use Rattle.capability.specs.declared.present.Fresh.{Fresh}
+pub use Rattle.collections.specs.Marks.{is_marked}
 pub use Rattle.model.specs.Bank.{is_under}
 unfoldable pub use Rattle.model.specs.Bank.{chain, usage}
 unfoldable pub use Rattle.model.specs.Banking.{free_nodes, free_pages, has_quota, on_bank, owned_by, under}
@@ -28,7 +29,6 @@ pub use Rattle.model.specs.declared.order.Arguments.{Arguments}
 pub use Rattle.model.specs.declared.order.BankOrder.{BankOrder}
 pub use Rattle.model_laws.proofs.SoundOrders.{IsNow}
 pub use Rattle.model_laws.proofs.Usage.{SameFrame}
-pub use Rattle.number_set.specs.Marks.{is_marked}
 pub use Rattle.std.specs.List.{range_with_len}
 pub use Rattle.std.specs.Prelude.{Bool, IsTrue, List, None, Option, Some, [], false, length, map, nat_lt, not}
 pub use Rattle.std.specs.Prelude.{slice_index, slice_set, true, ℕ}

@@ -1,7 +1,7 @@
 // What is counted of banks, beside the objects.
 ghost use Rattle.std.specs.Prelude.{◌≡◌, slice_index};
 
-use number_set::NumberSet;
+use collections::NumberSet;
 use std::marker::Model;
 
 /// Which numbers are free; for each bank its limit and usage; and for each process its annex.

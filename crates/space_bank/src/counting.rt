@@ -15,9 +15,9 @@ use crate::banks::Banks;
 use crate::chains::shift;
 use crate::walking::{is_free, owner};
 use capability::{Frames, objects, roots};
+use collections::NumberSet;
 use device::Failed;
 use model::{ContentRef, Refusal, Role};
-use number_set::NumberSet;
 use std::alloc::{AllocError, Global};
 
 // The limit of a bank that is fetched, 0 where it is no bank.

@@ -12,8 +12,8 @@ use crate::banks::Banks;
 use crate::marking::next_used;
 use crate::walking::{is_free, is_under, owner};
 use capability::{Caller, Frames};
+use collections::NumberSet;
 use model::Operation;
-use number_set::NumberSet;
 
 // Whether a number is listed: all of a bank's if it is deep, itself and what is under it, else what
 // the bank itself owns.

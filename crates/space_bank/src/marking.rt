@@ -6,7 +6,7 @@ ghost use Rattle.model.specs.declared.object.Object.{Object};
 ghost use Rattle.model.specs.Revoke.{is_member};
 ghost use Rattle.space_bank.specs.Planning.{AreFree, HasNoneUsed, IsNextUsed};
 
-use number_set::NumberSet;
+use collections::NumberSet;
 
 /// Makes a number free, or takes it.
 pub(crate) fn mark(

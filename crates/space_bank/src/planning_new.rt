@@ -16,8 +16,8 @@ ghost use Rattle.space_bank.specs.Counting.{AreMarked};
 use crate::banks::Banks;
 use crate::walking::{MAX_CHAIN, chain_length};
 use capability::{BankChange, Change, Frames, Fresh, OrderPlan};
+use collections::NumberSet;
 use model::{Access, Capability, ResultCode};
-use number_set::NumberSet;
 
 /// What a bank makes.
 #[derive(Clone, Copy, Debug)]

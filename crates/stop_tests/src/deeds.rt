@@ -1,10 +1,10 @@
 // What is done again and again, over devices that stop after more and more calls.
-use crate::devices::device_with;
+use crate::filled_devices::device_with;
 use crate::stops::run_task;
 use crate::task::{Deed, Task, outcome_of};
 use crate::upgrades::run_upgrade;
 use device::Device;
-use memory_device::Outcome;
+use devices::Outcome;
 use object_cache::{BoundedCache, PlainStore};
 use std::alloc::Global;
 use std::io::Write;

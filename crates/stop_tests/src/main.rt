@@ -4,13 +4,13 @@
 #![tactic(auto)]
 
 mod deeds;
-mod devices;
+mod filled_devices;
 mod stops;
 mod task;
 mod upgrades;
 
 use deeds::{do_whole, stop_at_each, try_outcomes};
-use memory_device::Outcome;
+use devices::Outcome;
 use object_cache::Capacity;
 use std::fs;
 use std::io::Write;

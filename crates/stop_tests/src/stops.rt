@@ -1,12 +1,11 @@
 // Runs of a script over a device that stops.
 use crate::task::Task;
-use checkpoint::{Checkpoint, OpenFault};
+use checkpoint::{Checkpoint, ObjectStore, OpenFault};
 use device::Device;
 use kernel::Kernel;
 use object_cache::PlainStore;
-use object_store::ObjectStore;
 use runs::{ScriptReader, run};
-use script::RunFault;
+use script::{CountedWriter, RunFault};
 use std::alloc::Global;
 use std::io::Write;
 
@@ -29,6 +28,18 @@ fn tell_stop(stop: Option<usize>, reported: &mut Vec<u8>) -> Result<(), RunFault
     writeln!(reported, "= stopped {line}").or(Err(RunFault::Write))
 }
 
+// Reports what is answered to a script.
+fn tell_run<D: Device, S: ObjectStore<D>>(
+    alloc: Global,
+    kernel: &mut Kernel<D, S>,
+    script: &[u8],
+    reported: &mut Vec<u8>,
+) -> Result<(), RunFault> {
+    let mut reader = ScriptReader::new(script);
+    let mut writer = CountedWriter::new(reported);
+    run(alloc, kernel, &mut reader, &mut writer)
+}
+
 // Reports what is answered to a line, and answers whether that is a fault.
 fn tell_line<D: Device, S: ObjectStore<D>>(
     alloc: Global,
@@ -36,8 +47,8 @@ fn tell_line<D: Device, S: ObjectStore<D>>(
     line: &[u8],
     reported: &mut Vec<u8>,
 ) -> Result<bool, RunFault> {
-    let (mut reader, before) = (ScriptReader::new(line), reported.len());
-    run(alloc, kernel, &mut reader, reported)?;
+    let before = reported.len();
+    tell_run(alloc, kernel, line, reported)?;
     Ok(reported.get(before..) == Some(FAULT))
 }
 
@@ -63,9 +74,8 @@ fn tell_standing<D: Device, S: ObjectStore<D>>(
     script: &[u8],
     reported: &mut Vec<u8>,
 ) -> Result<(), RunFault> {
-    let mut reader = ScriptReader::new(script);
     tell_saved(kernel.saved(), reported)?;
-    run(alloc, kernel, &mut reader, reported)
+    tell_run(alloc, kernel, script, reported)
 }
 
 /// Reports what a power cut leaves of a device, and what a kernel answers that opens it.

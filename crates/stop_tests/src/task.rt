@@ -1,5 +1,5 @@
 // What a run of the program is to do.
-use memory_device::Outcome;
+use devices::Outcome;
 use object_cache::Capacity;
 
 /// What is done over a device that stops after some calls.

@@ -2,7 +2,7 @@
 use Rattle.vezhnake.proofs.Names.{ℕ, List, length, take, drop, sym, ap, subst, append_assoc, arith, length-append, take-append_seam, take-append-drop}
 use Rattle.vezhnake.proofs.Names.{flat_map-append, Image, image_of, Event, MayLeave, at_first, replay, Parts, View, Power, IsDeviceOf, Stands, disk_of}
 use Rattle.vezhnake.proofs.Names.{Geometry, Machine, Turn, IsConfined, IsRunOf, RunsOver, CrashesAreSurvived, RunFault, Option, HostCall, StorageLeaves}
-use Rattle.vezhnake.proofs.Names.{events_by, events_of, HostDevice, RunsText, Survives, calls_beneath, host_disk, start_beneath}
+use Rattle.vezhnake.proofs.Names.{events_by, events_of, HostDevice, RunsText, Survives, Written, calls_beneath, host_disk, in_memory, start_beneath}
 use Rattle.std.proofs.Common.{◌≡◌, ◌+◌, ◌≤◌, ◌++◌, ◌∙◌}
 use Rattle.std.specs.Prelude.{Some, Result}
 use Rattle.kernel.specs.Power as power
@@ -48,13 +48,16 @@ module _ {S : Type 0} (view : S → View HostDevice) (parts : S → Parts) where
       (at_calls d (disk_of host_disk view parts old).moment k c later leaves)) in
       (found.0, found.1, found.2)
 
-  pub runs_text : CrashesAreSurvived host_disk view parts → (old new : Power HostDevice S) (text before after : List ℕ) (input unread : Option (List ℕ))
-      → input ≡ Some text → (result : Result (Unit {0}) RunFault) → RunsOver host_disk view parts old new input unread (Some before) (Some after) result
+  pub runs_text : CrashesAreSurvived host_disk view parts → (old new : Power HostDevice S) (text before after : List ℕ) (failures : ℕ)
+      (start : Written) → start ≡ in_memory before 0 → (input unread : Option (List ℕ)) → input ≡ Some text → (result : Result (Unit {0}) RunFault) →
+      RunsOver host_disk view parts old new input unread start (in_memory after failures) result
       → IsConfined host_disk view parts old new input unread
       → RunsText view parts old new text before after result
-  runs_text all old new text before after input unread is result over confined = record {
+  runs_text all old new text before after failures start begins input unread is result over confined = record {
     unread = unread;
-    run = subst (λ (i : Option (List ℕ)). RunsOver host_disk view parts old new i unread (Some before) (Some after) result) is over;
+    failures = failures;
+    run = subst (λ (i : Option (List ℕ)). RunsOver host_disk view parts old new i unread (in_memory before 0) (in_memory after failures) result) is
+        (subst (λ (w : Written). RunsOver host_disk view parts old new input unread w (in_memory after failures) result) begins over);
     confined = subst (λ (i : Option (List ℕ)). IsConfined host_disk view parts old new i unread) is confined;
     survives = λ g m turns stands run. survives all g m old new turns stands run;
   }

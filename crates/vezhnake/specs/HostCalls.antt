@@ -2,8 +2,8 @@
 use Rattle.std.specs.Prelude.{ℕ, ◌*◌, ◌-◌, ◌^◌, List, [], ◌∷◌, ◌++◌, length}
 use Rattle.std.specs.List.{flat_map}
 use Rattle.std.specs.Int.{w64, to_le_bytes}
-use Rattle.memory_device.specs.declared.record.Outcome.TheVariants.{Keep}
-use Rattle.memory_device.specs.Past.{Event, MayLeave, at_first, cut, replay, synced, writes_of}
+use Rattle.devices.specs.declared.record.Outcome.TheVariants.{Keep}
+use Rattle.devices.specs.Past.{Event, MayLeave, at_first, cut, replay, synced, writes_of}
 use Rattle.device.specs.Disk.{Image}
 use Rattle.device.specs.Calls.{image_of, sectors_of}
 

@@ -3,9 +3,9 @@ use Rattle.std.specs.Prelude.{◌≡◌, ℕ, ◌*◌, ◌≤◌, List, [], leng
 use Rattle.device.specs.Disk.{Disk, Image}
 use Rattle.device.specs.Calls.{Agrees, image_of}
 use Rattle.capability.specs.Parts.{Parts}
-use Rattle.object_store.specs.Store.{View}
-use Rattle.file_device.specs.declared.file_device.CopiedFile.{CopiedFile}
-use Rattle.file_device.specs.FileDevice.{file_disk}
+use Rattle.checkpoint.specs.Store.{View}
+use Rattle.devices.specs.declared.file_device.CopiedFile.{CopiedFile}
+use Rattle.devices.specs.FileDevice.{file_disk}
 use Rattle.kernel.specs.Power.{Power}
 use Rattle.kernel.specs.Power as power
 use Rattle.recovery.specs.Denotes.{Denotes}
@@ -14,8 +14,9 @@ use Rattle.model.specs.declared.geometry.Geometry.{Geometry}
 use Rattle.model.specs.Machine.{Machine, Saved}
 use Rattle.model.specs.Run.{Turn}
 use Rattle.script.specs.declared.fault.RunFault.{RunFault}
+use Rattle.script.specs.Writing.{Written}
 use Rattle.runs.specs.KernelRuns.{IsConfined, IsRunOf, RunsOver}
-use Rattle.runs_laws.specs.Laws.{MaySave}
+use Rattle.runs.specs.Laws.{MaySave}
 use Rattle.vezhnake.specs.declared.recorder.Recorder.{Recorder}
 use Rattle.vezhnake.specs.contracts.recorder.RecorderSectorFile.TheImpl.{ghosts}
 use Rattle.vezhnake.specs.HostCalls.{HostCall, StorageLeaves, events_of}
@@ -46,6 +47,10 @@ start_beneath view (power.Up l) = (view l.store).beneath.file.pending.start
 start_beneath view (power.Down d) = d.file.pending.start
 start_beneath view power.Between = 0
 
+-- a text in memory, for which memory ran out so often
+abbrev pub in_memory : List ℕ → ℕ → Written
+in_memory text failures = record { contents = Some text; failures = failures }
+
 module _ {S : Type 0} (view : S → View HostDevice) (parts : S → Parts) where
   abbrev pub disk_beneath : Power HostDevice S → Disk
   disk_beneath p = disk_of host_disk view parts p
@@ -63,7 +68,9 @@ module _ {S : Type 0} (view : S → View HostDevice) (parts : S → Parts) where
   pub record RunsText (old new : Power HostDevice S) (text before after : List ℕ)
       (result : Result (Unit {0}) RunFault) : Type 0 where
     pub unread : Option (List ℕ)
-    pub run : RunsOver host_disk view parts old new (Some text) unread (Some before) (Some after) result
+    pub failures : ℕ
+    pub run : RunsOver host_disk view parts old new (Some text) unread (in_memory before 0) (in_memory after failures)
+        result
     pub confined : IsConfined host_disk view parts old new (Some text) unread
     pub survives : (g : Geometry) (m : Machine) (turns : List Turn) → Stands host_disk view parts g old m →
         IsRunOf host_disk view parts g m old new turns → Survives g m old new turns

@@ -1,6 +1,6 @@
 -- What a step adds to the history of the host's storage.
 use Rattle.std.specs.Prelude.{ℕ, ◌+◌, List, [], ◌∷◌, ◌++◌}
-use Rattle.memory_device.specs.Past.{Event}
+use Rattle.devices.specs.Past.{Event}
 use Rattle.vezhnake.specs.HostCalls.{HostCall, write, sync, power_cut, events_by}
 use Rattle.vezhnake.specs.declared.history.History.{History}
 use Rattle.vezhnake.specs.declared.history.Step.{Step}

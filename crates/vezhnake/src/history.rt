@@ -2,8 +2,8 @@
 ghost use Rattle.std.specs.Prelude.{◌≡◌, ℕ, List};
 ghost use Rattle.std.specs.Borrow.{ftrue};
 ghost use Rattle.std.specs.Coded.{coded_list};
-ghost use Rattle.memory_device.specs.Past.{Event};
-ghost use Rattle.file_device.specs.Codes.{coded_event};
+ghost use Rattle.devices.specs.Past.{Event};
+ghost use Rattle.devices.specs.Codes.{coded_event};
 ghost use Rattle.vezhnake.specs.HostCalls.{HostCall};
 ghost use Rattle.vezhnake.specs.Codes.{coded_call};
 

@@ -9,16 +9,16 @@ ghost use Rattle.vezhnake.specs.Statuses.{status_by};
 
 use crate::recorder::Recorder;
 use crate::status::Status;
-use checkpoint::OpenFault;
+use checkpoint::{ObjectStore, OpenFault};
 use device::{MAX_SECTORS, SECTOR_SIZE};
-use file_device::{CopiedFile, SectorCopy};
+use devices::{CopiedFile, SectorCopy};
 use kernel::Kernel;
 use object_cache::{BoundedCache, Capacity, PlainStore};
-use object_store::ObjectStore;
+use runs::laws::crashes_are_survived;
 use runs::{ScriptReader, run};
-use runs_laws::laws::crashes_are_survived;
-use script::RunFault;
+use script::{CountedWriter, RunFault};
 use std::alloc::{AllocError, Global};
+use std::mem::replace;
 
 /// The host's storage, as a device.
 pub type HostDevice = CopiedFile<Recorder>;
@@ -108,7 +108,10 @@ fn run_lines<S: ObjectStore<HostDevice>>(
 {
     crashes_are_survived::<HostDevice, S>();
     let mut reader = reader_of(text);
-    run(alloc, kernel, &mut reader, answers)
+    let mut writer = CountedWriter::new(replace(answers, Vec::new(alloc)));
+    let outcome = run(alloc, kernel, &mut reader, &mut writer);
+    *answers = writer.into_inner();
+    outcome
 }
 
 impl HostKernel {

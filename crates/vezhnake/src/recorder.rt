@@ -7,7 +7,7 @@ ghost use Rattle.vezhnake.specs.Steps.{fresh};
 use crate::history::{History, Step};
 use crate::pending::Pending;
 use device::{Failed, SECTOR_SIZE};
-use file_device::SectorFile;
+use devices::SectorFile;
 use std::alloc::Global;
 
 /// The host's storage, as a file of sectors. It records each call, and the host carries the calls

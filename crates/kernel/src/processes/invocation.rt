@@ -7,10 +7,11 @@ ghost use Rattle.capability.specs.Parts.{OnlyFetches, frames_of, objects_in};
 ghost use Rattle.space_bank.specs.Banks.{AreCounted};
 ghost use Rattle.kernel.specs.Machine.{IsUnlooked, NeedsNoLook, Performs, answer_with, code_with};
 
+use crate::age::is_worn;
 use crate::processes::early::early;
 use capability::{Frames, PresentFrames, roots};
 use device::Failed;
-use model::{Invocation, MAX_AGE, Refusal, ResultCode};
+use model::{Invocation, Refusal, ResultCode};
 use space_bank::Banks;
 
 // Refuses an invocation at the greatest age: by `Worn`, if the process runs.
@@ -61,7 +62,7 @@ pub fn invoke<F: PresentFrames>(
         (objects_in (F.parts store.new)) banks.new }
     ensures continues { F.ContinuesTo store.old store.new }
 {
-    if *age >= MAX_AGE {
+    if is_worn(*age) {
         return Err(refuse_worn(store, *age, invocation));
     }
     if !roots::is_process(store, invocation.process) {

@@ -2,7 +2,7 @@
 ghost use Rattle.std.specs.Prelude.{◌≡◌, ◌+◌, ◌≤◌, IfOk, option_map};
 ghost use Rattle.device.specs.Calls.{Counts};
 ghost use Rattle.layout.specs.Frame.{frame_of};
-ghost use Rattle.frame_io.specs.Frames.{IsObject};
+ghost use Rattle.layout.specs.Frames.{IsObject};
 ghost use Rattle.migrator.specs.Durable.{below_at, stored_of, newest, left_of, ReadsStore};
 
 use crate::durable::Durable;

@@ -2,7 +2,7 @@
 ghost use Rattle.std.specs.Prelude.{◌≡◌, ◌⊎◌, ◌+◌, None, option_map, true, IfOk, OnOk, OnErr, IsErrOf};
 ghost use Rattle.device.specs.Calls.{Counts};
 ghost use Rattle.model.specs.Frame.{frame_at};
-ghost use Rattle.frame_io.specs.Frames.{IsObject};
+ghost use Rattle.layout.specs.Frames.{IsObject};
 ghost use Rattle.checkpoint.specs.Refused.{IsJournalAnswer, IsRefused};
 ghost use Rattle.checkpoint.specs.Saved.{LeavesEither, journaled_saved};
 ghost use Rattle.checkpoint.specs.Snapshots.{journaled};

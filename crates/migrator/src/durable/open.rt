@@ -1,14 +1,14 @@
 // Opening a device.
-ghost use Rattle.std.specs.Prelude.{◌≡◌, ◌+◌, ◌≤◌, [], length, replicate, take, vec_capacity, IfOk, IfErr, OnOk};
+ghost use Rattle.std.specs.Prelude.{◌≡◌, ◌+◌, ◌≤◌, [], None, length, replicate, vec_capacity, IfOk, IfErr, OnOk};
 ghost use Rattle.device.specs.Calls.{Only};
 ghost use Rattle.layout.specs.Image.{HasPlan};
-ghost use Rattle.layout.specs.Spelt.{count_of, frames_read};
+ghost use Rattle.layout.specs.Spelt.{count_of};
 ghost use Rattle.layout.specs.Superblock.{Plan};
-ghost use Rattle.frame_io.specs.Calls.{ReadsOnly};
+ghost use Rattle.layout.specs.Calls.{ReadsOnly};
 ghost use Rattle.migrator.specs.Durable.{stored_of};
-ghost use Rattle.migrator.specs.Opened.{IsRead, OpensDurable};
+ghost use Rattle.migrator.specs.Opened.{OpensDurable};
 ghost use Rattle.checkpoint.specs.Opened.{IsBadFor, CountsOpen, OnlyReads, Refuses};
-ghost use Rattle.migrator.specs.Reserve.{IsReserve};
+ghost use Rattle.migrator.specs.Reserve.{IsReadInto, IsReserve, first_books};
 
 use crate::books::Books;
 use crate::cluster_buffer::ClusterBuffer;
@@ -120,6 +120,30 @@ impl<I: Intake> Sink<I> {
     }
 }
 
+// The books of an image before a frame is moved or put.
+fn first_books(
+    plan: Superblock,
+    header: CheckpointHeader,
+    saved: Vec<Entry>,
+    tables: Tables,
+    buffer: ClusterBuffer,
+) -> Books
+    requires room { 4096 ≤ vec_capacity saved }
+    requires empty { buffer ≡ None }
+    ensures { result ≡ first_books plan header saved.items tables.frozen tables.working }
+{
+    Books {
+        plan,
+        header,
+        directory: Directory::of(saved, header.entries),
+        moved: 0,
+        frozen: tables.frozen,
+        size: None,
+        working: tables.working,
+        unwritten: buffer,
+    }
+}
+
 // Reads the whole image of the superblock `plan`, and takes the superblock and the memory along.
 fn read_into<D: Device, I: Intake>(
     alloc: Global,
@@ -134,11 +158,8 @@ fn read_into<D: Device, I: Intake>(
     requires none { I.Took taken [] }
     requires room { count_of plan ≤ I.room taken }
     ensures plan { IfOk result (λ parts. parts.plan ≡ plan) }
-    ensures read { IfOk result (λ parts. IsRead (D.disk device.old).seen plan
-        parts.header parts.reserve.directories.saved.items) }
-    ensures took { IfOk result (λ parts. I.Took parts.taken (frames_read (D.disk device.old).seen plan
-        parts.header.generation (take parts.header.entries parts.reserve.directories.saved.items))) }
-    ensures reserved { IfOk result (λ parts. IsReserve plan parts.reserve) }
+    ensures whole { IfOk result (λ parts. IsReadInto I.Took (D.disk device.old).seen
+        parts.plan parts.header parts.reserve parts.taken) }
     ensures refused { IfErr result (λ e.
         IsBadFor (D.disk device.old).seen (D.disk device.old).sectors e) }
     ensures reads { ReadsOnly (D.disk device.old) (D.disk device.new) }
@@ -169,11 +190,8 @@ fn read_with_sink<D: Device, I: Intake>(
     requires plan { HasPlan (D.disk device.old).seen (D.disk device.old).sectors plan }
     requires reserved { IsReserve plan reserve }
     ensures plan { IfOk result (λ parts. parts.plan ≡ plan) }
-    ensures read { IfOk result (λ parts. IsRead (D.disk device.old).seen plan
-        parts.header parts.reserve.directories.saved.items) }
-    ensures took { IfOk result (λ parts. I.Took parts.taken (frames_read (D.disk device.old).seen plan
-        parts.header.generation (take parts.header.entries parts.reserve.directories.saved.items))) }
-    ensures reserved { IfOk result (λ parts. IsReserve plan parts.reserve) }
+    ensures whole { IfOk result (λ parts. IsReadInto I.Took (D.disk device.old).seen
+        parts.plan parts.header parts.reserve parts.taken) }
     ensures refused { IfErr result (λ e.
         IsBadFor (D.disk device.old).seen (D.disk device.old).sectors e) }
     ensures reads { ReadsOnly (D.disk device.old) (D.disk device.new) }
@@ -196,11 +214,8 @@ fn read_parts<D: Device, I: Intake>(
 ) -> Result<Parts<I>, OpenFault>
     ensures plan { IfOk result (λ parts.
         HasPlan (D.disk device.old).seen (D.disk device.old).sectors parts.plan) }
-    ensures read { IfOk result (λ parts. IsRead (D.disk device.old).seen parts.plan parts.header
-        parts.reserve.directories.saved.items) }
-    ensures took { IfOk result (λ parts. I.Took parts.taken (frames_read (D.disk device.old).seen parts.plan
-        parts.header.generation (take parts.header.entries parts.reserve.directories.saved.items))) }
-    ensures reserved { IfOk result (λ parts. IsReserve parts.plan parts.reserve) }
+    ensures whole { IfOk result (λ parts. IsReadInto I.Took (D.disk device.old).seen
+        parts.plan parts.header parts.reserve parts.taken) }
     ensures durable { OnOk result (Only (D.disk device.new).seen (D.disk device.new)) }
     ensures refused { IfErr result (λ e.
         IsBadFor (D.disk device.old).seen (D.disk device.old).sectors e) }
@@ -246,16 +261,7 @@ impl<D: Device> Durable<D> {
                     tables,
                     buffer,
                 } = reserve;
-                let books = Books {
-                    plan,
-                    header,
-                    directory: Directory::of(directories.saved, header.entries),
-                    moved: 0,
-                    frozen: tables.frozen,
-                    size: None,
-                    working: tables.working,
-                    unwritten: buffer,
-                };
+                let books = first_books(plan, header, directories.saved, tables, buffer);
                 let store = Durable {
                     device,
                     books,

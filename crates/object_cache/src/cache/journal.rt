@@ -10,14 +10,14 @@ ghost use Rattle.device.specs.Calls.{Counts};
 ghost use Rattle.capability.specs.Parts.{frames_of};
 ghost use Rattle.checkpoint.specs.Saved.{LeavesEither, LeavesOneOf, journaled_saved, LeavesSaved};
 ghost use Rattle.checkpoint.specs.Snapshots.{journaled, left_in};
-ghost use Rattle.object_store.specs.Store.{whole};
+ghost use Rattle.checkpoint.specs.Store.{whole};
 ghost use Rattle.migrator.specs.Durable.{on_snapshots, stored_of, is_sound, left_of, newest, ReadsStore};
 ghost use Rattle.checkpoint.specs.Refused.{IsJournalAnswer, IsTurnedAway, IsJournalCheck};
-ghost use Rattle.object_store.specs.Journal.{is_page_now, is_page_role, is_same_page, is_still_saved, next_journaled};
-ghost use Rattle.object_store.specs.Journal.{words_now};
+ghost use Rattle.checkpoint.specs.Journal.{is_page_now, is_page_role, is_same_page, is_still_saved, next_journaled};
+ghost use Rattle.checkpoint.specs.Journal.{words_now};
 ghost use Rattle.object_cache.specs.Journaled.{held_now, is_saved_page};
 ghost use Rattle.object_cache.specs.StoreState.{parts_of, view_of};
-ghost use Rattle.frame_io.specs.Frames.{IsObject};
+ghost use Rattle.layout.specs.Frames.{IsObject};
 
 use crate::cache::Cache;
 use cache_entries::Entries;

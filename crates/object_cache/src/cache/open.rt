@@ -8,11 +8,11 @@ use crate::headers::Headers;
 use crate::staging::Staging;
 use cache_entries::Entries;
 use capability::ObjectTable;
+use collections::NumberSet;
 use device::Device;
 use layout::Scratch;
 use migrator::Durable;
 use model::ObjectHeader;
-use number_set::NumberSet;
 use std::alloc::{AllocError, Global};
 
 // The touched, dirty and pending numbers: none.

@@ -5,7 +5,7 @@ ghost use Rattle.migrator.specs.Durable.{is_sound};
 ghost use Rattle.checkpoint.specs.Refused.{IsRefused};
 ghost use Rattle.checkpoint.specs.Saved.{LeavesSaved};
 ghost use Rattle.checkpoint.specs.Snapshots.{left_in};
-ghost use Rattle.object_store.specs.Store.{whole, FrozenFrames, IsStabilizeAnswer, stabilized};
+ghost use Rattle.checkpoint.specs.Store.{whole, FrozenFrames, IsStabilizeAnswer, stabilized};
 ghost use Rattle.object_cache.specs.Memory.{Held, Nothing, mark_at};
 ghost use Rattle.object_cache.specs.StoreState.{GoesOnIn, PutsBy, on_device, on_device_frozen, frozen_state_at};
 ghost use Rattle.object_cache.specs.StoreState.{parts_of, pending_count, view_of};

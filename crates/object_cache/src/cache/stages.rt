@@ -7,7 +7,7 @@ ghost use Rattle.checkpoint.specs.Saved.{LeavesEither};
 ghost use Rattle.migrator.specs.Durable.{stored_of, is_sound};
 ghost use Rattle.checkpoint.specs.Refused.{IsCommitAnswer, IsFreezeAnswer, IsRefused};
 ghost use Rattle.checkpoint.specs.Snapshots.{MayCommit, committed, freezing, left_in, moved, moved_saved, next_saved};
-ghost use Rattle.object_store.specs.Store.{all_frozen, whole, FrozenFrames};
+ghost use Rattle.checkpoint.specs.Store.{all_frozen, whole, FrozenFrames};
 ghost use Rattle.object_cache.specs.StoreState.{AreKeepableIn, AreObjectsOf, IsWhole, parts_of, view_of};
 
 use crate::all_objects::{AllObjects, copy_bodies};
@@ -130,29 +130,6 @@ impl<D: Device> Cache<D> {
         if left != 0 {
             return Err(Refusal::NotStable(left));
         }
-        self.save(age)
-    }
-
-    // Commits the frozen frames, which are all in the log.
-    fn save(&mut self, age: u64) -> Result<u64, Refusal>
-        requires sound { (view_of D.disk self.old).is_sound }
-        requires ready { (f : FrozenFrames) × ((view_of D.disk self.old).snapshots.frozen ≡ Some f)
-            × (f.left ≡ 0) × MayCommit whole age f (view_of D.disk self.old).snapshots.saved }
-        ensures answer { IsCommitAnswer (D.disk self.old.durable.beneath) (D.disk self.new.durable.beneath)
-            (Some 0) (view_of D.disk self.old).snapshots.saved.generation result }
-        ensures unchanged { IsRefused result → self.new ≡ self.old }
-        ensures rest { self.new ≡ record self.old { durable = self.new.durable; frozen = self.new.frozen } }
-        ensures geometry { (parts_of D.disk self.new).geometry ≡ (parts_of D.disk self.old).geometry }
-        ensures snapshots { (f : FrozenFrames) → (view_of D.disk self.old).snapshots.frozen ≡ Some f
-            → OnOk result ((view_of D.disk self.new).snapshots
-            ≡ committed whole age f (view_of D.disk self.old).snapshots) }
-        ensures sound { OnOk result ((view_of D.disk self.new).is_sound) }
-        ensures size { (D.disk self.new.durable.beneath).sectors ≡ (D.disk self.old.durable.beneath).sectors }
-        ensures any_moment { (f : FrozenFrames) → (view_of D.disk self.old).snapshots.frozen ≡ Some f
-            → LeavesEither (D.disk self.old.durable.beneath) (D.disk self.new.durable.beneath)
-            (view_of D.disk self.old).snapshots.saved
-            (next_saved whole age f (view_of D.disk self.old).snapshots.saved) }
-    {
         self.durable.commit(age)
     }
 

@@ -5,18 +5,17 @@ ghost use Rattle.checkpoint.specs.Opened.{Refuses};
 ghost use Rattle.checkpoint.specs.Saved.{most};
 ghost use Rattle.device.specs.Calls.{Counts};
 ghost use Rattle.model.specs.Keepable.{AreKeepable};
-ghost use Rattle.object_store.specs.Store.{OpensStore};
+ghost use Rattle.checkpoint.specs.Store.{OpensStore};
 ghost use Rattle.object_cache.specs.StoreState.{ContinuesIn, on_device, parts_of, cached_at, view_of, without_cached};
 
 use crate::policy::Policy;
 use crate::saved_objects::SavedObjects;
 use crate::store::{Store, cache_over};
 use cache_entries::Entries;
-use checkpoint::{Checkpoint, OpenFault, OpenRefused};
+use checkpoint::{Checkpoint, ObjectStore, OpenFault, OpenRefused};
 use device::{Device, Failed};
 use migrator::{Durable, Opened};
 use model::Refusal;
-use object_store::ObjectStore;
 use std::alloc::Global;
 use std::marker::PhantomData;
 

@@ -1,6 +1,5 @@
 use Rattle.address_space.proofs.Names.{rules, frames_of}
-use Rattle.address_space.proofs.Known.{sound_keepable, sound_onward}
-use Rattle.address_space.proofs.Stored.{word_stays_sound}
+use Rattle.address_space.proofs.Known.{sound_keepable, sound_onward, word_stays_sound}
 use Rattle.address_space.proofs.reference.put.Goals as goal
 
 pub prepare-requires-clause-keepable : goal.prepare-requires-clause-keepable

@@ -1,8 +1,7 @@
 use Rattle.address_space.proofs.Names.{refl, sym, subst, arith, List, Object, MayBeHeld, Space, objects_in}
 use Rattle.std.proofs.Common.{◌∙◌}
-use Rattle.address_space.proofs.Accesses.{goes_on, union_access}
-use Rattle.address_space.proofs.Descending.{fetches_on, read_there, same_objects, ok_no_err, still_held, still_sound, unrisen}
-use Rattle.address_space.proofs.Paths.{at_early_page, at_hole, at_other, at_other_tree, at_page}
+use Rattle.address_space.proofs.Paths.{goes_on, union_access, at_early_page, at_hole, at_other, at_other_tree, at_page}
+use Rattle.address_space.proofs.Known.{fetches_on, read_there, same_objects, ok_no_err, still_held, still_sound, unrisen}
 use Rattle.address_space.proofs.walking.descend.Goals as goal
 
 pub loop-object-init : goal.loop-object-init

@@ -1,4 +1,4 @@
-use Rattle.address_space.proofs.Descending.{HasDescended}
+use Rattle.address_space.proofs.Known.{HasDescended}
 use Rattle.address_space.proofs.walking.descend.Given as goal
 
 abbrev pub invariant-loop-object : goal.invariant-loop-object

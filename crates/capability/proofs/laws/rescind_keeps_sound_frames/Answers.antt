@@ -1,4 +1,4 @@
-use Rattle.capability.proofs.SoundFrames.{rescind_keeps_sound_frames}
+use Rattle.capability.proofs.Counts.{rescind_keeps_sound_frames}
 use Rattle.capability.proofs.laws.rescind_keeps_sound_frames.Goals as goal
 
 pub returns : goal.returns

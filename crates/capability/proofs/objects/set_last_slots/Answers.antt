@@ -1,7 +1,7 @@
-use Rattle.capability.proofs.Names.{rules, List, ap, sym, Cap, ObjectHeader, Content, held_at, live_cap, with_held, with_slots_in, Capability, Void, refl}
-use Rattle.capability.proofs.Names.{length, get_or, [], map, ℕ, arith}
-use Rattle.std.proofs.Common.{◌≡◌, ◌<◌, ◌∙◌, ◌∷◌}
-use Rattle.capability.proofs.Edited.{edited, slots_edit}
+use Rattle.capability.proofs.Names.{rules, List, ap, Cap, ObjectHeader, held_at, live_cap, with_held, with_slots_in, Capability, Void, refl, length, get_or, []}
+use Rattle.capability.proofs.Names.{map, arith}
+use Rattle.std.proofs.Common.{◌≡◌, ◌∙◌, ◌∷◌}
+use Rattle.capability.proofs.Edits.{edited, slots_edit}
 use Rattle.capability.proofs.objects.set_last_slots.Goals as goal
 
 -- a list of four, element by element

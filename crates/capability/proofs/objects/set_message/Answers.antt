@@ -1,5 +1,5 @@
 use Rattle.capability.proofs.Names.{refl, Capability, Root, Running, changed_root}
-use Rattle.capability.proofs.Edited.{edited, root_edit}
+use Rattle.capability.proofs.Edits.{edited, root_edit}
 use Rattle.capability.specs.declared.present.RootChange.TheVariants as change
 use Rattle.capability.proofs.objects.set_message.Goals as goal
 

@@ -1,6 +1,6 @@
 use Rattle.capability.proofs.Names.{List, ap, Cap, ObjectHeader, held_at, with_slot_in, live_cap, with_held}
 use Rattle.std.proofs.Common.{◌∙◌}
-use Rattle.capability.proofs.Edited.{edited, slot_edit}
+use Rattle.capability.proofs.Edits.{edited, slot_edit}
 use Rattle.capability.proofs.objects.set_slot.Goals as goal
 
 pub returns : goal.returns

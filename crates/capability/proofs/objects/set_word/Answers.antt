@@ -1,4 +1,4 @@
-use Rattle.capability.proofs.Edited.{edited, word_edit}
+use Rattle.capability.proofs.Edits.{edited, word_edit}
 use Rattle.capability.proofs.objects.set_word.Goals as goal
 
 pub returns : goal.returns

@@ -1,8 +1,7 @@
 use Rattle.capability.proofs.Names.{arith, ap, sym, subst, List, Capability, ObjectHeader, Root, IsCurrent, IsKeptCap, IsSpace, changed_root, live_cap}
 use Rattle.capability.proofs.Names.{with_space}
 use Rattle.std.proofs.Common.{◌∙◌}
-use Rattle.capability.proofs.Edited.{edited, root_edit}
-use Rattle.capability.proofs.RootEdits.{space_kept, space_through}
+use Rattle.capability.proofs.Edits.{edited, root_edit, space_kept, space_through}
 use Rattle.capability.specs.declared.present.RootChange.TheVariants as change
 use Rattle.capability.proofs.roots.set_space.Goals as goal
 

@@ -1,7 +1,5 @@
 use Rattle.capability.proofs.Names.{refl, sym, subst, List, Capability, Object, Root, changed_root, objects_in}
-use Rattle.capability.proofs.Edited.{IsEdit}
-use Rattle.capability.proofs.Edited.{edited, root_edit}
-use Rattle.capability.proofs.RootEdits.{state_is}
+use Rattle.capability.proofs.Edits.{IsEdit, edited, root_edit, state_is}
 use Rattle.capability.specs.declared.present.RootChange.TheVariants as change
 use Rattle.capability.proofs.roots.set_state.Goals as goal
 

@@ -1,6 +1,5 @@
 use Rattle.capability.proofs.Names.{refl, Capability, Root, changed_root, with_root_word}
-use Rattle.capability.proofs.Edited.{edited, root_edit}
-use Rattle.capability.proofs.RootEdits.{word_kept}
+use Rattle.capability.proofs.Edits.{edited, root_edit, word_kept}
 use Rattle.capability.specs.declared.present.RootChange.TheVariants as change
 use Rattle.capability.proofs.roots.set_word.Goals as goal
 

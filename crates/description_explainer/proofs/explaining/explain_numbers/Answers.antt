@@ -1,4 +1,4 @@
-use Rattle.description_faults.proofs.Decisions.{at_some}
+use Rattle.description.proofs.Decisions.{at_some}
 use Rattle.description_explainer.proofs.Explanations.{explains_number}
 use Rattle.description_explainer.proofs.explaining.explain_numbers.Goals as goal
 

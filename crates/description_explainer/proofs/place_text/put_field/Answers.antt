@@ -1,6 +1,5 @@
-use Rattle.std.proofs.Common.{ap, codes, []}
+use Rattle.description_explainer.proofs.Names.{ap, codes, [], item_text, process_text}
 use Rattle.std.specs.Prelude.{◌++◌}
-use Rattle.description_explainer.specs.Text.{item_text, process_text}
 use Rattle.description_explainer.proofs.Joined.{joined}
 use Rattle.description_explainer.proofs.place_text.put_field.Goals as goal
 

@@ -5,9 +5,7 @@ use Rattle.std.proofs.Common.{◌≡◌, ◌+◌, ◌∙◌}
 use Rattle.gate.proofs.BankStates.{annex_listed, answered_frame, before_counted, before_frame, before_may, before_sound, counted_on, no_send, process_listed}
 use Rattle.gate.proofs.BankStates.{writers_within}
 use Rattle.gate.proofs.Effects.{frame_before}
-use Rattle.gate.proofs.Fits.{in_geometry}
-use Rattle.gate.proofs.Known.{running_process}
-use Rattle.gate.proofs.Renewing.{free_in_frame}
+use Rattle.gate.proofs.Standing.{in_geometry, running_process, free_in_frame}
 use Rattle.gate.proofs.carrying.carry_out.Goals as goal
 
 pub leave-requires-clause-announced : goal.leave-requires-clause-announced

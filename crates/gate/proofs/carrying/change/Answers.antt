@@ -2,8 +2,7 @@ use Rattle.gate.proofs.Names.{List, ap, drop, subst, sym, ℕ, All, Object, is_f
 use Rattle.gate.proofs.Names.{snapshots_alone, MayChange, MayEdit, fetched_of}
 use Rattle.std.proofs.Common.{◌∙◌}
 use Rattle.gate.proofs.BankStates.{counted_on}
-use Rattle.gate.proofs.Plans.{change_edit, edit_fetched, target_all}
-use Rattle.gate.proofs.Roles.{changed_any, changed_frame}
+use Rattle.gate.proofs.Plans.{change_edit, edit_fetched, target_all, changed_any, changed_frame}
 use Rattle.gate.proofs.Standing.{calls_below}
 use Rattle.gate.proofs.carrying.change.Goals as goal
 

@@ -1,6 +1,6 @@
 use Rattle.gate.proofs.Names.{refl, sym, Void, FitsCap}
 use Rattle.std.proofs.Common.{◌∙◌}
-use Rattle.gate.proofs.Listed.{all_four}
+use Rattle.gate.proofs.Effects.{all_four}
 use Rattle.gate.proofs.carrying.reply.Goals as goal
 
 pub is_running-requires-clause-fetched : goal.is_running-requires-clause-fetched

@@ -1,6 +1,6 @@
 use Rattle.gate.proofs.Names.{arith, subst, sym, frames_of, objects_in, keepable_later, IsWithinObject, MayHold}
 use Rattle.std.proofs.Common.{◌+◌}
-use Rattle.gate.proofs.Fits.{fits_kept, in_geometry, node_is_no_annex}
+use Rattle.gate.proofs.Standing.{fits_kept, in_geometry, node_is_no_annex}
 use Rattle.gate.proofs.change.make.Goals as goal
 
 pub returns-in-Word-clause-keepable : goal.returns-in-Word-clause-keepable
@@ -13,7 +13,7 @@ returns-in-Slot-clause-keepable g c age young held k =
     let old = g.F.Frames.parts c.args.store.now in
     let here = subst (MayHold old.geometry (objects_in old)) c.in-Slot.is held in
     keepable_later old.geometry age (age + 1) (frames_of (g.F.Frames.parts c.set_slot.new.store)) (omega arith) (c.set_slot.ensures.keepable age
-    (fits_kept old.geometry age old k c.in-Slot.capability here.0, λ annex zeroth. absurd (node_is_no_annex old c.in-Slot.node here.1 annex)) k)
+    (fits_kept old.geometry age old k c.in-Slot.held here.0, λ annex zeroth. absurd (node_is_no_annex old c.in-Slot.node here.1 annex)) k)
 
 pub returns-in-Register-clause-keepable : goal.returns-in-Register-clause-keepable
 returns-in-Register-clause-keepable g c age young held k =
@@ -22,7 +22,7 @@ returns-in-Register-clause-keepable g c age young held k =
     let within = subst IsWithinObject c.in-Register.is c.requires.within in
     keepable_later old.geometry age (age + 1) (frames_of (g.F.Frames.parts c.set_slot-in-Register.new.store)) (omega arith)
     (c.set_slot-in-Register.ensures.keepable age
-    (fits_kept old.geometry age old k c.in-Register.capability here, λ annex zeroth. absurd (omega (arith, within.1, zeroth))) k)
+    (fits_kept old.geometry age old k c.in-Register.held here, λ annex zeroth. absurd (omega (arith, within.1, zeroth))) k)
 
 pub returns-in-RootWord-clause-keepable : goal.returns-in-RootWord-clause-keepable
 returns-in-RootWord-clause-keepable g c age young held k =
@@ -39,4 +39,4 @@ returns-in-Space-clause-keepable g c age young held k =
     let old = g.F.Frames.parts c.args.store.now in
     let here = subst (MayHold old.geometry (objects_in old)) c.in-Space.is held in
     keepable_later old.geometry age (age + 1) (frames_of (g.F.Frames.parts c.set_space.new.store)) (omega arith)
-    (c.set_space.ensures.keepable age (fits_kept old.geometry age old k c.in-Space.capability here.0, here.1) k)
+    (c.set_space.ensures.keepable age (fits_kept old.geometry age old k c.in-Space.held here.0, here.1) k)

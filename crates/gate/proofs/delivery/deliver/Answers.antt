@@ -1,7 +1,7 @@
 use Rattle.gate.proofs.Names.{get_or, subst, sym, ap, ℕ, List, Object, Geometry, FitsCap, with_slots_from, keeps_twice, objects_in, with_message, refl, Message}
 use Rattle.gate.proofs.Names.{deliver, annex_at}
 use Rattle.std.proofs.Common.{◌∙◌, ◌≡◌}
-use Rattle.gate.proofs.Fits.{fits_kept, in_geometry}
+use Rattle.gate.proofs.Standing.{fits_kept, in_geometry}
 use Rattle.gate.proofs.delivery.deliver.Goals as goal
 
 -- a message is delivered to the root, and then to the registers

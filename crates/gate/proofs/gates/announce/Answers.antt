@@ -1,6 +1,6 @@
 use Rattle.gate.proofs.Names.{ℕ, List, length, sym, subst, All, Contains, Prepares}
 use Rattle.std.proofs.Common.{◌<◌, ◌∙◌}
-use Rattle.gate.proofs.Listed.{all_through, announced_through, on_ok}
+use Rattle.gate.proofs.Effects.{all_through, announced_through, on_ok}
 use Rattle.gate.proofs.gates.announce.Goals as goal
 
 pub prepare-requires-clause-announced : goal.prepare-requires-clause-announced

@@ -1,8 +1,8 @@
 use Rattle.gate.proofs.Names.{List, arith, sym, ap, subst, All, Capability, ObjectHeader, Object, header_at, annex_at, is_process, frames_of, objects_in}
 use Rattle.gate.proofs.Names.{keepable_later, FitsCap}
 use Rattle.std.proofs.Common.{◌+◌, ◌-◌, ◌^◌, ◌<◌, ◌∙◌}
-use Rattle.gate.proofs.Fits.{in_geometry}
-use Rattle.gate.proofs.Roles.{after_annex, after_process}
+use Rattle.gate.proofs.Standing.{in_geometry}
+use Rattle.gate.proofs.Plans.{after_annex, after_process}
 use Rattle.gate.proofs.gates.enter.Goals as goal
 
 pub deliver-requires-clause-process : goal.deliver-requires-clause-process

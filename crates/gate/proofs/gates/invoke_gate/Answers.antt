@@ -1,12 +1,9 @@
 use Rattle.gate.proofs.Names.{true, List, None, sym, ap, subst, All, slice_index, err_from_is_err_and, Capability, Geometry, Object, can_start, IsNoBankOrder}
 use Rattle.gate.proofs.Names.{is_process, objects_in, entered, received, written_through, FitsCap, process_known}
 use Rattle.std.proofs.Common.{◌≡◌, ◌||◌, ◌∙◌}
-use Rattle.gate.proofs.Entering.{effect_through, gate_code, gate_invoked, gate_process, gate_stalled, received_fits}
-use Rattle.gate.proofs.Known.{running_process}
-use Rattle.gate.proofs.Invoking.{carried_out, found_stalled, unannounced}
-use Rattle.gate.proofs.Renewing.{gate_no_bank, renews_invoked}
-use Rattle.gate.proofs.Standing.{ReadsAs, annex_there, requested_annex, calls_below, few_objects, keepable_most, looked_as, looked_number, looked_objects}
-use Rattle.gate.proofs.Standing.{looked_sound, only_reads_again, now_sound, prepared_as}
+use Rattle.gate.proofs.Effects.{effect_through, gate_code, gate_invoked, gate_process, gate_stalled, received_fits, carried_out, found_stalled, unannounced}
+use Rattle.gate.proofs.Standing.{running_process, gate_no_bank, renews_invoked, ReadsAs, annex_there, requested_annex, calls_below, few_objects, keepable_most}
+use Rattle.gate.proofs.Standing.{looked_as, looked_number, looked_objects, looked_sound, only_reads_again, now_sound, prepared_as}
 use Rattle.gate.proofs.gates.invoke_gate.Goals as goal
 
 pub look_at_process-requires-clause-keepable : goal.look_at_process-requires-clause-keepable

@@ -1,9 +1,8 @@
 use Rattle.gate.proofs.Names.{true, ℕ, List, ap, slot_at, objects_in, sym, subst, slice_index, Capability, Object, IsNoBankOrder, is_running_process}
 use Rattle.std.proofs.Common.{◌≡◌, ◌∙◌}
 use Rattle.gate.proofs.BankStates.{counted_after}
-use Rattle.gate.proofs.Invoking.{invoked_looked}
-use Rattle.gate.proofs.Renewing.{gate_no_bank}
-use Rattle.gate.proofs.Standing.{ReadsAs, keepable_most, looked_as, looked_objects, requested_by}
+use Rattle.gate.proofs.Effects.{invoked_looked}
+use Rattle.gate.proofs.Standing.{gate_no_bank, ReadsAs, keepable_most, looked_as, looked_objects, requested_by}
 use Rattle.gate.proofs.invocation.invoke.Goals as goal
 
 pub look_at_process-requires-clause-keepable : goal.look_at_process-requires-clause-keepable

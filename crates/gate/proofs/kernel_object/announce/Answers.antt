@@ -1,5 +1,5 @@
 use Rattle.std.proofs.Common.{arith, length}
-use Rattle.gate.proofs.Listed.{contained, on_ok}
+use Rattle.gate.proofs.Effects.{contained, on_ok}
 use Rattle.gate.proofs.kernel_object.announce.Goals as goal
 
 pub prepare-requires-clause-known : goal.prepare-requires-clause-known

@@ -2,12 +2,10 @@ use Rattle.gate.proofs.Names.{ℕ, List, Some, drop, length, sym, ap, subst, IsT
 use Rattle.gate.proofs.Names.{is_running_process, IsNow, objects_in, process_known, writer_count, IsPlanned, finished, ordered_by, FitsCap, counted_listed}
 use Rattle.std.proofs.Common.{◌<◌, ◌∙◌}
 use Rattle.gate.proofs.BankStates.{annex_requested, counted_looked}
-use Rattle.gate.proofs.Effects.{fetched_known, listed_known, object_invoked, order_after, order_code, order_fits, order_objects, order_written}
-use Rattle.gate.proofs.Known.{running_process}
-use Rattle.gate.proofs.Invoking.{carried_out, unannounced}
-use Rattle.gate.proofs.Renewing.{renews_looked}
-use Rattle.gate.proofs.Standing.{ReadsAs, requested_annex, few_objects, inside_known, keepable_most, looked_as, looked_number, looked_objects, looked_sound}
-use Rattle.gate.proofs.Standing.{only_reads_again, now_sound, prepared_as}
+use Rattle.gate.proofs.Effects.{fetched_known, listed_known, object_invoked, order_after, order_code, order_fits, order_objects, order_written, carried_out}
+use Rattle.gate.proofs.Effects.{unannounced}
+use Rattle.gate.proofs.Standing.{running_process, renews_looked, ReadsAs, requested_annex, few_objects, inside_known, keepable_most, looked_as, looked_number}
+use Rattle.gate.proofs.Standing.{looked_objects, looked_sound, only_reads_again, now_sound, prepared_as}
 use Rattle.gate.proofs.kernel_object.invoke_order.Goals as goal
 
 pub announce-requires : goal.announce-requires

@@ -25,8 +25,8 @@ returns-clause-planned g c =
     let old = g.F.Frames.parts c.args.store.now in
     let now = g.F.Frames.parts c.look_at_named.new.store in
     let only_reads : ReadsAs old now = looked_as c.in_ok-look_at_named.ensures.fetches.snapshots in
-    object_planned old.geometry (objects_in old) (objects_in now) c.args.invocation.now c.args.caller c.plan-plan.result c.args.arguments
+    object_planned old.geometry (objects_in old) (objects_in now) c.args.invocation.now c.args.caller c.plan-plan.result c.needed_arguments-arguments.result
     c.args.banks.now.listed c.list_target.new.banks.listed
     (looked_objects only_reads) (now_sound old c.requires.sound) (few_objects old c.requires.sound c.requires.few) c.requires.fits c.requires.requested
-    c.requires.arguments c.requires.listed (ap (λ (s : BanksState). s.listed) c.list_target.ensures)
+    c.needed_arguments-arguments.ensures c.requires.listed (ap (λ (s : BanksState). s.listed) c.list_target.ensures)
     c.plan-plan.ensures.only (c.plan-plan.ensures.outcome old.geometry) (c.plan-plan.ensures.change old.geometry)

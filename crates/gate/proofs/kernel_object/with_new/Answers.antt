@@ -1,7 +1,7 @@
 use Rattle.gate.proofs.Names.{[], List, ℕ, arith, refl, subst, sym, All, Contains, BankChange, numbers_of}
 use Rattle.std.proofs.Common.{◌∷◌}
-use Rattle.gate.proofs.Known.{both_known}
-use Rattle.gate.proofs.Listed.{contained}
+use Rattle.gate.proofs.Standing.{both_known}
+use Rattle.gate.proofs.Effects.{contained}
 use Rattle.gate.proofs.kernel_object.with_new.Goals as goal
 
 pub returns-in-MakeProcess-clause-new : goal.returns-in-MakeProcess-clause-new

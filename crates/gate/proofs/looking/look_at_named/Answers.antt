@@ -1,6 +1,6 @@
 use Rattle.gate.proofs.Names.{ℕ, length, sym}
 use Rattle.std.proofs.Common.{◌<◌}
-use Rattle.gate.proofs.Known.{named_known, one_known}
+use Rattle.gate.proofs.Standing.{named_known, one_known}
 use Rattle.gate.proofs.looking.look_at_named.Goals as goal
 
 pub fetch-requires-clause-known : goal.fetch-requires-clause-known

@@ -1,6 +1,6 @@
 use Rattle.gate.proofs.Names.{ℕ, length, sym, subst, process_known}
 use Rattle.std.proofs.Common.{◌<◌, ◌∙◌}
-use Rattle.gate.proofs.Known.{annex_known, both_known}
+use Rattle.gate.proofs.Standing.{annex_known, both_known}
 use Rattle.gate.proofs.looking.look_at_process.Goals as goal
 
 pub fetch-requires-clause-known : goal.fetch-requires-clause-known

@@ -1,5 +1,4 @@
-use Rattle.image_describer.proofs.Names.{refl, Void, SlotEntry}
-use Rattle.std.specs.Prelude.{unwrap_or}
+use Rattle.image_describer.proofs.Names.{refl, Void, SlotEntry, unwrap_or}
 use Rattle.image_describer.proofs.Naming.{names_all, names_next}
 use Rattle.image_describer.proofs.entries.slot_entries.Goals as goal
 

@@ -1,5 +1,4 @@
-use Rattle.std.specs.Prelude.{unwrap_or}
-use Rattle.model.specs.declared.capability.Capability.TheVariants.{Void}
+use Rattle.image_describer.proofs.Names.{unwrap_or, Void}
 use Rattle.image_describer.proofs.Naming.{NamesBefore}
 use Rattle.image_describer.proofs.entries.slot_entries.Given as goal
 

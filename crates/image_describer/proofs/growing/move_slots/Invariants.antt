@@ -1,4 +1,4 @@
-use Rattle.image_describer.proofs.Names.{moved, moved_slot}
+use Rattle.image_describer.specs.Grown.{moved, moved_slot}
 use Rattle.std.proofs.Common.{◌≡◌}
 use Rattle.image_describer.proofs.Pairs.{ZipBelow}
 use Rattle.image_describer.proofs.growing.move_slots.Given as goal

@@ -1,4 +1,4 @@
-use Rattle.consistency.proofs.Named.{named_whole}
+use Rattle.recovery.proofs.Named.{named_whole}
 use Rattle.image_explainer.proofs.capabilities.find_misnamed.Goals as goal
 
 pub returns-clause-found : goal.returns-clause-found

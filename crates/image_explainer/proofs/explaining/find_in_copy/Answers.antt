@@ -1,4 +1,5 @@
-use Rattle.image_explainer.proofs.Names.{ℕ, subst, AreSectors, Image, IsFault, IsWhole, whole_not_bad}
+use Rattle.image_explainer.proofs.Names.{ℕ, subst, AreSectors, Image, IsFault, IsWhole}
+use Rattle.image_explainer.proofs.OneReason.{whole_not_bad}
 use Rattle.image_explainer.proofs.Copies.{copied_before}
 use Rattle.image_explainer.proofs.explaining.find_in_copy.Goals as goal
 

@@ -1,4 +1,4 @@
-use Rattle.jobs.proofs.Names.{refl, subst, ℕ, List, ap, codes, Appends, line_of, AppendsFront}
+use Rattle.jobs.proofs.Names.{refl, subst, ℕ, List, ap, codes, Wrote, line_of, WroteFront}
 use Rattle.std.proofs.Common.{◌++◌, ◌∷◌, ◌∙◌}
 use Rattle.jobs.proofs.BuiltImages.{built_reported, built_untold, refused_cause}
 use Rattle.jobs.proofs.building.build_and_tell.Goals as goal
@@ -7,23 +7,23 @@ pub returns-in-Err-clause-built : goal.returns-in-Err-clause-built
 returns-in-Err-clause-built g c table is = (
   c.in-Err.ensures.refused table is,
   c.in-Err.ensures.untouched,
-  refused_cause g.D.Device.disk table c.args.device.now (g.W.Write.contents c.args.writer.now)
+  refused_cause g.D.Device.disk table c.args.device.now (g.W.Output.written c.args.writer.now)
       c.in-Err.fault _ c.in-Err.ensures.cause,
   refl,
 )
 
 pub returns-in-Ok-write_to-clause-built : goal.returns-in-Ok-write_to-clause-built
 returns-in-Ok-write_to-clause-built g c table is =
-    built_reported g.D.Device.disk table c.args.device.now (g.W.Write.contents c.args.writer.now) c.build.new.device (g.W.Write.contents c.write_to.new.writer)
+    built_reported g.D.Device.disk table c.args.device.now (g.W.Output.written c.args.writer.now) c.build.new.device (g.W.Output.written c.write_to.new.writer)
     c.sectors.result (c.args.blueprint.now, is, c.sectors.ensures.within, c.sectors.ensures.value) (c.in-Ok.ensures.built table is)
-    (subst (λ (text : List ℕ). Appends (g.W.Write.contents c.args.writer.now) (g.W.Write.contents c.write_to.new.writer) (line_of text))
+    (subst (λ (text : List ℕ). Wrote (g.W.Output.written c.args.writer.now) (g.W.Output.written c.write_to.new.writer) (line_of text))
     (c.word.ensures ∙ ap (λ (t : List ℕ). t ++ 32 ∷ codes "sectors") c.numbered-line.ensures.text) c.in-Ok-write_to.ensures)
 
 pub returns-in-Err-write_to-clause-built : goal.returns-in-Err-write_to-clause-built
 returns-in-Err-write_to-clause-built g c table is =
-    built_untold g.D.Device.disk table c.args.device.now (g.W.Write.contents c.args.writer.now) c.build.new.device (g.W.Write.contents c.write_to.new.writer)
+    built_untold g.D.Device.disk table c.args.device.now (g.W.Output.written c.args.writer.now) c.build.new.device (g.W.Output.written c.write_to.new.writer)
     c.sectors.result (c.args.blueprint.now, is, c.sectors.ensures.within, c.sectors.ensures.value) (c.in-Ok.ensures.built table is)
-    (subst (λ (text : List ℕ). AppendsFront (g.W.Write.contents c.args.writer.now) (g.W.Write.contents c.write_to.new.writer) (line_of text))
+    (subst (λ (text : List ℕ). WroteFront (g.W.Output.written c.args.writer.now) (g.W.Output.written c.write_to.new.writer) (line_of text))
     (c.word.ensures ∙ ap (λ (t : List ℕ). t ++ 32 ∷ codes "sectors") c.numbered-line.ensures.text) c.in-Err-write_to.ensures.1)
 
 pub returns-in-Err-clause-any_moment : goal.returns-in-Err-clause-any_moment

@@ -7,7 +7,7 @@ returns-in-Ok g c =
     describes_image g.D.Device.disk c.args.device c.describe_saved-described.result.1 c.in-Ok.description c.args.sizes
     (described g.D.Device.disk c.args.device c.describe_saved-described.result.1 c.describe_saved-described.result.0 c.in-Ok.description c.in-Ok.is
     c.describe_saved-described.ensures)
-    (g.W.Write.contents c.args.writer.now) (g.W.Write.contents c.tell_grown.new.writer) c.tell_grown.result c.tell_grown.ensures
+    (g.W.Output.written c.args.writer.now) (g.W.Output.written c.tell_grown.new.writer) c.tell_grown.result c.tell_grown.ensures
 
 pub tell_grown-requires-clause-laid : goal.tell_grown-requires-clause-laid
 tell_grown-requires-clause-laid g c =

@@ -11,6 +11,6 @@ tell_description-requires-clause-spelled g c = grown_has_text c.args.sizes c.arg
 
 pub returns-in-Ok : goal.returns-in-Ok
 returns-in-Ok g c =
-    tells_text c.args.sizes c.args.description c.grow_description.new.description c.in-Ok.ensures (g.W.Write.contents c.args.writer.now)
-    (g.W.Write.contents c.tell_description.new.writer)
+    tells_text c.args.sizes c.args.description c.grow_description.new.description c.in-Ok.ensures (g.W.Output.written c.args.writer.now)
+    (g.W.Output.written c.tell_description.new.writer)
     c.tell_description.result c.tell_description.ensures

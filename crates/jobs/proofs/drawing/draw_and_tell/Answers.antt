@@ -5,7 +5,7 @@ pub returns-in-Ok : goal.returns-in-Ok
 returns-in-Ok g c =
     draws_image g.D.Device.disk c.args.device c.read_whole-read.result.1 c.in-Ok.whole
     (whole_read g.D.Device.disk c.args.device c.read_whole-read.result.1 c.read_whole-read.result.0 c.in-Ok.whole c.in-Ok.is c.read_whole-read.ensures)
-    c.args.focus (g.W.Write.contents c.args.writer.now) (g.W.Write.contents c.draw_part.new.writer) c.draw_part.result c.draw_part.ensures
+    c.args.focus (g.W.Output.written c.args.writer.now) (g.W.Output.written c.draw_part.new.writer) c.draw_part.result c.draw_part.ensures
 
 pub draw_part-requires-clause-few : goal.draw_part-requires-clause-few
 draw_part-requires-clause-few g c =

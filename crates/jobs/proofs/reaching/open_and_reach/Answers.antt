@@ -12,6 +12,6 @@ pub returns-in-Ok : goal.returns-in-Ok
 returns-in-Ok g c =
     reaches_image g.D.Device.disk c.args.device c.read_saved-read.result.1 c.in-Ok.objects.items
     (objects_read g.D.Device.disk c.args.device c.read_saved-read.result.1 c.read_saved-read.result.0 c.in-Ok.objects c.in-Ok.is c.read_saved-read.ensures)
-    c.args.processes.now c.args.shows (g.W.Write.contents c.args.writer.now) (g.W.Write.contents c.tell_reach.new.writer) c.tell_reach.result
-    (subst (λ (os : List Object). TellsReach os c.args.processes.now c.args.shows (g.W.Write.contents c.args.writer.now)
-    (g.W.Write.contents c.tell_reach.new.writer) c.tell_reach.result) c.deref.ensures.value c.tell_reach.ensures)
+    c.args.processes.now c.args.shows (g.W.Output.written c.args.writer.now) (g.W.Output.written c.tell_reach.new.writer) c.tell_reach.result
+    (subst (λ (os : List Object). TellsReach os c.args.processes.now c.args.shows (g.W.Output.written c.args.writer.now)
+    (g.W.Output.written c.tell_reach.new.writer) c.tell_reach.result) c.deref.ensures.value c.tell_reach.ensures)

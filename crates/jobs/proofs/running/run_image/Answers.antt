@@ -6,8 +6,8 @@ pub of_run-requires : goal.of_run-requires
 of_run-requires g c =
     needs_no_stop g.D.Device.disk g.S.ObjectStore.view g.S.Frames.parts c.args.device c.open_and_run-outcome.result.1 (λ g t old new on. on ≡ true)
     c.open_and_run-outcome.new.observer c.open_and_run-outcome.new.observer
-    (g.R.Script.unread c.args.reader.now) (g.R.Script.unread c.open_and_run-outcome.new.reader) (g.W.Write.contents c.args.writer.now)
-    (g.W.Write.contents c.open_and_run-outcome.new.writer) (λ g t old new on is. is) c.open_and_run-outcome.result.0 c.open_and_run-outcome.ensures
+    (g.R.Script.unread c.args.reader.now) (g.R.Script.unread c.open_and_run-outcome.new.reader) (g.W.Output.written c.args.writer.now)
+    (g.W.Output.written c.open_and_run-outcome.new.writer) (λ g t old new on is. is) c.open_and_run-outcome.result.0 c.open_and_run-outcome.ensures
 
 pub returns : goal.returns
 returns g c = (
@@ -16,7 +16,7 @@ returns g c = (
   c.status.ensures.reported,
   runs_unseen g.D.Device.disk g.S.ObjectStore.view g.S.Frames.parts c.args.device c.open_and_run-outcome.result.1 (λ g t old new on. on ≡ true)
       c.open_and_run-outcome.new.observer c.open_and_run-outcome.new.observer
-      (g.R.Script.unread c.args.reader.now) (g.R.Script.unread c.open_and_run-outcome.new.reader) (g.W.Write.contents c.args.writer.now)
-      (g.W.Write.contents c.open_and_run-outcome.new.writer) c.open_and_run-outcome.result.0 c.of_run.result c.of_run.ensures
+      (g.R.Script.unread c.args.reader.now) (g.R.Script.unread c.open_and_run-outcome.new.reader) (g.W.Output.written c.args.writer.now)
+      (g.W.Output.written c.open_and_run-outcome.new.writer) c.open_and_run-outcome.result.0 c.of_run.result c.of_run.ensures
       c.open_and_run-outcome.ensures,
 )

@@ -8,7 +8,7 @@ returns-in-Err-clause-upgraded g c = (
   Err (fault.Upgrade c.in-Err.fault),
   c.status.ensures.status,
   c.status.ensures.reported,
-  old_refused g.D.Device.disk g.E.Device.disk c.args.old c.args.new.now (g.W.Write.contents c.args.writer.now) c.in-Err.fault c.in-Err.ensures.refused,
+  old_refused g.D.Device.disk g.E.Device.disk c.args.old c.args.new.now (g.W.Output.written c.args.writer.now) c.in-Err.fault c.in-Err.ensures.refused,
   read_refused g.D.Device.disk g.D.ClosableDevice.was_closed c.args.old c.in-Err.fault c.in-Err.ensures.reads,
 )
 

@@ -2,14 +2,13 @@ use Rattle.kernel.proofs.Names.{left_in, whole, ap, running}
 use Rattle.model.specs.declared.answer.Refusal.TheVariants as refusal
 use Rattle.model.specs.declared.command.Command.TheVariants as command
 use Rattle.kernel.proofs.Acts.{begun, freeze_cause, freeze_looks, freeze_refused, refused}
-use Rattle.kernel.proofs.Stages.{frames_again, keepable_most, none_there}
-use Rattle.kernel.proofs.Steps.{worn}
+use Rattle.kernel.proofs.Stages.{frames_again, keepable_most, none_there, worn}
 use Rattle.kernel.proofs.checkpoints.checkpoint.Goals as goal
 
-pub returns-then-live-ge-MAX_AGE-clause-serves : goal.returns-then-live-ge-MAX_AGE-clause-serves
-returns-then-live-ge-MAX_AGE-clause-serves g c =
+pub returns-then-is_worn-clause-serves : goal.returns-then-is_worn-clause-serves
+returns-then-is_worn-clause-serves g c =
     refused _ _ _ g.met.D.Device.only_now g.met.S.ObjectStore.sound_holds c.args.live.now command.Checkpoint refusal.Worn
-    (λ h up. worn h (running g.D.Device.disk g.S.ObjectStore.view g.S.Frames.parts c.args.live.now) c.if-live-ge-MAX_AGE.true)
+    (λ h up. worn h (running g.D.Device.disk g.S.ObjectStore.view g.S.Frames.parts c.args.live.now) (c.is_worn.ensures.worn c.if-is_worn.true))
 
 pub freeze-requires : goal.freeze-requires
 freeze-requires g c =
@@ -20,7 +19,7 @@ pub returns-in-Ok-clause-serves : goal.returns-in-Ok-clause-serves
 returns-in-Ok-clause-serves g c =
     let said = c.in-Ok.ensures in
     begun _ _ _ g.met.D.Device.only_now g.met.S.ObjectStore.sound_holds c.args.live.now c.freeze.new.self c.in-Ok.size
-    c.if-live-ge-MAX_AGE.false (none_there (g.S.ObjectStore.view c.args.live.now.store).snapshots.frozen said.answer.0) said.answer.1
+    (c.is_worn.ensures.young c.if-is_worn.false) (none_there (g.S.ObjectStore.view c.args.live.now.store).snapshots.frozen said.answer.0) said.answer.1
     (frames_again (g.S.Frames.parts c.args.live.now.store) (g.S.Frames.parts c.freeze.new.self) said.headers said.contents)
     said.touched said.geometry said.size said.snapshots said.beneath said.sound
 
@@ -30,7 +29,7 @@ returns-in-Err g c =
     let said = c.in-Err.ensures in
     rw c.refused.ensures.answer (record {
       serves = freeze_refused _ _ _ g.met.D.Device.only_now g.met.S.ObjectStore.sound_holds c.args.live.now c.freeze.new.self c.in-Err.why said.unchanged
-          c.if-live-ge-MAX_AGE.false said.answer;
+          (c.is_worn.ensures.young c.if-is_worn.false) said.answer;
       cause = freeze_cause _ _ (left_in whole snapshots) snapshots.saved.entries c.in-Err.why said.answer (ap (λ d. (g.D.Device.disk d).failures) said.beneath);
       only_reads = freeze_looks (left_in whole snapshots) snapshots.saved.entries c.in-Err.why said.answer;
       reported_once = c.refused.ensures.reported_once;

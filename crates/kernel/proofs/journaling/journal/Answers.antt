@@ -3,9 +3,9 @@ use Rattle.kernel.proofs.Journals.{journal_cause, journal_refused, journal_went,
 use Rattle.kernel.proofs.Stages.{keepable_most, none_there}
 use Rattle.kernel.proofs.journaling.journal.Goals as goal
 
-pub returns-then-live-ge-MAX_AGE-clause-serves : goal.returns-then-live-ge-MAX_AGE-clause-serves
-returns-then-live-ge-MAX_AGE-clause-serves g c =
-    too_old _ _ _ g.met.D.Device.only_now g.met.S.ObjectStore.sound_holds c.args.live.now c.args.number c.if-live-ge-MAX_AGE.true
+pub returns-then-is_worn-clause-serves : goal.returns-then-is_worn-clause-serves
+returns-then-is_worn-clause-serves g c =
+    too_old _ _ _ g.met.D.Device.only_now g.met.S.ObjectStore.sound_holds c.args.live.now c.args.number (c.is_worn.ensures.worn c.if-is_worn.true)
 
 pub journal-requires-clause-keepable : goal.journal-requires-clause-keepable
 journal-requires-clause-keepable g c =
@@ -18,7 +18,7 @@ returns-in-Ok-clause-serves g c =
     let said = c.in-Ok.ensures in
     let reported = said.answer in
     journal_went _ _ _ g.met.D.Device.only_now g.met.S.ObjectStore.sound_holds c.args.live.now c.journal.new.self c.args.number
-    c.if-live-ge-MAX_AGE.false (record { headers = said.headers; contents = said.contents; touched = said.touched; geometry = said.geometry })
+    (c.is_worn.ensures.young c.if-is_worn.false) (record { headers = said.headers; contents = said.contents; touched = said.touched; geometry = said.geometry })
     said.size (rw c.saved-age.ensures.age at said.any_moment) (none_there snapshots.frozen reported.1) reported.2 reported.3 reported.4 c.in-Ok.generation
     reported.5 (rw c.saved-age.ensures.age at said.snapshots) (sound_done c.in-Ok.generation said.sound)
 
@@ -32,7 +32,7 @@ returns-in-Err g c =
     let said = c.in-Err.ensures in
     rw c.refused.ensures.answer (record {
       serves = journal_refused _ _ _ g.met.D.Device.only_now g.met.S.ObjectStore.sound_holds c.args.live.now c.journal.new.self n
-          c.if-live-ge-MAX_AGE.false c.in-Err.why (record {
+          (c.is_worn.ensures.young c.if-is_worn.false) c.in-Err.why (record {
             headers = said.headers;
             contents = said.contents;
             touched = said.touched;

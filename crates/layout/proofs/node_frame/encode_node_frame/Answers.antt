@@ -1,4 +1,4 @@
-use Rattle.layout.proofs.Names.{[], List, length, refl, sym, ap, arith, replicate, append-nil, Cap, void_held, slots_of, rules, content_behind, ContentRef}
+use Rattle.layout.proofs.Names.{[], List, length, refl, sym, ap, arith, rules, replicate, append-nil, Cap, void_held, content_behind, slots_of, ContentRef}
 use Rattle.std.proofs.Common.{◌++◌, ◌∷◌, ◌∙◌}
 use Rattle.layout.proofs.Frames.{node_written, root_count}
 use Rattle.layout.proofs.node_frame.encode_node_frame.Goals as goal

@@ -1,4 +1,4 @@
-use Rattle.layout.proofs.Names.{arith}
+use Rattle.std.proofs.Common.{arith}
 use Rattle.layout.proofs.Pages.{words_read}
 use Rattle.layout.proofs.page_frame.read_words.Goals as goal
 

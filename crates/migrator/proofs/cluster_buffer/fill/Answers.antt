@@ -6,16 +6,16 @@ use Rattle.migrator.proofs.cluster_buffer.fill.Goals as goal
 
 pub pack_node-requires-clause-end : goal.pack_node-requires-clause-end
 pack_node-requires-clause-end g c =
-    packed_end (sectors_from (g.D.Device.disk c.read_packed.new.device).seen c.slot_sector.result 8)
+    packed_end (sectors_from (g.D.Device.disk c.read_packed.new.device).seen c.slot_sector-at.result 8)
     refl (sym c.in_ok-read_packed.ensures.found) c.read_packed.ensures.length
 
 pub returns-clause-filled : goal.returns-clause-filled
 returns-clause-filled g c =
     let seen = agrees_is (g.D.Device.disk c.read_packed.new.device).seen (g.D.Device.disk c.gather.new.device).seen c.read_packed.ensures.reads.seen ∙
     agrees_is (g.D.Device.disk c.gather.new.device).seen (g.D.Device.disk c.args.device.now).seen c.gather.ensures.reads.seen in
-    let read = subst (λ (image : Image). shaped_at image c.slot_sector.result (Packed c.args.rank) ≡ c.read_packed.new.node) seen
+    let read = subst (λ (image : Image). shaped_at image c.slot_sector-at.result (Packed c.args.rank) ≡ c.read_packed.new.node) seen
     c.in_ok-read_packed.ensures.found in
-    let there = rw (c.slot_sector.ensures.value, c.new-log.ensures) at read in
+    let there = rw (c.slot_sector-at.ensures.value, c.new-log.ensures) at read in
     let start = begins c.args.plan.now c.args.entry.object c.args.rank c.requires.plan c.requires.object c.requires.shape in
     rw c.copy_from_slice.ensures.after (filled_on (c.args.entry.object - c.args.rank) start.home c.requires.object
     (rw c.new-home.ensures at c.blank_rest.ensures.frames)

@@ -1,6 +1,6 @@
 use Rattle.migrator.proofs.Names.{sym, arith, shape_of, own_of}
 use Rattle.std.proofs.Common.{◌∙◌}
-use Rattle.migrator.proofs.FrameSlots.{alone_beside, found_there, none_there}
+use Rattle.migrator.proofs.PlacesApart.{alone_beside, found_there, none_there}
 use Rattle.migrator.proofs.find.find_beside.Goals as goal
 use Rattle.migrator.proofs.find.find_beside.Goals.{else-at-entries-via-then-at-entries+else-place, else-at-entries-via-else-at-entries}
 

@@ -1,7 +1,7 @@
 use Rattle.migrator.proofs.Names.{ap, sym, subst, Image, agrees_is, home_place, frame_in, slot_sector, Plan}
 use Rattle.std.proofs.Common.{◌≡◌, ◌∙◌}
 use Rattle.migrator.proofs.Gathering.{frame_slot_bytes}
-use Rattle.migrator.proofs.FrameSlots.{frame_slot_fits}
+use Rattle.migrator.proofs.PlacesApart.{frame_slot_fits}
 use Rattle.migrator.proofs.gather.read_node.Goals as goal
 use Rattle.migrator.proofs.gather.read_node.Goals.{in-Some, in-None}
 

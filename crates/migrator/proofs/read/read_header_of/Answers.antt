@@ -1,10 +1,11 @@
-use Rattle.migrator.proofs.Fetching.{ok_weaker}
-use Rattle.migrator.proofs.Headers.{own_header, packed_header}
+use Rattle.std.proofs.lemmas.Result.{IfOk-weaker}
+use Rattle.migrator.proofs.Reading.{own_header, packed_header}
 use Rattle.migrator.proofs.read.read_header_of.Goals as goal
 
 pub returns-in_default-clause-found : goal.returns-in_default-clause-found
 returns-in_default-clause-found g c =
-    ok_weaker c.read_header.result (λ header is. own_header (g.D.Device.disk c.read_header.new.device).seen c.args.at c.args.shape c.in_default.not-Packed is)
+    IfOk-weaker c.read_header.result _ _
+    (λ header is. own_header (g.D.Device.disk c.read_header.new.device).seen c.args.at c.args.shape c.in_default.not-Packed is)
     c.read_header.ensures.found
 
 pub returns-clause-found : goal.returns-clause-found

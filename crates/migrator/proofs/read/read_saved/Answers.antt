@@ -1,5 +1,5 @@
 use Rattle.std.proofs.Common.{◌∙◌, sym}
-use Rattle.migrator.proofs.FrameSlots.{frame_slot_fits}
+use Rattle.migrator.proofs.PlacesApart.{frame_slot_fits}
 use Rattle.migrator.proofs.read.read_saved.Goals as goal
 
 pub read_slot-requires-clause-slot : goal.read_slot-requires-clause-slot

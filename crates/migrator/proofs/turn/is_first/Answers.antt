@@ -1,5 +1,5 @@
 use Rattle.std.proofs.Common.{◌∙◌, sym}
-use Rattle.migrator.proofs.FrameSlots.{first_of, not_same}
+use Rattle.migrator.proofs.PlacesApart.{first_of, not_same}
 use Rattle.migrator.proofs.turn.is_first.Goals as goal
 
 pub returns-clause-yes : goal.returns-clause-yes

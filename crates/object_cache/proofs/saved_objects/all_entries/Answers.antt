@@ -1,6 +1,6 @@
 use Rattle.object_cache.proofs.Names.{ℕ, [], None, ap, replicate, EntriesState}
 use Rattle.std.proofs.Common.{◌∙◌}
-use Rattle.object_cache.proofs.Taken.{none_inserted}
+use Rattle.object_cache.proofs.Opening.{none_inserted}
 use Rattle.object_cache.proofs.saved_objects.all_entries.Goals as goal
 
 pub insert_all-requires : goal.insert_all-requires

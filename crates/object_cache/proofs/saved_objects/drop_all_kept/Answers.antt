@@ -1,6 +1,6 @@
 use Rattle.object_cache.proofs.Names.{true, arith, length, length-set, is_some, entry_at, option_map, rules}
 use Rattle.std.proofs.Common.{◌≡◌, ◌<◌, ◌∙◌}
-use Rattle.object_cache.proofs.Taken.{drop, dropped_one}
+use Rattle.object_cache.proofs.Opening.{drop, dropped_one}
 use Rattle.object_cache.proofs.saved_objects.drop_all_kept.Goals as goal
 
 pub loop-number-preserved : goal.loop-number-preserved

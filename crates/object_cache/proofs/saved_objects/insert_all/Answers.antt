@@ -1,7 +1,7 @@
 use Rattle.object_cache.proofs.Names.{arith}
 use Rattle.std.proofs.Common.{◌<◌}
 use Rattle.model.specs.declared.object.Content.TheVariants as content
-use Rattle.object_cache.proofs.Taken.{one_inserted}
+use Rattle.object_cache.proofs.Opening.{one_inserted}
 use Rattle.object_cache.proofs.saved_objects.insert_all.Goals as goal
 
 pub loop-number-preserved : goal.loop-number-preserved

@@ -4,16 +4,16 @@ use Rattle.reach.proofs.explaining.print_chain.Goals as goal
 pub returns-in-Some : goal.returns-in-Some
 unfolding chain_text
 returns-in-Some g c =
-    subst (λ (chain : Option (Vec Step Global)). Writes (g.W.Write.contents c.args.writer.now) (g.W.Write.contents c.print_to.new.writer) c.print_to.result
+    subst (λ (chain : Option (Vec Step Global)). Writes (g.W.Output.written c.args.writer.now) (g.W.Output.written c.print_to.new.writer) c.print_to.result
     (chain_text c.args.objects.now c.args.object chain)) (sym c.in-Some.is)
-    (subst (λ (steps : List Step). Writes (g.W.Write.contents c.args.writer.now) (g.W.Write.contents c.print_to.new.writer) c.print_to.result
+    (subst (λ (steps : List Step). Writes (g.W.Output.written c.args.writer.now) (g.W.Output.written c.print_to.new.writer) c.print_to.result
     (steps_text c.args.objects.now steps c.args.object)) c.deref.ensures.value
     c.print_to.ensures)
 
 pub returns-in-None : goal.returns-in-None
 unfolding chain_text
 returns-in-None g c =
-    subst (λ (chain : Option (Vec Step Global)). Writes (g.W.Write.contents c.args.writer.now) (g.W.Write.contents c.write_to.new.writer) c.write_to.result
+    subst (λ (chain : Option (Vec Step Global)). Writes (g.W.Output.written c.args.writer.now) (g.W.Output.written c.write_to.new.writer) c.write_to.result
     (chain_text c.args.objects.now c.args.object chain)) (sym c.in-None.is)
-    (subst (λ (text : List ℕ). Writes (g.W.Write.contents c.args.writer.now) (g.W.Write.contents c.write_to.new.writer) c.write_to.result (line_of text))
+    (subst (λ (text : List ℕ). Writes (g.W.Output.written c.args.writer.now) (g.W.Output.written c.write_to.new.writer) c.write_to.result (line_of text))
     c.new.ensures c.write_to.ensures)

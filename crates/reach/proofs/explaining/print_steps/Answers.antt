@@ -1,4 +1,4 @@
-use Rattle.reach.proofs.Names.{ℕ, List, Err, subst, sym, Appends-trans, err_from_is_err_and, Appends, line_of, Writes, writes_fail, step_line}
+use Rattle.reach.proofs.Names.{ℕ, List, Err, subst, sym, wrote_trans, err_from_is_err_and, Wrote, line_of, Writes, writes_fail, step_line}
 use Rattle.reach.specs.declared.step.Way.TheVariants as way
 use Rattle.reach.proofs.TextLines.{plain_all, plain_more, plain_split}
 use Rattle.reach.proofs.explaining.print_steps.Goals as goal
@@ -10,18 +10,18 @@ returns-in_err-write_to g c =
     (plain_split (step_line c.args.objects.now) c.args.steps.now c.loop-step.step-index (record { from = 0; way = way.Annex; to = 0 })
     c.loop-step-test.true)
     c.loop-step.invariant
-    (subst (λ (text : List ℕ). Writes (g.W.Write.contents c.loop-step.writer) (g.W.Write.contents c.write_to.new.writer) (Err c.in_err-write_to.field-0.0)
+    (subst (λ (text : List ℕ). Writes (g.W.Output.written c.loop-step.writer) (g.W.Output.written c.write_to.new.writer) (Err c.in_err-write_to.field-0.0)
     (line_of text)) c.line_of_step.ensures.text c.in_err-write_to.ensures))
 
 pub loop-step-preserved : goal.loop-step-preserved
 loop-step-preserved g c =
-    subst (Appends _ _) (sym
+    subst (Wrote _ _) (sym
     (plain_more (step_line c.args.objects.now) c.args.steps.now c.loop-step.step-index (record { from = 0; way = way.Annex; to = 0 })
     c.loop-step-test.true))
-    (Appends-trans _ _ _ _ _ c.loop-step.invariant
-    (subst (λ (text : List ℕ). Appends (g.W.Write.contents c.loop-step.writer) (g.W.Write.contents c.write_to.new.writer) (line_of text))
+    (wrote_trans _ _ _ _ _ c.loop-step.invariant
+    (subst (λ (text : List ℕ). Wrote (g.W.Output.written c.loop-step.writer) (g.W.Output.written c.write_to.new.writer) (line_of text))
     c.line_of_step.ensures.text c.in_ok-write_to.ensures))
 
 pub returns : goal.returns
-returns g c = subst (Appends _ _) (plain_all (step_line c.args.objects.now) c.args.steps.now c.loop-step.step-index c.loop-step-test.false)
+returns g c = subst (Wrote _ _) (plain_all (step_line c.args.objects.now) c.args.steps.now c.loop-step.step-index c.loop-step-test.false)
     c.loop-step.invariant

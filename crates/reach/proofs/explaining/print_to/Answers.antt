@@ -9,6 +9,6 @@ returns-in_err-print_steps g c =
 
 pub returns : goal.returns
 returns g c =
-    writes_after _ (g.W.Write.contents c.print_steps.new.writer) _ _ (flat_map (step_line c.args.objects.now) c.args.steps.now)
+    writes_after _ (g.W.Output.written c.print_steps.new.writer) _ _ (flat_map (step_line c.args.objects.now) c.args.steps.now)
     (line_of (spaced (words_of c.args.object (object_at c.args.objects.now c.args.object))))
     c.in_ok-print_steps.ensures c.print_object.ensures

@@ -1,4 +1,4 @@
-use Rattle.reach.proofs.Names.{[], ℕ, Bool, List, Err, ap, append_assoc, codes, decimal, refl, subst, Appends-trans, err_from_is_err_and, Appends, count_by}
+use Rattle.reach.proofs.Names.{[], ℕ, Bool, List, Err, ap, append_assoc, codes, decimal, refl, subst, wrote_trans, err_from_is_err_and, Wrote, count_by}
 use Rattle.reach.proofs.Names.{enumerate_from, flat_map, Object, line_of, spaced, Writes, text_fails, writes_after, writes_fail, member_line, member_pulls}
 use Rattle.reach.proofs.Names.{reach_text}
 use Rattle.std.proofs.Common.{◌≡◌, ◌++◌, ◌∷◌, ◌∙◌}
@@ -34,7 +34,7 @@ returns-in_err-write_to g c =
     let marks = c.args.inside.now in
     let is = counted marks c.numbered.result c.count_members.result c.numbered.ensures.text c.count_members.ensures in
     rw (p.1, p.2) (writes_fail _ _ _ _ (members os marks) (line_of (closed marks)) (pulled os marks) _ refl c.in_ok-print_members.ensures
-    (subst (λ (l : List ℕ). Writes (g.W.Write.contents c.print_members.new.writer) (g.W.Write.contents c.write_to.new.writer) (Err c.in_err-write_to.field-0.0)
+    (subst (λ (l : List ℕ). Writes (g.W.Output.written c.print_members.new.writer) (g.W.Output.written c.write_to.new.writer) (Err c.in_err-write_to.field-0.0)
     (line_of l)) is c.in_err-write_to.ensures))
 
 pub returns : goal.returns
@@ -43,8 +43,8 @@ returns g c =
     let os = c.args.objects.now in
     let marks = c.args.inside.now in
     let is = counted marks c.numbered.result c.count_members.result c.numbered.ensures.text c.count_members.ensures in
-    writes_after _ (g.W.Write.contents c.write_to.new.writer) _ _ (members os marks ++ line_of (closed marks)) (pulled os marks)
-    (Appends-trans _ (g.W.Write.contents c.print_members.new.writer) _ (members os marks) (line_of (closed marks)) c.in_ok-print_members.ensures
-    (subst (λ (l : List ℕ). Appends (g.W.Write.contents c.print_members.new.writer) (g.W.Write.contents c.write_to.new.writer) (line_of l)) is
+    writes_after _ (g.W.Output.written c.write_to.new.writer) _ _ (members os marks ++ line_of (closed marks)) (pulled os marks)
+    (wrote_trans _ (g.W.Output.written c.print_members.new.writer) _ (members os marks) (line_of (closed marks)) c.in_ok-print_members.ensures
+    (subst (λ (l : List ℕ). Wrote (g.W.Output.written c.print_members.new.writer) (g.W.Output.written c.write_to.new.writer) (line_of l)) is
     c.in_ok-write_to.ensures))
     c.print_all_pulls.ensures

@@ -6,7 +6,7 @@ pub returns-then-is_empty-clause-turn : goal.returns-then-is_empty-clause-turn
 returns-then-is_empty-clause-turn g c h m held stands holds =
     subst (λ (l : List ℕ). TakesLine g.D.Device.disk g.S.ObjectStore.view g.S.Frames.parts g.O.Observer.sees h m (l ++ c.args.bytes.now) c.args.kernel.now
     c.take.new.kernel
-    c.args.observer.now c.take.new.observer (g.W.Write.contents c.args.writer.now) (g.W.Write.contents c.take.new.writer) c.take.result)
+    c.args.observer.now c.take.new.observer (g.W.Output.written c.args.writer.now) (g.W.Output.written c.take.new.writer) c.take.result)
     (sym ((c.is_empty.ensures held holds).0 c.if-is_empty.true))
     (c.parse_line-parsed.result, c.parse_line-parsed.ensures.says, c.take.ensures.turn h m c.args.bytes.now stands refl c.parse_line-parsed.ensures.says)
 

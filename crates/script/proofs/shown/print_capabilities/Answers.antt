@@ -1,5 +1,5 @@
-use Rattle.script.proofs.Names.{subst, sym, arith, Appends-trans, err_from_is_err_and, Appends, Void, capability_line, capability_lines}
-use Rattle.script.proofs.Fronts.{writes_fail}
+use Rattle.script.proofs.Names.{subst, sym, arith, err_from_is_err_and, Wrote, Void, capability_line, capability_lines}
+use Rattle.script.proofs.Fronts.{wrote_trans, writes_fail}
 use Rattle.script.proofs.Texts.{lines_split, lines_more, lines_all}
 use Rattle.script.proofs.shown.print_capabilities.Goals as goal
 
@@ -13,9 +13,9 @@ returns-in_err-print_capability g c =
 
 pub loop-index-preserved : goal.loop-index-preserved
 loop-index-preserved g c =
-    subst (Appends _ _) (sym (lines_more (capability_line c.args.name.now) c.args.capabilities.now c.loop-index.index Void c.loop-index-test.true))
-    (Appends-trans _ _ _ _ _ c.loop-index.invariant c.in_ok-print_capability.ensures)
+    subst (Wrote _ _) (sym (lines_more (capability_line c.args.name.now) c.args.capabilities.now c.loop-index.index Void c.loop-index-test.true))
+    (wrote_trans _ _ _ _ _ c.loop-index.invariant c.in_ok-print_capability.ensures)
 
 pub returns : goal.returns
 unfolding capability_lines
-returns g c = subst (Appends _ _) (lines_all (capability_line c.args.name.now) c.args.capabilities.now c.loop-index.index (omega arith)) c.loop-index.invariant
+returns g c = subst (Wrote _ _) (lines_all (capability_line c.args.name.now) c.args.capabilities.now c.loop-index.index (omega arith)) c.loop-index.invariant

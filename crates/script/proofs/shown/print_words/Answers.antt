@@ -1,5 +1,5 @@
-use Rattle.script.proofs.Names.{subst, sym, arith, Appends-trans, err_from_is_err_and, Appends, word_line, word_lines}
-use Rattle.script.proofs.Fronts.{writes_fail}
+use Rattle.script.proofs.Names.{subst, sym, arith, err_from_is_err_and, Wrote, word_line, word_lines}
+use Rattle.script.proofs.Fronts.{wrote_trans, writes_fail}
 use Rattle.script.proofs.Texts.{lines_split, lines_more, lines_all}
 use Rattle.script.proofs.shown.print_words.Goals as goal
 
@@ -12,9 +12,9 @@ returns-in_err-print_word g c =
 
 pub loop-index-preserved : goal.loop-index-preserved
 loop-index-preserved g c =
-    subst (Appends _ _) (sym (lines_more word_line c.args.words.now c.loop-index.index 0 c.loop-index-test.true))
-    (Appends-trans _ _ _ _ _ c.loop-index.invariant c.in_ok-print_word.ensures)
+    subst (Wrote _ _) (sym (lines_more word_line c.args.words.now c.loop-index.index 0 c.loop-index-test.true))
+    (wrote_trans _ _ _ _ _ c.loop-index.invariant c.in_ok-print_word.ensures)
 
 pub returns : goal.returns
 unfolding word_lines
-returns g c = subst (Appends _ _) (lines_all word_line c.args.words.now c.loop-index.index (omega arith)) c.loop-index.invariant
+returns g c = subst (Wrote _ _) (lines_all word_line c.args.words.now c.loop-index.index (omega arith)) c.loop-index.invariant

@@ -1,5 +1,5 @@
 use Rattle.space_bank.proofs.Names.{owner_read}
-use Rattle.space_bank.proofs.Climbs.{climb_ended, climb_starts, climbs_on, shifted_last, shifting_starts, shifts_on, still_fits}
+use Rattle.space_bank.proofs.Tallies.{climb_ended, climb_starts, climbs_on, shifted_last, shifting_starts, shifts_on, still_fits}
 use Rattle.space_bank.proofs.chains.shift.Goals as goal
 
 pub loop-step-init : goal.loop-step-init

@@ -1,5 +1,5 @@
 use Rattle.capability.specs.Parts.{objects_in}
-use Rattle.space_bank.proofs.Climbs.{Climbs, IsShifting}
+use Rattle.space_bank.proofs.Tallies.{Climbs, IsShifting}
 use Rattle.space_bank.proofs.chains.shift.Given as goal
 
 abbrev pub invariant-loop-step : goal.invariant-loop-step

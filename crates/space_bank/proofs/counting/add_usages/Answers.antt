@@ -1,8 +1,8 @@
 use Rattle.space_bank.proofs.Names.{ℕ, true, false, List, length, refl, sym, ap, arith, is_free, content_at, chain_banks, objects_in}
 use Rattle.std.proofs.Common.{◌≡◌, ◌∙◌, ◌<◌, slice_index}
-use Rattle.space_bank.proofs.Climbs.{raised_of}
-use Rattle.space_bank.proofs.Used.{owner_of_used, raise_fits, used_first, used_free, used_raised, used_whole}
-use Rattle.space_bank.proofs.Walks.{inside_read, past_read}
+use Rattle.space_bank.proofs.Tallies.{raised_of}
+use Rattle.space_bank.proofs.Missing.{owner_of_used, raise_fits, used_first, used_free, used_raised, used_whole}
+use Rattle.space_bank.proofs.Plans.{inside_read, past_read}
 use Rattle.space_bank.proofs.counting.add_usages.Goals as goal
 use Rattle.space_bank.proofs.counting.add_usages.Goals.{then-not-is_free, else-not-is_free}
 

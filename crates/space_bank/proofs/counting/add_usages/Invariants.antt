@@ -1,6 +1,6 @@
 use Rattle.space_bank.proofs.Names.{ℕ, length, IsTrue, is_bank, content_at, objects_in}
 use Rattle.std.proofs.Common.{◌≡◌, slice_index}
-use Rattle.space_bank.proofs.Used.{used_below}
+use Rattle.space_bank.proofs.Missing.{used_below}
 use Rattle.space_bank.proofs.counting.add_usages.Given as goal
 
 abbrev pub invariant-loop-number : goal.invariant-loop-number

@@ -1,6 +1,6 @@
 use Rattle.space_bank.proofs.Names.{sym, ap, limit_in, ContentRef, content_behind}
 use Rattle.std.proofs.Common.{◌∙◌}
-use Rattle.space_bank.proofs.Counts.{limit_held, no_limit}
+use Rattle.space_bank.proofs.Missing.{limit_held, no_limit}
 use Rattle.space_bank.proofs.counting.limit_there.Goals as goal
 
 pub returns-in-Bank : goal.returns-in-Bank

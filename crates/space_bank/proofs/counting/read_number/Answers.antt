@@ -1,7 +1,7 @@
 use Rattle.space_bank.proofs.Names.{true, not, sym, ap, content_at, frames_of, objects_in, keepable_roles, role_read, the_type}
 use Rattle.std.proofs.Common.{◌≡◌, ◌∙◌, ◌^◌, ◌-◌}
 use denote.Enum.Bare.{true_same}
-use Rattle.space_bank.proofs.Counts.{kept_other}
+use Rattle.space_bank.proofs.Missing.{kept_other}
 use Rattle.space_bank.proofs.counting.read_number.Goals as goal
 
 pub returns-then-ne-clause-kept : goal.returns-then-ne-clause-kept

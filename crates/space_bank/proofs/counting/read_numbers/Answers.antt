@@ -1,6 +1,6 @@
 use Rattle.space_bank.proofs.Names.{arith, only_reads_twice}
 use Rattle.std.proofs.Common.{◌∙◌}
-use Rattle.space_bank.proofs.Counts.{numbers_more}
+use Rattle.space_bank.proofs.Missing.{numbers_more}
 use Rattle.space_bank.proofs.Renewing.{unrisen}
 use Rattle.space_bank.proofs.counting.read_numbers.Goals as goal
 

@@ -1,8 +1,7 @@
 use Rattle.space_bank.proofs.Names.{arith, false, length, subst, sym, take, slice_index, Geometry, AreKeepable, is_free, content_at, frames_of, objects_in}
 use Rattle.space_bank.proofs.Names.{keeps_twice, length_objects}
 use Rattle.std.proofs.Common.{◌≡◌, ◌<◌}
-use Rattle.space_bank.proofs.Owners.{transferred_more, transferred_used}
-use Rattle.space_bank.proofs.Standing.{used_header}
+use Rattle.space_bank.proofs.Tallies.{transferred_more, transferred_used, used_header}
 use Rattle.space_bank.proofs.giving_up.transfer.Goals as goal
 
 pub loop-number-preserved : goal.loop-number-preserved

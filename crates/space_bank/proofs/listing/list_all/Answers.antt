@@ -1,8 +1,7 @@
 use Rattle.space_bank.proofs.Names.{ℕ, List, length, Vec, Global, vec_len, ap, sym, refl, arith, vec_capacity, objects_in, length_objects, HasNoneUsed}
 use Rattle.space_bank.proofs.Names.{IsNextUsed, is_listed}
 use Rattle.std.proofs.Common.{◌∙◌, ◌++◌}
-use Rattle.space_bank.proofs.Missing.{listed_more, listed_same, listed_whole}
-use Rattle.space_bank.proofs.Missing.{free_not_listed, listed_inner, listed_up_to}
+use Rattle.space_bank.proofs.Missing.{listed_more, listed_same, listed_whole, free_not_listed, listed_inner, listed_up_to}
 use Rattle.space_bank.proofs.listing.list_all.Goals as goal
 use Rattle.space_bank.proofs.listing.list_all.Goals.{then-is_listed, else-is_listed}
 

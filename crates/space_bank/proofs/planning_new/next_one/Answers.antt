@@ -1,5 +1,5 @@
 use Rattle.space_bank.proofs.Names.{arith, ap, refl, sym, new_at}
-use Rattle.space_bank.proofs.Found.{found_none, found_one}
+use Rattle.space_bank.proofs.Missing.{found_none, found_one}
 use Rattle.space_bank.proofs.planning_new.next_one.Goals as goal
 
 pub returns-in-None-clause-made : goal.returns-in-None-clause-made

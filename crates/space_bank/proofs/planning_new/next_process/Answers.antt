@@ -1,5 +1,5 @@
 use Rattle.space_bank.proofs.Names.{ap, refl, sym, process_at}
-use Rattle.space_bank.proofs.Found.{found_none, process_found, process_missing}
+use Rattle.space_bank.proofs.Missing.{found_none, process_found, process_missing}
 use Rattle.space_bank.proofs.planning_new.next_process.Goals as goal
 
 pub returns-in-None-clause-made : goal.returns-in-None-clause-made

@@ -1,5 +1,5 @@
 use Rattle.space_bank.proofs.Names.{ap, arith, length, objects_in}
-use Rattle.space_bank.proofs.Walks.{chain_begun, chain_last, chain_next, chain_past}
+use Rattle.space_bank.proofs.Plans.{chain_begun, chain_last, chain_next, chain_past}
 use Rattle.space_bank.proofs.walking.chain_length.Goals as goal
 
 pub loop-passed-init : goal.loop-passed-init

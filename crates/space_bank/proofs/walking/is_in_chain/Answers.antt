@@ -1,6 +1,6 @@
 use Rattle.space_bank.proofs.Names.{nat_eq, sym, ap, list_any, objects_in}
 use Rattle.std.proofs.Common.{◌∙◌}
-use Rattle.space_bank.proofs.Walks.{chain_begun, chain_here, chain_past, sought_last, sought_next}
+use Rattle.space_bank.proofs.Plans.{chain_begun, chain_here, chain_past, sought_last, sought_next}
 use Rattle.space_bank.proofs.walking.is_in_chain.Goals as goal
 
 pub loop-step-init : goal.loop-step-init

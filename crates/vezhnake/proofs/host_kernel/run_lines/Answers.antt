@@ -1,10 +1,17 @@
-use Rattle.std.proofs.Common.{ℕ, List, Some, ap}
+use Rattle.vezhnake.proofs.Names.{ℕ, List, Some, Vec, Global, ap, subst, sym, RunsText, in_memory}
+use Rattle.std.proofs.Common.{◌∙◌}
 use Rattle.vezhnake.proofs.Surviving.{runs_text}
 use Rattle.vezhnake.proofs.host_kernel.run_lines.Goals as goal
 
 pub returns-clause-runs : goal.returns-clause-runs
 returns-clause-runs g c =
-    runs_text g.S.ObjectStore.view g.S.Frames.parts c.crashes_are_survived.ensures c.args.kernel.now c.run.new.kernel c.args.text.now
-    c.args.answers.now.items c.run.new.writer.items
-    (Some c.reader_of-reader.result.inner.now) (Some c.run.new.reader.inner.now) (ap (λ (bytes : List ℕ). Some bytes) c.reader_of-reader.ensures)
-    c.run.result c.run.ensures.runs c.run.ensures.confined
+    let writer = c.new-writer.result in
+    let begins = ap (λ (v : Vec ℕ Global). in_memory v.items writer.failures.number) (c.new-writer.ensures.inner ∙ c.replace.ensures.value)
+    ∙ ap (λ (n : ℕ). in_memory c.args.answers.now.items n) c.new-writer.ensures.failures in
+    subst (λ (v : Vec ℕ Global). RunsText g.S.ObjectStore.view g.S.Frames.parts c.args.kernel.now c.run-outcome.new.kernel c.args.text.now
+    c.args.answers.now.items v.items c.run-outcome.result) (sym c.into_inner.ensures)
+    (runs_text g.S.ObjectStore.view g.S.Frames.parts c.crashes_are_survived.ensures c.args.kernel.now c.run-outcome.new.kernel c.args.text.now
+    c.args.answers.now.items c.run-outcome.new.writer.inner.items c.run-outcome.new.writer.failures.number
+    (in_memory writer.inner.items writer.failures.number) begins
+    (Some c.reader_of-reader.result.inner.now) (Some c.run-outcome.new.reader.inner.now) (ap (λ (bytes : List ℕ). Some bytes) c.reader_of-reader.ensures)
+    c.run-outcome.result c.run-outcome.ensures.runs c.run-outcome.ensures.confined)

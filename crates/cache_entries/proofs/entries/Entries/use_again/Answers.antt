@@ -1,4 +1,4 @@
-use Rattle.cache_entries.proofs.Names.{ℕ, List, ap, is_member, sym, take, take_all, refl, subst, AreStored, EntriesState, used_in_turn}
+use Rattle.cache_entries.proofs.Names.{AreStored, ℕ, List, ap, is_member, sym, take, take_all, refl, subst, EntriesState, OrderState, used_in_turn}
 use Rattle.std.proofs.Common.{◌∙◌}
 use Rattle.cache_entries.proofs.Stored.{ordered, some_is}
 use Rattle.cache_entries.proofs.Turns.{contains_member, spread_uses}
@@ -11,14 +11,14 @@ returns-clause-held c =
     (ap (λ (ks : List ℕ). is_member ks n) (take_all c.use_again.ensures.count ns (c.use_again.ensures.whole all)) ∙ contains_member ns n has)
 
 pub returns-clause-prefix : goal.returns-clause-prefix
-returns-clause-prefix c = (
-  c.use_again.ensures.count,
-  c.use_again.ensures.numbers ∙ ap (λ (t : EntriesState). used_in_turn (take c.use_again.ensures.count c.args.numbers.now)
-      t.order) c.self.view_is,
-)
+returns-clause-prefix c =
+    let k = c.use_again.ensures.count in
+    let used = ap (λ (o : OrderState). o.numbers) c.use_again.ensures.used in
+    (k, used ∙ ap (λ (t : EntriesState). used_in_turn (take k c.args.numbers.now) t.order) c.self.view_is)
 
 pub returns-clause-ordered : goal.returns-clause-ordered
 returns-clause-ordered c =
     let i = c.self.inside in
-    ordered c.use_again.new.self (subst (λ (m : ℕ). AreStored m i.presents i.kepts i.marks.items) (sym c.use_again.ensures.same_most) c.self.invariant) refl
-    (spread_uses i.order c.use_again.new.self c.args.numbers.now c.use_again.result c.use_again.ensures c.spread.ensures)
+    let uses = c.use_again.ensures in
+    ordered c.use_again.new.self (subst (λ (o : OrderState). AreStored o.most i.presents i.kepts i.marks.items) (sym uses.used) c.self.invariant) refl
+    (spread_uses i.order c.use_again.new.self c.args.numbers.now c.use_again.result uses c.spread.ensures)

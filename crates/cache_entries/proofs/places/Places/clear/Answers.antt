@@ -8,15 +8,13 @@ cleared : (c : goal.After-self-1) → Spreads (keys_of c.restore_order.new.order
 cleared c =
     let i = c.self.inside in
     let most = length i.numbers.items in
-    let moved = c.restore_order.ensures in
     let view = c.self.view_is in
     let count : length i.places.items ≡ length c.args.self.now.places =
     sym (length-map i.places.items (place_below most)) ∙ ap (λ (o : OrderState). length o.places) view in
     let most_is : most ≡ c.args.self.now.most = ap (λ (o : OrderState). o.most) view in
     let len : c.len-most.result ≡ most = c.len-most.ensures ∙ i.numbers.ok.0 in
     rw (← most_is) (none_placed (keys_of c.restore_order.new.order.entries) i.numbers.items c.fill.new.self.items most (length c.args.self.now.places)
-    c.self.invariant.some (moved.once c.self.invariant.once) (omega (arith, moved.all, c.self.invariant.all))
-    (λ p here. c.self.invariant.known p (sym (moved.members p) ∙ here)) (omega arith)
+    c.self.invariant.some (c.restore_order.ensures most c.self.invariant.filled) (omega arith)
     (c.fill.ensures.items (λ y is. is) ∙ ap (λ (k : ℕ). replicate k c.len-most.result) (i.places.ok.0 ∙ count)
     ∙ ap (replicate (length c.args.self.now.places)) len))
 

@@ -10,7 +10,7 @@ index_mut-requires c =
     let keys = keys_of c.self.inside.order.entries in
     omega (
       arith,
-      c.self.invariant.known c.last_place-place.result (listed_member keys (length keys - 1) c.last_place-place.result c.last_place-place.ensures),
+      c.self.invariant.filled.known c.last_place-place.result (listed_member keys (length keys - 1) c.last_place-place.result c.last_place-place.ensures),
       c.self.inside.numbers.ok.0,
     )
 
@@ -48,6 +48,6 @@ returns-clause-within c =
     let keys = keys_of c.self.inside.order.entries in
     omega (
       arith,
-      c.self.invariant.known c.last_place-place.result (listed_member keys (length keys - 1) c.last_place-place.result c.last_place-place.ensures),
+      c.self.invariant.filled.known c.last_place-place.result (listed_member keys (length keys - 1) c.last_place-place.result c.last_place-place.ensures),
       most_is c.self.invariant c.self.view_is,
     )

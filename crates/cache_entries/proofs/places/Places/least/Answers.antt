@@ -5,14 +5,14 @@ use Rattle.cache_entries.proofs.Spreads.{least_number, spread_is}
 use Rattle.cache_entries.proofs.places.Places.least.Goals as goal
 
 pub last_place-place-requires : goal.last_place-place-requires
-last_place-place-requires c = omega (arith, c.self.invariant.some, c.self.invariant.all)
+last_place-place-requires c = omega (arith, c.self.invariant.some, c.self.invariant.filled.all)
 
 pub index-requires : goal.index-requires
 index-requires c =
     let keys = keys_of c.self.inside.order.entries in
     omega (
       arith,
-      c.self.invariant.known c.last_place-place.result (listed_member keys (length keys - 1) c.last_place-place.result c.last_place-place.ensures),
+      c.self.invariant.filled.known c.last_place-place.result (listed_member keys (length keys - 1) c.last_place-place.result c.last_place-place.ensures),
       c.self.inside.numbers.ok.0,
     )
 

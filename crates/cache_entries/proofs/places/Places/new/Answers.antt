@@ -6,7 +6,7 @@ pub invariant_of-result : goal.invariant_of-result
 invariant_of-result c =
     let empty = c.new-places.result in
     (none_placed (keys_of c.in_ok-order.order.entries) c.resize.new.self.items c.resize-2.new.self.items (non_zero_usize_get c.args.most) c.args.count
-    (omega (arith, c.get.ensures.nonzero, c.get.ensures.value)) c.in_ok-order.ensures.once c.in_ok-order.ensures.all c.in_ok-order.ensures.known
+    (omega (arith, c.get.ensures.nonzero, c.get.ensures.value)) c.in_ok-order.ensures
     (omega (arith, c.in_ok-resize.ensures.len, c.resize.new.self.ok.0, c.get.ensures.value))
     (filled c.args.count (non_zero_usize_get c.args.most) (vec_len empty) empty.items c.resize-2.new.self.items
     (rw c.get-2.ensures.value at c.in_ok-resize-2.ensures.items) c.new-places.ensures.items c.new-places.ensures.len)).are
@@ -15,7 +15,7 @@ pub returns : goal.returns
 returns c =
     let empty = c.new-places.result in
     (none_placed (keys_of c.in_ok-order.order.entries) c.resize.new.self.items c.resize-2.new.self.items (non_zero_usize_get c.args.most) c.args.count
-    (omega (arith, c.get.ensures.nonzero, c.get.ensures.value)) c.in_ok-order.ensures.once c.in_ok-order.ensures.all c.in_ok-order.ensures.known
+    (omega (arith, c.get.ensures.nonzero, c.get.ensures.value)) c.in_ok-order.ensures
     (omega (arith, c.in_ok-resize.ensures.len, c.resize.new.self.ok.0, c.get.ensures.value))
     (filled c.args.count (non_zero_usize_get c.args.most) (vec_len empty) empty.items c.resize-2.new.self.items
     (rw c.get-2.ensures.value at c.in_ok-resize-2.ensures.items) c.new-places.ensures.items c.new-places.ensures.len)).view

@@ -1,4 +1,4 @@
-use Rattle.cache_entries.proofs.Names.{subst, AreSpread}
+use Rattle.cache_entries.proofs.Names.{AreSpread, subst}
 use Rattle.cache_entries.proofs.Turns.{spread_in_turn}
 use Rattle.cache_entries.proofs.use_order.UseOrder.place.Goals as goal
 

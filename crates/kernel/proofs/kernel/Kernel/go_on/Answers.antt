@@ -1,3 +1,4 @@
+use Rattle.kernel.proofs.Names.{refl}
 use Rattle.model.specs.declared.answer.Answer.TheVariants as answer
 use Rattle.model.specs.declared.answer.Refusal.TheVariants as refusal
 use Rattle.kernel.specs.Power as power
@@ -17,9 +18,10 @@ invariant_of-self g c =
 
 pub invariant_of-self-in-Err : goal.invariant_of-self-in-Err
 invariant_of-self-in-Err g c =
-    rw c.take_device-device.ensures.down (some_after _ _ _ (power.Up c.in-Some.live)
-    (power.Down c.take_device-device.result) c.args.command (answer.Refused refusal.Fault) (goes_down _ _ _ c.in-Some.live c.serve.new.live c.args.command
-    c.take_device-device.result (g.met.D.Device.counts_now _) c.in-Err.ensures.serves c.take_device-device.ensures.is)
+    let device = (g.S.ObjectStore.view c.serve.new.live.store).beneath in
+    rw (c.go_down.ensures.down, c.go_down.ensures.device device refl) (some_after _ _ _ (power.Up c.in-Some.live)
+    (power.Down device) c.args.command (answer.Refused refusal.Fault) (goes_down _ _ _ c.in-Some.live c.serve.new.live c.args.command
+    device (g.met.D.Device.counts_now _) c.in-Err.ensures.serves refl)
     (some_up _ _ _ c.self.inside.live c.self.inside.device c.in-Some.live c.in-Some.is
     c.self.invariant))
 
@@ -30,5 +32,16 @@ returns-in-Ok-clause-serves g c =
 
 pub returns-in-Err-clause-serves : goal.returns-in-Err-clause-serves
 returns-in-Err-clause-serves g c =
-    rw (← c.self.view_is, c.in-Some.is, c.take_device-device.ensures.down) (goes_down _ _ _ c.in-Some.live c.serve.new.live c.args.command
-    c.take_device-device.result (g.met.D.Device.counts_now _) c.in-Err.ensures.serves c.take_device-device.ensures.is)
+    let device = (g.S.ObjectStore.view c.serve.new.live.store).beneath in
+    rw (← c.self.view_is, c.in-Some.is, c.go_down.ensures.down, c.go_down.ensures.device device refl)
+    (goes_down _ _ _ c.in-Some.live c.serve.new.live c.args.command
+    device (g.met.D.Device.counts_now _) c.in-Err.ensures.serves refl)
+
+pub returns-in-Err-clause-cause : goal.returns-in-Err-clause-cause
+returns-in-Err-clause-cause g c =
+    rw (
+      ← c.self.view_is,
+      c.in-Some.is,
+      c.go_down.ensures.down,
+      c.go_down.ensures.device (g.S.ObjectStore.view c.serve.new.live.store).beneath refl,
+    ) c.in-Err.ensures.cause

@@ -11,15 +11,15 @@ returns-then-not-is_process-clause-serves g c =
 pub returns-clause-serves : goal.returns-clause-serves
 returns-clause-serves g c =
     invoked_serves g.F.Frames.parts g.F.Frames.ContinuesTo c.args.age.now c.args.store.now c.invoke.new.store c.args.invocation.now
-    (sym c.is_process.ensures ∙ c.if-not-is_process.false) c.requires.sound c.if-age-ge-MAX_AGE.false c.in_ok-code.code
+    (sym c.is_process.ensures ∙ c.if-not-is_process.false) c.requires.sound (c.is_worn.ensures.young c.if-is_worn.false) c.in_ok-code.code
     c.in_ok-code.ensures.state c.in_ok-code.ensures.invoked
 
 pub returns-in_err-code-clause-serves : goal.returns-in_err-code-clause-serves
 returns-in_err-code-clause-serves g c =
     let p = err_from_is_err_and c.from_residual.result c.from_residual.ensures.1 in
     rw (p.1, p.2) (fault_serves g.F.Frames.parts g.F.Frames.ContinuesTo c.args.age.now c.args.store.now c.invoke.new.store c.args.invocation.now
-    (sym c.is_process.ensures ∙ c.if-not-is_process.false) c.requires.sound c.if-age-ge-MAX_AGE.false _
+    (sym c.is_process.ensures ∙ c.if-not-is_process.false) c.requires.sound (c.is_worn.ensures.young c.if-is_worn.false) _
     c.in_err-code.ensures.state c.in_err-code.ensures.invoked)
 
-pub returns-then-age-ge-MAX_AGE-clause-counted : goal.returns-then-age-ge-MAX_AGE-clause-counted
-returns-then-age-ge-MAX_AGE-clause-counted g c = counted_looked (looked_as c.refuse_worn.ensures.snapshots) c.requires.counted
+pub returns-then-is_worn-clause-counted : goal.returns-then-is_worn-clause-counted
+returns-then-is_worn-clause-counted g c = counted_looked (looked_as c.refuse_worn.ensures.snapshots) c.requires.counted

@@ -1,8 +1,7 @@
 use Rattle.kernel.proofs.Names.{refl, subst, objects_in, IsEarly}
 use Rattle.model.specs.declared.answer.Refusal.TheVariants as refusal
 use Rattle.kernel.proofs.MemoryServing.{looked_same}
-use Rattle.kernel.proofs.Performing.{ok_stayed, refused_serves, reported_cause}
-use Rattle.kernel.proofs.ProcessSteps.{early_fine, early_step, worn_step}
+use Rattle.kernel.proofs.Performing.{ok_stayed, refused_serves, reported_cause, early_fine, early_step, worn_step}
 use Rattle.kernel.proofs.processes.invocation.refuse_worn.Goals as goal
 
 pub returns-in-Some-clause-serves : goal.returns-in-Some-clause-serves

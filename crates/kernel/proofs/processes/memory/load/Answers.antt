@@ -1,6 +1,5 @@
 use Rattle.kernel.proofs.Names.{Ok, Err, subst, objects_in, IsEarly}
-use Rattle.kernel.proofs.Performing.{ok_stayed}
-use Rattle.kernel.proofs.ProcessSteps.{early_none}
+use Rattle.kernel.proofs.Performing.{ok_stayed, early_none}
 use Rattle.kernel.proofs.MemoryServing.{early_load, load_answers}
 use Rattle.kernel.proofs.processes.memory.load.Goals as goal
 

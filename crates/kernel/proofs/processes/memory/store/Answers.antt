@@ -1,8 +1,6 @@
 use Rattle.kernel.proofs.Names.{Ok, Err, subst, counted_looked, looked_as, objects_in, IsEarly}
-use Rattle.kernel.proofs.MemoryServing.{stored_counted}
-use Rattle.kernel.proofs.Performing.{ok_stayed}
-use Rattle.kernel.proofs.ProcessSteps.{early_none}
-use Rattle.kernel.proofs.MemoryServing.{early_store, store_answers, store_refused}
+use Rattle.kernel.proofs.MemoryServing.{stored_counted, early_store, store_answers, store_refused}
+use Rattle.kernel.proofs.Performing.{ok_stayed, early_none}
 use Rattle.kernel.proofs.processes.memory.store.Goals as goal
 
 pub returns-in-Some-clause-serves : goal.returns-in-Some-clause-serves

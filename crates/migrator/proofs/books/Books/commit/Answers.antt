@@ -3,7 +3,7 @@ use Rattle.std.proofs.Common.{◌∙◌}
 use Rattle.migrator.proofs.Buffered.{entry_of}
 use Rattle.migrator.proofs.Commits.{commit_stored, may_commit_now, mid_stays}
 use Rattle.migrator.proofs.Committing.{frozen_fits}
-use Rattle.migrator.proofs.Completed.{complete_at, keeps_at}
+use Rattle.migrator.proofs.Completing.{complete_at, keeps_at}
 use Rattle.migrator.proofs.Publishing.{publishes_after, publishes_none}
 use Rattle.migrator.proofs.books.Books.commit.Goals as goal
 

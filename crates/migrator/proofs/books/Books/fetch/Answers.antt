@@ -1,7 +1,7 @@
-use Rattle.migrator.proofs.Names.{ℕ, List, ap, sym, subst, IsFrameOf, frame_from, most, seen_by}
+use Rattle.migrator.proofs.Names.{IfOk-weaker, ℕ, List, ap, sym, subst, IsFrameOf, frame_from, most, seen_by}
 use Rattle.std.proofs.Common.{◌∙◌}
 use Rattle.migrator.proofs.Buffered.{working_again}
-use Rattle.migrator.proofs.Fetching.{newest_by, ok_weaker, whole_low}
+use Rattle.migrator.proofs.Reading.{newest_by, whole_low}
 use Rattle.migrator.proofs.books.Books.fetch.Goals as goal
 
 pub read_put-requires-clause-slot : goal.read_put-requires-clause-slot
@@ -24,19 +24,19 @@ returns-in-Whole-clause-found g c =
     let b = c.args.self.now in
     let low = whole_low c.args.number c.requires.stands.kept.working c.place.ensures c.in-Whole.is in
     let raw = working_again disk.sectors disk.seen b disk.seen b.unwritten c.requires.stands.kept c.requires.stands.unwritten c.args.number low in
-    ok_weaker c.read_put.result (λ read e. e ∙ ap (frame_from b.plan.geometry c.args.number) (sym raw) ∙ newest_by (seen_by disk.seen b) b
+    IfOk-weaker c.read_put.result _ _ (λ read e. e ∙ ap (frame_from b.plan.geometry c.args.number) (sym raw) ∙ newest_by (seen_by disk.seen b) b
     c.requires.object (sym c.place.ensures ∙ c.in-Whole.is)) (rw c.working_generation-generation.ensures at c.read_put.ensures.found)
 
 pub returns-in-Torn-clause-found : goal.returns-in-Torn-clause-found
 returns-in-Torn-clause-found g c =
     let disk = g.D.Device.disk c.args.device.now in
     let b = c.args.self.now in
-    ok_weaker c.fetch_below.result (λ read e. e ∙ newest_by (seen_by disk.seen b) b c.requires.object (sym c.place.ensures ∙ c.in-Torn.is))
+    IfOk-weaker c.fetch_below.result _ _ (λ read e. e ∙ newest_by (seen_by disk.seen b) b c.requires.object (sym c.place.ensures ∙ c.in-Torn.is))
     c.fetch_below.ensures.found
 
 pub returns-in-Nowhere-clause-found : goal.returns-in-Nowhere-clause-found
 returns-in-Nowhere-clause-found g c =
     let disk = g.D.Device.disk c.args.device.now in
     let b = c.args.self.now in
-    ok_weaker c.fetch_below-in-Nowhere.result (λ read e. e ∙ newest_by (seen_by disk.seen b) b c.requires.object (sym c.place.ensures ∙ c.in-Nowhere.is))
+    IfOk-weaker c.fetch_below-in-Nowhere.result _ _ (λ read e. e ∙ newest_by (seen_by disk.seen b) b c.requires.object (sym c.place.ensures ∙ c.in-Nowhere.is))
     c.fetch_below-in-Nowhere.ensures.found

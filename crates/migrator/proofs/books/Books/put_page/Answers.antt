@@ -1,6 +1,5 @@
-use Rattle.std.proofs.Common.{arith}
+use Rattle.migrator.proofs.Names.{on_ok_weaker, arith}
 use Rattle.migrator.proofs.Journaling.{page_stays, spelt_page, words_fit}
-use Rattle.migrator.proofs.Saving.{ok_then}
 use Rattle.migrator.proofs.books.Books.put_page.Goals as goal
 
 pub returns-clause-stays : goal.returns-clause-stays
@@ -12,6 +11,6 @@ pub returns-clause-spelt : goal.returns-clause-spelt
 returns-clause-spelt g c =
     let idle = c.requires.idle in
     let words = words_fit c.requires.words (λ i. let fits = c.type_inv.words i in omega (arith, fits)) in
-    ok_then c.write_page.result
+    on_ok_weaker c.write_page.result
     (spelt_page idle.stands idle.free idle.home (rw c.new-log.ensures at c.write_page.ensures.writes) c.args.number c.requires.page c.requires.header words)
     (rw c.new-log.ensures at c.write_page.ensures.written)

@@ -1,7 +1,7 @@
-use Rattle.migrator.proofs.Names.{ℕ, List, refl, ap, sym, subst, IsFrameOf, frame_from, most}
+use Rattle.migrator.proofs.Names.{IfOk-weaker, ℕ, List, refl, ap, sym, subst, IsFrameOf, frame_from, most}
 use Rattle.std.proofs.Common.{◌∙◌}
 use Rattle.migrator.proofs.Buffered.{frozen_raw, own_frame, own_spelt}
-use Rattle.migrator.proofs.Fetching.{ok_weaker, whole_low}
+use Rattle.migrator.proofs.Reading.{whole_low}
 use Rattle.migrator.proofs.books.Books.read_frozen.Goals as goal
 
 pub slot_sector-sector-requires : goal.slot_sector-sector-requires
@@ -50,4 +50,4 @@ returns-clause-found g c =
     let low = whole_low c.args.number c.requires.stands.kept.frozen refl c.requires.place in
     let raw = frozen_raw disk.sectors disk.seen b b.unwritten c.requires.stands.kept c.requires.stands.unwritten c.args.number low
     (λ u some here. c.is_for.ensures.no c.if-is_for.false u some (here ∙ sym at)) in
-    ok_weaker c.read_put.result (λ read e. e ∙ ap (frame_from b.plan.geometry c.args.number) (sym raw)) c.read_put.ensures.found
+    IfOk-weaker c.read_put.result _ _ (λ read e. e ∙ ap (frame_from b.plan.geometry c.args.number) (sym raw)) c.read_put.ensures.found

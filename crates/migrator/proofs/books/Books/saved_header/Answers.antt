@@ -1,7 +1,6 @@
-use Rattle.migrator.proofs.Names.{ap, Image, agrees_is, home_place, bytes_at}
+use Rattle.migrator.proofs.Names.{IfOk-weaker, ap, Image, agrees_is, home_place, bytes_at}
 use Rattle.std.proofs.Common.{◌∙◌}
 use Rattle.migrator.proofs.Buffered.{home_raw}
-use Rattle.migrator.proofs.Fetching.{ok_weaker}
 use Rattle.migrator.proofs.Journaling.{header_read}
 use Rattle.migrator.proofs.books.Books.saved_header.Goals as goal
 
@@ -14,5 +13,6 @@ returns-clause-found g c =
     let same = ap (λ (image : Image). bytes_at image (home_place b.plan c.args.number) b.plan c.args.number)
     (agrees_is new.seen disk.seen c.read_header_of.ensures.reads.seen)
     ∙ home_raw disk.sectors disk.seen b b.unwritten c.requires.stands.kept c.requires.stands.unwritten c.requires.home c.requires.object in
-    ok_weaker c.read_header_of.result (λ header is. header_read new.seen c.requires.stands.kept c.requires.home c.requires.object place c.shape.ensures.value
+    IfOk-weaker c.read_header_of.result _ _
+    (λ header is. header_read new.seen c.requires.stands.kept c.requires.home c.requires.object place c.shape.ensures.value
     c.shape.ensures.fits same is) c.read_header_of.ensures.found

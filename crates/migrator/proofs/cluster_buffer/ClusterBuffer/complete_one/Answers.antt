@@ -1,8 +1,7 @@
-use Rattle.migrator.proofs.Names.{Some, Option, refl, sym, ap, subst, arith, Image, agrees_is, slot_sector, entry_at, shape_of, own_of, KeepsOne, Unwritten}
-use Rattle.migrator.proofs.Names.{counted_ok, counts_on, mended}
+use Rattle.migrator.proofs.Names.{on_ok_weaker, Some, Option, refl, sym, ap, subst, arith, Image, agrees_is, slot_sector, entry_at, shape_of, own_of, KeepsOne}
+use Rattle.migrator.proofs.Names.{Unwritten, counted_ok, counts_on, mended}
 use Rattle.std.proofs.Common.{◌∙◌, ◌-◌}
 use Rattle.migrator.proofs.Mended.{touches_on}
-use Rattle.migrator.proofs.Saving.{ok_then}
 use Rattle.migrator.proofs.Spared.{reads_touch}
 use Rattle.migrator.proofs.Tables.{rewritten}
 use Rattle.migrator.proofs.Counting.{ok_counts}
@@ -52,10 +51,10 @@ returns g c =
     let either = either_of c.write.result c.write.ensures.written kept in
     record {
       none = c.write.ensures.written;
-      complete = ok_then c.write.result
+      complete = on_ok_weaker c.write.result
           (λ none. one_complete c.args.generation c.args.index c.shape.ensures.plan c.requires.directory c.requires.within packed c.fill.new.cluster
           c.fill.ensures.size c.write.new.self c.in_ok-fill.ensures.filled seen touches either none) c.write.ensures.written;
-      zeros = ok_then c.write.result (λ none first. zeros_written entry.object mid.seen (g.D.Device.disk c.write.new.device).seen u c.fill.ensures.size
+      zeros = on_ok_weaker c.write.result (λ none first. zeros_written entry.object mid.seen (g.D.Device.disk c.write.new.device).seen u c.fill.ensures.size
           there none c.in_ok-fill.ensures.zeros) c.write.ensures.written;
       keeps = kept_one c.args.generation c.args.index c.shape.ensures.plan c.requires.directory c.requires.within packed c.fill.new.cluster
           c.fill.ensures.size c.write.new.self c.in_ok-fill.ensures.filled seen touches either;

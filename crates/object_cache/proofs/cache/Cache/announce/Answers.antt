@@ -9,20 +9,17 @@ invariant_of-self g c =
     let i = c.self.inside in
     let few : i.count + c.fresh_count-fresh.result ≤ (stored_of g.D.Device.disk i.durable).saved.geometry.log = search rules in
     let counted : i.count + c.fresh_count-fresh.result ≡ touched_count (touching i.touched c.args.written.now) = omega
-    (arith, c.fresh_count-fresh.ensures, c.self.invariant.0.counted) in
-    rw (c.mark.ensures.marked, c.mark-2.ensures.marked) (
-      mark_stands g.D.Device.disk c.self.view_is c.self.invariant.0 c.args.written.now
-          (λ n has. All-contains (λ k. k < length c.args.self.now.headers) c.args.written.now n c.requires.known has) c.requires.apart
-          (i.count + c.fresh_count-fresh.result) counted few,
-      c.self.invariant.1,
-    )
+    (arith, c.fresh_count-fresh.ensures, c.self.invariant.counted) in
+    rw (c.mark.ensures.marked, c.mark-2.ensures.marked) (mark_stands g.D.Device.disk c.self.view_is c.self.invariant c.args.written.now
+    (λ n has. All-contains (λ k. k < length c.args.self.now.headers) c.args.written.now n c.requires.known has) c.requires.apart
+    (i.count + c.fresh_count-fresh.result) counted few)
 
 pub returns : goal.returns
 returns g c =
     let s = c.args.self.now in
     let ns = c.args.written.now in
     let known : (n : ℕ) → Contains ns n → n < length s.headers = λ n has. All-contains (λ k. k < length s.headers) ns n c.requires.known has in
-    let seen = mark_seen g.D.Device.disk c.self.view_is c.self.invariant.0 ns known c.requires.apart in
+    let seen = mark_seen g.D.Device.disk c.self.view_is c.self.invariant ns known c.requires.apart in
     let grows : touched_count s.touched ≤ touched_count (touching s.touched ns) =
     omega (
       arith,
@@ -34,7 +31,7 @@ returns g c =
       marked = rw (c.mark.ensures.marked, c.mark-2.ensures.marked) seen;
       unchanged = search rules;
       announced = rw (c.mark.ensures.marked, c.mark-2.ensures.marked)
-          (λ n has. subst (λ t. IsAnnouncedIn t n) (sym seen) (marked_announced g.D.Device.disk c.self.view_is c.self.invariant.0 ns n (known n has) has));
+          (λ n has. subst (λ t. IsAnnouncedIn t n) (sym seen) (marked_announced g.D.Device.disk c.self.view_is c.self.invariant ns n (known n has) has));
       fetched = rw (c.mark.ensures.marked, c.mark-2.ensures.marked)
           (λ n there. subst (λ t. IsFetchedIn t n) (sym seen) (record { header = there.header; content = there.content; cached = there.cached }));
       within = search rules;

@@ -3,16 +3,14 @@ use Rattle.object_cache.proofs.Objects.{content_becomes, entry_some}
 use Rattle.object_cache.proofs.cache.Cache.change_root.Goals as goal
 
 pub change_root-requires : goal.change_root-requires
-change_root-requires g c = entry_some g.D.Device.disk c.self.view_is c.self.invariant.0 c.requires.fetched
+change_root-requires g c = entry_some g.D.Device.disk c.self.view_is c.self.invariant c.requires.fetched
 
 pub invariant_of-self : goal.invariant_of-self
 invariant_of-self g c =
-    let now = content_becomes g.D.Device.disk c.self.view_is c.self.invariant.0 c.requires.announced c.requires.fetched
-    (with_root_in (changed_root c.args.change)) in
-    rw c.change_root.ensures (now.is, c.self.invariant.1)
+    rw c.change_root.ensures (content_becomes g.D.Device.disk c.self.view_is c.self.invariant c.requires.announced c.requires.fetched
+    (with_root_in (changed_root c.args.change))).is
 
 pub returns : goal.returns
 returns g c =
-    let now = content_becomes g.D.Device.disk c.self.view_is c.self.invariant.0 c.requires.announced c.requires.fetched
-    (with_root_in (changed_root c.args.change)) in
-    rw c.change_root.ensures now.view
+    rw c.change_root.ensures (content_becomes g.D.Device.disk c.self.view_is c.self.invariant c.requires.announced c.requires.fetched
+    (with_root_in (changed_root c.args.change))).view

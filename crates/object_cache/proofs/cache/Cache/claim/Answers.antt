@@ -4,23 +4,23 @@ use Rattle.object_cache.proofs.Objects.{both_become, entry_some, known}
 use Rattle.object_cache.proofs.cache.Cache.claim.Goals as goal
 
 pub claim-requires : goal.claim-requires
-claim-requires g c = entry_some g.D.Device.disk c.self.view_is c.self.invariant.0 c.requires.fetched
+claim-requires g c = entry_some g.D.Device.disk c.self.view_is c.self.invariant c.requires.fetched
 
 pub claim-requires-2 : goal.claim-requires-2
-claim-requires-2 g c = (known g.D.Device.disk c.self.view_is c.self.invariant.0 c.requires.announced).header
+claim-requires-2 g c = (known g.D.Device.disk c.self.view_is c.self.invariant c.requires.announced).header
 
 pub invariant_of-self : goal.invariant_of-self
 invariant_of-self g c =
     let body = fresh_content void_held c.args.fresh in
-    let some = entry_some g.D.Device.disk c.self.view_is c.self.invariant.0 c.requires.fetched in
-    let now = both_become g.D.Device.disk c.self.view_is c.self.invariant.0 c.requires.announced (claimed (role_of body) c.args.owner) body
-    (λ none. absurd (true≢false (sym some ∙ ap is_some none))) in
-    rw (c.claim.ensures, c.claim-2.ensures, c.role_of.ensures) (now.is, c.self.invariant.1)
+    let some = entry_some g.D.Device.disk c.self.view_is c.self.invariant c.requires.fetched in
+    rw (c.claim.ensures, c.claim-2.ensures, c.role_of.ensures)
+    (both_become g.D.Device.disk c.self.view_is c.self.invariant c.requires.announced (claimed (role_of body) c.args.owner) body
+    (λ none. absurd (true≢false (sym some ∙ ap is_some none)))).is
 
 pub returns : goal.returns
 returns g c =
     let body = fresh_content void_held c.args.fresh in
-    let some = entry_some g.D.Device.disk c.self.view_is c.self.invariant.0 c.requires.fetched in
-    let now = both_become g.D.Device.disk c.self.view_is c.self.invariant.0 c.requires.announced (claimed (role_of body) c.args.owner) body
-    (λ none. absurd (true≢false (sym some ∙ ap is_some none))) in
-    rw (c.claim.ensures, c.claim-2.ensures, c.role_of.ensures) now.view
+    let some = entry_some g.D.Device.disk c.self.view_is c.self.invariant c.requires.fetched in
+    rw (c.claim.ensures, c.claim-2.ensures, c.role_of.ensures)
+    (both_become g.D.Device.disk c.self.view_is c.self.invariant c.requires.announced (claimed (role_of body) c.args.owner) body
+    (λ none. absurd (true≢false (sym some ∙ ap is_some none)))).view

@@ -3,14 +3,14 @@ use Rattle.object_cache.proofs.Caching.{dropped_next}
 use Rattle.object_cache.proofs.cache.Cache.drop_entry.Goals as goal
 
 pub remove-requires : goal.remove-requires
-remove-requires g c = entry_some g.D.Device.disk c.self.view_is c.self.invariant.0 c.requires.fetched
+remove-requires g c = entry_some g.D.Device.disk c.self.view_is c.self.invariant c.requires.fetched
 
 pub invariant_of-self : goal.invariant_of-self
 invariant_of-self g c =
-    let now = dropped_next g.D.Device.disk c.self.view_is c.self.invariant.0 c.requires.fetched c.requires.clean c.requires.frozen_state c.requires.masked in
-    rw c.remove.ensures (now.is, c.self.invariant.1)
+    rw c.remove.ensures
+    (dropped_next g.D.Device.disk c.self.view_is c.self.invariant c.requires.fetched c.requires.clean c.requires.frozen_state c.requires.masked).is
 
 pub returns : goal.returns
 returns g c =
-    let now = dropped_next g.D.Device.disk c.self.view_is c.self.invariant.0 c.requires.fetched c.requires.clean c.requires.frozen_state c.requires.masked in
-    rw c.remove.ensures now.view
+    rw c.remove.ensures
+    (dropped_next g.D.Device.disk c.self.view_is c.self.invariant c.requires.fetched c.requires.clean c.requires.frozen_state c.requires.masked).view

@@ -5,7 +5,7 @@ use Rattle.object_cache.proofs.cache.Cache.empty_staging.Goals as goal
 
 pub has_frozen_body-requires : goal.has_frozen_body-requires
 has_frozen_body-requires g c =
-    held_number g.D.Device.disk c.self.view_is c.self.invariant.0 (held_behind c.in-Some.held) (sym c.get.ensures ∙ ap (option_map held_behind) c.in-Some.is)
+    held_number g.D.Device.disk c.self.view_is c.self.invariant (held_behind c.in-Some.held) (sym c.get.ensures ∙ ap (option_map held_behind) c.in-Some.is)
 
 pub put_held-requires : goal.put_held-requires
 put_held-requires g c = (

@@ -1,7 +1,6 @@
-use Rattle.object_cache.proofs.Names.{UsesSome, ap, arith, length, subst, take, used_in_turn}
+use Rattle.object_cache.proofs.Names.{on_err_weaker, on_ok_weaker, UsesSome, ap, arith, length, subst, take, used_in_turn}
 use Rattle.std.proofs.Common.{◌∙◌}
-use Rattle.object_cache.proofs.Bringing.{same_front, some_then, used_then}
-use Rattle.object_cache.proofs.Outcomes.{err_then, ok_then}
+use Rattle.object_cache.proofs.Fetched.{same_front, some_then, used_then}
 use Rattle.object_cache.proofs.cache.Cache.fetch.Goals as goal
 
 pub returns-clause-order : goal.returns-clause-order
@@ -9,9 +8,9 @@ returns-clause-order g c =
     let s = c.args.self.now in
     let t = c.use_again.new.self in
     let first = c.use_again.ensures.prefix in
-    ok_then c.read_all_in.result c.read_all_in.ensures.order (λ is.
+    on_ok_weaker c.read_all_in.result (λ is.
     used_then s.capacity first.0 c.args.fetched.now s.order t.order c.read_all_in.new.self.order first.1
-    (is ∙ ap (λ x. take x.capacity (used_in_turn c.args.fetched.now t.order)) c.use_again.ensures.rest))
+    (is ∙ ap (λ x. take x.capacity (used_in_turn c.args.fetched.now t.order)) c.use_again.ensures.rest)) c.read_all_in.ensures.order
 
 pub returns-clause-stopped : goal.returns-clause-stopped
 returns-clause-stopped g c =
@@ -19,9 +18,9 @@ returns-clause-stopped g c =
     let t = c.use_again.new.self in
     let u = c.read_all_in.new.self in
     let first = c.use_again.ensures.prefix in
-    err_then c.read_all_in.result c.read_all_in.ensures.stopped (λ some.
+    on_err_weaker c.read_all_in.result (λ some.
     some_then s.capacity first.0 c.args.fetched.now s.order t.order u.order first.1
-    (subst (λ x. UsesSome x.capacity c.args.fetched.now t.order u.order) c.use_again.ensures.rest some))
+    (subst (λ x. UsesSome x.capacity c.args.fetched.now t.order u.order) c.use_again.ensures.rest some)) c.read_all_in.ensures.stopped
 
 pub returns-then-use_again-clause-fetched : goal.returns-then-use_again-clause-fetched
 returns-then-use_again-clause-fetched g c = c.use_again.ensures.fetched c.if-use_again.true

@@ -1,6 +1,6 @@
 use Rattle.object_cache.proofs.Names.{arith, counted_ok, goes_on_twice, ap, slice_index_or, take, without, on_err}
 use Rattle.std.proofs.Common.{◌∙◌, ◌∷◌}
-use Rattle.object_cache.proofs.Bringing.{rest_on, recent_on, stopped_at, used_more}
+use Rattle.object_cache.proofs.Fetched.{rest_on, recent_on, stopped_at, used_more}
 use Rattle.object_cache.proofs.cache.Cache.fetch_all.Goals as goal
 
 pub returns-in_err-fetch_one-clause-continues : goal.returns-in_err-fetch_one-clause-continues

@@ -1,8 +1,7 @@
-use Rattle.object_cache.proofs.Names.{sym, ap, subst, without, GoesOnIn, IsRecentIn, goes_on_same, arith, take}
+use Rattle.object_cache.proofs.Names.{on_err_weaker, on_ok_weaker, sym, ap, subst, without, GoesOnIn, IsRecentIn, goes_on_same, arith, take}
 use Rattle.std.proofs.Common.{◌∷◌, ◌∙◌}
-use Rattle.object_cache.proofs.Bringing.{use_recent, brought_order, used_order}
-use Rattle.object_cache.proofs.Leading.{continues_with}
-use Rattle.object_cache.proofs.Outcomes.{ok_then, err_then}
+use Rattle.object_cache.proofs.Fetched.{use_recent, brought_order, used_order}
+use Rattle.object_cache.proofs.Outcomes.{continues_with}
 use Rattle.object_cache.proofs.cache.Cache.fetch_one.Goals as goal
 
 pub returns-then-use_now-clause-continues : goal.returns-then-use_now-clause-continues
@@ -19,17 +18,17 @@ returns-then-use_now-clause-order g c =
 
 pub returns-clause-recent : goal.returns-clause-recent
 returns-clause-recent g c =
-    ok_then c.read_in.result c.read_in.ensures.recent (λ brought j k n few below recent.
-    brought j k n few below (subst (λ t. IsRecentIn t j n) (sym (c.use_now.ensures.unchanged c.if-use_now.false)) recent))
+    on_ok_weaker c.read_in.result (λ brought j k n few below recent.
+    brought j k n few below (subst (λ t. IsRecentIn t j n) (sym (c.use_now.ensures.unchanged c.if-use_now.false)) recent)) c.read_in.ensures.recent
 
 pub returns-clause-stopped : goal.returns-clause-stopped
 returns-clause-stopped g c =
     let same = c.use_now.ensures.unchanged c.if-use_now.false in
-    err_then c.read_in.result c.read_in.ensures.stopped (λ stop. (
+    on_err_weaker c.read_in.result (λ stop. (
       stop.0,
       omega (arith, stop.1, ap (λ t. t.capacity) same),
       stop.2 ∙ ap (λ t. take stop.0 t.order) same,
-    ))
+    )) c.read_in.ensures.stopped
 
 pub returns-then-use_now-clause-recent : goal.returns-then-use_now-clause-recent
 returns-then-use_now-clause-recent g c =
@@ -40,6 +39,6 @@ pub returns-clause-order : goal.returns-clause-order
 returns-clause-order g c =
     let s = c.args.self.now in
     let same = c.use_now.ensures.unchanged c.if-use_now.false in
-    ok_then c.read_in.result c.read_in.ensures.order (λ is.
+    on_ok_weaker c.read_in.result (λ is.
     brought_order s c.args.number c.read_in.new.self.order c.use_now.ensures.bounded (c.use_now.ensures.uncached c.if-use_now.false)
-    (is ∙ ap (λ t. take t.capacity (c.args.number ∷ t.order)) same))
+    (is ∙ ap (λ t. take t.capacity (c.args.number ∷ t.order)) same)) c.read_in.ensures.order

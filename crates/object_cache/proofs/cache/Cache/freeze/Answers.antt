@@ -3,32 +3,29 @@ use Rattle.object_cache.proofs.Freezing.{freeze_enough, freeze_stands, freeze_co
 use Rattle.object_cache.proofs.cache.Cache.freeze.Goals as goal
 
 pub freeze-requires-clause-enough : goal.freeze-requires-clause-enough
-freeze-requires-clause-enough g c = freeze_enough g.D.Device.disk c.self.view_is c.self.invariant.0
+freeze-requires-clause-enough g c = freeze_enough g.D.Device.disk c.self.view_is c.self.invariant
 
 pub invariant_of-self-2 : goal.invariant_of-self-2
 invariant_of-self-2 g c =
-    rw (c.clear.ensures, c.clear-2.ensures, c.swap.ensures.x_after, c.swap.ensures.y_after) (
-      freeze_stands g.D.Device.disk c.self.view_is c.self.invariant.0 c.freeze.new.self c.in_ok-freeze.ensures.answer.0 c.in_ok-freeze.ensures.frozen
-          c.take_marked.new.self c.take_marked.ensures.count
-          c.take_marked.ensures.marked c.requires.keepable,
-      c.self.invariant.1,
-    )
+    rw (c.clear.ensures, c.clear-2.ensures, c.swap.ensures.x_after, c.swap.ensures.y_after)
+    (freeze_stands g.D.Device.disk c.self.view_is c.self.invariant c.freeze.new.self c.in_ok-freeze.ensures.answer.0 c.in_ok-freeze.ensures.frozen
+    c.take_marked.new.self c.take_marked.ensures.count c.take_marked.ensures.marked c.requires.keepable)
 
 pub returns-clause-contents : goal.returns-clause-contents
 returns-clause-contents g c =
     rw (c.clear.ensures, c.clear-2.ensures, c.swap.ensures.x_after, c.swap.ensures.y_after)
-    (freeze_contents g.D.Device.disk c.self.view_is c.self.invariant.0 c.freeze.new.self c.in_ok-freeze.ensures.answer.0 c.in_ok-freeze.ensures.frozen
+    (freeze_contents g.D.Device.disk c.self.view_is c.self.invariant c.freeze.new.self c.in_ok-freeze.ensures.answer.0 c.in_ok-freeze.ensures.frozen
     c.take_marked.new.self c.take_marked.ensures.count c.take_marked.ensures.marked c.requires.keepable)
 
 pub returns-clause-touched : goal.returns-clause-touched
 returns-clause-touched g c =
-    rw c.clear-2.ensures (freeze_touched g.D.Device.disk c.self.view_is c.self.invariant.0 c.freeze.new.self c.in_ok-freeze.ensures.answer.0
+    rw c.clear-2.ensures (freeze_touched g.D.Device.disk c.self.view_is c.self.invariant c.freeze.new.self c.in_ok-freeze.ensures.answer.0
     c.in_ok-freeze.ensures.frozen c.take_marked.new.self c.take_marked.ensures.count c.take_marked.ensures.marked c.requires.keepable)
 
 pub returns-clause-snapshots : goal.returns-clause-snapshots
 returns-clause-snapshots g c =
     rw (c.clear.ensures, c.clear-2.ensures, c.swap.ensures.x_after, c.swap.ensures.y_after)
-    (freeze_snapshots g.D.Device.disk c.self.view_is c.self.invariant.0 c.freeze.new.self c.in_ok-freeze.ensures.answer.0 c.in_ok-freeze.ensures.frozen
+    (freeze_snapshots g.D.Device.disk c.self.view_is c.self.invariant c.freeze.new.self c.in_ok-freeze.ensures.answer.0 c.in_ok-freeze.ensures.frozen
     c.take_marked.new.self c.take_marked.ensures.count c.take_marked.ensures.marked c.requires.keepable)
 
 pub returns-clause-sound : goal.returns-clause-sound

@@ -4,25 +4,24 @@ use Rattle.object_cache.proofs.cache.Cache.journal.Goals as goal
 
 pub journal_page-requires-clause-object : goal.journal_page-requires-clause-object
 journal_page-requires-clause-object g c = λ is. (
-  journal_known g.D.Device.disk c.self.view_is c.self.invariant.0 c.args.number c.requires.keepable is,
-  journal_object g.D.Device.disk c.self.view_is c.self.invariant.0 c.args.number c.requires.keepable is,
+  journal_known g.D.Device.disk c.self.view_is c.self.invariant c.args.number c.requires.keepable is,
+  journal_object g.D.Device.disk c.self.view_is c.self.invariant c.args.number c.requires.keepable is,
 )
 
 pub journal_page-requires-clause-page : goal.journal_page-requires-clause-page
-journal_page-requires-clause-page g c = journal_page g.D.Device.disk c.self.view_is c.self.invariant.0 c.args.number c.requires.keepable
+journal_page-requires-clause-page g c = journal_page g.D.Device.disk c.self.view_is c.self.invariant c.args.number c.requires.keepable
 
 pub invariant_of-self : goal.invariant_of-self
 invariant_of-self g c =
-    let next = journal_next g.D.Device.disk c.self.view_is c.self.invariant.0 c.args.number c.requires.keepable c.journal_page.new.durable c.args.age
+    (journal_next g.D.Device.disk c.self.view_is c.self.invariant c.args.number c.requires.keepable c.journal_page.new.durable c.args.age
     c.journal_page.result
     (journal_there (g.D.Device.disk c.self.inside.durable.beneath) (g.D.Device.disk c.journal_page.new.durable.beneath) _
     (stored_of g.D.Device.disk c.self.inside.durable).saved _ _ _ c.journal_page.result c.journal_page.ensures.answer)
-    c.journal_page.ensures.journaled c.journal_page.ensures.unchanged in
-    (next.0.is, c.self.invariant.1)
+    c.journal_page.ensures.journaled c.journal_page.ensures.unchanged).0.is
 
 pub returns : goal.returns
 returns g c =
-    let next = journal_next g.D.Device.disk c.self.view_is c.self.invariant.0 c.args.number c.requires.keepable c.journal_page.new.durable c.args.age
+    let next = journal_next g.D.Device.disk c.self.view_is c.self.invariant c.args.number c.requires.keepable c.journal_page.new.durable c.args.age
     c.journal_page.result
     (journal_there (g.D.Device.disk c.self.inside.durable.beneath) (g.D.Device.disk c.journal_page.new.durable.beneath) _
     (stored_of g.D.Device.disk c.self.inside.durable).saved _ _ _ c.journal_page.result c.journal_page.ensures.answer)
@@ -32,8 +31,8 @@ returns g c =
       next.0,
       next.1,
       next.2,
-      answer_seen g.D.Device.disk c.self.view_is c.self.invariant.0 c.args.number c.requires.keepable c.journal_page.new.durable c.args.age
+      answer_seen g.D.Device.disk c.self.view_is c.self.invariant c.args.number c.requires.keepable c.journal_page.new.durable c.args.age
           c.journal_page.result c.journal_page.ensures.answer,
-      moments_seen g.D.Device.disk c.self.view_is c.self.invariant.0 c.args.number c.requires.keepable c.journal_page.new.durable c.args.age
+      moments_seen g.D.Device.disk c.self.view_is c.self.invariant c.args.number c.requires.keepable c.journal_page.new.durable c.args.age
           c.journal_page.ensures.any_moment,
     )

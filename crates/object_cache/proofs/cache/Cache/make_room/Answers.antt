@@ -8,7 +8,7 @@ use Rattle.object_cache.proofs.cache.Cache.make_room.Goals as goal
 pub unreachable-requires : goal.unreachable-requires
 unreachable-requires g c =
     let full : c.args.self.now.capacity ≤ length c.args.self.now.order = search rules in
-    some_least g.D.Device.disk c.self.view_is c.self.invariant.0 c.self.invariant.1 c.least.ensures.ordered full (sym c.in_default.is ∙ c.least.ensures.least)
+    some_least g.D.Device.disk c.self.view_is c.self.invariant c.least.ensures.ordered full (sym c.in_default.is ∙ c.least.ensures.least)
 
 pub write_and_evict-requires : goal.write_and_evict-requires
 write_and_evict-requires g c =
@@ -16,7 +16,7 @@ write_and_evict-requires g c =
     let seen = ap (λ e. cache_of g.D.Device.disk i.durable (memory_of i.table i.frozen_headers i.touched i.dirty i.pending e.at i.staging)
     i.left e.order e.most) c.least.ensures.same ∙ c.self.view_is in
     let full : c.args.self.now.capacity ≤ length c.args.self.now.order = search rules in
-    let least = is_least g.D.Device.disk c.self.view_is c.self.invariant.0 c.self.invariant.1 c.least.ensures.ordered full c.in-Some.oldest
+    let least = is_least g.D.Device.disk c.self.view_is c.self.invariant c.least.ensures.ordered full c.in-Some.oldest
     (sym c.in-Some.is ∙ c.least.ensures.least) in
     record {
       fetched = subst (λ t. IsFetchedIn t c.in-Some.oldest) (sym seen) least.fetched;
@@ -39,7 +39,7 @@ returns-then-is_full g c =
     let away = subst (λ t. OnOk r (u ≡ without_cached c.in-Some.oldest (on_device t u))) seen said.away in
     let stays = subst (λ t. OnErr r (u ≡ on_device t u)) seen said.stays in
     let now = evicted r c.args.self.now u c.in-Some.oldest
-    (is_least g.D.Device.disk c.self.view_is c.self.invariant.0 c.self.invariant.1 c.least.ensures.ordered full c.in-Some.oldest
+    (is_least g.D.Device.disk c.self.view_is c.self.invariant c.least.ensures.ordered full c.in-Some.oldest
     (sym c.in-Some.is ∙ c.least.ensures.least)) away stays in
     search (
       arith,

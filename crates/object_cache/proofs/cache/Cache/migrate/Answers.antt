@@ -3,20 +3,18 @@ use Rattle.object_cache.proofs.Homes.{moved_next}
 use Rattle.object_cache.proofs.cache.Cache.migrate.Goals as goal
 
 pub invariant_of-self : goal.invariant_of-self
-invariant_of-self g c = (
-  (moved_next g.D.Device.disk c.self.view_is c.self.invariant.0 c.migrate.new.self c.args.count c.migrate.result c.migrate.ensures.moved
-      c.migrate.ensures.unmoved).0.is,
-  c.self.invariant.1,
-)
+invariant_of-self g c =
+    (moved_next g.D.Device.disk c.self.view_is c.self.invariant c.migrate.new.self c.args.count c.migrate.result c.migrate.ensures.moved
+    c.migrate.ensures.unmoved).0.is
 
 pub returns-clause-rest : goal.returns-clause-rest
 returns-clause-rest g c =
-    (moved_next g.D.Device.disk c.self.view_is c.self.invariant.0 c.migrate.new.self c.args.count c.migrate.result c.migrate.ensures.moved
+    (moved_next g.D.Device.disk c.self.view_is c.self.invariant c.migrate.new.self c.args.count c.migrate.result c.migrate.ensures.moved
     c.migrate.ensures.unmoved).0.view
 
 pub returns-clause-snapshots : goal.returns-clause-snapshots
 returns-clause-snapshots g c =
-    (moved_next g.D.Device.disk c.self.view_is c.self.invariant.0 c.migrate.new.self c.args.count c.migrate.result c.migrate.ensures.moved
+    (moved_next g.D.Device.disk c.self.view_is c.self.invariant c.migrate.new.self c.args.count c.migrate.result c.migrate.ensures.moved
     c.migrate.ensures.unmoved).1
 
 pub migrate-requires : goal.migrate-requires

@@ -7,7 +7,7 @@ invariant_of-result g c =
     let r = c.in-Ok.ensures in
     let hs = c.args.headers.items in
     rw (c.new-in-Ok.ensures, r.headers, r.touched, r.dirty, r.pending, r.staging, c.deref.ensures.value)
-    (open_cache (stored_of g.D.Device.disk c.args.durable) hs hs refl c.requires.opened c.args.entries c.requires.bodies, c.requires.bodies.least)
+    (open_cache (stored_of g.D.Device.disk c.args.durable) hs hs refl c.requires.opened c.args.entries c.requires.bodies)
 
 pub returns-in-Ok-clause-made : goal.returns-in-Ok-clause-made
 returns-in-Ok-clause-made g c =

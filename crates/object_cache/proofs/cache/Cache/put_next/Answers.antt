@@ -1,7 +1,6 @@
-use Rattle.object_cache.proofs.Names.{true≢false, sym, ap, arith, pending_count}
+use Rattle.object_cache.proofs.Names.{on_ok_weaker, true≢false, sym, ap, arith, pending_count}
 use Rattle.std.proofs.Common.{◌∙◌}
 use Rattle.std.specs.Prelude.{is_some}
-use Rattle.object_cache.proofs.Outcomes.{ok_then}
 use Rattle.object_cache.proofs.Turns.{few_left, none_marked}
 use Rattle.object_cache.proofs.cache.Cache.put_next.Goals as goal
 
@@ -11,14 +10,14 @@ returns-in-None-clause-fewer g c = omega (arith, none_marked c.self.inside.pendi
 pub returns-then-is_held-clause-fewer : goal.returns-then-is_held-clause-fewer
 returns-then-is_held-clause-fewer g c =
     let held = sym (c.is_held.ensures ∙ ap (λ t. is_some t.staging) c.self.view_is) ∙ c.if-is_held.true in
-    ok_then c.empty_staging.result c.empty_staging.ensures.fewer
-    (λ fewer. let less = fewer (λ none. true≢false (sym held ∙ ap is_some none)) in omega (arith, less))
+    on_ok_weaker c.empty_staging.result
+    (λ fewer. let less = fewer (λ none. true≢false (sym held ∙ ap is_some none)) in omega (arith, less)) c.empty_staging.ensures.fewer
 
 pub returns-then-is_held-clause-few : goal.returns-then-is_held-clause-few
-returns-then-is_held-clause-few g c = λ f f_is. few_left g.D.Device.disk c.self.view_is c.self.invariant.0 f f_is
+returns-then-is_held-clause-few g c = λ f f_is. few_left g.D.Device.disk c.self.view_is c.self.invariant f f_is
 
 pub returns-in-Some-clause-few : goal.returns-in-Some-clause-few
-returns-in-Some-clause-few g c = λ f f_is. few_left g.D.Device.disk c.self.view_is c.self.invariant.0 f f_is
+returns-in-Some-clause-few g c = λ f f_is. few_left g.D.Device.disk c.self.view_is c.self.invariant f f_is
 
 pub returns-in-None-clause-few : goal.returns-in-None-clause-few
-returns-in-None-clause-few g c = λ f f_is. few_left g.D.Device.disk c.self.view_is c.self.invariant.0 f f_is
+returns-in-None-clause-few g c = λ f f_is. few_left g.D.Device.disk c.self.view_is c.self.invariant f f_is

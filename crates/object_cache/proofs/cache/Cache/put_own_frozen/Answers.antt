@@ -4,39 +4,38 @@ use Rattle.object_cache.proofs.PutsOut.{own_fewer, own_ready, own_torn, out_next
 use Rattle.object_cache.proofs.cache.Cache.put_own_frozen.Goals as goal
 
 pub own_body-content-requires : goal.own_body-content-requires
-own_body-content-requires g c = entry_some g.D.Device.disk c.self.view_is c.self.invariant.0 c.requires.fetched
+own_body-content-requires g c = entry_some g.D.Device.disk c.self.view_is c.self.invariant c.requires.fetched
 
 pub put_body-requires : goal.put_body-requires
 put_body-requires g c =
-    own_ready g.D.Device.disk c.self.view_is c.self.invariant.0 c.requires.fetched c.requires.frozen_state c.own_body-content.ensures c.header-header.ensures
+    own_ready g.D.Device.disk c.self.view_is c.self.invariant c.requires.fetched c.requires.frozen_state c.own_body-content.ensures c.header-header.ensures
 
 pub invariant_of-self-2 : goal.invariant_of-self-2
 invariant_of-self-2 g c =
-    let next = out_next g.D.Device.disk c.self.view_is c.self.invariant.0 c.requires.fetched c.requires.frozen_state c.own_body-content.ensures
-    c.header-header.ensures c.put_body.ensures.goes_on c.put_body.ensures.cause.never_falls c.in_ok-put_body.ensures.put in
-    rw (c.set.ensures, c.drop_kept.ensures, c.release.ensures) (next.is, c.self.invariant.1)
+    rw (c.set.ensures, c.drop_kept.ensures, c.release.ensures)
+    (out_next g.D.Device.disk c.self.view_is c.self.invariant c.requires.fetched c.requires.frozen_state c.own_body-content.ensures
+    c.header-header.ensures c.put_body.ensures.goes_on c.put_body.ensures.cause.never_falls c.in_ok-put_body.ensures.put).is
 
 pub returns : goal.returns
 returns g c =
-    let next = out_next g.D.Device.disk c.self.view_is c.self.invariant.0 c.requires.fetched c.requires.frozen_state c.own_body-content.ensures
+    let next = out_next g.D.Device.disk c.self.view_is c.self.invariant c.requires.fetched c.requires.frozen_state c.own_body-content.ensures
     c.header-header.ensures c.put_body.ensures.goes_on c.put_body.ensures.cause.never_falls c.in_ok-put_body.ensures.put in
     rw (c.set.ensures, c.drop_kept.ensures, c.release.ensures) (search (
       rules,
       next,
-      own_fewer g.D.Device.disk c.self.view_is c.self.invariant.0 c.requires.fetched c.requires.frozen_state,
+      own_fewer g.D.Device.disk c.self.view_is c.self.invariant c.requires.fetched c.requires.frozen_state,
     ))
 
 pub drop_kept-requires : goal.drop_kept-requires
-drop_kept-requires g c = entry_some g.D.Device.disk c.self.view_is c.self.invariant.0 c.requires.fetched
+drop_kept-requires g c = entry_some g.D.Device.disk c.self.view_is c.self.invariant c.requires.fetched
 
 pub returns-in_err-put_body : goal.returns-in_err-put_body
 returns-in_err-put_body g c =
-    let next = own_torn g.D.Device.disk c.self.view_is c.self.invariant.0 c.requires.fetched c.requires.frozen_state c.put_body.ensures.goes_on
+    let next = own_torn g.D.Device.disk c.self.view_is c.self.invariant c.requires.fetched c.requires.frozen_state c.put_body.ensures.goes_on
     c.put_body.ensures.cause.never_falls c.in_err-put_body.ensures.broken in
     search (rules, next.continues, on_err c.from_residual.result next.view)
 
 pub invariant_of-self : goal.invariant_of-self
 invariant_of-self g c =
-    let next = own_torn g.D.Device.disk c.self.view_is c.self.invariant.0 c.requires.fetched c.requires.frozen_state c.put_body.ensures.goes_on
-    c.put_body.ensures.cause.never_falls c.in_err-put_body.ensures.broken in
-    (next.is, c.self.invariant.1)
+    (own_torn g.D.Device.disk c.self.view_is c.self.invariant c.requires.fetched c.requires.frozen_state c.put_body.ensures.goes_on
+    c.put_body.ensures.cause.never_falls c.in_err-put_body.ensures.broken).is

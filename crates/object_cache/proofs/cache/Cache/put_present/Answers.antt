@@ -4,36 +4,34 @@ use Rattle.object_cache.proofs.Puts.{kept_next, keepable_here, room_here, unput_
 use Rattle.object_cache.proofs.cache.Cache.put_present.Goals as goal
 
 pub present-requires : goal.present-requires
-present-requires g c = entry_some g.D.Device.disk c.self.view_is c.self.invariant.0 c.requires.fetched
+present-requires g c = entry_some g.D.Device.disk c.self.view_is c.self.invariant c.requires.fetched
 
 pub put_working-requires-clause-keepable : goal.put_working-requires-clause-keepable
 put_working-requires-clause-keepable g c =
-    keepable_here g.D.Device.disk c.self.view_is c.self.invariant.0 c.requires.fetched c.requires.dirty c.header-header.ensures c.present.ensures
+    keepable_here g.D.Device.disk c.self.view_is c.self.invariant c.requires.fetched c.requires.dirty c.header-header.ensures c.present.ensures
     c.requires.keepable
 
 pub put_working-requires-clause-room : goal.put_working-requires-clause-room
-put_working-requires-clause-room g c = room_here g.D.Device.disk c.self.view_is c.self.invariant.0 c.requires.fetched c.requires.dirty
+put_working-requires-clause-room g c = room_here g.D.Device.disk c.self.view_is c.self.invariant c.requires.fetched c.requires.dirty
 
 pub invariant_of-self : goal.invariant_of-self
 invariant_of-self g c =
-    let next = unput_next g.D.Device.disk c.self.view_is c.self.invariant.0 c.requires.fetched c.requires.dirty c.in_err-put_working.ensures.broken
-    c.put_working.ensures.goes_on c.put_working.ensures.cause.never_falls in
-    (next.is, c.self.invariant.1)
+    (unput_next g.D.Device.disk c.self.view_is c.self.invariant c.requires.fetched c.requires.dirty c.in_err-put_working.ensures.broken
+    c.put_working.ensures.goes_on c.put_working.ensures.cause.never_falls).is
 
 pub invariant_of-self-2 : goal.invariant_of-self-2
 invariant_of-self-2 g c =
-    let next = kept_next g.D.Device.disk c.self.view_is c.self.invariant.0 c.requires.fetched c.requires.dirty c.header-header.ensures c.present.ensures
-    c.in_ok-put_working.ensures.put c.put_working.ensures.goes_on c.put_working.ensures.cause.never_falls in
-    rw c.set.ensures (next.is, c.self.invariant.1)
+    rw c.set.ensures (kept_next g.D.Device.disk c.self.view_is c.self.invariant c.requires.fetched c.requires.dirty c.header-header.ensures c.present.ensures
+    c.in_ok-put_working.ensures.put c.put_working.ensures.goes_on c.put_working.ensures.cause.never_falls).is
 
 pub returns : goal.returns
 returns g c =
-    let next = kept_next g.D.Device.disk c.self.view_is c.self.invariant.0 c.requires.fetched c.requires.dirty c.header-header.ensures c.present.ensures
+    let next = kept_next g.D.Device.disk c.self.view_is c.self.invariant c.requires.fetched c.requires.dirty c.header-header.ensures c.present.ensures
     c.in_ok-put_working.ensures.put c.put_working.ensures.goes_on c.put_working.ensures.cause.never_falls in
     record { put = rw c.set.ensures next.view; unput = search rules; continues = rw c.set.ensures next.continues; cause = search rules }
 
 pub returns-in_err-put_working : goal.returns-in_err-put_working
 returns-in_err-put_working g c =
-    let next = unput_next g.D.Device.disk c.self.view_is c.self.invariant.0 c.requires.fetched c.requires.dirty c.in_err-put_working.ensures.broken
+    let next = unput_next g.D.Device.disk c.self.view_is c.self.invariant c.requires.fetched c.requires.dirty c.in_err-put_working.ensures.broken
     c.put_working.ensures.goes_on c.put_working.ensures.cause.never_falls in
     record { put = search rules; unput = on_err c.from_residual.result next.view; continues = next.continues; cause = search rules }

@@ -1,7 +1,7 @@
-use Rattle.object_cache.proofs.Names.{goes_on_twice, counted_ok, counts_on, ap, arith, on_err}
+use Rattle.object_cache.proofs.Names.{on_err_weaker, on_ok_weaker, goes_on_twice, counted_ok, counts_on, ap, arith, on_err}
 use Rattle.std.proofs.Common.{◌∙◌, ◌∷◌, ◌-◌}
-use Rattle.object_cache.proofs.Bringing.{place_recent, rest_on, read_rest, read_staging, read_first, read_recent, pushed_to_front, stops_none}
-use Rattle.object_cache.proofs.Outcomes.{ok_then, ok_both, err_then}
+use Rattle.object_cache.proofs.Fetched.{place_recent, rest_on, read_rest, read_staging, read_first, read_recent, pushed_to_front, stops_none}
+use Rattle.object_cache.proofs.Outcomes.{ok_both}
 use Rattle.object_cache.proofs.cache.Cache.read_in.Goals as goal
 
 pub returns : goal.returns
@@ -10,19 +10,20 @@ returns g c = record {
       ok_both c.read.result c.read.ensures.cached c.read.ensures.fetched
       (λ is there k some. read_first c.make_room.new.self c.read.new.self c.args.number k is there some);
   recent =
-      ok_then c.read.result c.read.ensures.cached
+      on_ok_weaker c.read.result
       (λ is j k n few below recent. read_recent c.make_room.new.self c.read.new.self c.args.number j k n is below
-      (place_recent c.args.self.now c.make_room.new.self c.make_room.ensures.rest c.make_room.ensures.order c.make_room.ensures.others j n few recent));
+      (place_recent c.args.self.now c.make_room.new.self c.make_room.ensures.rest c.make_room.ensures.order c.make_room.ensures.others j n few recent))
+      c.read.ensures.cached;
   order =
       let s = c.args.self.now in
       let room = c.in_ok-make_room.ensures in
-      ok_then c.read.result c.read.ensures.cached (λ is.
+      on_ok_weaker c.read.result (λ is.
       ap (λ t. t.order) is
       ∙ ap (λ ns. c.args.number ∷ ns) room.least
-      ∙ pushed_to_front s.capacity c.args.number s.order (omega (arith, room.room, c.make_room.ensures.continues.capacity)));
+      ∙ pushed_to_front s.capacity c.args.number s.order (omega (arith, room.room, c.make_room.ensures.continues.capacity))) c.read.ensures.cached;
   stopped =
       let s = c.args.self.now in
-      err_then c.read.result c.read.ensures.unread (λ is. (s.capacity - 1, omega arith, ap (λ t. t.order) is ∙ c.in_ok-make_room.ensures.least));
+      on_err_weaker c.read.result (λ is. (s.capacity - 1, omega arith, ap (λ t. t.order) is ∙ c.in_ok-make_room.ensures.least)) c.read.ensures.unread;
   rest =
       rest_on c.args.self.now c.make_room.new.self c.read.new.self c.make_room.ensures.rest
       (read_rest c.read.result c.make_room.new.self c.read.new.self c.args.number c.read.ensures.cached c.read.ensures.unread);

@@ -4,17 +4,17 @@ use Rattle.object_cache.proofs.Objects.{both_become, known}
 use Rattle.object_cache.proofs.cache.Cache.reset.Goals as goal
 
 pub free-requires : goal.free-requires
-free-requires g c = (known g.D.Device.disk c.self.view_is c.self.invariant.0 c.requires.announced).entry
+free-requires g c = (known g.D.Device.disk c.self.view_is c.self.invariant c.requires.announced).entry
 
 pub rescind-requires-clause-known : goal.rescind-requires-clause-known
-rescind-requires-clause-known g c = (known g.D.Device.disk c.self.view_is c.self.invariant.0 c.requires.announced).header
+rescind-requires-clause-known g c = (known g.D.Device.disk c.self.view_is c.self.invariant c.requires.announced).header
 
 pub invariant_of-self : goal.invariant_of-self
 invariant_of-self g c =
-    let now = both_become g.D.Device.disk c.self.view_is c.self.invariant.0 c.requires.announced given_up content.Free (λ none. (refl, refl)) in
-    rw (c.rescind.ensures, c.free.ensures) (now.is, c.self.invariant.1)
+    rw (c.rescind.ensures, c.free.ensures)
+    (both_become g.D.Device.disk c.self.view_is c.self.invariant c.requires.announced given_up content.Free (λ none. (refl, refl))).is
 
 pub returns : goal.returns
 returns g c =
-    let now = both_become g.D.Device.disk c.self.view_is c.self.invariant.0 c.requires.announced given_up content.Free (λ none. (refl, refl)) in
-    rw (c.rescind.ensures, c.free.ensures) now.view
+    rw (c.rescind.ensures, c.free.ensures)
+    (both_become g.D.Device.disk c.self.view_is c.self.invariant c.requires.announced given_up content.Free (λ none. (refl, refl))).view

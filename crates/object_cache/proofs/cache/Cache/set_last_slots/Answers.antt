@@ -3,14 +3,14 @@ use Rattle.object_cache.proofs.Objects.{content_becomes, entry_some}
 use Rattle.object_cache.proofs.cache.Cache.set_last_slots.Goals as goal
 
 pub set_last_slots-requires : goal.set_last_slots-requires
-set_last_slots-requires g c = entry_some g.D.Device.disk c.self.view_is c.self.invariant.0 c.requires.fetched
+set_last_slots-requires g c = entry_some g.D.Device.disk c.self.view_is c.self.invariant c.requires.fetched
 
 pub invariant_of-self : goal.invariant_of-self
 invariant_of-self g c =
-    let now = content_becomes g.D.Device.disk c.self.view_is c.self.invariant.0 c.requires.announced c.requires.fetched (λ x. with_slots_in x 28 c.args.held) in
-    rw c.set_last_slots.ensures (now.is, c.self.invariant.1)
+    rw c.set_last_slots.ensures
+    (content_becomes g.D.Device.disk c.self.view_is c.self.invariant c.requires.announced c.requires.fetched (λ x. with_slots_in x 28 c.args.held)).is
 
 pub returns : goal.returns
 returns g c =
-    let now = content_becomes g.D.Device.disk c.self.view_is c.self.invariant.0 c.requires.announced c.requires.fetched (λ x. with_slots_in x 28 c.args.held) in
-    rw c.set_last_slots.ensures now.view
+    rw c.set_last_slots.ensures
+    (content_becomes g.D.Device.disk c.self.view_is c.self.invariant c.requires.announced c.requires.fetched (λ x. with_slots_in x 28 c.args.held)).view

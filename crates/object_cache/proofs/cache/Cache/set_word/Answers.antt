@@ -3,16 +3,14 @@ use Rattle.object_cache.proofs.Objects.{content_becomes, entry_some}
 use Rattle.object_cache.proofs.cache.Cache.set_word.Goals as goal
 
 pub set_word-requires-clause-entry : goal.set_word-requires-clause-entry
-set_word-requires-clause-entry g c = entry_some g.D.Device.disk c.self.view_is c.self.invariant.0 c.requires.fetched
+set_word-requires-clause-entry g c = entry_some g.D.Device.disk c.self.view_is c.self.invariant c.requires.fetched
 
 pub invariant_of-self : goal.invariant_of-self
 invariant_of-self g c =
-    let now = content_becomes g.D.Device.disk c.self.view_is c.self.invariant.0 c.requires.announced c.requires.fetched
-    (λ x. with_word_in x c.args.index c.args.word) in
-    rw c.set_word.ensures (now.is, c.self.invariant.1)
+    rw c.set_word.ensures (content_becomes g.D.Device.disk c.self.view_is c.self.invariant c.requires.announced c.requires.fetched
+    (λ x. with_word_in x c.args.index c.args.word)).is
 
 pub returns : goal.returns
 returns g c =
-    let now = content_becomes g.D.Device.disk c.self.view_is c.self.invariant.0 c.requires.announced c.requires.fetched
-    (λ x. with_word_in x c.args.index c.args.word) in
-    rw c.set_word.ensures now.view
+    rw c.set_word.ensures (content_becomes g.D.Device.disk c.self.view_is c.self.invariant c.requires.announced c.requires.fetched
+    (λ x. with_word_in x c.args.index c.args.word)).view

@@ -5,11 +5,11 @@ use Rattle.object_cache.proofs.cache.Cache.shares.Goals as goal
 
 pub returns-then-holds : goal.returns-then-holds
 returns-then-holds g c =
-    let is = c.is_shared.ensures ∙ ap is_shared (frozen_state_with g.D.Device.disk c.self.view_is c.self.invariant.0 c.args.number c.requires
+    let is = c.is_shared.ensures ∙ ap is_shared (frozen_state_with g.D.Device.disk c.self.view_is c.self.invariant c.args.number c.requires
     (option_map content_behind c.kept.result) c.kept.ensures _ _ _ c.contains-is_pending.ensures
     (c.is_some.ensures ∙ sym (same_some content_behind c.kept.result)) c.contains-is_touched.ensures) in
     record {
-      fetched = λ marked. fetched_by g.D.Device.disk c.self.view_is c.self.invariant.0 c.args.number c.requires (sym c.holds.ensures ∙ c.if-holds.true);
+      fetched = λ marked. fetched_by g.D.Device.disk c.self.view_is c.self.invariant c.args.number c.requires (sym c.holds.ensures ∙ c.if-holds.true);
       shared = shared_yes (frozen_state_at c.args.self.now.frozen_state c.args.number) c.is_shared.result is;
       apart = shared_none (frozen_state_at c.args.self.now.frozen_state c.args.number) c.is_shared.result is;
     }
@@ -17,4 +17,4 @@ returns-then-holds g c =
 pub returns-clause-apart : goal.returns-clause-apart
 returns-clause-apart g c =
     λ none. nothing_apart (frozen_state_at c.args.self.now.frozen_state c.args.number)
-    (frozen_state_without g.D.Device.disk c.self.view_is c.self.invariant.0 c.args.number c.requires (sym c.holds.ensures ∙ c.if-holds.false))
+    (frozen_state_without g.D.Device.disk c.self.view_is c.self.invariant c.args.number c.requires (sym c.holds.ensures ∙ c.if-holds.false))

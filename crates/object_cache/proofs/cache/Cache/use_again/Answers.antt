@@ -1,7 +1,7 @@
 use Rattle.object_cache.proofs.Names.{arith, length, sym, ap, subst, All-contains, touched_count, stored_of, memory_of, used_in_turn, StoreState, GoesOnIn}
 use Rattle.object_cache.proofs.Names.{IsFetchedIn, cache_of, goes_on_same, take}
 use Rattle.std.proofs.Common.{◌≤◌, ◌<◌, ◌∙◌}
-use Rattle.object_cache.proofs.Leading.{continues_with}
+use Rattle.object_cache.proofs.Outcomes.{continues_with}
 use Rattle.object_cache.proofs.FrozenStates.{fetched_by}
 use Rattle.object_cache.proofs.cache.Cache.use_again.Goals as goal
 
@@ -17,7 +17,7 @@ returns g c =
     record {
       fetched = λ all n has.
           let known = All-contains (λ k. k < length s.headers) c.args.numbers.now n c.requires has in
-          let there = fetched_by g.D.Device.disk c.self.view_is c.self.invariant.0 n known (c.use_again.ensures.held all n has) in
+          let there = fetched_by g.D.Device.disk c.self.view_is c.self.invariant n known (c.use_again.ensures.held all n has) in
           subst (λ t. IsFetchedIn t n) (sym seen) (record { header = there.header; content = there.content; cached = there.cached });
       used = λ all. c.use_again.ensures.used all ∙ ap (λ t. used_in_turn c.args.numbers.now t.order) c.self.view_is;
       prefix = (first.0, first.1 ∙ ap (λ t. used_in_turn (take first.0 c.args.numbers.now) t.order) c.self.view_is);
@@ -25,7 +25,7 @@ returns g c =
       rest = seen;
       within =
           subst (λ t. touched_count t.touched ≤ (stored_of g.D.Device.disk t.durable).saved.geometry.log) c.self.view_is
-          (omega (arith, c.self.invariant.0.within, c.self.invariant.0.counted));
+          (omega (arith, c.self.invariant.within, c.self.invariant.counted));
       continues =
           subst (GoesOnIn g.D.Device.disk s) (sym seen)
           (continues_with g.D.Device.disk s.cached s.frozen_state e.order s.staging (goes_on_same g.D.Device.disk g.met.D.Device.only_now s));

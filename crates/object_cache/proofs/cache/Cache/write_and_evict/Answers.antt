@@ -1,7 +1,6 @@
-use Rattle.object_cache.proofs.Names.{rules, set, false, ap, counted_ok, without, goes_on_twice}
+use Rattle.object_cache.proofs.Names.{ok_counts, rules, set, false, ap, counted_ok, without, goes_on_twice}
 use Rattle.std.proofs.Common.{◌∙◌}
-use Rattle.object_cache.proofs.Leading.{continues_with, put_on}
-use Rattle.object_cache.proofs.Outcomes.{away_on, ok_counts}
+use Rattle.object_cache.proofs.Outcomes.{continues_with, put_on, away_on}
 use Rattle.object_cache.proofs.cache.Cache.write_and_evict.Goals as goal
 
 pub returns : goal.returns

@@ -1,6 +1,6 @@
 use Rattle.object_cache.proofs.Names.{arith, length-map, ap, is_some, length, rules, subst, sym, true, AreTaken, TakenState, all_of}
 use Rattle.std.proofs.Common.{◌≡◌, ◌∙◌}
-use Rattle.object_cache.proofs.Taken.{blank_hold, taken_all, taken_hold}
+use Rattle.object_cache.proofs.Opening.{blank_hold, taken_all, taken_hold}
 use Rattle.object_cache.proofs.saved_objects.SavedObjects.into_parts.Goals as goal
 
 pub returns-else-len-count : goal.returns-else-len-count
@@ -32,4 +32,4 @@ pub returns-in_ok-entries-in-None-clause-bodies : goal.returns-in_ok-entries-in-
 returns-in_ok-entries-in-None-clause-bodies g c = λ fs took.
     let taken = subst (λ t. AreTaken t fs) (sym c.self.view_is) took in
     let size : c.len-in-None-2.result ≡ length fs = omega (arith, ap length taken.headers_are, length-map fs (λ f. f.header)) in
-    rw c.in_ok-entries-in-None.ensures.none (rw size (blank_hold fs c.capacity-capacity.result c.in_ok-entries-in-None.ensures.least))
+    rw c.in_ok-entries-in-None.ensures.none (rw size (blank_hold fs c.capacity-capacity.result))

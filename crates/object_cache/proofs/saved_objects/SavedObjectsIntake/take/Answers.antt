@@ -1,7 +1,7 @@
 use Rattle.object_cache.proofs.Names.{[], subst, sym, length, length-append, HaveRoom, with_body, content_of, frame_of, AreTaken, TakenState, rules}
 use Rattle.std.proofs.Common.{◌≡◌, ◌<◌, ◌∷◌, ◌∙◌}
 use Rattle.object_cache.proofs.FrozenStates.{same_some}
-use Rattle.object_cache.proofs.Taken.{kept_room, held_in, taken_below, taken_more}
+use Rattle.object_cache.proofs.Opening.{kept_room, held_in, taken_below, taken_more}
 use Rattle.object_cache.proofs.saved_objects.SavedObjectsIntake.take.Goals as goal
 
 pub keep_body-requires : goal.keep_body-requires

@@ -1,7 +1,6 @@
 use Rattle.space_bank.proofs.Names.{ap, with_items_is, BanksState}
 use Rattle.std.proofs.Common.{◌≡◌, ◌∙◌}
-use Rattle.space_bank.proofs.Climbs.{raised_of}
-use Rattle.space_bank.proofs.Standing.{room_fits}
+use Rattle.space_bank.proofs.Tallies.{raised_of, room_fits}
 use Rattle.space_bank.proofs.banks.Banks.account.Goals as goal
 
 pub shift-requires-clause-fits : goal.shift-requires-clause-fits

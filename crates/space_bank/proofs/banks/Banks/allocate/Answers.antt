@@ -1,7 +1,6 @@
 use Rattle.space_bank.proofs.Names.{ap, arith, length, BanksState}
 use Rattle.std.proofs.Common.{◌≡◌}
-use Rattle.space_bank.proofs.Carried.{bank_carried, plain_carried, plain_under, taken_one}
-use Rattle.space_bank.proofs.Standing.{free_role, serve_count}
+use Rattle.space_bank.proofs.Tallies.{bank_carried, plain_carried, plain_under, taken_one, free_role, serve_count}
 use Rattle.space_bank.proofs.banks.Banks.allocate.Goals as goal
 
 pub make-requires-clause-known : goal.make-requires-clause-known

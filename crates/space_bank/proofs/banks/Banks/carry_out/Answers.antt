@@ -1,8 +1,7 @@
 use Rattle.space_bank.proofs.Names.{List, arith, drop, refl, subst, ℕ, All, Void, new_annex, new_root, with_new, BankChange, fresh_content, objects_in}
 use Rattle.space_bank.proofs.Names.{numbers_of, MayMake, MakesOne, MakesTwo}
-use Rattle.space_bank.proofs.Carried.{fresh_used}
-use Rattle.space_bank.proofs.Ending.{snapshots_alone}
-use Rattle.space_bank.proofs.Renewing.{new_stays}
+use Rattle.space_bank.proofs.Tallies.{fresh_used}
+use Rattle.space_bank.proofs.Renewing.{snapshots_alone, new_stays}
 use Rattle.space_bank.proofs.banks.Banks.carry_out.Goals as goal
 
 pub allocate-requires : goal.allocate-requires

@@ -2,8 +2,8 @@ use Rattle.space_bank.proofs.Names.{true, false, ℕ, List, ap, arith, drop, len
 use Rattle.space_bank.proofs.Names.{content_at, objects_in, BanksState, IsRaised, is_marked}
 use Rattle.std.proofs.Common.{◌≡◌, ◌+◌, ◌-◌, ◌∙◌, ◌++◌}
 use Rattle.std.specs.Prelude.{if◌then◌else◌}
-use Rattle.space_bank.proofs.Ending.{AreKnown, ended_snapshots, ended_carried, enough_used, list_allocations, list_calls, list_marks, listed_rest}
-use Rattle.space_bank.proofs.Ending.{released_then}
+use Rattle.space_bank.proofs.Renewing.{AreKnown, ended_snapshots, ended_carried, enough_used, list_allocations, list_calls, list_marks, listed_rest}
+use Rattle.space_bank.proofs.Renewing.{released_then}
 use Rattle.space_bank.proofs.banks.Banks.give_up.Goals as goal
 
 pub release-requires-clause-enough : goal.release-requires-clause-enough

@@ -1,6 +1,6 @@
 use Rattle.space_bank.proofs.Names.{ap, nat_le, objects_in, sym}
 use Rattle.std.proofs.Common.{◌∙◌}
-use Rattle.space_bank.proofs.Walks.{chain_within_limits, quota_is}
+use Rattle.space_bank.proofs.Plans.{chain_within_limits, quota_is}
 use Rattle.space_bank.proofs.banks.Banks.has_quota.Goals as goal
 
 pub returns : goal.returns

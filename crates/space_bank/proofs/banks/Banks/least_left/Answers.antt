@@ -1,6 +1,6 @@
 use Rattle.space_bank.proofs.Names.{[], sym, chain_within, objects_in}
 use Rattle.std.proofs.Common.{◌-◌, ◌∙◌}
-use Rattle.space_bank.proofs.Walks.{chain_past, least_begun, least_last, least_next, least_on, left_counted, left_there, owner_is_bank}
+use Rattle.space_bank.proofs.Plans.{chain_past, least_begun, least_last, least_next, least_on, left_counted, left_there, owner_is_bank}
 use Rattle.space_bank.proofs.banks.Banks.least_left.Goals as goal
 
 pub left-least-requires : goal.left-least-requires

@@ -1,6 +1,6 @@
 use Rattle.space_bank.proofs.Names.{ap, BanksState}
 use Rattle.space_bank.proofs.Missing.{bank_free}
-use Rattle.space_bank.proofs.Standing.{serve_roles, serve_tree}
+use Rattle.space_bank.proofs.Tallies.{serve_roles, serve_tree}
 use Rattle.space_bank.proofs.banks.Banks.list_all.Goals as goal
 
 pub list_all-requires-clause-roles : goal.list_all-requires-clause-roles

@@ -1,6 +1,6 @@
 use Rattle.space_bank.proofs.Names.{ap, Geometry, new_at, process_at, BanksState}
 use Rattle.capability.specs.declared.present.Fresh.TheVariants as fresh
-use Rattle.space_bank.proofs.Found.{made_of_nodes, made_of_pages}
+use Rattle.space_bank.proofs.Missing.{made_of_nodes, made_of_pages}
 use Rattle.space_bank.proofs.banks.Banks.next_free.Goals as goal
 
 pub returns-in-Page-clause-made : goal.returns-in-Page-clause-made

@@ -1,7 +1,6 @@
 use Rattle.space_bank.proofs.Names.{length, ap, arith, Void, under, GiveUp, objects_in, BanksState}
 use Rattle.model.specs.declared.order.ResultCode.TheVariants as code
-use Rattle.space_bank.proofs.Making.{may_destroy}
-use Rattle.space_bank.proofs.Plans.{bank_room, destroy_prime, destroy_there, planned_made, planned_refused}
+use Rattle.space_bank.proofs.Plans.{may_destroy, bank_room, destroy_prime, destroy_there, planned_made, planned_refused}
 use Rattle.space_bank.proofs.banks.Banks.plan_destroy.Goals as goal
 
 pub returns-then-bank-eq0-clause-planned : goal.returns-then-bank-eq0-clause-planned

@@ -1,8 +1,7 @@
 use Rattle.space_bank.proofs.Names.{ℕ, List, [], append_assoc, sym, ap, Void, GiveUp, objects_in, BanksState, annex_among, annex_of}
 use Rattle.std.proofs.Common.{◌++◌, ◌∙◌, ◌∷◌}
 use Rattle.model.specs.declared.order.ResultCode.TheVariants as code
-use Rattle.space_bank.proofs.Making.{may_free}
-use Rattle.space_bank.proofs.Plans.{annex_kept, frees_none_there, frees_other_there, frees_own_there, planned_made, planned_refused, process_room}
+use Rattle.space_bank.proofs.Plans.{may_free, annex_kept, frees_none_there, frees_other_there, frees_own_there, planned_made, planned_refused, process_room}
 use Rattle.space_bank.proofs.banks.Banks.plan_free.Goals as goal
 
 pub returns-in-None-clause-planned : goal.returns-in-None-clause-planned

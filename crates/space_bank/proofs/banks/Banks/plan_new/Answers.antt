@@ -1,8 +1,7 @@
 use Rattle.space_bank.proofs.Names.{true, false, ap, arith, refl, sym, Capability, has_quota, objects_in, count_of, given_by, numbers_of, BanksState}
 use Rattle.std.proofs.Common.{◌≡◌, ◌∙◌}
 use Rattle.model.specs.declared.order.ResultCode.TheVariants as code
-use Rattle.space_bank.proofs.Making.{may_new}
-use Rattle.space_bank.proofs.Plans.{making, new_is, planned_made, planned_refused}
+use Rattle.space_bank.proofs.Plans.{may_new, making, new_is, planned_made, planned_refused}
 use Rattle.space_bank.proofs.banks.Banks.plan_new.Goals as goal
 
 pub returns-then-not-has_quota-clause-planned : goal.returns-then-not-has_quota-clause-planned

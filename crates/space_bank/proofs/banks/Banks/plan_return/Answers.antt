@@ -1,9 +1,8 @@
 use Rattle.space_bank.proofs.Names.{[], length, append_assoc, ap, arith, length-append, Void, owned_by, Transfer, objects_in, BanksState}
 use Rattle.std.proofs.Common.{◌++◌, ◌∙◌, ◌∷◌}
 use Rattle.model.specs.declared.order.ResultCode.TheVariants as code
-use Rattle.space_bank.proofs.Making.{may_return}
+use Rattle.space_bank.proofs.Plans.{may_return, bank_room, planned_made, planned_refused, return_prime, return_there}
 use Rattle.space_bank.proofs.Missing.{bank_listing}
-use Rattle.space_bank.proofs.Plans.{bank_room, planned_made, planned_refused, return_prime, return_there}
 use Rattle.space_bank.proofs.banks.Banks.plan_return.Goals as goal
 
 pub returns-then-bank-eq0-clause-planned : goal.returns-then-bank-eq0-clause-planned

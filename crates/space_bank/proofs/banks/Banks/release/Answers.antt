@@ -1,7 +1,6 @@
 use Rattle.space_bank.proofs.Names.{ap, with_items_is, BanksState}
 use Rattle.std.proofs.Common.{◌≡◌, ◌∙◌}
-use Rattle.space_bank.proofs.Climbs.{lowered_of}
-use Rattle.space_bank.proofs.Standing.{lowered_fits}
+use Rattle.space_bank.proofs.Tallies.{lowered_of, lowered_fits}
 use Rattle.space_bank.proofs.banks.Banks.release.Goals as goal
 
 pub shift-requires-clause-fits : goal.shift-requires-clause-fits

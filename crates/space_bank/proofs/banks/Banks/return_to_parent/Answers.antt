@@ -2,13 +2,10 @@ use Rattle.space_bank.proofs.Names.{[], ℕ, List, ap, arith, drop, length, subs
 use Rattle.space_bank.proofs.Names.{owned_by, header_at, AreKeepable, is_free, rescind, owner_at, frames_of, objects_in, BanksState, AreTransferred, IsRaised}
 use Rattle.space_bank.proofs.Names.{owner_read, rules}
 use Rattle.std.proofs.Common.{◌≡◌, ◌<◌, ◌+◌, ◌-◌, ◌^◌, ◌∙◌, ◌++◌, ◌∷◌}
-use Rattle.space_bank.proofs.Ending.{snapshots_then_ended, ended_snapshots, listed_rest, released_then}
-use Rattle.space_bank.proofs.Walks.{owner_is_bank}
-use Rattle.space_bank.proofs.Owners.{transferred_same}
-use Rattle.space_bank.proofs.Renewing.{SameFree}
-use Rattle.space_bank.proofs.Returning.{drop_next, transferred_allocations, transferred_calls, inherited_by, mark_one, one_all, one_enough, only_used}
-use Rattle.space_bank.proofs.Returning.{owned_used, rest_all, returned_carried}
-use Rattle.space_bank.proofs.Standing.{serve_count}
+use Rattle.space_bank.proofs.Renewing.{snapshots_then_ended, ended_snapshots, listed_rest, released_then, SameFree, drop_next, transferred_allocations}
+use Rattle.space_bank.proofs.Renewing.{transferred_calls, inherited_by, mark_one, one_all, one_enough, only_used, owned_used, rest_all, returned_carried}
+use Rattle.space_bank.proofs.Plans.{owner_is_bank}
+use Rattle.space_bank.proofs.Tallies.{transferred_same, serve_count}
 use Rattle.space_bank.proofs.banks.Banks.return_to_parent.Goals as goal
 
 pub release-requires-clause-asks : goal.release-requires-clause-asks

@@ -1,7 +1,7 @@
 use Rattle.space_bank.proofs.Names.{List, length, sym, ap, subst, arith, Geometry, vec_capacity, ObjectHeader, object_count, content_at, frames_of, objects_in}
 use Rattle.space_bank.proofs.Names.{keepable_count, keepable_roles, BanksState, bank_number, root_number}
 use Rattle.std.proofs.Common.{◌≡◌, ◌<◌, ◌≤◌, ◌+◌}
-use Rattle.space_bank.proofs.Counts.{counted_from, numbers_fit, room_replying}
+use Rattle.space_bank.proofs.Missing.{counted_from, numbers_fit, room_replying}
 use Rattle.space_bank.proofs.banks.Banks.with_numbers.Goals as goal
 
 pub free_numbers-requires-2-clause-fits : goal.free_numbers-requires-2-clause-fits

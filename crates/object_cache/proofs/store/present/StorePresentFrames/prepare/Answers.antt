@@ -1,6 +1,6 @@
 use Rattle.object_cache.proofs.Names.{length, sym, subst, All-contains, on_err, on_ok, ap}
 use Rattle.std.proofs.Common.{◌∙◌, ◌<◌}
-use Rattle.object_cache.proofs.Bringing.{uses_none}
+use Rattle.object_cache.proofs.Fetched.{uses_none}
 use Rattle.object_cache.proofs.store.present.StorePresentFrames.prepare.Goals as goal
 
 pub returns-then-KEEPS_ALL-clause-fetched : goal.returns-then-KEEPS_ALL-clause-fetched

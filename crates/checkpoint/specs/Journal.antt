@@ -1,0 +1,35 @@
+-- When a page of an object store is journaled, and what is saved then.
+use Rattle.checkpoint.specs.Names.{ℕ, Bool, true, false, Option, Some, None, List, Frame, Role, frame_at, header_at}
+use Rattle.checkpoint.specs.Names.{held_at, words_in, Parts}
+use Rattle.std.specs.Prelude.{◌==◌, if◌then◌else◌, ◌&&◌}
+use Rattle.model.specs.declared.object.Role.TheVariants as role
+use Rattle.checkpoint.specs.Saved.{SavedFrames, journaled_saved}
+
+abbrev pub is_page_role : Role → Bool
+is_page_role role.Page = true
+is_page_role _ = false
+
+-- whether the object of a number is a page, and the words that it has then
+abbrev pub is_page_now : Parts → ℕ → Bool
+is_page_now p n = is_page_role (header_at p.headers n).role
+
+abbrev pub words_now : Parts → ℕ → List ℕ
+words_now p n = words_in (held_at p.contents n)
+
+-- whether a frame is that of a page under this count of allocations
+abbrev pub is_same_page : ℕ → Frame → Bool
+is_same_page allocations f = is_page_role f.header.role && (allocations == f.header.allocations)
+
+-- whether a page is saved at a number, and wasn't given up since: its count of allocations is that of the object now
+abbrev pub is_still_saved : Parts → SavedFrames → ℕ → Bool
+is_still_saved p s n = is_same_page (header_at p.headers n).allocations (frame_at s.frames n)
+
+-- what is saved then, where nothing refuses it
+abbrev pub saved_next : ℕ → ℕ → List ℕ → SavedFrames → (is_page is_saved : Bool) → Option SavedFrames
+saved_next age n words s is_page is_saved = if s.entries == 0 then
+    (if is_page then (if is_saved then Some (journaled_saved age n words s) else None) else None) else None
+
+abbrev pub next_journaled : {F : Type 0} → ℕ → ℕ → List ℕ → Option F → SavedFrames → (is_page is_saved : Bool) →
+    Option SavedFrames
+next_journaled age n words None s is_page is_saved = saved_next age n words s is_page is_saved
+next_journaled age n words (Some f) s is_page is_saved = None

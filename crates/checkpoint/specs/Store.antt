@@ -1,0 +1,67 @@
+-- An object store: its frozen state, what holds once it is opened, and what its calls answer.
+use Rattle.checkpoint.specs.Names.{ℕ, Option, Some, None, option_map, List, Result, Ok, Err, Frame, AreKeepable}
+use Rattle.checkpoint.specs.Names.{untouched, Disk, Only, Refusal, Parts, frames_of}
+use Rattle.std.specs.Prelude.{◌≡◌, ◌≢◌, ◌==◌, if◌then◌else◌, ◌+◌, ◌-◌, ◌<◌, ◌≤◌, ◌^◌}
+use Rattle.model.specs.declared.answer.Refusal.TheVariants as refusal
+use Rattle.checkpoint.specs.Saved.{Holds, LeavesSaved}
+use Rattle.checkpoint.specs.Snapshots.{FrozenView, Snapshots, freezing}
+use Rattle.checkpoint.specs.Opened.{OnlyReads}
+
+-- a checkpoint on its way: all frames as it began, how many objects it writes, and how many of these are left
+pub record FrozenFrames : Type 0 where
+  pub frames : List Frame
+  pub size : ℕ
+  pub left : ℕ
+
+-- all of its frames are saved
+abbrev pub whole : FrozenView FrozenFrames
+whole = record {
+  frames = λ (f : FrozenFrames) (fs : List Frame). f.frames;
+  size = λ (f : FrozenFrames). f.size;
+  left = λ (f : FrozenFrames). f.left;
+}
+
+-- all objects as they are; none is stable yet
+abbrev pub all_frozen : List Frame → ℕ → FrozenFrames
+all_frozen fs size = record { frames = fs; size = size; left = size }
+
+-- a store over a device; it is sound until a publishing fails
+pub record View (D : Type 0) : Type 1 where
+  pub beneath : D
+  pub snapshots : Snapshots FrozenFrames
+  pub is_sound : Type 0
+
+-- the store went on with no commit and no checkpoint, whether or not the device failed
+pub record Continues {D : Type 0} (disk : D → Disk) (old new : View D) : Type 0 where
+  pub snapshots : new.snapshots ≡ old.snapshots
+  pub size : (disk new.beneath).sectors ≡ (disk old.beneath).sectors
+  pub later : (disk old.beneath).failures ≤ (disk new.beneath).failures
+  pub sound : old.is_sound → new.is_sound
+  pub any_moment : old.is_sound → LeavesSaved (disk old.beneath) (disk new.beneath) old.snapshots.saved
+
+-- a device was opened, and nothing was written: the present objects are the saved ones, and a crash leaves what a read
+-- gives
+pub record OpensStore {D : Type 0} (disk : D → Disk) (device : D) (parts : Parts) (store : View D) : Type 0 where
+  pub sound : store.is_sound
+  pub holds : Holds (disk device).sectors (disk device).seen store.snapshots.saved
+  pub frames : frames_of parts ≡ store.snapshots.saved.frames
+  pub touched : parts.touched ≡ untouched store.snapshots.saved.geometry
+  pub frozen : store.snapshots.frozen ≡ None
+  pub to_move : store.snapshots.to_move ≡ store.snapshots.saved.entries
+  pub durable : Only (disk store.beneath).seen (disk store.beneath)
+  pub only_reads : OnlyReads (disk device) (disk store.beneath)
+  pub failures : (disk store.beneath).failures ≡ (disk device).failures
+
+-- frozen frames are written to the log only where a checkpoint is on its way
+abbrev pub IsStabilizeAnswer : Disk → Disk → Option ℕ → ℕ → Result ℕ Refusal → Type 0
+IsStabilizeAnswer old new left count (Ok n) = (new.failures ≡ old.failures) ×
+    (option_map (λ (k : ℕ). k - count) left ≡ Some n)
+IsStabilizeAnswer old new left count (Err refusal.NoCheckpoint) = (new.failures ≡ old.failures) × (left ≡ None)
+IsStabilizeAnswer old new left count (Err refusal.Fault) = (old.failures < new.failures) × (left ≢ None)
+IsStabilizeAnswer old new left count (Err _) = ⊥
+
+-- `n` more of the frozen objects are in the log
+abbrev pub stabilized : ℕ → FrozenFrames → Snapshots FrozenFrames → Snapshots FrozenFrames
+stabilized n f s =
+    let rest : FrozenFrames = record { frames = f.frames; size = f.size; left = f.left - n } in
+    freezing rest s

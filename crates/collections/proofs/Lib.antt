@@ -1,0 +1,3 @@
+mod Marks
+pub mod Lists
+pub mod Positions

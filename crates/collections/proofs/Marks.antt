@@ -1,0 +1,428 @@
+-- The marks of numbers, and the bits that they are kept in.
+use Rattle.std.proofs.Common.{◌≡◌, ◌≢◌, ℕ, zero, suc, ◌+◌, ◌-◌, ◌*◌, ◌/◌, ◌%◌, ◌^◌, ◌<◌, ◌≤◌, min, Bool, true, false, not, Option, Some, None, IfSome, List, []}
+use Rattle.std.proofs.Common.{◌++◌, length, get_or, set, take, replicate, slice_index, slice_set, nat_eq, bit_and, bit_or, w64, refl, sym, ap, ◌∙◌, inl, inr}
+use Rattle.std.proofs.Common.{arith, length-set, get_or-set_same, get_or-set_other}
+use Rattle.std.specs.Int.{bit_at, bit_not, div_ceil, trailing_zeros}
+use Rattle.std.proofs.lemmas.Bool.{cases_eq, cases_lt}
+use Rattle.std.proofs.lemmas.List.{get_or_past, take_all, length-replicate, get_or-replicate}
+use Rattle.std.proofs.lemmas.List.FromFn.{length-map-range_with_len, get_or-map-range_with_len, fill_by_all}
+use Rattle.std.proofs.lemmas.Nat.{shr-shr}
+use Rattle.std.proofs.Math.Dec.{eqb-suc-zero}
+use Rattle.std.proofs.Math.Nat.{div-le_self}
+use Rattle.std.proofs.lemmas.Nat.Bits.{bit_at-zero, bit_at-lt, bit_at-trailing_zeros, bit_at_above, bit_at_not, shr_and_one, bit_at_set_same, bit_at_clear_same}
+use Rattle.collections.specs.Marks.{is_marked, IsNextMarked, HasNoneMarked, IsNextUnmarked, HasAllMarked}
+use Rattle.collections.specs.Bits.{bit_of, digit, marks_of, IsLowestFrom, IsFirstSet, HasNoneSet, IsFirstClear, HasNoneClear, IsBitPut, SumsUp, IsSummed}
+
+-- ---- a bit and a Boolean
+
+digit_one : (b : Bool) → nat_eq (digit b) 1 ≡ b
+digit_one true = refl
+digit_one false = refl
+
+digit_of_bit : (d : ℕ) → d < 2 → digit (nat_eq d 1) ≡ d
+digit_of_bit zero small = refl
+digit_of_bit (suc zero) small = refl
+digit_of_bit (suc (suc d)) small = absurd (omega arith)
+
+-- a word that is not 0
+digit_some : (n : ℕ) → digit (not (nat_eq n 0)) ≡ min 1 n
+digit_some zero = refl
+digit_some (suc n) = let one : 1 ≡ min 1 (suc n) = omega arith in ap (λ b. digit (not b)) (eqb-suc-zero n) ∙ one
+
+-- ---- the bits of one word
+
+-- the bits of what is left of a word past its low bits
+bit_past : (word from k : ℕ) → bit_at (word / 2 ^ from) k ≡ bit_at word (from + k)
+bit_past word from k = ap (λ x. x % 2) (shr-shr word from k)
+
+module _ (word from : ℕ) where
+  -- past a word's last bit that is 1 all are 0
+  pub none_from : word / 2 ^ from ≡ 0 → (other : ℕ) → from ≤ other → bit_at word other ≡ 0
+  none_from rest other after =
+      let split : from + (other - from) ≡ other = omega arith in
+      sym (ap (bit_at word) split) ∙ sym (bit_past word from (other - from)) ∙ ap (λ x. bit_at x (other - from)) rest ∙ bit_at-zero (other - from)
+
+  -- the lowest bit of what is left of a word
+  pub lowest_from : word < 2 ^ 64 → (word / 2 ^ from ≡ 0 → ⊥) → IsLowestFrom word from (from + trailing_zeros w64 (word / 2 ^ from))
+  lowest_from fits rest =
+      let left = word / 2 ^ from in
+      let lowest = bit_at-trailing_zeros w64 left (omega arith) (omega (arith, div-le_self word (2 ^ from))) in
+      let is_set : bit_at word (from + trailing_zeros w64 left) ≡ 1 = sym (bit_past word from (trailing_zeros w64 left)) ∙ lowest.1 in
+      record {
+        past = omega arith;
+        inside = elim (cases_lt (from + trailing_zeros w64 left) 64) [
+          | inl within ↦ within
+          | inr out ↦ absurd (omega (arith, bit_at_above word 64 _ fits out, is_set))
+        ];
+        set = is_set;
+        least = λ other after before.
+            let split : from + (other - from) ≡ other = omega arith in
+            sym (ap (bit_at word) split) ∙ sym (bit_past word from (other - from)) ∙ lowest.2 (other - from) (omega arith);
+      }
+
+-- one bit is set or cleared
+module _ (word bit : ℕ) (set : Bool) (within : bit < 64) where
+  -- with a mask of one bit that bit is set
+  pub set_here : set ≡ true → bit_at (bit_or word (1 * 2 ^ bit % 2 ^ 64)) bit ≡ digit set
+  set_here is_set = bit_at_set_same w64 word bit within ∙ ap digit (sym is_set)
+
+  -- and with its complement cleared
+  pub clear_here : set ≡ false → bit_at (bit_and word (bit_not w64 (1 * 2 ^ bit % 2 ^ 64))) bit ≡ digit set
+  clear_here is_clear = bit_at_clear_same w64 word bit within ∙ ap digit (sym is_clear)
+
+-- ---- the bits of a list of words
+
+module _ (words : List ℕ) where
+  -- a number's bit in the word that it is in
+  bit_in_word : (w i : ℕ) → i < 64 → bit_of words (w * 64 + i) ≡ bit_at (slice_index words w) i
+  unfolding bit_of
+  bit_in_word w i within =
+      let at : (w * 64 + i) / 64 ≡ w = omega arith in
+      let index : (w * 64 + i) % 64 ≡ i = omega arith in
+      rw (at, index) refl
+
+  -- how a number's bit is read
+  pub read_bit : (n : ℕ) → bit_of words n ≡ digit (nat_eq (bit_and (slice_index words (n / 64) / 2 ^ (n % 64)) 1) 1)
+  unfolding bit_of
+  read_bit n =
+      let word = slice_index words (n / 64) in
+      rw (shr_and_one word (n % 64)) (sym (digit_of_bit (bit_at word (n % 64)) (bit_at-lt word (n % 64))))
+
+  -- a word that is 0, or that isn't there, has no bit
+  bit_of_zero : (n : ℕ) → slice_index words (n / 64) ≡ 0 → bit_of words n ≡ 0
+  unfolding bit_of
+  bit_of_zero n is_zero = ap (λ x. bit_at x (n % 64)) is_zero ∙ bit_at-zero (n % 64)
+
+  -- from past the last word on there is none
+  pub none_past_words : (from : ℕ) → length words ≤ from / 64 → HasNoneSet words from
+  none_past_words from past m after = bit_of_zero m (get_or_past words (m / 64) 0 (omega arith))
+
+  -- nor where all words before have none
+  pub none_past_all : (from w : ℕ) → length words ≤ w → ((m : ℕ) → from ≤ m → m < w * 64 → bit_of words m ≡ 0) → HasNoneSet words from
+  none_past_all from w past_all before m past =
+      elim (cases_lt m (w * 64)) [
+        | inl lower ↦ before m past lower
+        | inr out ↦ bit_of_zero m (get_or_past words (m / 64) 0 (omega arith))
+      ]
+
+  -- the first of a word is the first, if there is none before the word
+  pub first_by_word : (from w low bit : ℕ) → low ≡ from - w * 64 → from / 64 ≤ w → ((m : ℕ) → from ≤ m → m < w * 64 → bit_of words m ≡ 0) →
+      IsLowestFrom (slice_index words w) low bit → IsFirstSet words from (w * 64 + bit)
+  first_by_word from w low bit is_low after before lowest = record {
+    past = omega (arith, lowest.past);
+    set = bit_in_word w bit lowest.inside ∙ lowest.set;
+    least = λ m past within.
+        elim (cases_lt m (w * 64)) [
+          | inl lower ↦ before m past lower
+          | inr here ↦
+              let split : w * 64 + (m - w * 64) ≡ m = omega arith in
+              sym (ap (bit_of words) split) ∙ bit_in_word w (m - w * 64) (omega (arith, lowest.inside)) ∙ lowest.least (m - w * 64) (omega arith) (omega arith)
+        ];
+  }
+
+  -- a word with no bit goes on with what has none
+  pub none_by_word : (from w low : ℕ) → low ≡ from - w * 64 → from / 64 ≤ w → ((m : ℕ) → from ≤ m → m < w * 64 → bit_of words m ≡ 0) →
+      ((other : ℕ) → low ≤ other → other < 64 → bit_at (slice_index words w) other ≡ 0) → (m : ℕ) → from ≤ m → m < (w + 1) * 64 → bit_of words m ≡ 0
+  none_by_word from w low is_low after before none m past within =
+      elim (cases_lt m (w * 64)) [
+        | inl lower ↦ before m past lower
+        | inr here ↦
+            let split : w * 64 + (m - w * 64) ≡ m = omega arith in
+            sym (ap (bit_of words) split) ∙ bit_in_word w (m - w * 64) (omega arith) ∙ none (m - w * 64) (omega arith) (omega arith)
+      ]
+
+  -- a word is written that has all other bits as they were
+  pub bit_put : (n word bit : ℕ) → n / 64 < length words → bit_at word (n % 64) ≡ bit →
+      ((other : ℕ) → other < 64 → other ≢ n % 64 → bit_at word other ≡ bit_at (slice_index words (n / 64)) other) →
+      IsBitPut words n bit (slice_set words (n / 64) word)
+  unfolding bit_of
+  bit_put n word bit within here others = record {
+    same_length = length-set words (n / 64) word;
+    here = ap (λ x. bit_at x (n % 64)) (get_or-set_same words (n / 64) word 0 within) ∙ here;
+    others = λ m differs.
+        elim (cases_eq (m / 64) (n / 64)) [
+          | inl same ↦ rw (same, get_or-set_same words (n / 64) word 0 within) (others (m % 64) (omega arith) (λ index. differs (omega arith)))
+          | inr apart ↦ ap (λ x. bit_at x (m % 64)) (get_or-set_other words (n / 64) (m / 64) word 0 apart)
+        ];
+    other_words = λ w apart. get_or-set_other words (n / 64) w word 0 apart;
+  }
+
+-- a bit that is 0 in the complement of a word is 1 in it, and the other way round
+flipped_zero : (word i : ℕ) → word < 2 ^ 64 → i < 64 → bit_at (bit_not w64 word) i ≡ 0 → bit_at word i ≡ 1
+flipped_zero word i fits within none = omega (arith, bit_at_not w64 word i fits within, bit_at-lt word i, none)
+
+flipped_one : (word i : ℕ) → word < 2 ^ 64 → i < 64 → bit_at (bit_not w64 word) i ≡ 1 → bit_at word i ≡ 0
+flipped_one word i fits within one = omega (arith, bit_at_not w64 word i fits within, bit_at-lt word i, one)
+
+module _ (words : List ℕ) (from w low : ℕ) (fits : slice_index words w < 2 ^ 64) (is_low : low ≡ from - w * 64) (after : from / 64 ≤ w)
+    (before : (m : ℕ) → from ≤ m → m < w * 64 → bit_of words m ≡ 1) where
+  -- a number's bit in this word
+  here_is : (m : ℕ) → w * 64 ≤ m → m < (w + 1) * 64 → bit_of words m ≡ bit_at (slice_index words w) (m - w * 64)
+  here_is m past within =
+      let split : w * 64 + (m - w * 64) ≡ m = omega arith in
+      sym (ap (bit_of words) split) ∙ bit_in_word words w (m - w * 64) (omega arith)
+
+  -- the first clear bit of a word is the first, if there is none before the word
+  pub clear_by_word : (bit : ℕ) → IsLowestFrom (bit_not w64 (slice_index words w)) low bit → IsFirstClear words from (w * 64 + bit)
+  clear_by_word bit lowest = record {
+    past = omega (arith, lowest.past);
+    clear = bit_in_word words w bit lowest.inside ∙ flipped_one (slice_index words w) bit fits lowest.inside lowest.set;
+    least = λ m past within.
+        elim (cases_lt m (w * 64)) [
+          | inl lower ↦ before m past lower
+          | inr here ↦ here_is m here (omega (arith, lowest.inside)) ∙ flipped_zero (slice_index words w) (m - w * 64) fits (omega (arith, lowest.inside))
+              (lowest.least (m - w * 64) (omega arith) (omega arith))
+        ];
+  }
+
+  -- a word with no clear bit goes on with what has none
+  pub full_by_word : ((other : ℕ) → low ≤ other → other < 64 → bit_at (bit_not w64 (slice_index words w)) other ≡ 0)
+      → (m : ℕ) → from ≤ m → m < (w + 1) * 64 → bit_of words m ≡ 1
+  full_by_word none m past within =
+      elim (cases_lt m (w * 64)) [
+        | inl lower ↦ before m past lower
+        | inr here ↦ here_is m here within ∙ flipped_zero (slice_index words w) (m - w * 64) fits (omega arith) (none (m - w * 64) (omega arith) (omega arith))
+      ]
+
+-- ---- words with a summary
+
+module _ (words summary : List ℕ) (summed : SumsUp words summary) where
+  -- a word whose bit in the summary is set is there
+  later_within : (w : ℕ) → bit_of summary w ≡ 1 → w < length words
+  later_within w is_set =
+      elim (cases_lt w (length words)) [
+        | inl within ↦ within
+        | inr out ↦ absurd (omega (arith, summed w, get_or_past words w 0 out, is_set))
+      ]
+
+  -- and its lowest bit is a machine number
+  pub later_fits : (later : ℕ) → 64 * length words ≤ 2 ^ 64 → bit_of summary later ≡ 1 → slice_index words later < 2 ^ 64 →
+      later * 64 + trailing_zeros w64 (slice_index words later) < 2 ^ 64
+  later_fits later few is_set fits =
+      let word = slice_index words later in
+      let lowest = bit_at-trailing_zeros w64 word (omega (arith, summed later, is_set)) fits in
+      omega (arith, later_within later is_set, lowest.0)
+
+  module _ (from : ℕ) (none : (other : ℕ) → from % 64 ≤ other → other < 64 → bit_at (slice_index words (from / 64)) other ≡ 0) where
+    -- the word that a number is in has none from the number on
+    none_here : (m : ℕ) → from ≤ m → m < (from / 64 + 1) * 64 → bit_of words m ≡ 0
+    none_here = none_by_word words from (from / 64) (from % 64) (omega arith) (omega arith) (λ m past before. absurd (omega arith)) none
+
+    -- so the first bit of the first word that is not 0 is the first
+    pub first_later : (later : ℕ) → IsFirstSet summary (from / 64 + 1) later → slice_index words later < 2 ^ 64 →
+        IsFirstSet words from (later * 64 + trailing_zeros w64 (slice_index words later))
+    first_later later first fits =
+        let word = slice_index words later in
+        let lowest = bit_at-trailing_zeros w64 word (omega (arith, summed later, first.set)) fits in
+        let before : (m : ℕ) → from ≤ m → m < later * 64 → bit_of words m ≡ 0 = λ m past within.
+        elim (cases_lt m ((from / 64 + 1) * 64)) [
+          | inl here ↦ none_here m past here
+          | inr after ↦ bit_of_zero words m (omega (arith, summed (m / 64), first.least (m / 64) (omega arith) (omega arith)))
+        ] in
+        first_by_word words from later 0 _ (omega (arith, first.past)) (omega (arith, first.past)) before
+        (record { past = omega arith; inside = lowest.0; set = lowest.1; least = λ other _ lower. lowest.2 other lower })
+
+    -- and there is none if all later words are 0
+    pub none_later : HasNoneSet summary (from / 64 + 1) → HasNoneSet words from
+    none_later none_summed m past =
+        elim (cases_lt m ((from / 64 + 1) * 64)) [
+          | inl here ↦ none_here m past here
+          | inr after ↦ bit_of_zero words m (omega (arith, summed (m / 64), none_summed (m / 64) (omega arith)))
+        ]
+
+-- ---- marks
+
+module _ (count : ℕ) (words : List ℕ) where
+  -- there are as many marks as numbers
+  length_marks : length (marks_of count words) ≡ count
+  unfolding marks_of
+  length_marks = length-map-range_with_len (λ n. nat_eq (bit_of words n) 1) 0 count
+
+  -- each is its bit
+  mark_within : (n : ℕ) → n < count → is_marked (marks_of count words) n ≡ nat_eq (bit_of words n) 1
+  unfolding marks_of
+  mark_within n within = get_or-map-range_with_len (λ k. nat_eq (bit_of words k) 1) 0 count n n false within (omega arith)
+
+  -- two lists with the same marks are equal
+  same_marks : (marks : List Bool) → length marks ≡ count → ((n : ℕ) → n < count → is_marked marks n ≡ nat_eq (bit_of words n) 1) → marks ≡ marks_of count words
+  unfolding marks_of
+  same_marks marks long each = fill_by_all (λ k. nat_eq (bit_of words k) 1) marks count false long each
+
+  -- a bit that is read is the mark
+  mark_is : (n : ℕ) (b : Bool) → n < count → bit_of words n ≡ digit b → b ≡ is_marked (marks_of count words) n
+  mark_is n b within is_bit = sym (mark_within n within ∙ ap (λ d. nat_eq d 1) is_bit ∙ digit_one b)
+
+  module _ (none_past : HasNoneSet words count) where
+    -- a number with no bit is not marked, even past the last
+    unmarked : (n : ℕ) → bit_of words n ≡ 0 → is_marked (marks_of count words) n ≡ false
+    unmarked n is_zero =
+        elim (cases_lt n count) [
+          | inl within ↦ mark_within n within ∙ ap (λ d. nat_eq d 1) is_zero
+          | inr out ↦ get_or_past (marks_of count words) n false (omega (arith, length_marks))
+        ]
+
+    -- the first bit that is 1 is the next marked number
+    next_by_bits : (from n : ℕ) → IsFirstSet words from n → IsNextMarked (marks_of count words) from n
+    next_by_bits from n first =
+        elim (cases_lt n count) [
+          | inl within ↦ record {
+            past = first.past;
+            inside = omega (arith, length_marks);
+            marked = mark_within n within ∙ ap (λ d. nat_eq d 1) first.set;
+            least = λ m past before. unmarked m (first.least m past before);
+          }
+          | inr out ↦ absurd (omega (arith, none_past n out, first.set))
+        ]
+
+    -- and with no bit no number is marked
+    none_by_bits : (from : ℕ) → HasNoneSet words from → HasNoneMarked (marks_of count words) from
+    none_by_bits from none m past = unmarked m (none m past)
+
+    -- a number with its bit is marked
+    marked : (n : ℕ) → n < count → bit_of words n ≡ 1 → is_marked (marks_of count words) n ≡ true
+    marked n within is_one = mark_within n within ∙ ap (λ d. nat_eq d 1) is_one
+
+    -- the first bit that is 0 is the next number that isn't marked
+    next_clear_by_bits : (from n : ℕ) → n < count → IsFirstClear words from n → IsNextUnmarked (marks_of count words) from n
+    next_clear_by_bits from n within first = record {
+      past = first.past;
+      inside = omega (arith, within, length_marks);
+      unmarked = unmarked n first.clear;
+      least = λ m past before. marked m (omega (arith, within, before)) (first.least m past before);
+    }
+
+-- the marks of the words with one bit put
+marks_put : (count n : ℕ) (b : Bool) (words new : List ℕ) → IsBitPut words n (digit b) new → marks_of count new ≡ slice_set (marks_of count words) n b
+marks_put count n b words new put =
+    sym (same_marks count new (set (marks_of count words) n b) (length-set (marks_of count words) n b ∙ length_marks count words) (λ m within.
+    elim (cases_eq m n) [
+      | inl same ↦ rw same (get_or-set_same (marks_of count words) n b false (omega (arith, length_marks count words)) ∙
+          sym (ap (λ d. nat_eq d 1) put.here ∙ digit_one b))
+      | inr differs ↦ get_or-set_other (marks_of count words) n m b false differs ∙ mark_within count words m within ∙
+          sym (ap (λ d. nat_eq d 1) (put.others m differs))
+    ]))
+
+-- ---- the methods: what is seen of the words, and what is known of them
+
+module _ (count : ℕ) (words summary : List ℕ) (sums : IsSummed count words summary) (marks : List Bool) (is_marks : marks_of count words ≡ marks) where
+  count_is : length marks ≡ count
+  count_is = sym (ap length is_marks) ∙ length_marks count words
+
+  -- there are no more marks than machine numbers
+  pub few_marks : length marks < 2 ^ 64
+  few_marks = omega (arith, count_is, sums.fits)
+
+  module _ (seen : List ℕ) (is_seen : seen ≡ words) where
+    -- a number is in a word
+    pub has_word : (n : ℕ) → n < length marks → n / 64 < length seen
+    has_word n within = omega (arith, count_is, ap length is_seen, sums.words_each)
+
+    -- the numbers of the words are machine numbers
+    pub few_words : 64 * length seen ≤ 2 ^ 64
+    few_words = omega (arith, ap length is_seen, sums.words_each, sums.fits)
+
+    -- the same of what is seen
+    pub mark_read : (n : ℕ) (b : Bool) → n < length marks → bit_of seen n ≡ digit b → b ≡ is_marked marks n
+    mark_read n b within is_bit = rw (← is_marks) (mark_is count words n b (omega (arith, count_is)) (rw is_seen at is_bit))
+
+    -- the first bit that is found is the next marked number
+    pub next_is_marked : (from : ℕ) (found : Option ℕ) → IfSome found (λ n. IsFirstSet seen from n) → IfSome found (λ n. IsNextMarked marks from n)
+    next_is_marked from None _ = tt
+    next_is_marked from (Some n) first = rw (← is_marks) (next_by_bits count words sums.past from n (rw is_seen at first))
+
+    -- and where none is found, no number is marked
+    pub none_is_marked : (from : ℕ) → HasNoneSet seen from → HasNoneMarked marks from
+    none_is_marked from none = rw (← is_marks) (none_by_bits count words sums.past from (rw is_seen at none))
+
+    -- the first clear bit that is found is the next number that isn't marked
+    pub missing_is_unmarked : (from n : ℕ) → n < count → IsFirstClear seen from n → IsNextUnmarked marks from n
+    missing_is_unmarked from n within first = rw (← is_marks) (next_clear_by_bits count words sums.past from n within (rw is_seen at first))
+
+    -- where all numbers below a number have their bits, all are marked
+    pub all_are_marked : (from : ℕ) → ((m : ℕ) → from ≤ m → m < count → bit_of seen m ≡ 1) → HasAllMarked marks from
+    all_are_marked from each = λ m past within.
+        rw (← is_marks) (marked count words sums.past m (omega (arith, count_is, within)) (rw is_seen at each m past (omega (arith, count_is, within))))
+
+    -- each number is in a word
+    pub words_hold : (m : ℕ) → m < count → m < length seen * 64
+    words_hold m within = omega (arith, ap length is_seen, sums.words_each, within)
+
+  -- the word that a number is in has its bit in the summary
+  pub has_word_above : (seen : List ℕ) → seen ≡ summary → (n : ℕ) → n < length marks → n / 64 / 64 < length seen
+  has_word_above seen is_seen n within = omega (arith, count_is, ap length is_seen, sums.summary_each, sums.words_each)
+
+  module _ (n : ℕ) (b : Bool) (within : n < length marks) (seen new : List ℕ) (is_seen : seen ≡ words) (put : IsBitPut seen n (digit b) new) (stored : List ℕ)
+      (is_stored : stored ≡ new) where
+    -- a bit is put, and the mark is set
+    pub marks_set : marks_of count stored ≡ slice_set marks n b
+    marks_set = ap (marks_of count) is_stored ∙ marks_put count n b words new (rw is_seen at put) ∙ ap (λ ms. slice_set ms n b) is_marks
+
+    module _ (seen_summary new_summary : List ℕ) (word : ℕ) (is_seen_summary : seen_summary ≡ summary) (is_word : word ≡ slice_index new (n / 64))
+        (put_above : IsBitPut seen_summary (n / 64) (digit (not (nat_eq word 0))) new_summary) where
+      -- the summary still sums up, once the word's bit is put in it
+      pub set_summed : (stored_summary : List ℕ) → stored_summary ≡ new_summary → IsSummed count stored stored_summary
+      set_summed stored_summary is_stored_summary = rw (is_stored, is_stored_summary) (record {
+        fits = sums.fits;
+        words_each = put.same_length ∙ ap length is_seen ∙ sums.words_each;
+        summary_each = put_above.same_length ∙ ap length is_seen_summary ∙ sums.summary_each ∙
+            ap (λ k. div_ceil k 64) (sym (put.same_length ∙ ap length is_seen));
+        past = λ m out. put.others m (λ same. omega (arith, count_is)) ∙ ap (λ ws. bit_of ws m) is_seen ∙ sums.past m out;
+        summed = λ w.
+            elim (cases_eq w (n / 64)) [
+              | inl same ↦ rw same (put_above.here ∙ digit_some word ∙ ap (min 1) is_word)
+              | inr differs ↦
+                  put_above.others w differs ∙ ap (λ ws. bit_of ws w) is_seen_summary ∙ sums.summed w
+                  ∙ sym (ap (min 1) (put.other_words w differs ∙ ap (λ ws. slice_index ws w) is_seen))
+            ];
+      })
+
+-- ---- no number is marked
+
+-- a word of a list of zeros is 0, also past its end
+zeros : (k i : ℕ) → slice_index (replicate k 0) i ≡ 0
+zeros k i =
+    elim (cases_lt i k) [
+      | inl within ↦ get_or-replicate k i 0 0 within
+      | inr out ↦ get_or_past (replicate k 0) i 0 (omega (arith, length-replicate {A = ℕ} k 0))
+    ]
+
+-- a list that was made longer from none
+pub fresh : (k n : ℕ) (none zeros : List ℕ) → none ≡ [] → n ≡ 0 → zeros ≡ take k none ++ replicate (k - n) 0 → zeros ≡ replicate k 0
+fresh k n none zeros is_none is_zero made =
+    let all : k - n ≡ k = omega arith in
+    let nothing : take k none ≡ [] = ap (take k) is_none ∙ take_all k [] (omega arith) in
+    made ∙ rw (all, nothing) refl
+
+module _ (count k : ℕ) (words : List ℕ) (are_zero : words ≡ replicate k 0) where
+  -- words that are 0 have no bit
+  none_set : HasNoneSet words 0
+  none_set m _ = bit_of_zero words m (ap (λ ws. get_or ws (m / 64) 0) are_zero ∙ zeros k (m / 64))
+
+  -- no number is marked
+  pub no_marks : marks_of count words ≡ replicate count false
+  no_marks = sym (same_marks count words (replicate count false) (length-replicate count false)
+      (λ n within. get_or-replicate count n false false within ∙ sym (ap (λ d. nat_eq d 1) (none_set n (omega arith)))))
+
+  -- and a summary of zeros sums up
+  pub zeros_summed : (l : ℕ) (summary : List ℕ) → count < 2 ^ 64 → summary ≡ replicate l 0 → k ≡ div_ceil count 64 → l ≡ div_ceil k 64 →
+      IsSummed count words summary
+  zeros_summed l summary fits summary_zero is_k is_l = record {
+    fits = fits;
+    words_each = ap length are_zero ∙ length-replicate {A = ℕ} k 0 ∙ is_k;
+    summary_each = ap length summary_zero ∙ length-replicate {A = ℕ} l 0 ∙ is_l ∙
+        ap (λ j. div_ceil j 64) (sym (ap length are_zero ∙ length-replicate {A = ℕ} k 0));
+    past = λ n _. none_set n (omega arith);
+    summed = λ w.
+        bit_of_zero summary w (ap (λ ws. get_or ws (w / 64) 0) summary_zero ∙ zeros l (w / 64))
+        ∙ sym (ap (min 1) (ap (λ ws. get_or ws w 0) are_zero ∙ zeros k w));
+  }
+
+-- the words of a set, and their summary, are made 0
+module _ (count : ℕ) (words summary : List ℕ) (sums : IsSummed count words summary) (marks : List Bool) (is_marks : marks_of count words ≡ marks)
+    (zero_words : List ℕ) (are_zero : zero_words ≡ replicate (length words) 0) where
+  pub cleared : marks_of count zero_words ≡ replicate (length marks) false
+  cleared = no_marks count (length words) zero_words are_zero ∙ ap (λ k. replicate k false) (sym (count_is count words summary sums marks is_marks))
+
+  pub cleared_sums : (zero_summary : List ℕ) → zero_summary ≡ replicate (length summary) 0 → IsSummed count zero_words zero_summary
+  cleared_sums zero_summary are_zero_too = zeros_summed count (length words) zero_words are_zero (length summary) zero_summary sums.fits are_zero_too
+      sums.words_each sums.summary_each

@@ -1,2 +1,0 @@
-pub mod Confinement
-pub mod Worked

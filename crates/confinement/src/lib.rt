@@ -1,5 +1,0 @@
-//! Confinement: what processes can change that have authority over a set of numbers alone.
-#![tactic(auto)]
-
-pub mod laws;
-pub mod worked;

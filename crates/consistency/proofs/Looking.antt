@@ -1,9 +1,0 @@
--- Frames that were only read.
-use Rattle.consistency.proofs.Names.{OnlyFetches, Parts}
-use Rattle.std.proofs.Common.{◌≡◌}
-
-module _ {S : Type 0} (parts : S → Parts) (Continues : S → S → Type 0) where
-  -- frames were only read, and the device didn't fail
-  pub record HasLooked (old now : S) : Type 0 where
-    pub snapshots : OnlyFetches parts Continues old now
-    pub failures : (parts now).failures ≡ (parts old).failures

@@ -1,7 +1,0 @@
-use Rattle.consistency.proofs.Trees.{owned_whole}
-use Rattle.consistency.proofs.banks.find_unowned.Goals as goal
-
-pub returns : goal.returns
-returns g c =
-    owned_whole (g.F.Frames.parts c.args.store.now) c.table.result.now c.count-number-end.result c.loop-number.number c.table.ensures c.count-number-end.ensures
-    c.loop-number-test.false (c.has_prime_bank.ensures.0 c.if-not-has_prime_bank.false) c.loop-number.invariant.owners c.loop-number.invariant.chains

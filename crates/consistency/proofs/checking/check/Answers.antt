@@ -1,9 +1,0 @@
-use Rattle.consistency.proofs.Names.{Option, subst, frames_of, BadImage, Tells}
-use Rattle.consistency.proofs.Sound.{consistent_is_sound}
-use Rattle.consistency.proofs.checking.check.Goals as goal
-
-pub returns-in-Ok-None-clause-sound : goal.returns-in-Ok-None-clause-sound
-returns-in-Ok-None-clause-sound g c =
-    let p = g.F.Frames.parts c.args.store.now in
-    let tells = subst (λ (why : Option BadImage). Tells (frames_of p) why) c.in-Ok-None.field-0-is c.in-Ok-None.ensures.tells in
-    consistent_is_sound p.geometry c.args.age (frames_of p) c.requires.keepable c.requires.most tells.0 tells.1 tells.2

@@ -1,6 +1,0 @@
-use Rattle.std.proofs.Common.{rules, refl}
-use Rattle.contents.proofs.Zeros.{zero_from_start}
-use Rattle.contents.proofs.page.Page.blank.Goals as goal
-
-pub invariant_of-result : goal.invariant_of-result
-invariant_of-result c = zero_from_start _ refl

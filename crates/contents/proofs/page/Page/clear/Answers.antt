@@ -1,5 +1,0 @@
-use Rattle.contents.proofs.Zeros.{zero_from_start}
-use Rattle.contents.proofs.page.Page.clear.Goals as goal
-
-pub invariant_of-self : goal.invariant_of-self
-invariant_of-self c = zero_from_start c.clear_before.new.words c.clear_before.ensures

@@ -1,6 +1,0 @@
-use Rattle.described_world.specs.Laid.{OfBank}
-use Rattle.described_world.proofs.LaidFrames.{IsLaying}
-use Rattle.described_world.proofs.objects.lay_banks.Given as goal
-
-abbrev pub invariant-loop-bank : goal.invariant-loop-bank
-invariant-loop-bank l = IsLaying OfBank l.banks l.initial.world l.world l.bank-index

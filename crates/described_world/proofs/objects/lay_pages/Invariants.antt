@@ -1,6 +1,0 @@
-use Rattle.described_world.specs.Laid.{OfPage}
-use Rattle.described_world.proofs.LaidFrames.{IsLaying}
-use Rattle.described_world.proofs.objects.lay_pages.Given as goal
-
-abbrev pub invariant-loop-page : goal.invariant-loop-page
-invariant-loop-page l = IsLaying OfPage l.pages l.initial.world l.world l.page-index

@@ -1,6 +1,0 @@
-use Rattle.std.proofs.Common.{◌≡◌, replicate}
-use Rattle.model.specs.declared.object.Content.TheVariants as content
-use Rattle.described_world.proofs.world.free_contents.Given as goal
-
-abbrev pub invariant-loop : goal.invariant-loop
-invariant-loop l = l.contents.items ≡ replicate l.counter content.Free

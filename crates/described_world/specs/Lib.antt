@@ -1,4 +1,0 @@
-pub mod Names
-pub mod Described
-pub mod Laid
-pub mod Laws

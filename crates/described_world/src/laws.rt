@@ -1,8 +1,0 @@
-//! A law of described frames, the contract of a function that does nothing.
-
-ghost use Rattle.described_world.specs.Laws.{DescribedIsWhole};
-
-/// In frames that are described each process is a root and its annex.
-pub fn described_is_whole()
-    ensures { DescribedIsWhole }
-{}

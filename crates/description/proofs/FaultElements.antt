@@ -1,0 +1,39 @@
+-- Lists with a number outside a range or with a number twice, and what holds of an element.
+use Rattle.description.proofs.Names.{ℕ, zero, suc, List, [], length, map, get_or, take, Option, Some, slice_get, slice_index, IsSomeAnd, refl, sym, ap, subst}
+use Rattle.description.proofs.Names.{arith, All, Contains, take_all, All-cons, All-head, All-more, All-tail, slice_get_read, slice_get-get_or, AreDistinct}
+use Rattle.description.proofs.Names.{IsOutside, IsTwice}
+use Rattle.std.proofs.Common.{◌≡◌, ◌≢◌, ◌+◌, ◌<◌, ◌≤◌, ◌∷◌, ◌∙◌}
+
+-- an element of an index, and what holds of it
+pub element_at : {A : Type 0} (P : A → Type 0) (xs : List A) (i : ℕ) (x : A) → i < length xs → x ≡ get_or xs i x → P x → IsSomeAnd (slice_get xs i) P
+element_at {A = A} P xs i x within is holds = subst (λ (o : Option A). IsSomeAnd o P) (sym (slice_get_read xs (length xs) i x refl within is)) holds
+
+-- all hold at the end of a loop
+pub all_taken : {A : Type 0} (P : A → Type 0) (xs : List A) (i : ℕ) → length xs ≤ i → All P (take i xs) → All P xs
+all_taken P xs i past all = subst (All P) (take_all i xs past) all
+
+-- no number before an index comes again
+abbrev pub ApartBelow : List ℕ → ℕ → Type 0
+ApartBelow ns n = (k j : ℕ) → k < n → k < j → j < length ns → slice_index ns j ≢ slice_index ns k
+
+pub apart_distinct : (ns : List ℕ) (n : ℕ) → length ns ≤ n → ApartBelow ns n → AreDistinct ns
+apart_distinct [] n past apart = tt
+apart_distinct (m ∷ ns) n past apart = (
+  λ there. apart 0 (suc there.0) (omega arith) (omega arith) (omega (arith, there.1)) (first ns there.0 there.1 there.2),
+  apart_distinct ns n (omega arith) (λ k j lt less within. apart (suc k) (suc j) (omega (arith, within)) (omega arith) (omega arith)),
+)
+  where
+    first : (xs : List ℕ) (k : ℕ) → k < length xs → get_or xs k m ≡ m → slice_index xs k ≡ m
+    first [] k lt is = absurd (omega arith)
+    first (x ∷ xs) zero lt is = is
+    first (x ∷ xs) (suc k) lt is = first xs k (omega arith) is
+
+-- one more that holds
+pub one_more : {A : Type 0} (P : A → Type 0) (xs : List A) (i : ℕ) (x : A) → i < length xs → x ≡ get_or xs i x → All P (take i xs) → P x →
+    All P (take (i + 1) xs)
+one_more P xs i x within is all holds = All-more P xs i x within all (subst P is holds)
+
+-- what holds of what is made of each holds of each so made
+pub all_unmapped : {A B : Type 0} (P : B → Type 0) (f : A → B) (xs : List A) → All P (map f xs) → All (λ x. P (f x)) xs
+all_unmapped P f [] all = λ k d lt. absurd (omega arith)
+all_unmapped P f (x ∷ xs) all = All-cons (λ y. P (f y)) x xs (All-head P (f x) (map f xs) all) (all_unmapped P f xs (All-tail P (f x) (map f xs) all))

@@ -1,0 +1,216 @@
+-- Where a table isn't that of a description.
+use Rattle.description.proofs.Names.{ℕ, List, [], length, map, codes, Option, None, Some, Result, Ok, Err, IsSomeAnd, Vec, refl, sym, ap, subst, arith}
+use Rattle.description.proofs.Names.{AllocError, IfOk, IsTrue, MatchOption, All, Contains, All-cons, All-contains, none-some, same_Some, Data, Items, Members}
+use Rattle.description.proofs.Names.{array, table, get_item, get_member, view, Value, IsBank, IsDescription, IsList, IsNode, IsPage, IsProcess, IsRange}
+use Rattle.description.proofs.Names.{has_only, whole_ranges, Key, Nodes, Pages, Log, Layout, Age, Ranges, Banks, Processes, NodeList, PageList, BankNumber}
+use Rattle.description.proofs.Names.{BankOwner, BankLimit, ProcessRoot, ProcessAnnex, ProcessOwner, ProcessState, ProcessKey, ProcessWords, ProcessSpace}
+use Rattle.description.proofs.Names.{ProcessRegisters, NodeNumber, NodeOwner, NodeSlots, PageNumber, PageOwner, PageWords, Flaw, Unknown, Misfit, Item}
+use Rattle.description.proofs.Names.{ShapePlace, TableName, HasBadItem, HasItemAs, IsBadAt, IsFlawAt, IsTableOf, IsWholeItem, BreaksShape, Fits, HasItem}
+use Rattle.description.proofs.Names.{IsFlaw, IsItem, IsTableAt, IsUnlisted, key_name, keys_of, object_at}
+use Rattle.std.specs.Borrow.{Bor}
+use Rattle.std.proofs.Common.{◌≡◌, ◌≢◌, ◌<◌, ◌∷◌, ◌∙◌}
+use Rattle.description.specs.declared.faults.place.TableName.TheVariants as name
+use Rattle.description.proofs.Decisions.{at_some, bad_at, unlisted_at, with_default}
+
+-- a key that isn't that of a list of objects
+abbrev pub IsPlain : Key → Type 0
+IsPlain key = (i : ℕ) → object_at key i ≡ None
+
+pub plain_item : (key : Key) (i : ℕ) → object_at key i ≡ None → (d : Data) → IsItem key d → IsWholeItem key d
+plain_item Banks i plain d said = absurd (none-some (name.Bank i) (sym plain))
+plain_item Processes i plain d said = absurd (none-some (name.Process i) (sym plain))
+plain_item NodeList i plain d said = absurd (none-some (name.Node i) (sym plain))
+plain_item PageList i plain d said = absurd (none-some (name.Page i) (sym plain))
+plain_item other i plain d said = said
+
+-- a table with all its keys, and no others, says what it has to
+module _ (ms : Members) where
+  pub all_fit : (which : TableName) → All (λ key. Fits key ms) (keys_of which) → IsTrue (has_only (map key_name (keys_of which)) ms) → IsTableOf which ms
+  all_fit name.Whole all known =
+      let nodes : Fits Nodes ms = all 0 Nodes (omega arith) in
+      let pages : Fits Pages ms = all 1 Nodes (omega arith) in
+      let log : Fits Log ms = all 2 Nodes (omega arith) in
+      let layout : Fits Layout ms = all 3 Nodes (omega arith) in
+      let age : Fits Age ms = all 4 Nodes (omega arith) in
+      let ranges : Fits Ranges ms = all 5 Nodes (omega arith) in
+      let ranged = with_default (IsList IsRange) (get_member (codes "ranges") ms) (whole_ranges (record { nodes = nodes.0; pages = pages.0; log = log.0 }))
+      (omega arith) ranges.0 ranges.1 in
+      let banks : Fits Banks ms = all 6 Nodes (omega arith) in
+      let processes : Fits Processes ms = all 7 Nodes (omega arith) in
+      let plain : Fits NodeList ms = all 8 Nodes (omega arith) in
+      let paged : Fits PageList ms = all 9 Nodes (omega arith) in (
+        record {
+          geometry = record { nodes = nodes.0; pages = pages.0; log = log.0 };
+          layout = layout.0;
+          age = age.0;
+          ranges = ranged.0;
+          banks = banks.0;
+          processes = processes.0;
+          nodes = plain.0;
+          pages = paged.0;
+        },
+        record {
+          known = known;
+          geometry = record { nodes = nodes.1; pages = pages.1; log = log.1 };
+          layout = layout.1;
+          age = age.1;
+          ranges = ranged.1;
+          banks = banks.1;
+          processes = processes.1;
+          nodes = plain.1;
+          pages = paged.1;
+        },
+      )
+  all_fit (name.Bank i) all known =
+      let number : Fits BankNumber ms = all 0 Nodes (omega arith) in
+      let owner : Fits BankOwner ms = all 1 Nodes (omega arith) in
+      let limit : Fits BankLimit ms = all 2 Nodes (omega arith) in
+      (record { number = number.0; owner = owner.0; limit = limit.0 }, record { known = known; number = number.1; owner = owner.1; limit = limit.1 })
+  all_fit (name.Process i) all known =
+      let root : Fits ProcessRoot ms = all 0 Nodes (omega arith) in
+      let annex : Fits ProcessAnnex ms = all 1 Nodes (omega arith) in
+      let owner : Fits ProcessOwner ms = all 2 Nodes (omega arith) in
+      let state : Fits ProcessState ms = all 3 Nodes (omega arith) in
+      let key : Fits ProcessKey ms = all 4 Nodes (omega arith) in
+      let words : Fits ProcessWords ms = all 5 Nodes (omega arith) in
+      let space : Fits ProcessSpace ms = all 6 Nodes (omega arith) in
+      let registers : Fits ProcessRegisters ms = all 7 Nodes (omega arith) in (
+        record {
+          root = root.0;
+          annex = annex.0;
+          owner = owner.0;
+          state = state.0;
+          key = key.0;
+          words = words.0;
+          space = space.0;
+          registers = registers.0;
+        },
+        record {
+          known = known;
+          root = root.1;
+          annex = annex.1;
+          owner = owner.1;
+          state = state.1;
+          key = key.1;
+          words = words.1;
+          space = space.1;
+          registers = registers.1;
+        },
+      )
+  all_fit (name.Node i) all known =
+      let number : Fits NodeNumber ms = all 0 Nodes (omega arith) in
+      let owner : Fits NodeOwner ms = all 1 Nodes (omega arith) in
+      let slots : Fits NodeSlots ms = all 2 Nodes (omega arith) in
+      (record { number = number.0; owner = owner.0; slots = slots.0 }, record { known = known; number = number.1; owner = owner.1; slots = slots.1 })
+  all_fit (name.Page i) all known =
+      let number : Fits PageNumber ms = all 0 Nodes (omega arith) in
+      let owner : Fits PageOwner ms = all 1 Nodes (omega arith) in
+      let words : Fits PageWords ms = all 2 Nodes (omega arith) in
+      (record { number = number.0; owner = owner.0; words = words.0 }, record { known = known; number = number.1; owner = owner.1; words = words.1 })
+
+-- what was found in the list at a key
+pub item_found : {A : Type 0} (P : Data → A → Type 0) (text : List ℕ) (ms : Members) (r : Result (Option (ℕ × Bor Value)) AllocError) (Without : Type 0)
+    (Q : Data → Type 0)
+    → ((e : Data) → Q e → (x : A) × P e x) → (((ds : Items) → get_member text ms ≡ Some (array ds) → ⊥) → Without)
+    → IfOk r (λ found. MatchOption found ((ds : Items) → get_member text ms ≡ Some (array ds) → ⊥) (λ p. HasBadItem P text p.0 (view p.1.now) ms))
+    → IfOk r (λ found. MatchOption found Without
+    (λ p. (ds : Items) × (get_member text ms ≡ Some (array ds)) × (get_item p.0 ds ≡ Some (view p.1.now)) × (Q (view p.1.now) → ⊥)))
+item_found P text ms (Ok None) Without Q part none found = none found
+item_found P text ms (Ok (Some p)) Without Q part none found = (found.0, found.1, found.2, λ q. let x = part (view p.1.now) q in found.3 x.0 x.1)
+item_found P text ms (Err e) Without Q part none found = tt
+
+pub has_item : (key : List ℕ) (i : ℕ) (ms : Members) (e : Data) (P : Data → Type 0) (ds : Items) → get_member key ms ≡ Some (array ds) →
+    get_item i ds ≡ Some e → P e → HasItem key i P ms
+has_item key i ms e P ds at there holds = (ds, at, subst (λ (o : Option Data). IsSomeAnd o P) (sym there) holds)
+
+pub flaw_of : (which : TableName) (key : Key) (ms : Members) (flaw : Flaw) → Contains (keys_of which) key → IsFlawAt key ms flaw →
+    IsFlaw (keys_of which) ms flaw
+flaw_of which key ms (Unknown k) there is = absurd is
+flaw_of which key ms (Misfit k) there is = subst (λ j. Contains (keys_of which) j × (Fits j ms → ⊥) × IsUnlisted j ms) (sym is.0) (there, is.1, is.2)
+flaw_of which key ms (Item k i) there is = subst (λ j. Contains (keys_of which) j × HasItem (key_name j) i (λ d. IsItem j d → ⊥) ms) (sym is.0) (there, is.1)
+
+-- the same of the value at the key
+pub bad_found : {A : Type 0} (P : Data → A → Type 0) (key : List ℕ) (ms : Members) (d : Data) (r : Result (Option (ℕ × Bor Value)) AllocError) →
+    Some d ≡ get_member key ms
+    → IfOk r (λ found. MatchOption found ((ds : Items) → d ≡ array ds → ⊥) (λ p. IsBadAt P p.0 (view p.1.now) d))
+    → IfOk r (λ found. MatchOption found ((ds : Items) → get_member key ms ≡ Some (array ds) → ⊥) (λ p. HasBadItem P key p.0 (view p.1.now) ms))
+bad_found P key ms d (Ok None) is found = unlisted_at key ms d is found
+bad_found P key ms d (Ok (Some p)) is found = bad_at P key ms p.0 (view p.1.now) d is found
+bad_found P key ms d (Err e) is found = tt
+
+pub flaw_found : (key : Key) (ms : Members) (found : Option (ℕ × Bor Value)) (i : ℕ) (b : Bor Value) → IsPlain key → found ≡ Some (i, b)
+    → MatchOption found (IsUnlisted key ms) (λ p. HasItemAs key p.0 (view p.1.now) ms) → IsFlawAt key ms (Item key i)
+flaw_found key ms found i b plain is known =
+    let h = at_some (IsUnlisted key ms) (λ (p : ℕ × Bor Value). HasItemAs key p.0 (view p.1.now) ms) found (i, b) is known in
+    (refl, has_item (key_name key) i ms (view b.now) (λ d. IsItem key d → ⊥) h.0 h.1 h.2 (λ item. h.3 (plain_item key 0 (plain 0) (view b.now) item)))
+
+pub flaw_passed : (which : TableName) (key : Key) (ms : Members) (r : Result Flaw AllocError) → Contains (keys_of which) key →
+    IfOk r (λ flaw. IsFlawAt key ms flaw)
+    → IfOk r (λ flaw. IsFlaw (keys_of which) ms flaw)
+flaw_passed which key ms (Ok flaw) there is = flaw_of which key ms flaw there is
+flaw_passed which key ms (Err e) there is = tt
+
+-- the item of an index has what one has that it is
+pub item_has : (key : List ℕ) (i : ℕ) (ms : Members) (e : Data) (P : Data → Type 0) → HasItem key i (λ d. d ≡ e) ms → P e → HasItem key i P ms
+item_has key i ms e P at holds = (at.0, at.1, go (get_item i at.0) at.2)
+  where
+    go : (o : Option Data) → IsSomeAnd o (λ d. d ≡ e) → IsSomeAnd o P
+    go None is = absurd is
+    go (Some d) is = subst P (sym is) holds
+
+-- the table of an object says nothing where its item in the list doesn't
+pub table_refused : (key : Key) (i : ℕ) (which : TableName) (d : Data) (t : Members) → object_at key i ≡ Some which → d ≡ table t → (IsWholeItem key d → ⊥) →
+    IsTableOf which t → ⊥
+table_refused Nodes i which d t object is none said = absurd (none-some which object)
+table_refused Pages i which d t object is none said = absurd (none-some which object)
+table_refused Log i which d t object is none said = absurd (none-some which object)
+table_refused Layout i which d t object is none said = absurd (none-some which object)
+table_refused Age i which d t object is none said = absurd (none-some which object)
+table_refused Ranges i which d t object is none said = absurd (none-some which object)
+table_refused Banks i which d t object is none said = let x = subst (λ w. IsTableOf w t) (sym (same_Some (name.Bank i) which object)) said in none
+    (x.0, (t, is, x.1))
+table_refused Processes i which d t object is none said = let x = subst (λ w. IsTableOf w t) (sym (same_Some (name.Process i) which object)) said in none
+    (x.0, (t, is, x.1))
+table_refused NodeList i which d t object is none said = let x = subst (λ w. IsTableOf w t) (sym (same_Some (name.Node i) which object)) said in none
+    (x.0, (t, is, x.1))
+table_refused PageList i which d t object is none said = let x = subst (λ w. IsTableOf w t) (sym (same_Some (name.Page i) which object)) said in none
+    (x.0, (t, is, x.1))
+table_refused BankNumber i which d t object is none said = absurd (none-some which object)
+table_refused other i which d t object is none said = absurd (none-some which object)
+
+pub table_there : (key : Key) (i : ℕ) (which : TableName) (ms : Members) (d : Data) (t : Members) → object_at key i ≡ Some which →
+    HasItem (key_name key) i (λ x. x ≡ d) ms → d ≡ table t → IsTableAt ms which t
+table_there Nodes i which ms d t object at is = absurd (none-some which object)
+table_there Pages i which ms d t object at is = absurd (none-some which object)
+table_there Log i which ms d t object at is = absurd (none-some which object)
+table_there Layout i which ms d t object at is = absurd (none-some which object)
+table_there Age i which ms d t object at is = absurd (none-some which object)
+table_there Ranges i which ms d t object at is = absurd (none-some which object)
+table_there Banks i which ms d t object at is = subst (λ w. IsTableAt ms w t) (same_Some (name.Bank i) which object)
+    (item_has (key_name Banks) i ms d (λ x. x ≡ table t) at is)
+table_there Processes i which ms d t object at is = subst (λ w. IsTableAt ms w t) (same_Some (name.Process i) which object)
+    (item_has (key_name Processes) i ms d (λ x. x ≡ table t) at is)
+table_there NodeList i which ms d t object at is = subst (λ w. IsTableAt ms w t) (same_Some (name.Node i) which object)
+    (item_has (key_name NodeList) i ms d (λ x. x ≡ table t) at is)
+table_there PageList i which ms d t object at is = subst (λ w. IsTableAt ms w t) (same_Some (name.Page i) which object)
+    (item_has (key_name PageList) i ms d (λ x. x ≡ table t) at is)
+table_there BankNumber i which ms d t object at is = absurd (none-some which object)
+table_there other i which ms d t object at is = absurd (none-some which object)
+
+pub not_table : (key : Key) (i : ℕ) (which : TableName) (d : Data) → object_at key i ≡ Some which → ((ms : Members) → d ≡ table ms → ⊥) → IsItem key d → ⊥
+not_table Banks i which d object none said = none said.0 said.1
+not_table Processes i which d object none said = none said.0 said.1
+not_table NodeList i which d object none said = none said.0 said.1
+not_table PageList i which d object none said = none said.0 said.1
+not_table other i which d object none said = absurd (none-some which object)
+
+-- the place of an item that isn't of its form, and of an object in whose table something is wrong
+pub item_place : (key : Key) (i : ℕ) (e : Data) → Contains (keys_of name.Whole) key → (IsItem key e → ⊥) → (ms : Members) →
+    HasItem (key_name key) i (λ d. d ≡ e) ms
+    → BreaksShape ms (record { table = name.Whole; flaw = Item key i })
+item_place key i e there none ms at = (ms, refl, (there, item_has (key_name key) i ms e (λ d. IsItem key d → ⊥) at none))
+
+pub object_place : (key : Key) (i : ℕ) (which : TableName) (e : Data) (t : Members) (flaw : Flaw) → object_at key i ≡ Some which → e ≡ table t →
+    IsFlaw (keys_of which) t flaw → (ms : Members)
+    → HasItem (key_name key) i (λ d. d ≡ e) ms → BreaksShape ms (record { table = which; flaw = flaw })
+object_place key i which e t flaw object is wrong ms at = (t, table_there key i which ms e t object at is, wrong)

@@ -1,0 +1,62 @@
+-- Frames that are laid one after the other.
+use Rattle.description.proofs.Names.{ℕ, List, drop, length, map, slice_index_or, refl, sym, ap, subst, arith, vec_len, All, drop_all, drop_more, All-append}
+use Rattle.description.proofs.Names.{All-cons, All-nil, Frame, Cap, Content, World, first_frame, Entry, IsLaid, IsPut, frame_of, frames_of, laid, number_of}
+use Rattle.description.specs.Laid.{Fits}
+use Rattle.std.proofs.Common.{◌≡◌, ◌+◌, ◌<◌, ◌≤◌, ◌∷◌, ◌++◌, ◌∙◌}
+use Rattle.description.proofs.Lists.{each_append}
+
+pub laid_append : (es fs : List Entry) (xs : List Frame) → laid (es ++ fs) xs ≡ laid fs (laid es xs)
+unfolding laid
+laid_append es fs xs = each_append number_of frame_of es fs xs
+
+-- some objects, then others
+pub laid_both : (es fs : List Entry) (old mid new : World) → IsLaid es old mid → IsLaid fs mid new → IsLaid (es ++ fs) old new
+laid_both es fs old mid new first second = record {
+  frames = second.frames ∙ ap (laid fs) first.frames ∙ sym (laid_append es fs (frames_of old));
+  fits = All-append Fits es fs first.fits second.fits;
+  headers = second.headers ∙ first.headers;
+  contents = second.contents ∙ first.contents;
+}
+
+-- those before an index are laid
+pub record IsLaying {E : Type 0} (entry : E → Entry) (es : List E) (old now : World) (i : ℕ) : Type 0 where
+  pub frames : laid (map entry (drop i es)) (frames_of now) ≡ laid (map entry es) (frames_of old)
+  pub fits : All Fits (map entry (drop i es)) → All Fits (map entry es)
+  pub headers : vec_len now.headers ≡ vec_len old.headers
+  pub contents : vec_len now.contents ≡ vec_len old.contents
+
+pub none_laid : {E : Type 0} → (entry : E → Entry) (es : List E) (old : World) → IsLaying entry es old old 0
+none_laid entry es old = record { frames = refl; fits = λ h. h; headers = refl; contents = refl }
+
+pub more_laid : {E : Type 0} → (entry : E → Entry) (es : List E) (old now next : World) (i : ℕ) (e : E) → drop i es ≡ e ∷ drop (i + 1) es → Fits (entry e)
+    → IsPut (number_of (entry e)) (frame_of (entry e)) now next → IsLaying entry es old now i → IsLaying entry es old next (i + 1)
+unfolding laid
+more_laid entry es old now next i e split fits put was = record {
+  frames = ap (laid (map entry (drop (i + 1) es))) put.frames ∙ sym (ap (λ fs. laid (map entry fs) (frames_of now)) split) ∙ was.frames;
+  fits = λ rest. was.fits (subst (λ fs. All Fits (map entry fs)) (sym split) (All-cons Fits (entry e) (map entry (drop (i + 1) es)) fits rest));
+  headers = put.headers ∙ was.headers;
+  contents = put.contents ∙ was.contents;
+}
+
+pub all_laid : {E : Type 0} → (entry : E → Entry) (es : List E) (old now : World) (i : ℕ) → length es ≤ i → IsLaying entry es old now i →
+    IsLaid (map entry es) old now
+unfolding laid
+all_laid entry es old now i done was = record {
+  frames = sym (ap (λ fs. laid (map entry fs) (frames_of now)) (drop_all i es done)) ∙ was.frames;
+  fits = was.fits (subst (λ fs. All Fits (map entry fs)) (sym (drop_all i es done)) (All-nil Fits));
+  headers = was.headers;
+  contents = was.contents;
+}
+
+-- an element that was read is the first from its index on
+pub split_at : {E : Type 0} → (es : List E) (i : ℕ) (e : E) → i < length es → e ≡ slice_index_or es i e → drop i es ≡ e ∷ drop (i + 1) es
+split_at es i e lt is = drop_more es i e lt ∙ ap (λ f. f ∷ drop (i + 1) es) (sym is)
+
+-- a number of the old world is one of the new world
+pub still_within : (n count old : ℕ) → n < old → count ≡ old → n < count
+still_within n count old within same = omega arith
+
+-- a frame put with a content is one put with an equal content
+pub put_same : (n owner : ℕ) (one other : Content Cap) (old new : World) → one ≡ other → IsPut n (first_frame owner one) old new →
+    IsPut n (first_frame owner other) old new
+put_same n owner one other old new same put = subst (λ held. IsPut n (first_frame owner held) old new) same put

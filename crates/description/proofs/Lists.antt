@@ -1,0 +1,279 @@
+-- Distinct numbers, and writes at them.
+use Rattle.description.proofs.Names.{ℕ, zero, suc, inl, inr, List, [], map, length, replicate, Some, slice_get, drop, take, slice_index_or, slice_set, refl}
+use Rattle.description.proofs.Names.{sym, ap, subst, arith, All, Any, Contains, cases_eq, nat_tests, get_or-set_same, get_or-set_other, length-drop, length-set}
+use Rattle.description.proofs.Names.{drop_all, drop_more, take_all, All-head, All-set, All-tail, Contains-get_or, AreDistinct, first_named, set_each, is_marked}
+use Rattle.description.proofs.Names.{true, false, true≢false, Bool}
+use Rattle.std.proofs.Common.{◌≡◌, ◌≢◌, ◌⊎◌, ◌+◌, ◌<◌, ◌≤◌, ◌∷◌, ◌++◌, ◌-◌, ◌∙◌}
+use Rattle.std.specs.Prelude.{◌↔◌}
+
+pub contains_here : {X : Type 0} → (x : X) (xs : List X) → Contains (x ∷ xs) x
+contains_here x xs = (0, omega arith, refl)
+
+pub contains_there : {X : Type 0} → (x y : X) (xs : List X) → Contains xs x → Contains (y ∷ xs) x
+contains_there x y xs h = (suc h.0, omega (arith, h.1), h.2)
+
+-- what a list holds is its first or in the rest
+cons_at : {X : Type 0} → (x y : X) (xs : List X) (k : ℕ) → k < length (y ∷ xs) → slice_index_or (y ∷ xs) k x ≡ x → (y ≡ x) ⊎ Contains xs x
+cons_at x y xs zero lt e = inl e
+cons_at x y xs (suc k) lt e = inr (k, omega arith, e)
+
+pub contains_cases : {X : Type 0} → (x y : X) (xs : List X) → Contains (y ∷ xs) x → (y ≡ x) ⊎ Contains xs x
+contains_cases x y xs h = cons_at x y xs h.0 h.1 h.2
+
+pub contains_none : {X : Type 0} → (x : X) → Contains [] x → ⊥
+contains_none x h = omega (arith, h.1)
+
+-- a list holds a number or doesn't
+pub contains_either : (ns : List ℕ) (n : ℕ) → Contains ns n ⊎ (Contains ns n → ⊥)
+contains_either [] n = inr (contains_none n)
+contains_either (m ∷ ns) n = elim (cases_eq m n) [
+  | inl e ↦ inl (subst (Contains (m ∷ ns)) e (contains_here m ns))
+  | inr differ ↦ elim (contains_either ns n) [
+    | inl h ↦ inl (contains_there n m ns h)
+    | inr none ↦ inr (λ h. elim (contains_cases n m ns h) [ inl e ↦ differ e | inr r ↦ none r ])
+  ]
+]
+
+-- and what a mapped list holds comes from something that the list holds
+pub contains_map : {X Y : Type 0} → (f : X → Y) (x : X) (xs : List X) → Contains xs x → Contains (map f xs) (f x)
+contains_map f x [] h = absurd (contains_none x h)
+contains_map f x (y ∷ xs) h = elim (contains_cases x y xs h) [
+  | inl e ↦ subst (λ z. Contains (map f (y ∷ xs)) (f z)) e (contains_here (f y) (map f xs))
+  | inr r ↦ contains_there (f x) (f y) (map f xs) (contains_map f x xs r)
+]
+
+pub map_contains : {X Y : Type 0} → (f : X → Y) (y : Y) (xs : List X) → Contains (map f xs) y → (x : X) × Contains xs x × (f x ≡ y)
+map_contains f y [] h = absurd (contains_none y h)
+map_contains f y (x ∷ xs) h = elim (contains_cases y (f x) (map f xs) h) [
+  | inl e ↦ (x, contains_here x xs, e)
+  | inr r ↦ let found = map_contains f y xs r in (found.0, contains_there found.0 x xs found.1, found.2)
+]
+
+module _ {E V : Type 0} (index : E → ℕ) (value : E → V) where
+  pub first_there : (default : V) (e : E) (es : List E) (i : ℕ) → index e ≡ i → first_named index value default (e ∷ es) i ≡ value e
+  first_there default e es i is = grind (arith, nat_tests)
+
+  pub first_beyond : (default : V) (e : E) (es : List E) (i : ℕ) → index e ≢ i → first_named index value default (e ∷ es) i ≡ first_named index value default es
+      i
+  first_beyond default e es i differ = grind (arith, nat_tests)
+
+  -- nothing is named for an index that isn't there
+  pub first_none : (default : V) (es : List E) (i : ℕ) → (Contains (map index es) i → ⊥) → first_named index value default es i ≡ default
+  first_none default [] i none = refl
+  first_none default (e ∷ es) i none = elim (cases_eq (index e) i) [
+    | inl is ↦ absurd (none (subst (Contains (map index (e ∷ es))) is (contains_here (index e) (map index es))))
+    | inr differ ↦ first_beyond default e es i differ ∙ first_none default es i (λ h. none (contains_there i (index e) (map index es) h))
+  ]
+
+  -- and what is there is named, where no index comes twice
+  pub first_of : (default : V) (es : List E) (e : E) → AreDistinct (map index es) → Contains es e → first_named index value default es (index e) ≡ value e
+  first_of default [] e distinct h = absurd (contains_none e h)
+  first_of default (f ∷ es) e distinct h = elim (contains_cases e f es h) [
+    | inl is ↦ first_there default f es (index e) (ap index is) ∙ ap value is
+    | inr r ↦
+        let there : Contains (map index es) (index e) = contains_map index e es r in
+        first_beyond default f es (index e) (λ same. distinct.0 (subst (Contains (map index es)) (sym same) there)) ∙ first_of default es e distinct.1 r
+  ]
+
+  pub length_each : (es : List E) (xs : List V) → length (set_each index value es xs) ≡ length xs
+  length_each [] xs = refl
+  length_each (e ∷ es) xs = length_each es (slice_set xs (index e) (value e)) ∙ length-set xs (index e) (value e)
+
+  -- what isn't named stays
+  pub each_other : (es : List E) (xs : List V) (i : ℕ) (d : V) → (Contains (map index es) i → ⊥) →
+      slice_index_or (set_each index value es xs) i d ≡ slice_index_or xs i d
+  each_other [] xs i d none = refl
+  each_other (e ∷ es) xs i d none =
+      each_other es (slice_set xs (index e) (value e)) i d (λ h. none (contains_there i (index e) (map index es) h))
+      ∙ get_or-set_other xs (index e) i (value e) d (λ is. none (subst (Contains (map index (e ∷ es))) (sym is) (contains_here (index e) (map index es))))
+
+  -- each place has what is named for it, else what it had
+  pub each_at : (es : List E) (xs : List V) (i : ℕ) (d : V) → AreDistinct (map index es) → All (λ e. index e < length xs) es
+      → slice_index_or (set_each index value es xs) i d ≡ first_named index value (slice_index_or xs i d) es i
+  each_at [] xs i d distinct within = refl
+  each_at (e ∷ es) xs i d distinct within =
+      let next : List V = slice_set xs (index e) (value e) in
+      let size : length next ≡ length xs = length-set xs (index e) (value e) in
+      let lt : index e < length xs = All-head (λ e. index e < length xs) e es within in
+      let rest : All (λ e. index e < length next) es = λ k f inside. subst (λ n. index (slice_index_or es k f) < n) (sym size)
+      (All-tail (λ e. index e < length xs) e es within k f inside) in
+      elim (cases_eq (index e) i) [
+        | inl is ↦
+            each_other es next i d (λ h. distinct.0 (subst (Contains (map index es)) (sym is) h))
+            ∙ ap (λ j. slice_index_or next j d) (sym is) ∙ get_or-set_same xs (index e) (value e) d lt
+            ∙ sym (first_there (slice_index_or xs i d) e es i is)
+        | inr differ ↦
+            each_at es next i d distinct.1 rest
+            ∙ ap (λ v. first_named index value v es i) (get_or-set_other xs (index e) i (value e) d (λ is. differ (sym is)))
+            ∙ sym (first_beyond (slice_index_or xs i d) e es i differ)
+      ]
+
+  pub each_append : (es fs : List E) (xs : List V) → set_each index value (es ++ fs) xs ≡ set_each index value fs (set_each index value es xs)
+  each_append [] fs xs = refl
+  each_append (e ∷ es) fs xs = each_append es fs (slice_set xs (index e) (value e))
+
+-- what is named is a function of what each entry has
+pub first_map : {E V W : Type 0} → (index : E → ℕ) (value : E → V) (f : V → W) (default : V) (es : List E) (i : ℕ)
+    → first_named index (λ e. f (value e)) (f default) es i ≡ f (first_named index value default es i)
+first_map index value f default [] i = refl
+first_map index value f default (e ∷ es) i = elim (cases_eq (index e) i) [
+  | inl is ↦ first_there index (λ e. f (value e)) (f default) e es i is ∙ ap f (sym (first_there index value default e es i is))
+  | inr differ ↦ first_beyond index (λ e. f (value e)) (f default) e es i differ ∙ first_map index value f default es i ∙
+      ap f (sym (first_beyond index value default e es i differ))
+]
+
+module _ {E V : Type 0} (index : E → ℕ) (value : E → V) where
+  -- all is written
+  pub each_done : (es : List E) (now all : List V) (i : ℕ) → length es ≤ i → set_each index value (drop i es) now ≡ all → now ≡ all
+  each_done es now all i done was = sym (ap (λ fs. set_each index value fs now) (drop_all i es done)) ∙ was
+
+  -- from a first element on, one more
+  pub each_next : (es : List E) (now all : List V) (i : ℕ) (d : E) → i < length es → set_each index value (drop i es) now ≡ all
+      → set_each index value (drop (i + 1) es) (slice_set now (index (slice_index_or es i d)) (value (slice_index_or es i d))) ≡ all
+  each_next es now all i d lt was = sym (ap (λ fs. set_each index value fs now) (drop_more es i d lt)) ∙ was
+
+  -- what holds of all that was there and of all that is written holds of all
+  pub each_holds : (P : V → Type 0) (es : List E) (xs : List V) → All P xs → All (λ e. P (value e)) es → All P (set_each index value es xs)
+  each_holds P [] xs old new = old
+  each_holds P (e ∷ es) xs old new =
+      each_holds P es (slice_set xs (index e) (value e)) (All-set P xs (index e) (value e) (All-head (λ f. P (value f)) e es new) old)
+      (All-tail (λ f. P (value f)) e es new)
+
+-- a slice from an index on is what is left from there
+pub rest_is : {X : Type 0} → (xs : List X) (k : ℕ) → take (length xs - k) (drop k xs) ≡ drop k xs
+rest_is xs k = take_all (length xs - k) (drop k xs) (omega (arith, length-drop k xs))
+
+-- Numbers that are gone through in order, with those before marked.
+
+none_marked : (count m : ℕ) → is_marked (replicate count false) m ≡ false
+none_marked zero m = refl
+none_marked (suc c) zero = refl
+none_marked (suc c) (suc m) = none_marked c m
+
+-- the numbers differ, and none is marked
+pub record AreNew (marks : List Bool) (ns : List ℕ) : Type 0 where
+  pub distinct : AreDistinct ns
+  pub unmarked : (m : ℕ) → Contains ns m → is_marked marks m ≡ false
+
+pub all_new : (ns : List ℕ) (count : ℕ) → AreDistinct ns ↔ AreNew (replicate count false) ns
+all_new ns count = (λ d. record { distinct = d; unmarked = λ m h. none_marked count m }, λ new. new.distinct)
+
+pub not_new : (ns : List ℕ) (marks : List Bool) (i : ℕ) → i < length ns → is_marked marks (slice_index_or ns i 0) ≡ true
+    → (AreDistinct ns ↔ AreNew marks (drop i ns)) → AreDistinct ns → ⊥
+not_new ns marks i lt marked was distinct =
+    let new : AreNew marks (slice_index_or ns i 0 ∷ drop (i + 1) ns) = subst (AreNew marks) (drop_more ns i 0 lt) (was.0 distinct) in
+    absurd (true≢false (sym marked ∙ new.unmarked (slice_index_or ns i 0) (contains_here (slice_index_or ns i 0) (drop (i + 1) ns))))
+
+-- one number more is marked
+next_new : (n : ℕ) (ns : List ℕ) (marks : List Bool) → n < length marks → is_marked marks n ≡ false
+    → AreNew marks (n ∷ ns) ↔ AreNew (slice_set marks n true) ns
+next_new n ns marks lt unmarked = (
+  λ new. record {
+    distinct = new.distinct.1;
+    unmarked = λ m h. get_or-set_other marks n m true false (λ (is : m ≡ n). new.distinct.0 (subst (Contains ns) is h))
+        ∙ new.unmarked m (contains_there m n ns h);
+  },
+  λ rest. record {
+    distinct = (λ h. true≢false (sym (get_or-set_same marks n true false lt) ∙ rest.unmarked n h), rest.distinct);
+    unmarked = λ m h. elim (contains_cases m n ns h) [
+      | inl is ↦ subst (λ (k : ℕ). is_marked marks k ≡ false) is unmarked
+      | inr r ↦ sym (get_or-set_other marks n m true false
+          (λ (is : m ≡ n). true≢false (sym (get_or-set_same marks n true false lt) ∙ rest.unmarked n (subst (Contains ns) is r))))
+          ∙ rest.unmarked m r
+    ];
+  },
+)
+
+pub still_new : (ns : List ℕ) (marks : List Bool) (i : ℕ) → i < length ns → slice_index_or ns i 0 < length marks
+    → is_marked marks (slice_index_or ns i 0) ≡ false → (AreDistinct ns ↔ AreNew marks (drop i ns))
+    → AreDistinct ns ↔ AreNew (slice_set marks (slice_index_or ns i 0) true) (drop (i + 1) ns)
+still_new ns marks i lt within unmarked was =
+    let more = drop_more ns i 0 lt in let next = next_new (slice_index_or ns i 0) (drop (i + 1) ns) marks within unmarked in (
+      λ distinct. next.0 (subst (AreNew marks) more (was.0 distinct)),
+      λ new. was.1 (subst (AreNew marks) (sym more) (next.1 new)),
+    )
+
+pub ended_new : (ns : List ℕ) (marks : List Bool) (i : ℕ) → length ns ≤ i → (AreDistinct ns ↔ AreNew marks (drop i ns)) → AreDistinct ns
+ended_new ns marks i done was =
+    was.1 (subst (AreNew marks) (sym (drop_all i ns done)) (record { distinct = tt; unmarked = λ m h. absurd (contains_none m h) }))
+
+-- The same of the indexes of entries.
+module _ {E : Type 0} (index : E → ℕ) where
+  pub any_index : (es : List E) (n : ℕ) → Any (λ e. index e ≡ n) es → Contains (map index es) n
+  any_index es n h = subst (Contains (map index es)) h.4 (contains_map index h.1 es (h.0, h.2, h.3))
+
+  pub index_any : (es : List E) (n : ℕ) → Contains (map index es) n → Any (λ e. index e ≡ n) es
+  index_any es n h = let found = map_contains index n es h in (found.1.0, found.0, found.1.1, found.1.2, found.2)
+
+  -- where the entries differ, those with the same index are the same
+  pub same_entry : (es : List E) (e f : E) → AreDistinct (map index es) → Contains es e → Contains es f → index e ≡ index f → e ≡ f
+  same_entry [] e f distinct he hf same = absurd (contains_none e he)
+  same_entry (x ∷ es) e f distinct he hf same = elim (contains_cases e x es he) [
+    | inl is ↦ elim (contains_cases f x es hf) [
+      | inl also ↦ sym is ∙ also
+      | inr r ↦ absurd (distinct.0 (subst (Contains (map index es)) (sym same ∙ sym (ap index is)) (contains_map index f es r)))
+    ]
+    | inr r ↦ elim (contains_cases f x es hf) [
+      | inl also ↦ absurd (distinct.0 (subst (Contains (map index es)) (same ∙ sym (ap index also)) (contains_map index e es r)))
+      | inr q ↦ same_entry es e f distinct.1 r q same
+    ]
+  ]
+
+  pub index_twice : (es : List E) (i : ℕ) (d : E) → i < length es → (AreDistinct (map index es) ↔ AreDistinct (map index (drop i es)))
+      → Any (λ e. index e ≡ index (slice_index_or es i d)) (take (length es - (i + 1)) (drop (i + 1) es)) → AreDistinct (map index es) → ⊥
+  index_twice es i d lt was found distinct =
+      let there = subst (Any (λ e. index e ≡ index (slice_index_or es i d))) (rest_is es (i + 1)) found in
+      let now : AreDistinct (map index (slice_index_or es i d ∷ drop (i + 1) es)) = subst (λ (t : List E). AreDistinct (map index t)) (drop_more es i d lt)
+      (was.0 distinct) in
+      now.0 (any_index (drop (i + 1) es) (index (slice_index_or es i d)) there)
+
+  pub index_apart : (es : List E) (i : ℕ) (d : E) → i < length es → (AreDistinct (map index es) ↔ AreDistinct (map index (drop i es)))
+      → (Any (λ e. index e ≡ index (slice_index_or es i d)) (take (length es - (i + 1)) (drop (i + 1) es)) → ⊥) →
+      AreDistinct (map index es) ↔ AreDistinct (map index (drop (i + 1) es))
+  index_apart es i d lt was apart = (
+    λ distinct. (subst (λ (t : List E). AreDistinct (map index t)) (drop_more es i d lt) (was.0 distinct)).1,
+    λ rest. was.1 (subst (λ (t : List E). AreDistinct (map index t)) (sym (drop_more es i d lt)) (
+      (λ h. apart (subst (Any (λ e. index e ≡ index (slice_index_or es i d))) (sym (rest_is es (i + 1)))
+          (index_any (drop (i + 1) es) (index (slice_index_or es i d)) h))),
+      rest,
+    )),
+  )
+
+  pub index_done : (es : List E) (i : ℕ) → length es ≤ i → (AreDistinct (map index es) ↔ AreDistinct (map index (drop i es))) → AreDistinct (map index es)
+  index_done es i done was = was.1 (subst (λ (t : List E). AreDistinct (map index t)) (sym (drop_all i es done)) tt)
+
+-- one more is written
+pub each_wrote : {E V : Type 0} → (index : E → ℕ) (value : E → V) (es : List E) (now next all : List V) (i : ℕ) (d : E) (v : V) → i < length es
+    → next ≡ slice_set now (index (slice_index_or es i d)) v → v ≡ value (slice_index_or es i d)
+    → set_each index value (drop i es) now ≡ all → set_each index value (drop (i + 1) es) next ≡ all
+each_wrote index value es now next all i d v lt made is was =
+    ap (set_each index value (drop (i + 1) es)) (made ∙ ap (slice_set now (index (slice_index_or es i d))) is) ∙ each_next index value es now all i d lt was
+
+-- what an entry names is there in the end
+pub each_of : {E V : Type 0} → (index : E → ℕ) (value : E → V) (es : List E) (xs : List V) (e : E) (d : V) → AreDistinct (map index es)
+    → All (λ f. index f < length xs) es → Contains es e → slice_index_or (set_each index value es xs) (index e) d ≡ value e
+each_of index value es xs e d distinct within there =
+    each_at index value es xs (index e) d distinct within ∙ first_of index value (slice_index_or xs (index e) d) es e distinct there
+
+-- a fact of each member, and of one at a place
+pub all_from : {X : Type 0} → (P : X → Type 0) (xs : List X) → ((x : X) → Contains xs x → P x) → All P xs
+all_from P xs each k d lt = each (slice_index_or xs k d) (Contains-get_or xs k d lt)
+
+pub all_got : {X : Type 0} → (P : X → Type 0) (xs : List X) (i : ℕ) (x : X) → All P xs → slice_get xs i ≡ Some x → P x
+all_got P [] i x all is = absurd cc
+all_got P (y ∷ ys) zero x all is = let same : y ≡ x = cc in subst P same (All-head P y ys all)
+all_got P (y ∷ ys) (suc i) x all is = all_got P ys i x (All-tail P y ys all) is
+
+pub map_both : {X Y : Type 0} → (f : X → Y) (xs ys : List X) → map f (xs ++ ys) ≡ map f xs ++ map f ys
+map_both f [] ys = refl
+map_both f (x ∷ xs) ys = ap (λ zs. f x ∷ zs) (map_both f xs ys)
+
+pub map_again : {X Y Z : Type 0} → (f : Y → Z) (g : X → Y) (xs : List X) → map f (map g xs) ≡ map (λ x. f (g x)) xs
+map_again f g [] = refl
+map_again f g (x ∷ xs) = ap (λ zs. f (g x) ∷ zs) (map_again f g xs)
+
+-- where all are the same, each place has that
+pub same_at : {X : Type 0} → (n i : ℕ) (x : X) → slice_index_or (replicate n x) i x ≡ x
+same_at zero i x = refl
+same_at (suc n) zero x = refl
+same_at (suc n) (suc i) x = same_at n i x

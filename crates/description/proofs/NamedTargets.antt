@@ -1,0 +1,150 @@
+-- In described frames in which each capability is named, each names a number of its kind.
+use Rattle.description.proofs.Names.{inl, inr, ℕ, List, [], Option, Some, unwrap_or, refl, sym, ap, subst, IsTrue, All, get_or-map, All-contains, All-head, Cap}
+use Rattle.description.proofs.Names.{Capability, Void, Number, Page, Node, Space, Process, Start, Resume, Bank, Discrim, Frame, ObjectHeader, Geometry, Content}
+use Rattle.description.proofs.Names.{blank_frame, current_count, frame_at, header_at, headers, caps_in, role_of, IsOfKind, object_count, fresh_cap, Description}
+use Rattle.description.proofs.Names.{NodeEntry, SlotEntry, AreNamed, IsNamed, NamesItsRole, is_waiting_root, AreSlots, HasFields, HasNumbers, HoldsNamed}
+use Rattle.description.proofs.Names.{IsDescribed, IsProcessEntry, first_frame, AreTargets, Entry, HasProcessTargets, HasTargets, IsTarget, OfAnnex, OfBank}
+use Rattle.description.proofs.Names.{OfNode, OfPage, OfRoot, number_of}
+use Rattle.std.proofs.Common.{◌≡◌, ◌≢◌, ◌<◌, ◌≤◌, ◌∙◌}
+use Rattle.model.specs.declared.object.Content.TheVariants as content
+use Rattle.model.specs.declared.object.Role.TheVariants as role
+use Rattle.description.proofs.Entries.{HasRange, IsFrameOf, described_cases, described_of, in_range}
+use Rattle.description.proofs.Lists.{all_from, all_got, first_of}
+
+-- a frame of an object that was never given up, at a number of its kind
+pub record IsFirst (g : Geometry) (n : ℕ) (f : Frame) : Type 0 where
+  pub role : f.header.role ≡ role_of f.content
+  pub allocations : f.header.allocations ≡ 0
+  pub calls : f.header.calls ≡ 0
+  pub kind : IsOfKind g n f.content
+
+first_is : (g : Geometry) (n owner : ℕ) (c : Content Cap) → IsOfKind g n c → IsFirst g n (first_frame owner c)
+first_is g n owner c kind = record { role = refl; allocations = refl; calls = refl; kind = kind }
+
+first_entry : (g : Geometry) (e : Entry) (f : Frame) → HasRange g e → IsFrameOf e f → IsFirst g (number_of e) f
+first_entry g (OfBank b) f range frame = subst (IsFirst g b.number) (sym frame) (first_is g b.number b.owner (content.Bank b.limit) range)
+first_entry g (OfRoot p) f range frame = subst (IsFirst g p.root) (sym frame.4) (first_is g p.root p.owner _ range)
+first_entry g (OfAnnex p) f range frame = subst (IsFirst g p.annex) (sym frame.2) (first_is g p.annex p.owner (content.Annex frame.0) range)
+first_entry g (OfNode n) f range frame = subst (IsFirst g n.number) (sym frame.2) (first_is g n.number n.owner (content.Node frame.0) range)
+first_entry g (OfPage p) f range frame = subst (IsFirst g p.number) (sym frame.2) (first_is g p.number p.owner (content.Page frame.0) range)
+
+blank_first : (g : Geometry) (n : ℕ) → IsFirst g n blank_frame
+blank_first g n = record { role = refl; allocations = refl; calls = refl; kind = tt }
+
+pub first_at : (d : Description) (fs : List Frame) (n : ℕ) → HasNumbers d → IsDescribed d fs → IsFirst d.geometry n (frame_at fs n)
+first_at d fs n numbers is = elim (described_cases d fs n is) [
+  | inl c ↦ subst (λ m. IsFirst d.geometry m (frame_at fs n)) c.2 (first_entry d.geometry c.0 (frame_at fs n) (in_range d c.0 numbers c.1) c.3)
+  | inr blank ↦ subst (IsFirst d.geometry n) (sym blank) (blank_first d.geometry n)
+]
+
+header_in : (fs : List Frame) (n : ℕ) → header_at (headers fs) n ≡ (frame_at fs n).header
+header_in fs n = get_or-map (λ (f : Frame). f.header) fs n blank_frame
+
+-- no count was ever raised
+no_allocations : (d : Description) (fs : List Frame) (n : ℕ) → HasNumbers d → IsDescribed d fs → 0 ≡ (header_at (headers fs) n).allocations
+no_allocations d fs n numbers is = sym (ap (λ (h : ObjectHeader). h.allocations) (header_in fs n) ∙ (first_at d fs n numbers is).allocations)
+
+no_calls : (d : Description) (fs : List Frame) (n : ℕ) → HasNumbers d → IsDescribed d fs → 0 ≡ (header_at (headers fs) n).calls
+no_calls d fs n numbers is = sym (ap (λ (h : ObjectHeader). h.calls) (header_in fs n) ∙ (first_at d fs n numbers is).calls)
+
+pub never_raised : (d : Description) (fs : List Frame) (c : Capability) → HasNumbers d → IsDescribed d fs → 0 ≡ current_count (headers fs) c
+never_raised d fs (Page o a) numbers is = no_allocations d fs o numbers is
+never_raised d fs (Node o a) numbers is = no_allocations d fs o numbers is
+never_raised d fs (Space o h a) numbers is = no_allocations d fs o numbers is
+never_raised d fs (Process p) numbers is = no_allocations d fs p numbers is
+never_raised d fs (Start p key) numbers is = no_allocations d fs p numbers is
+never_raised d fs (Resume p) numbers is = no_calls d fs p numbers is
+never_raised d fs (Bank b) numbers is = no_allocations d fs b numbers is
+never_raised d fs other numbers is = refl
+
+-- The numbers of a kind.
+
+of_page : (g : Geometry) (n : ℕ) (c : Content Cap) → IsOfKind g n c → role_of c ≡ role.Page → (g.nodes ≤ n) × (n < object_count g)
+of_page g n (content.Page words) kind is = kind
+of_page g n other kind is = absurd cc
+
+of_node : (g : Geometry) (n : ℕ) (c : Content Cap) → IsOfKind g n c → role_of c ≢ role.Free → role_of c ≢ role.Page → n < g.nodes
+of_node g n content.Free kind some other = absurd (some refl)
+of_node g n (content.Page words) kind some other = absurd (other refl)
+of_node g n one kind some other = kind
+
+of_waiting : (g : Geometry) (n : ℕ) (c : Content Cap) → IsOfKind g n c → IsTrue (is_waiting_root c) → n < g.nodes
+of_waiting g n (content.Root root) kind is = kind
+of_waiting g n other kind is = absurd cc
+
+not_free_node : role.Node ≢ role.Free
+not_free_node is = cc
+
+not_page_node : role.Node ≢ role.Page
+not_page_node is = cc
+
+not_free_root : role.Root ≢ role.Free
+not_free_root is = cc
+
+not_page_root : role.Root ≢ role.Page
+not_page_root is = cc
+
+not_free_bank : role.Bank ≢ role.Free
+not_free_bank is = cc
+
+not_page_bank : role.Bank ≢ role.Page
+not_page_bank is = cc
+
+module _ (d : Description) (fs : List Frame) (numbers : HasNumbers d) (is : IsDescribed d fs) where
+  a_page : (o : ℕ) → (frame_at fs o).header.role ≡ role.Page → (d.geometry.nodes ≤ o) × (o < object_count d.geometry)
+  a_page o role = let first = first_at d fs o numbers is in of_page d.geometry o (frame_at fs o).content first.kind (sym first.role ∙ role)
+
+  a_node : (o : ℕ) → (frame_at fs o).header.role ≡ role.Node → o < d.geometry.nodes
+  a_node o role = let first = first_at d fs o numbers is in
+      of_node d.geometry o (frame_at fs o).content first.kind (λ e. not_free_node (sym role ∙ first.role ∙ e)) (λ e. not_page_node (sym role ∙ first.role ∙ e))
+
+  a_root : (o : ℕ) → (frame_at fs o).header.role ≡ role.Root → o < d.geometry.nodes
+  a_root o role = let first = first_at d fs o numbers is in
+      of_node d.geometry o (frame_at fs o).content first.kind (λ e. not_free_root (sym role ∙ first.role ∙ e)) (λ e. not_page_root (sym role ∙ first.role ∙ e))
+
+  a_bank : (o : ℕ) → (frame_at fs o).header.role ≡ role.Bank → o < d.geometry.nodes
+  a_bank o role = let first = first_at d fs o numbers is in
+      of_node d.geometry o (frame_at fs o).content first.kind (λ e. not_free_bank (sym role ∙ first.role ∙ e)) (λ e. not_page_bank (sym role ∙ first.role ∙ e))
+
+  pub role_target : (c : Capability) → NamesItsRole fs c → IsTarget d.geometry c
+  role_target (Page o a) names = a_page o names
+  role_target (Node o a) names = a_node o names
+  role_target (Space o h a) names = a_node o names
+  role_target (Process p) names = a_root p names
+  role_target (Start p key) names = a_root p names
+  role_target (Resume p) names = of_waiting d.geometry p (frame_at fs p).content (first_at d fs p numbers is).kind names
+  role_target (Bank b) names = a_bank b names
+  role_target other names = tt
+
+  held_target : (c : Capability) → IsNamed fs (fresh_cap c) → IsTarget d.geometry c
+  held_target c named = role_target c (named.live (never_raised d fs c numbers is))
+
+  -- the capabilities of slots
+  slots_targets : (first : ℕ) (es : List SlotEntry) (slots : List Cap) → AreSlots first es → HoldsNamed es slots → All (IsNamed fs) slots →
+      AreTargets d.geometry es
+  slots_targets first es slots are holds named = all_from _ es (λ s of.
+      let place = All-contains (λ t. (first ≤ t.index) × (t.index < 32)) es s are.places of in
+      let what = first_of (λ t. t.index) (λ t. unwrap_or t.capability Void) Void es s are.distinct of in
+      let held : IsNamed fs (fresh_cap (unwrap_or s.capability Void)) =
+      all_got (IsNamed fs) slots s.index _ named (holds.each s.index place.1 ∙ ap (λ c. Some (fresh_cap c)) what) in
+      held_target (unwrap_or s.capability Void) held)
+
+  named_in : (n : ℕ) (f : Frame) → AreNamed fs → frame_at fs n ≡ f → All (IsNamed fs) (caps_in f.content)
+  named_in n f named same = subst (λ (g : Frame). All (IsNamed fs) (caps_in g.content)) same (named n)
+
+  pub named_targets : HasFields d → AreNamed fs → HasTargets d.geometry d
+  named_targets fields named = record {
+    processes = all_from (HasProcessTargets d.geometry) d.processes.items (λ p of.
+        let good : IsProcessEntry p = All-contains IsProcessEntry d.processes.items p fields.processes of in
+        let root = described_of d fs (OfRoot p) is of in
+        let annex = described_of d fs (OfAnnex p) is of in
+        let held : IsNamed fs (fresh_cap root.1) = All-head (IsNamed fs) (fresh_cap root.1) [] (named_in p.root _ named root.4) in
+        record {
+          space = subst (λ (o : Option Capability). IsTarget d.geometry (unwrap_or o Void)) (sym root.3) (held_target root.1 held);
+          registers = slots_targets 1 p.registers.items annex.0 good.registers annex.1 (named_in p.annex _ named annex.2);
+        });
+    nodes = all_from (λ (m : NodeEntry). AreTargets d.geometry m.slots.items) d.nodes.items (λ n of.
+        let node = described_of d fs (OfNode n) is of in
+        slots_targets 0 n.slots.items node.0 (All-contains (λ (m : NodeEntry). AreSlots 0 m.slots.items) d.nodes.items n fields.nodes of) node.1
+        (named_in n.number _ named node.2));
+  }

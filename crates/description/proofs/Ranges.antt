@@ -1,0 +1,29 @@
+-- Ranges that go on from number to number.
+use Rattle.description.proofs.Names.{ℕ, zero, suc, List, [], length, map, get_or, take, drop, refl, sym, ap, subst, arith, drop_all, drop_more, get_or_default}
+use Rattle.description.proofs.Names.{take_all, take_more, Geometry, object_count, Cover, IsNext, placed, NumberRange, GoesOn, count_in}
+use Rattle.std.proofs.Common.{◌≡◌, ◌+◌, ◌<◌, ◌≤◌, ◌∷◌, ◌++◌, ◌∙◌}
+
+count_more : (rs : List NumberRange) (r : NumberRange) → count_in (rs ++ r ∷ []) ≡ count_in rs + r.count
+count_more [] r = omega arith
+count_more (s ∷ rs) r = omega (arith, count_more rs r)
+
+-- the first ranges go on up to a number, and all cover if the others do from there
+pub record GoneTo (g : Geometry) (rs : List NumberRange) (i next : ℕ) : Type 0 where
+  pub count : next ≡ count_in (take i rs)
+  pub within : next ≤ object_count g
+  pub goes_on : Cover g next (map (placed 0) (drop i rs)) → Cover g 0 (map (placed 0) rs)
+
+pub gone_more : (g : Geometry) (rs : List NumberRange) (i next : ℕ) (r : NumberRange) → i < length rs → get_or rs i r ≡ r → GoneTo g rs i next →
+    GoesOn g r next →
+    GoneTo g rs (i + 1) (next + r.count)
+gone_more g rs i next r lt at gone on = record {
+  count = ap (λ n. n + r.count) gone.count ∙ sym (count_more (take i rs) r) ∙ ap count_in (sym (take_more rs i r lt ∙ ap (λ s. take i rs ++ s ∷ []) at));
+  within = on.1;
+  goes_on = λ covers. gone.goes_on
+      (subst (λ (t : List NumberRange). Cover g next (map (placed 0) t)) (sym (drop_more rs i r lt ∙ ap (λ s. s ∷ drop (i + 1) rs) at)) (on.0, covers));
+}
+
+-- the range of an index, whatever stands for those that aren't there
+pub gone_on : (g : Geometry) (rs : List NumberRange) (i next : ℕ) (d : NumberRange) → i < length rs → GoneTo g rs i next → GoesOn g (get_or rs i d) next →
+    GoneTo g rs (i + 1) (next + (get_or rs i d).count)
+gone_on g rs i next d lt gone on = gone_more g rs i next (get_or rs i d) lt (get_or_default rs i (get_or rs i d) d lt) gone on

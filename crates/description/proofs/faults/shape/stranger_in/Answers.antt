@@ -1,0 +1,31 @@
+use Rattle.description.proofs.faults.shape.stranger_in.Goals as goal
+
+pub returns-in-Whole-clause-unknown : goal.returns-in-Whole-clause-unknown
+returns-in-Whole-clause-unknown c = rw c.in-Whole.is c.unknown_key.ensures.unknown
+
+pub returns-in-Whole-clause-none : goal.returns-in-Whole-clause-none
+returns-in-Whole-clause-none c = rw c.in-Whole.is c.unknown_key.ensures.none
+
+pub returns-in-Bank-clause-unknown : goal.returns-in-Bank-clause-unknown
+returns-in-Bank-clause-unknown c = rw c.in-Bank.is c.unknown_key-in-Bank.ensures.unknown
+
+pub returns-in-Bank-clause-none : goal.returns-in-Bank-clause-none
+returns-in-Bank-clause-none c = rw c.in-Bank.is c.unknown_key-in-Bank.ensures.none
+
+pub returns-in-Process-clause-unknown : goal.returns-in-Process-clause-unknown
+returns-in-Process-clause-unknown c = rw c.in-Process.is c.unknown_key-in-Process.ensures.unknown
+
+pub returns-in-Process-clause-none : goal.returns-in-Process-clause-none
+returns-in-Process-clause-none c = rw c.in-Process.is c.unknown_key-in-Process.ensures.none
+
+pub returns-in-Node-clause-unknown : goal.returns-in-Node-clause-unknown
+returns-in-Node-clause-unknown c = rw c.in-Node.is c.unknown_key-in-Node.ensures.unknown
+
+pub returns-in-Node-clause-none : goal.returns-in-Node-clause-none
+returns-in-Node-clause-none c = rw c.in-Node.is c.unknown_key-in-Node.ensures.none
+
+pub returns-in-Page-clause-unknown : goal.returns-in-Page-clause-unknown
+returns-in-Page-clause-unknown c = rw c.in-Page.is c.unknown_key-in-Page.ensures.unknown
+
+pub returns-in-Page-clause-none : goal.returns-in-Page-clause-none
+returns-in-Page-clause-none c = rw c.in-Page.is c.unknown_key-in-Page.ensures.none

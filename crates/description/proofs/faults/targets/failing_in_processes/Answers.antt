@@ -1,0 +1,13 @@
+use Rattle.description.proofs.Names.{sym, subst, AllOfProcess}
+use Rattle.description.proofs.Decisions.{at_none}
+use Rattle.description.proofs.FaultElements.{all_taken, one_more}
+use Rattle.description.proofs.faults.targets.failing_in_processes.Goals as goal
+
+pub loop-k-preserved : goal.loop-k-preserved
+loop-k-preserved g c =
+    let x = c.index-processes-k in
+    one_more (AllOfProcess (g.N.Naming.Passes c.args.naming.now)) c.args.processes.now c.loop-k.k x.result c.loop-k-test.true x.is c.loop-k.invariant
+    (c.in-None.ensures)
+
+pub returns : goal.returns
+returns g c = all_taken (AllOfProcess (g.N.Naming.Passes c.args.naming.now)) c.args.processes.now c.loop-k.k c.loop-k-test.false c.loop-k.invariant

@@ -1,0 +1,5 @@
+use Rattle.description.proofs.Names.{take, All, AllIn}
+use Rattle.description.proofs.faults.targets.first_failing.Given as goal
+
+abbrev pub invariant-loop-i : goal.invariant-loop-i
+invariant-loop-i g l = AllIn (g.N.Naming.Passes l.naming) (take l.i l.slots)

@@ -1,0 +1,50 @@
+use Rattle.description.proofs.Names.{ap, OfBank, OfRoot, OfAnnex, OfNode, OfPage, entries, laid}
+use Rattle.std.proofs.Common.{◌∙◌}
+use Rattle.description.proofs.KeptFrames.{all_within, laid_five}
+use Rattle.description.proofs.laying.lay.Goals as goal
+
+pub lay_banks-requires-clause-within : goal.lay_banks-requires-clause-within
+lay_banks-requires-clause-within c =
+    all_within c.args.description.now OfBank c.args.description.now.banks.items c.deref.result.now _ c.requires.numbers (λ e there. there) c.deref.ensures.value
+    (c.in_ok-world.ensures.count.headers)
+
+pub lay_roots-requires-clause-within : goal.lay_roots-requires-clause-within
+lay_roots-requires-clause-within c =
+    all_within c.args.description.now OfRoot c.args.description.now.processes.items c.deref-2.result.now _ c.requires.numbers (λ e there. there)
+    c.deref-2.ensures.value
+    (c.lay_banks.ensures.headers ∙ c.in_ok-world.ensures.count.headers)
+
+pub lay_annexes-requires-clause-within : goal.lay_annexes-requires-clause-within
+lay_annexes-requires-clause-within c =
+    all_within c.args.description.now OfAnnex c.args.description.now.processes.items c.deref-3.result.now _ c.requires.numbers (λ e there. there)
+    c.deref-3.ensures.value
+    (c.lay_roots.ensures.headers ∙ c.lay_banks.ensures.headers ∙ c.in_ok-world.ensures.count.headers)
+
+pub lay_nodes-requires-clause-within : goal.lay_nodes-requires-clause-within
+lay_nodes-requires-clause-within c =
+    all_within c.args.description.now OfNode c.args.description.now.nodes.items c.deref-4.result.now _ c.requires.numbers (λ e there. there)
+    c.deref-4.ensures.value
+    (c.in_ok-lay_annexes.ensures.headers ∙ c.lay_roots.ensures.headers ∙ c.lay_banks.ensures.headers ∙ c.in_ok-world.ensures.count.headers)
+
+pub lay_pages-requires-clause-within : goal.lay_pages-requires-clause-within
+lay_pages-requires-clause-within c =
+    all_within c.args.description.now OfPage c.args.description.now.pages.items c.deref-5.result.now _ c.requires.numbers (λ e there. there)
+    c.deref-5.ensures.value
+    (c.in_ok-lay_nodes.ensures.headers ∙ c.in_ok-lay_annexes.ensures.headers ∙ c.lay_roots.ensures.headers ∙ c.lay_banks.ensures.headers ∙
+    c.in_ok-world.ensures.count.headers)
+
+pub returns-clause-frames : goal.returns-clause-frames
+returns-clause-frames c =
+    let all = laid_five c.args.description.now c.deref.result.now c.deref-2.result.now c.deref-3.result.now c.deref-4.result.now c.deref-5.result.now
+    c.in_ok-world.world c.lay_banks.new.world c.lay_roots.new.world c.lay_annexes.new.world c.lay_nodes.new.world c.lay_pages.new.world
+    c.deref.ensures.value c.deref-2.ensures.value c.deref-3.ensures.value c.deref-4.ensures.value c.deref-5.ensures.value
+    c.lay_banks.ensures c.lay_roots.ensures c.in_ok-lay_annexes.ensures c.in_ok-lay_nodes.ensures c.in_ok-lay_pages.ensures in
+    all.frames ∙ ap (laid (entries c.args.description.now)) c.in_ok-world.ensures.frames
+
+pub returns-clause-fits : goal.returns-clause-fits
+returns-clause-fits c =
+    let all = laid_five c.args.description.now c.deref.result.now c.deref-2.result.now c.deref-3.result.now c.deref-4.result.now c.deref-5.result.now
+    c.in_ok-world.world c.lay_banks.new.world c.lay_roots.new.world c.lay_annexes.new.world c.lay_nodes.new.world c.lay_pages.new.world
+    c.deref.ensures.value c.deref-2.ensures.value c.deref-3.ensures.value c.deref-4.ensures.value c.deref-5.ensures.value
+    c.lay_banks.ensures c.lay_roots.ensures c.in_ok-lay_annexes.ensures c.in_ok-lay_nodes.ensures c.in_ok-lay_pages.ensures in
+    all.fits

@@ -1,0 +1,13 @@
+use Rattle.description.proofs.Names.{None, slot_held, slots_of}
+use Rattle.description.proofs.Lists.{each_done, each_wrote}
+use Rattle.description.proofs.objects.slots_of.Goals as goal
+
+pub loop-entry-preserved : goal.loop-entry-preserved
+loop-entry-preserved c =
+    each_wrote (λ s. s.index) slot_held c.args.entries.now c.loop-entry.slots _ _ c.loop-entry.entry-index (record { index = 0; capability = None })
+    c.slot_held.result c.loop-entry-test.true c.set.ensures.set
+    c.slot_held.ensures c.loop-entry.invariant
+
+pub returns : goal.returns
+unfolding slots_of
+returns c = each_done (λ s. s.index) slot_held c.args.entries.now c.loop-entry.slots _ c.loop-entry.entry-index c.loop-entry-test.false c.loop-entry.invariant

@@ -1,0 +1,113 @@
+-- How frames are laid: object by object, over free ones.
+use Rattle.description.specs.Names.{ℕ, List, [], map, replicate, slice_set, unwrap_or, vec_len, All, Cap, Capability}
+use Rattle.description.specs.Names.{Void, Frame, Geometry, Content, Available, frames_in, void_held, AreKeptWords}
+use Rattle.description.specs.Names.{IsTarget, fresh_cap}
+use Rattle.std.specs.Prelude.{◌≡◌, ◌^◌, ◌<◌, ◌≤◌, ◌∷◌, ◌++◌}
+use Rattle.description.specs.declared.entry.BankEntry.{BankEntry}
+use Rattle.description.specs.declared.entry.Description.{Description}
+use Rattle.description.specs.declared.entry.NodeEntry.{NodeEntry}
+use Rattle.description.specs.declared.entry.PageEntry.{PageEntry}
+use Rattle.description.specs.declared.entry.ProcessEntry.{ProcessEntry}
+use Rattle.description.specs.declared.entry.SlotEntry.{SlotEntry}
+use Rattle.description.specs.declared.entry.WordEntry.{WordEntry}
+use Rattle.model.specs.declared.object.Content.TheVariants as content
+use Rattle.description.specs.Described.{first_frame}
+use Rattle.description.specs.declared.world.World.{World}
+
+-- an object that is named
+pub data Entry : Type 0 where
+  OfBank : BankEntry → Entry
+  OfRoot : ProcessEntry → Entry
+  OfAnnex : ProcessEntry → Entry
+  OfNode : NodeEntry → Entry
+  OfPage : PageEntry → Entry
+
+-- all of them
+abbrev pub entries : Description → List Entry
+entries d = map OfBank d.banks.items ++ map OfRoot d.processes.items ++ map OfAnnex d.processes.items ++ map OfNode
+    d.nodes.items
+    ++ map OfPage d.pages.items
+
+abbrev pub number_of : Entry → ℕ
+number_of (OfBank b) = b.number
+number_of (OfRoot p) = p.root
+number_of (OfAnnex p) = p.annex
+number_of (OfNode n) = n.number
+number_of (OfPage p) = p.number
+
+-- values written at their indexes, one after the other
+abbrev pub set_each : {E V : Type 0} → (E → ℕ) → (E → V) → List E → List V → List V
+set_each index value [] xs = xs
+set_each index value (e ∷ es) xs = set_each index value es (slice_set xs (index e) (value e))
+
+-- slots and words with those that are named, over void ones and zeros
+abbrev pub slot_held : SlotEntry → Cap
+slot_held s = fresh_cap (unwrap_or s.capability Void)
+
+unfoldable pub slots_of : List SlotEntry → List Cap
+slots_of slots = set_each (λ s. s.index) slot_held slots (replicate 32 void_held)
+
+unfoldable pub words_of : List WordEntry → List ℕ
+words_of words = set_each (λ w. w.index) (λ w. w.word) words (replicate 512 0)
+
+abbrev pub root_of : ProcessEntry → Content Cap
+root_of p = content.Root (record {
+  state = unwrap_or p.state Available;
+  words = p.words;
+  key = p.key;
+  annex = p.annex;
+  space = fresh_cap (unwrap_or p.space Void);
+})
+
+-- the frame of an object
+abbrev pub frame_of : Entry → Frame
+frame_of (OfBank b) = first_frame b.owner (content.Bank b.limit)
+frame_of (OfRoot p) = first_frame p.owner (root_of p)
+frame_of (OfAnnex p) = first_frame p.owner (content.Annex (slots_of p.registers.items))
+frame_of (OfNode n) = first_frame n.owner (content.Node (slots_of n.slots.items))
+frame_of (OfPage p) = first_frame p.owner (content.Page (words_of p.words.items))
+
+-- its numbers have 64 bits
+abbrev pub Fits : Entry → Type 0
+Fits (OfBank b) = (b.owner < 2 ^ 64) × (b.limit < 2 ^ 64)
+Fits (OfRoot p) = (p.owner < 2 ^ 64) × AreKeptWords 4 p.words
+Fits (OfAnnex p) = p.owner < 2 ^ 64
+Fits (OfNode n) = n.owner < 2 ^ 64
+Fits (OfPage p) = (p.owner < 2 ^ 64) × All (λ w. w < 2 ^ 64) (words_of p.words.items)
+
+-- the frames of a world, and as many headers as contents
+abbrev pub frames_of : World → List Frame
+frames_of w = frames_in w.headers.items w.contents.items
+
+pub record HasCount (count : ℕ) (w : World) : Type 0 where
+  pub headers : vec_len w.headers ≡ count
+  pub contents : vec_len w.contents ≡ count
+
+-- frames with those of some objects laid over them
+unfoldable pub laid : List Entry → List Frame → List Frame
+laid es fs = set_each number_of frame_of es fs
+
+-- some objects are laid
+pub record IsLaid (es : List Entry) (old new : World) : Type 0 where
+  pub frames : frames_of new ≡ laid es (frames_of old)
+  pub fits : All Fits es
+  pub headers : vec_len new.headers ≡ vec_len old.headers
+  pub contents : vec_len new.contents ≡ vec_len old.contents
+
+-- a frame is put at a number
+pub record IsPut (n : ℕ) (f : Frame) (old new : World) : Type 0 where
+  pub frames : frames_of new ≡ slice_set (frames_of old) n f
+  pub headers : vec_len new.headers ≡ vec_len old.headers
+  pub contents : vec_len new.contents ≡ vec_len old.contents
+
+abbrev pub AreTargets : Geometry → List SlotEntry → Type 0
+AreTargets g slots = All (λ s. IsTarget g (unwrap_or s.capability Void)) slots
+
+-- the same of all capabilities that are named
+pub record HasProcessTargets (g : Geometry) (p : ProcessEntry) : Type 0 where
+  pub space : IsTarget g (unwrap_or p.space Void)
+  pub registers : AreTargets g p.registers.items
+
+pub record HasTargets (g : Geometry) (d : Description) : Type 0 where
+  pub processes : All (HasProcessTargets g) d.processes.items
+  pub nodes : All (λ n. AreTargets g n.slots.items) d.nodes.items

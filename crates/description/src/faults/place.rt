@@ -1,0 +1,103 @@
+// Places in a description, and what is wrong there.
+
+use crate::faults::key::Key;
+
+/// A table of a description: the whole, or one of a list by its index.
+#[derive(Clone, Copy, PartialEq, Eq, Debug)]
+pub enum TableName {
+    Whole,
+    Bank(usize),
+    Process(usize),
+    Node(usize),
+    Page(usize),
+}
+
+/// What is wrong in a table.
+#[derive(Clone, Copy, PartialEq, Eq, Debug)]
+pub enum Flaw<'a> {
+    /// This key is unknown.
+    Unknown(&'a str),
+    /// This key is missing, or another value than its own is there.
+    Misfit(Key),
+    /// In the list at this key the item of this index isn't of its form.
+    Item(Key, usize),
+}
+
+/// A table, and what is wrong in it.
+#[derive(Clone, Copy, PartialEq, Eq, Debug)]
+pub struct ShapePlace<'a> {
+    pub table: TableName,
+    pub flaw: Flaw<'a>,
+}
+
+/// A size that no image has.
+#[derive(Clone, Copy, PartialEq, Eq, Debug)]
+pub enum Limit {
+    Nodes,
+    Pages,
+    Log,
+    /// There is no range, or there are more than eight.
+    RangeCount,
+    /// The range of this index doesn't go on at this number, is empty, has nodes and pages, or goes beyond
+    /// the last number.
+    Range { index: usize, next: u64 },
+    /// The ranges end before this number.
+    RangesEnd { next: u64 },
+    Age,
+    Layout,
+}
+
+/// A number that a description names, by the index of its object in its list.
+#[derive(Clone, Copy, PartialEq, Eq, Debug)]
+pub enum Named {
+    Bank(usize),
+    Root(usize),
+    Annex(usize),
+    Node(usize),
+    Page(usize),
+}
+
+/// What is wrong with the numbers.
+#[derive(Clone, Copy, PartialEq, Eq, Debug)]
+pub enum Misnumbered {
+    /// A number isn't one of its kind.
+    OutOfRange(Named),
+    /// Two objects have one number.
+    Twice(Named, Named),
+}
+
+/// What is wrong in a list of entries with indexes.
+#[derive(Clone, Copy, PartialEq, Eq, Debug)]
+pub enum Indexed {
+    /// The index of this entry is outside its range.
+    OutOfRange(usize),
+    /// These two entries have one index.
+    Twice(usize, usize),
+}
+
+/// What is wrong in a list of slots or registers.
+#[derive(Clone, Copy, PartialEq, Eq, Debug)]
+pub enum SlotFlaw {
+    Index(Indexed),
+    /// The text of this entry is that of no capability.
+    Text(usize),
+}
+
+/// A field of an object, by the index of the object in its list.
+#[derive(Clone, Copy, PartialEq, Eq, Debug)]
+pub enum Part {
+    State(usize),
+    Key(usize),
+    Space(usize),
+    Registers(usize, SlotFlaw),
+    Slots(usize, SlotFlaw),
+    Words(usize, Indexed),
+}
+
+/// A capability of a process or a node, by the indexes of the object and of the entry in their lists.
+#[derive(Clone, Copy, PartialEq, Eq, Debug)]
+pub enum Held {
+    Space(usize),
+    Register(usize, usize),
+    Slot(usize, usize),
+}

@@ -1,0 +1,103 @@
+// The world of a description.
+ghost use Rattle.std.specs.Prelude.{◌≡◌, ◌<◌, replicate, vec_len, IfErr, IfOk, OnOk};
+ghost use Rattle.std.specs.List.{All};
+ghost use Rattle.layout.specs.Superblock.{IsGeometry};
+ghost use Rattle.model.specs.Frame.{blank_frame, frames_in};
+ghost use Rattle.model.specs.Keepable.{AreKeepable};
+ghost use Rattle.model.specs.Sound.{object_count};
+ghost use Rattle.description.specs.Described.{HasFields, HasNumbers, IsDescribed, IsWorldFault};
+ghost use Rattle.description.specs.Laid.{Fits, HasCount, HasTargets, entries, frames_of, laid};
+
+use crate::Description;
+use crate::fields::has_fields;
+use crate::numbers::has_numbers;
+use crate::objects::{lay_annexes, lay_banks, lay_nodes, lay_pages, lay_roots};
+use crate::targets::has_targets;
+use crate::world::World;
+use image_writer::BuildFault;
+use std::alloc::{AllocError, Global};
+
+// Why a description names no world, if it names none.
+fn check(alloc: Global, description: &Description) -> Result<(), BuildFault>
+    requires { IsGeometry description.now.geometry }
+    ensures numbers { OnOk result (HasNumbers description.now) }
+    ensures fields { OnOk result (HasFields description.now) }
+    ensures targets { OnOk result (HasTargets description.now.geometry description.now) }
+    ensures fault { IfErr result (IsWorldFault description.now) }
+{
+    let numbered = has_numbers(alloc, description)?;
+    if !numbered {
+        return Err(BuildFault::Number);
+    }
+    if !has_fields(description) {
+        return Err(BuildFault::Field);
+    }
+    if !has_targets(description.geometry, description) {
+        return Err(BuildFault::Target);
+    }
+    Ok(())
+}
+
+// The world of a description that has all that it needs. Fails only where memory runs out.
+fn lay(alloc: Global, description: &Description) -> Result<World, AllocError>
+    requires geometry { IsGeometry description.now.geometry }
+    requires numbers { HasNumbers description.now }
+    requires fields { HasFields description.now }
+    ensures frames { IfOk result (λ world. frames_of world ≡ laid (entries description.now)
+        (replicate (object_count description.now.geometry) blank_frame)) }
+    ensures fits { IfOk result (λ _. All Fits (entries description.now)) }
+    ensures count { IfOk result (HasCount (object_count description.now.geometry)) }
+{
+    let count = description.geometry.nodes + description.geometry.pages;
+    let mut world = World::free(alloc, count as usize)?;
+    lay_banks(&mut world, &description.banks);
+    lay_roots(&mut world, &description.processes);
+    lay_annexes(alloc, &mut world, &description.processes)?;
+    lay_nodes(alloc, &mut world, &description.nodes)?;
+    lay_pages(alloc, &mut world, &description.pages)?;
+    Ok(world)
+}
+
+/// Lays out the world of a description that has all that it needs. Fails only where memory runs out.
+pub fn lay_described(alloc: Global, description: &Description) -> Result<World, AllocError>
+    requires geometry { IsGeometry description.now.geometry }
+    requires numbers { HasNumbers description.now }
+    requires fields { HasFields description.now }
+    requires targets { HasTargets description.now.geometry description.now }
+    ensures described { IfOk result (λ w.
+        IsDescribed description.now (frames_in w.headers.items w.contents.items)) }
+    ensures keepable { IfOk result (λ w. AreKeepable description.now.geometry 0
+        (frames_in w.headers.items w.contents.items)) }
+    ensures headers { IfOk result (λ w.
+        vec_len w.headers ≡ object_count description.now.geometry) }
+    ensures contents { IfOk result (λ w.
+        vec_len w.contents ≡ object_count description.now.geometry) }
+{
+    let world = lay(alloc, description)?;
+    Ok(world)
+}
+
+/// Lays out the world of a description: the objects that it names, at their numbers, and all
+/// other numbers free. No object was ever given up.
+///
+/// Fails with `Number` where a number is none of its kind or is named twice; else with `Field`
+/// where an object has a field that isn't of its form, or a slot, register or word is named twice;
+/// else with `Target` where a capability names a number that no object of its kind can have. Fails
+/// with `NoMemory` where memory runs out, whatever else applies.
+pub fn lay_world(alloc: Global, description: &Description) -> Result<World, BuildFault>
+    requires { IsGeometry description.now.geometry }
+    ensures described { IfOk result (λ w.
+        IsDescribed description.now (frames_in w.headers.items w.contents.items)) }
+    ensures keepable { IfOk result (λ w. AreKeepable description.now.geometry 0
+        (frames_in w.headers.items w.contents.items)) }
+    ensures headers { IfOk result (λ w.
+        vec_len w.headers ≡ object_count description.now.geometry) }
+    ensures contents { IfOk result (λ w.
+        vec_len w.contents ≡ object_count description.now.geometry) }
+    ensures named { IfOk result (λ _. HasNumbers description.now × HasFields description.now) }
+    ensures fault { IfErr result (IsWorldFault description.now) }
+{
+    check(alloc, description)?;
+    let world = lay_described(alloc, description)?;
+    Ok(world)
+}

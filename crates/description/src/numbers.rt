@@ -1,0 +1,108 @@
+// The numbers that a description names.
+ghost use Rattle.std.specs.Prelude.{◌≡◌, ◌+◌, ◌<◌, ◌≤◌, ◌^◌, ◌↔◌, map, IfOk, IsTrue};
+ghost use Rattle.std.specs.List.{All};
+ghost use Rattle.layout.specs.Superblock.{IsGeometry};
+ghost use Rattle.model.specs.Sound.{object_count};
+ghost use Rattle.description.specs.Described.{AreDistinct, HasNumbers, node_numbers, page_numbers};
+
+use crate::{BankEntry, Description, NodeEntry, ProcessEntry};
+use collections::NumberSet;
+use model::Geometry;
+use std::alloc::{AllocError, Global};
+
+fn bank_numbers(alloc: Global, banks: &[BankEntry]) -> Result<Vec<u64>, AllocError>
+    ensures { IfOk result (λ numbers. numbers.items ≡ map (λ b. b.number) banks.now) }
+{
+    banks.iter().map(|bank| bank.number).collect(alloc)
+}
+
+fn root_numbers(alloc: Global, processes: &[ProcessEntry]) -> Result<Vec<u64>, AllocError>
+    ensures { IfOk result (λ numbers. numbers.items ≡ map (λ p. p.root) processes.now) }
+{
+    processes.iter().map(|process| process.root).collect(alloc)
+}
+
+fn annex_numbers(alloc: Global, processes: &[ProcessEntry]) -> Result<Vec<u64>, AllocError>
+    ensures { IfOk result (λ numbers. numbers.items ≡ map (λ p. p.annex) processes.now) }
+{
+    processes.iter().map(|process| process.annex).collect(alloc)
+}
+
+fn plain_node_numbers(alloc: Global, nodes: &[NodeEntry]) -> Result<Vec<u64>, AllocError>
+    ensures { IfOk result (λ numbers. numbers.items ≡ map (λ n. n.number) nodes.now) }
+{
+    nodes.iter().map(|node| node.number).collect(alloc)
+}
+
+/// The numbers of banks, roots, annexes and nodes, in this order. Fails only where memory runs out.
+pub fn node_numbers(alloc: Global, description: &Description) -> Result<Vec<u64>, AllocError>
+    ensures { IfOk result (λ numbers. numbers.items ≡ node_numbers description.now) }
+{
+    let roots = root_numbers(alloc, &description.processes)?;
+    let annexes = annex_numbers(alloc, &description.processes)?;
+    let nodes = plain_node_numbers(alloc, &description.nodes)?;
+    let mut numbers = bank_numbers(alloc, &description.banks)?;
+    numbers.extend_from_slice(&roots)?;
+    numbers.extend_from_slice(&annexes)?;
+    numbers.extend_from_slice(&nodes)?;
+    Ok(numbers)
+}
+
+/// The numbers of pages. Fails only where memory runs out.
+pub fn page_numbers(alloc: Global, description: &Description) -> Result<Vec<u64>, AllocError>
+    ensures { IfOk result (λ numbers. numbers.items ≡ page_numbers description.now) }
+{
+    let pages = description.pages.iter();
+    pages.map(|page| page.number).collect(alloc)
+}
+
+// Whether all are numbers of nodes.
+fn are_of_nodes(geometry: Geometry, numbers: &[u64]) -> bool
+    ensures { IsTrue result ↔ All (λ n. n < geometry.nodes) numbers.now }
+{
+    numbers.iter().all(|number| *number < geometry.nodes)
+}
+
+// Whether all are numbers of pages.
+fn are_of_pages(geometry: Geometry, numbers: &[u64]) -> bool
+    requires { object_count geometry < 2 ^ 64 }
+    ensures { IsTrue result
+        ↔ All (λ n. (geometry.nodes ≤ n) × (n < object_count geometry)) numbers.now }
+{
+    let end = geometry.nodes + geometry.pages;
+    numbers
+        .iter()
+        .all(|number| geometry.nodes <= *number && *number < end)
+}
+
+// Whether no number comes twice. Fails only if memory runs out.
+fn are_distinct(alloc: Global, numbers: &[u64], count: usize) -> Result<bool, AllocError>
+    requires { All (λ n. n < count) numbers.now }
+    ensures { IfOk result (λ distinct. IsTrue distinct ↔ AreDistinct numbers.now) }
+{
+    let mut seen = NumberSet::new(alloc, count)?;
+    for number in numbers {
+        let number = *number as usize;
+        if seen.contains(number) {
+            return Ok(false);
+        }
+        seen.set(number, true);
+    }
+    Ok(true)
+}
+
+// Whether each number is one of its kind, and none is named twice. Fails only where memory runs
+// out.
+pub(crate) fn has_numbers(alloc: Global, description: &Description) -> Result<bool, AllocError>
+    requires { IsGeometry description.now.geometry }
+    ensures { IfOk result (λ has. IsTrue has ↔ HasNumbers description.now) }
+{
+    let mut numbers = node_numbers(alloc, description)?;
+    let pages = page_numbers(alloc, description)?;
+    let geometry = description.geometry;
+    if !are_of_nodes(geometry, &numbers) || !are_of_pages(geometry, &pages) {
+        return Ok(false);
+    }
+    numbers.extend_from_slice(&pages)?;
+    are_distinct(alloc, &numbers, (geometry.nodes + geometry.pages) as usize)
+}

@@ -1,4 +1,0 @@
-pub mod Names
-pub mod Broken
-pub mod Outcomes
-pub mod Shapes

@@ -1,0 +1,73 @@
+-- The calls of a file, one deed after another.
+use Rattle.devices.proofs.Names.{ℕ, List, [], Option, None, Some, Result, Ok, Err, OnOk, is_ok, true, length, take, drop, refl, sym, ap, subst, append_assoc}
+use Rattle.devices.proofs.Names.{append-nil, arith, length-append, length-take, ∥∥₁_map, take-add, take_rest, flat_map-append, concat-append, concat}
+use Rattle.devices.proofs.Names.{sectors_of, Event, writes_of, Adds, Call, took, Deed, writes, calls_of, events_by, taken, Takes, Tells}
+use Rattle.std.proofs.Common.{◌≡◌, ◌+◌, ◌-◌, ◌*◌, ◌≤◌, ◌∷◌, ◌++◌, ◌∙◌}
+
+-- calls, and then more
+pub adds_more : {X : Type 0} (a b c : Option (List X)) (xs ys : List X) → Adds a b xs → Adds b c ys → Adds a c (xs ++ ys)
+adds_more None None c xs ys p q = q
+adds_more None (Some one) c xs ys p q = cc
+adds_more (Some calls) None c xs ys p q = absurd p
+adds_more (Some calls) (Some one) None xs ys p q = absurd q
+adds_more (Some calls) (Some one) (Some two) xs ys p q = q ∙ ap (λ l. l ++ ys) p ∙ append_assoc calls xs ys
+
+-- one more piece
+taken_one : (byte : ℕ) (ps : List (List ℕ)) (y : List ℕ) → taken byte (ps ++ y ∷ []) ≡ taken byte ps ++ took (byte + length (concat ps)) y ∷ []
+taken_one byte [] y = ap (λ (n : ℕ). took n y ∷ []) (omega arith)
+taken_one byte (p ∷ ps) y =
+    ap (λ (l : List Call). took byte p ∷ l) (taken_one (byte + length p) ps y
+    ∙ ap (λ (n : ℕ). taken (byte + length p) ps ++ took n y ∷ []) (omega (arith, length-append p (concat ps))))
+
+pub takes_none : (byte : ℕ) (a : Option (List Call)) → Takes byte a a []
+takes_none byte None = ([], refl, refl)
+takes_none byte (Some calls) = ([], refl, sym (append-nil calls))
+
+takes_more : (byte : ℕ) (a b c : Option (List Call)) (xs ys : List ℕ) → Takes byte a b xs → Adds b c (took (byte + length xs) ys ∷ []) →
+    Takes byte a c (xs ++ ys)
+takes_more byte a b c xs ys t adds =
+    let behind : Adds b c (took (byte + length (concat t.0)) ys ∷ []) = subst (λ (l : List ℕ). Adds b c (took (byte + length l) ys ∷ [])) (sym t.1) adds in (
+      t.0 ++ ys ∷ [],
+      concat-append t.0 (ys ∷ []) ∙ ap (λ (l : List ℕ). concat t.0 ++ l) (append-nil ys) ∙ ap (λ (l : List ℕ). l ++ ys) t.1,
+      subst (Adds a c) (sym (taken_one byte t.0 ys)) (adds_more a b c (taken byte t.0) (took (byte + length (concat t.0)) ys ∷ []) t.2 behind),
+    )
+
+-- a call took n bytes of the rest
+pub takes_on : (byte : ℕ) (a b c : Option (List Call)) (bytes : List ℕ) (i n : ℕ) → i ≤ length bytes → Takes byte a b (take i bytes)
+    → Adds b c (took (byte + i) (take n (take (length bytes - i) (drop i bytes))) ∷ []) → Takes byte a c (take (i + n) bytes)
+takes_on byte a b c bytes i n within t adds =
+    let whole = take_rest bytes i in
+    let there : i ≡ length (take i bytes) = omega (arith, length-take {A = ℕ}, within) in
+    let adds' : Adds b c (took (byte + length (take i bytes)) (take n (drop i bytes)) ∷ []) =
+    subst (λ (m : ℕ). Adds b c (took (byte + m) (take n (drop i bytes)) ∷ [])) there
+    (subst (λ (xs : List ℕ). Adds b c (took (byte + i) (take n xs) ∷ [])) whole adds) in
+    subst (Takes byte a c) (sym (take-add i n bytes)) (takes_more byte a b c (take i bytes) (take n (drop i bytes)) t adds')
+
+-- one more deed
+tells_known : (events : List Event) (old new : Option (List Call)) (d : Deed) → Tells events old → Adds old new (calls_of d) → Tells (events ++ events_by d) new
+tells_known events None None d tells adds = tt
+tells_known events None (Some now) d tells adds = cc
+tells_known events (Some calls) None d tells adds = absurd adds
+tells_known events (Some calls) (Some now) d tells adds = (
+  tells.0 ++ d ∷ [],
+  sym (simp (flat_map-append events_by tells.0 (d ∷ []), append-nil) (ap (λ (l : List Event). l ++ events_by d) (sym tells.1))),
+  adds ∙ sym (simp (flat_map-append calls_of tells.0 (d ∷ []), append-nil) (ap (λ (l : List Call). l ++ calls_of d) (sym tells.2))),
+)
+
+pub tells_more : (events : List Event) (old new : Option (List Call)) (d : Deed) → ∥ Tells events old ∥₁ → Adds old new (calls_of d) →
+    ∥ Tells (events ++ events_by d) new ∥₁
+tells_more events old new d tells adds = ∥∥₁_map tells (λ t. tells_known events old new d t adds)
+
+pub tells_write : (events : List Event) (old new : Option (List Call)) (at : ℕ) (bytes : List ℕ) → ∥ Tells events old ∥₁ → Takes (512 * at) old new bytes
+    → ∥ Tells (events ++ writes_of at (sectors_of bytes) bytes) new ∥₁
+tells_write events old new at bytes tells w =
+    subst (λ (b : List ℕ). ∥ Tells (events ++ writes_of at (sectors_of b) b) new ∥₁) w.1 (tells_more events old new (writes at w.0) tells w.2)
+
+pub where_ok : {T E : Type 0} {P : Type 0} (r : Result T E) → OnOk r P → true ≡ is_ok r → P
+where_ok (Ok x) ok is = ok
+where_ok (Err e) ok is = cc
+
+-- none
+pub adds_none : {X : Type 0} (a : Option (List X)) → Adds a a []
+adds_none None = refl
+adds_none (Some calls) = sym (append-nil calls)

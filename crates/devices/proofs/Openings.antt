@@ -1,0 +1,131 @@
+-- The calls that open or make a device, one after another.
+use Rattle.devices.proofs.Names.{ℕ, List, [], Option, option_map, None, Some, IfSome, length, take, refl, sym, ap, subst, append-nil, arith, drop}
+use Rattle.devices.proofs.Names.{length-append, length-take-le, take-append-le, concat-append, concat, Disk, Agrees, image_of, sectors_of, Access, Create, Lock}
+use Rattle.devices.proofs.Names.{Exclusive, OpeningCall, opened, locked, measured, got, resized, listed, resizes, KeepsLength, reads, Gets, LoadsLocked}
+use Rattle.devices.proofs.Names.{MakesZeros, IsOpened, IsMade, GetsFrom, Adds, AreSectors, Elsewhere, inl, inr, min, cases_lt, take-append-add, take_all}
+use Rattle.devices.proofs.Names.{take-put_mid_below}
+use Rattle.devices.specs.OpeningCalls.{synced}
+use Rattle.std.proofs.Common.{◌≡◌, ◌+◌, ◌*◌, ◌≤◌, ◌∷◌, ◌++◌, ◌∙◌, ◌%◌}
+use Rattle.devices.proofs.Deeds.{adds_none, adds_more}
+use Rattle.devices.proofs.Stored.{front_part}
+use borrow.Rule.Slice.PartMut.{put_mid}
+
+abbrev Calls : Type 0
+Calls = Option (List OpeningCall)
+
+resizes_append : (a b : List OpeningCall) → resizes (a ++ b) ≡ resizes a + resizes b
+resizes_append [] b = omega arith
+resizes_append (opened path access ∷ a) b = resizes_append a b
+resizes_append (locked lock answer ∷ a) b = resizes_append a b
+resizes_append (synced ∷ a) b = resizes_append a b
+resizes_append (measured n ∷ a) b = resizes_append a b
+resizes_append (got at piece ∷ a) b = resizes_append a b
+resizes_append (resized n ∷ a) b = omega (arith, resizes_append a b)
+resizes_append (listed path ∷ a) b = resizes_append a b
+
+-- calls that don't set the length
+pub keeps_length : (a b : Calls) (more : List OpeningCall) → Adds a b more → resizes more ≡ 0 → KeepsLength a b
+keeps_length None b more adds none = ap (option_map resizes) adds
+keeps_length (Some calls) None more adds none = absurd adds
+keeps_length (Some calls) (Some now) more adds none = ap Some (ap resizes adds ∙ resizes_append calls more ∙ omega (arith, none))
+
+pub keeps_synced : (a b : Calls) → Adds a b (synced ∷ []) → option_map resizes b ≡ option_map resizes a
+keeps_synced a b adds = keeps_length a b (synced ∷ []) adds refl
+
+-- pieces, and then more
+reads_append : (byte : ℕ) (ps qs : List (List ℕ)) → reads byte (ps ++ qs) ≡ reads byte ps ++ reads (byte + length (concat ps)) qs
+reads_append byte [] qs = ap (λ (n : ℕ). reads n qs) (omega arith)
+reads_append byte (p ∷ ps) qs =
+    ap (λ (l : List OpeningCall). got byte p ∷ l) (reads_append (byte + length p) ps qs
+    ∙ ap (λ (n : ℕ). reads (byte + length p) ps ++ reads n qs) (omega (arith, length-append p (concat ps))))
+
+gets_join : (byte next : ℕ) (a b c : Calls) (xs ys : List ℕ) → next ≡ byte + length xs → GetsFrom byte a b xs → GetsFrom next b c ys
+    → GetsFrom byte a c (xs ++ ys)
+gets_join byte next a b c xs ys next_is first second =
+    let place : next ≡ byte + length (concat first.0) = next_is ∙ ap (λ (l : List ℕ). byte + length l) (sym first.1) in (
+      first.0 ++ second.0,
+      concat-append first.0 second.0 ∙ ap (λ (l : List ℕ). concat first.0 ++ l) second.1 ∙ ap (λ (l : List ℕ). l ++ ys) first.1,
+      subst (Adds a c) (ap (λ (n : ℕ). reads byte first.0 ++ reads n second.0) place ∙ sym (reads_append byte first.0 second.0))
+          (adds_more a b c (reads byte first.0) (reads next second.0) first.2 second.2),
+    )
+
+-- no bytes
+pub gets_none : (byte : ℕ) (a : Calls) → GetsFrom byte a a []
+gets_none byte a = ([], refl, adds_none a)
+
+module _ (byte : ℕ) (a b : Calls) (old part : List ℕ) (done k : ℕ) (within : done ≤ length old) (gets : GetsFrom byte a b (take done old)) where
+  size : length (take done old) ≡ done
+  size = length-take-le done old within
+
+  pub fits_within : (n : ℕ) → n ≤ length part → done + n ≤ length (put_mid done k old part)
+  fits_within n fits =
+      let tail : List ℕ = drop k (drop done old) in
+      omega (arith, size, fits, length-append (take done old) (part ++ tail), length-append part tail)
+
+  -- a call got n bytes behind the first ones of a buffer
+  pub gets_on : (c : Calls) (n : ℕ) → n ≤ length part → Adds b c (got (byte + done) (take n part) ∷ [])
+      → GetsFrom byte a c (take (done + n) (put_mid done k old part))
+  gets_on c n fits adds =
+      let tail : List ℕ = drop k (drop done old) in
+      let more : take (done + n) (put_mid done k old part) ≡ take done old ++ take n part =
+      ap (λ (m : ℕ). take (m + n) (take done old ++ (part ++ tail))) (sym size) ∙ take-append-add (take done old) (part ++ tail) n
+      ∙ ap (λ (l : List ℕ). take done old ++ l) (take-append-le n part tail fits) in
+      subst (GetsFrom byte a c) (sym more)
+      (gets_join byte (byte + done) a b c (take done old) (take n part) (ap (λ (m : ℕ). byte + m) (sym size)) gets
+      (take n part ∷ [], append-nil (take n part), adds))
+
+  -- an interrupted call leaves them
+  pub still_within : done ≤ length (put_mid done k old part)
+  still_within = omega (arith, fits_within 0 (omega arith))
+
+  pub gets_still : GetsFrom byte a b (take done (put_mid done k old part))
+  gets_still = subst (GetsFrom byte a b) (sym (take-put_mid_below done k old part done (omega arith) within)) gets
+
+-- sectors were got behind the first ones of a copy, up to a byte or all that it has
+pub sectors_on : (a b c : Calls) (old new part : List ℕ) (at byte next : ℕ) → byte ≡ 512 * at → length new ≡ length old → length part % 512 ≡ 0
+    → 512 * at ≤ length old → byte + length part ≡ min next (length old)
+    → AreSectors (image_of new) at part → Elsewhere at (sectors_of part) (image_of old) (image_of new)
+    → Gets a b (take byte old) → GetsFrom byte b c part → Gets a c (take next new)
+sectors_on a b c old new part at byte next byte_is same whole inside end written others gets more =
+    let size : length (take byte old) ≡ byte = length-take-le byte old (omega (arith, byte_is, inside)) in
+    let all : take byte old ++ part ≡ take (byte + length part) new =
+    ap (λ (n : ℕ). take n old ++ part) byte_is ∙ sym (front_part old new part at whole written others)
+    ∙ ap (λ (n : ℕ). take (n + length part) new) (sym byte_is) in
+    let reaches : take (byte + length part) new ≡ take next new = elim (cases_lt next (length new)) [
+      | inl below ↦ ap (λ (n : ℕ). take n new) (omega (arith, end, same, below))
+      | inr past ↦ take_all (byte + length part) new (omega (arith, end, same, past)) ∙ sym (take_all next new past)
+    ] in
+    subst (Gets a c) (all ∙ reaches) (gets_join 0 byte a b c (take byte old) part (omega (arith, size)) gets more)
+
+-- a file that was just opened, and then loaded
+pub opens : (path : List ℕ) (access : Access) (lock : Lock) (a b : Calls) (copy : List ℕ) (disk : Disk)
+    → IfSome a (λ calls. calls ≡ opened path access ∷ []) → LoadsLocked lock a b copy
+    → disk.sectors ≡ sectors_of copy → Agrees disk.seen (image_of copy)
+    → IfSome b (λ calls. IsOpened path access lock calls disk)
+opens path access lock None None copy disk is loads size seen = tt
+opens path access lock None (Some now) copy disk is loads size seen = let none : Some now ≡ None = loads.6 in cc
+opens path access lock (Some calls) None copy disk is loads size seen = absurd loads.6
+opens path access lock (Some calls) (Some now) copy disk is loads size seen = record {
+  answer = loads.0;
+  bytes = loads.1;
+  pieces = loads.2;
+  made = loads.6 ∙ ap (λ (l : List OpeningCall). l ++ locked lock loads.0 ∷ synced ∷ measured loads.1 ∷ reads 0 loads.2) is;
+  free = loads.3;
+  size = omega (arith, size, loads.5);
+  whole = ap length loads.4 ∙ loads.5;
+  seen = subst (λ (l : List ℕ). Agrees disk.seen (image_of l)) (sym loads.4) seen;
+}
+
+-- a file that was just opened, and then filled with zeros
+pub makes : (path : List ℕ) (sectors n : ℕ) (a b : Calls) → IfSome a (λ calls. calls ≡ opened path Create ∷ []) → n ≡ 512 * sectors → MakesZeros path n a b
+    → IfSome b (λ calls. IsMade path sectors calls)
+makes path sectors n None None is size zeros = tt
+makes path sectors n None (Some now) is size zeros = let none : Some now ≡ None = zeros.2 in cc
+makes path sectors n (Some calls) None is size zeros = absurd zeros.2
+makes path sectors n (Some calls) (Some now) is size zeros = record {
+  answer = zeros.0;
+  made =
+      zeros.2 ∙ ap (λ (l : List OpeningCall). l ++ locked Exclusive zeros.0 ∷ resized 0 ∷ resized n ∷ synced ∷ listed path ∷ []) is
+      ∙ ap (λ (m : ℕ). opened path Create ∷ locked Exclusive zeros.0 ∷ resized 0 ∷ resized m ∷ synced ∷ listed path ∷ []) size;
+  free = zeros.1;
+}

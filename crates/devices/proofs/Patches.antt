@@ -1,0 +1,104 @@
+-- Sectors that take the place of others, one after another.
+use Rattle.devices.proofs.Names.{ℕ, Bool, true, false, zero, suc, List, [], length, get_or, take, drop, replicate, refl, sym, ap, arith, ⊎_elim, length-drop}
+use Rattle.devices.proofs.Names.{eq-eqb, eqb-true, eqb-false, or_cases, cases_Bool, cases_order, take_more, take-take, take-replicate, or_assoc, Image, Agrees}
+use Rattle.devices.proofs.Names.{image_of, sectors_of, AreSectors, Elsewhere, Patches, State, left_by, Outcome, Fill, names, Action, Wrote, RecordEntry}
+use Rattle.std.proofs.lemmas.List.{length-take-le}
+use Rattle.devices.specs.Record.{writes}
+use Rattle.std.proofs.Common.{◌≡◌, ◌<◌, ◌≤◌, ◌+◌, ◌*◌, ◌||◌, ◌==◌, if◌then◌else◌, ◌∷◌, ◌++◌, ◌∙◌}
+
+pub or_false : (a b : Bool) → (a || b) ≡ false → (a ≡ false) × (b ≡ false)
+or_false false b none = (refl, none)
+or_false true b none = cc
+
+pub or_right : (a : Bool) → (a || false) ≡ a
+or_right false = refl
+or_right true = refl
+
+-- some sectors and then others
+pub patches_on : (p q r : ℕ → Bool) (from old mid new : Image) → Patches p from old mid → Patches q from mid new → ((i : ℕ) → r i ≡ (p i || q i)) →
+    Patches r from old new
+patches_on p q r from old mid new first second either = record {
+  named = λ i yes.
+      ⊎_elim
+      (second.named i)
+      (λ no. ⊎_elim (λ here. second.others i no ∙ first.named i here) (λ there. let both : true ≡ false = sym there ∙ no in cc)
+      (or_cases (p i) (q i) (sym (either i) ∙ yes)))
+      (cases_Bool (q i));
+  others = λ i no. let none = or_false (p i) (q i) (sym (either i) ∙ no) in second.others i none.1 ∙ first.others i none.0;
+}
+
+pub names-append : (xs ys : List RecordEntry) (i : ℕ) → names (xs ++ ys) i ≡ (names xs i || names ys i)
+names-append [] ys i = refl
+names-append (x ∷ xs) ys i = ap (λ (b : Bool). writes x.action i || b) (names-append xs ys i) ∙ sym (or_assoc (writes x.action i) (names xs i) (names ys i))
+
+-- the sectors of one entry more
+pub names_more : (es : List RecordEntry) (j : ℕ) (d : RecordEntry) → j < length es → (i : ℕ) →
+    names (take (j + 1) es) i ≡ (names (take j es) i || writes (get_or es j d).action i)
+names_more es j d lt i =
+    ap (λ (xs : List RecordEntry). names xs i) (take_more es j d lt)
+    ∙ names-append (take j es) (get_or es j d ∷ []) i
+    ∙ ap (λ (b : Bool). names (take j es) i || b) (or_right (writes (get_or es j d).action i))
+
+-- the sector of an entry is one of those of all
+pub names_at : (es : List RecordEntry) (j : ℕ) (d : RecordEntry) → j < length es → (i : ℕ) → writes (get_or es j d).action i ≡ true → names es i ≡ true
+names_at [] j d lt i hit = absurd (omega arith)
+names_at (e ∷ es) zero d lt i hit = ap (λ (b : Bool). b || names es i) hit
+names_at (e ∷ es) (suc j) d lt i hit =
+    let there : names es i ≡ true = names_at es j d (omega arith) i hit in
+    elim (writes e.action i) as (λ b. (b || names es i) ≡ true) [ true ↦ refl | false ↦ there ]
+
+-- an action that wrote a sector wrote that one
+pub wrote_here : (action : Action) (sector : ℕ) (bytes : List ℕ) → action ≡ Wrote sector bytes → writes action sector ≡ true
+wrote_here action sector bytes is = ap (λ (a : Action). writes a sector) is ∙ eq-eqb sector sector refl
+
+-- one sector alone
+pub patches_one : (action : Action) (sector : ℕ) (bytes part : List ℕ) (from old new : Image) → action ≡ Wrote sector bytes → length part ≡ 512 →
+    image_of part 0 ≡ from sector
+    → AreSectors new sector part → Elsewhere sector (sectors_of part) old new → Patches (writes action) from old new
+patches_one action sector bytes part from old new is size same put elsewhere =
+    let test : (i : ℕ) → writes action i ≡ (i == sector) = λ i. ap (λ (a : Action). writes a i) is in
+    let one : sectors_of part ≡ 1 = omega (arith, size) in
+    record {
+      named = λ i yes.
+          let here : i ≡ sector = eqb-true i sector (sym (test i) ∙ yes) in
+          let place : sector + 0 ≡ i = omega (arith, here) in
+          ap new (sym place) ∙ sym (put 0 (omega (arith, one))) ∙ same ∙ ap from (sym here);
+      others = λ i no.
+          let apart : i ≡ sector → ⊥ = eqb-false i sector (sym (test i) ∙ no) in
+          ⊎_elim
+          (λ e. absurd (apart e))
+          (⊎_elim (elsewhere.before i) (λ gt. elsewhere.after i (omega (arith, one, gt))))
+          (cases_order i sector);
+    }
+
+-- a part of a list of sectors is one of them
+pub part_is : (bytes : List ℕ) (sector a k : ℕ) → a ≡ 512 * sector → k ≡ 512 → image_of (take k (drop a bytes)) 0 ≡ image_of bytes sector
+part_is bytes sector a k a_is k_is =
+    rw (a_is, k_is, take-take 512 512 (drop (512 * sector) bytes) (omega arith)) refl
+
+pub part_size : (bytes : List ℕ) (sector a k : ℕ) → a ≡ 512 * sector → k ≡ 512 → 512 * (sector + 1) ≤ length bytes → length (take k (drop a bytes)) ≡ 512
+part_size bytes sector a k a_is k_is inside =
+    length-take-le k (drop a bytes) (omega (arith, a_is, k_is, inside, length-drop a bytes)) ∙ k_is
+
+-- a sector of one byte
+pub filled_is : (byte : ℕ) → image_of (replicate 512 byte) 0 ≡ replicate 512 byte
+filled_is byte = take-replicate 512 512 byte (omega arith)
+
+-- after the same sectors are patched in both of two images that agree elsewhere, they agree
+pub patches_both : (test : ℕ → Bool) (from first second new other : Image) → Patches test from first new → Patches test from second other →
+    ((i : ℕ) → test i ≡ false → first i ≡ second i) → Agrees other new
+patches_both test from first second new other patched also same i =
+    ⊎_elim
+    (λ hit. also.named i hit ∙ sym (patched.named i hit))
+    (λ miss. also.others i miss ∙ sym (same i miss) ∙ sym (patched.others i miss))
+    (cases_Bool (test i))
+
+-- after the unsynced sectors are filled
+pub filled_left : (byte : ℕ) (outcome : Outcome) (s : State) (new : Image) → outcome ≡ Fill byte → Patches s.unsynced (λ _. replicate 512 byte) s.present new
+    → ((i : ℕ) → s.unsynced i ≡ false → s.present i ≡ s.durable i) → Agrees new (left_by outcome s)
+filled_left byte outcome s new is patched same i =
+    ⊎_elim
+    (λ hit. patched.named i hit ∙ sym (ap (λ (b : Bool). if b then replicate 512 byte else s.durable i) hit))
+    (λ miss. patched.others i miss ∙ same i miss ∙ sym (ap (λ (b : Bool). if b then replicate 512 byte else s.durable i) miss))
+    (cases_Bool (s.unsynced i))
+    ∙ sym (ap (λ (o : Outcome). left_by o s i) is)

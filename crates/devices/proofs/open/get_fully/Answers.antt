@@ -1,0 +1,39 @@
+use Rattle.devices.proofs.Names.{arith, option_map, refl, ap, resizes}
+use Rattle.std.proofs.Common.{◌∙◌}
+use Rattle.devices.proofs.Openings.{fits_within, still_within, gets_none, gets_on, gets_still, keeps_length}
+use Rattle.devices.proofs.open.get_fully.Goals as goal
+use Rattle.devices.proofs.open.get_fully.Goals.{in-Ok, in-Err+else-ne}
+
+pub returns-in-Ok-eq0-clause-length : goal.returns-in-Ok-eq0-clause-length
+returns-in-Ok-eq0-clause-length g c = keeps_length _ _ _ c.in-Ok-eq0.ensures.ok refl ∙ c.loop.invariant.length_kept
+
+pub loop-init : goal.loop-init
+loop-init g c = record {
+  within = omega arith;
+  bytes = gets_none c.args.at (g.F.Openable.opening c.args.file.now);
+  length_kept = refl;
+  calls = refl;
+}
+
+pub loop-preserved : goal.loop-preserved
+loop-preserved g c =
+    let old = c.loop.into in
+    let got = c.get.new.into in
+    elim c.match-get.branch [
+      | in-Ok w ↦ record {
+        within = rw w.done-is
+            (fits_within c.args.at _ _ old got c.loop.done _ c.loop.invariant.within c.loop.invariant.bytes w.in-Ok.count w.in-Ok.ensures.bound.0);
+        bytes = rw w.done-is
+            (gets_on c.args.at _ _ old got c.loop.done _ c.loop.invariant.within c.loop.invariant.bytes _ w.in-Ok.count w.in-Ok.ensures.bound.0
+            w.in-Ok.ensures.ok);
+        length_kept = keeps_length _ _ _ w.in-Ok.ensures.ok refl ∙ c.loop.invariant.length_kept;
+        calls = w.in-Ok.ensures.calls ∙ c.loop.invariant.calls;
+      }
+      | in-Err+else-ne w ↦ record {
+        within = rw w.done-is (still_within c.args.at _ _ old got c.loop.done _ c.loop.invariant.within c.loop.invariant.bytes);
+        bytes = rw (w.done-is, w.in-Err.ensures.err)
+            (gets_still c.args.at _ _ old got c.loop.done _ c.loop.invariant.within c.loop.invariant.bytes);
+        length_kept = ap (option_map resizes) w.in-Err.ensures.err ∙ c.loop.invariant.length_kept;
+        calls = w.in-Err.ensures.calls ∙ c.loop.invariant.calls;
+      }
+    ]

@@ -1,0 +1,34 @@
+-- A device that stops after some calls.
+use Rattle.devices.specs.Names.{ℕ, Option, Some, option_map, Result, IsErr, Disk}
+use Rattle.std.specs.Prelude.{◌≡◌, ◌<◌, ◌+◌, ◌-◌}
+use Rattle.devices.specs.declared.fuse.Fuse.{Fuse}
+
+-- the device that the calls are passed to
+abbrev pub beneath : {D : Type 0} → Fuse D → D
+beneath fuse = fuse.inner
+
+-- how many calls are still passed on, or `None` where each is
+abbrev pub calls_left : {D : Type 0} → Fuse D → Option ℕ
+calls_left fuse = fuse.left
+
+-- no call is passed on any more
+abbrev pub IsBlown : {D : Type 0} → Fuse D → Type 0
+IsBlown fuse = calls_left fuse ≡ Some 0
+
+-- A blown fuse fails and leaves the device beneath alone. Any other fails only where that device does.
+pub record Passes {D T E : Type 0} (disk : D → Disk) (old new : Fuse D) (result : Result T E) : Type 0 where
+  pub blown : IsBlown old → IsErr result
+  pub spared : IsBlown old → beneath new ≡ beneath old
+  pub passed : (IsBlown old → ⊥) → IsErr result → (disk (beneath old)).failures < (disk (beneath new)).failures
+  pub left : calls_left new ≡ option_map (λ calls. calls - 1) (calls_left old)
+
+-- the device beneath, with the failures of the fuse's own
+abbrev pub fused : {D : Type 0} → (D → Disk) → Fuse D → Disk
+fused disk fuse = record {
+  sectors = (disk fuse.inner).sectors;
+  seen = (disk fuse.inner).seen;
+  may_leave = (disk fuse.inner).may_leave;
+  moment = (disk fuse.inner).moment;
+  left_since = (disk fuse.inner).left_since;
+  failures = fuse.failures.number + (disk fuse.inner).failures;
+}

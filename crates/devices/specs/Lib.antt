@@ -1,0 +1,17 @@
+pub mod Names
+pub mod Fuse
+pub mod Memory
+pub mod Mirror
+pub mod Past
+pub mod PastLaws
+pub mod Record
+pub mod MirrorSound
+pub mod MirrorSoundLaws
+pub mod Codes
+pub mod FileDevice
+pub mod OpeningCalls
+pub mod RawCalls
+pub mod SectorCopy
+pub mod Sound
+pub mod SoundLaws
+pub mod Steps

@@ -1,0 +1,18 @@
+-- A device in memory as what it has gone through.
+use Rattle.devices.specs.Names.{ℕ, List, Disk, image_of}
+use Rattle.devices.specs.declared.mirror.Mirror.{Mirror}
+use Rattle.devices.specs.Past.{Event, State, disk_of}
+use Rattle.devices.specs.Record.{events_of}
+use Rattle.devices.specs.MirrorSound.{now_of}
+
+-- all that has happened to it
+abbrev pub past_of : Mirror → List Event
+past_of m = events_of m.entries.items
+
+-- its sectors now
+abbrev pub state_of : Mirror → State
+state_of m = now_of m.first.items m.entries.items
+
+-- a mirror as a device with this number of failures
+abbrev pub disk_of_mirror : ℕ → Mirror → Disk
+disk_of_mirror failures m = disk_of m.sectors (image_of m.first.items) (past_of m) failures

@@ -1,0 +1,122 @@
+-- The calls that open or make a device in a file.
+use Rattle.devices.specs.Names.{ℕ, List, [], length, take, drop, replicate, Option, option_map, ⊤, concat, Disk, Agrees}
+use Rattle.devices.specs.Names.{image_of}
+use Rattle.std.specs.Prelude.{◌≡◌, ◌≢◌, ◌+◌, ◌*◌, ◌/◌, ◌<◌, ◌∷◌, ◌++◌}
+use Rattle.devices.specs.declared.openable.Access.{Access}
+use Rattle.devices.specs.declared.openable.Access.TheVariants.{Create}
+use Rattle.devices.specs.declared.openable.Lock.{Lock}
+use Rattle.devices.specs.declared.openable.Lock.TheVariants.{Exclusive}
+use Rattle.devices.specs.declared.openable.LockAnswer.{LockAnswer}
+use Rattle.devices.specs.declared.openable.LockAnswer.TheVariants.{Held}
+use Rattle.devices.specs.RawCalls.{Adds}
+
+-- a call that went well, with its answer
+pub data OpeningCall : Type 0 where
+  opened : List ℕ → Access → OpeningCall  -- open the file at this path
+  locked : Lock → LockAnswer → OpeningCall  -- ask for a lock
+  synced : OpeningCall  -- make the file durable
+  measured : ℕ → OpeningCall  -- ask for the number of bytes in the file
+  got : ℕ → List ℕ → OpeningCall  -- read these bytes, from a byte on
+  resized : ℕ → OpeningCall  -- cut the file to this number of bytes, or add zeros up to it
+  listed : List ℕ → OpeningCall  -- make the folder of this path durable
+
+-- how many of these calls set the length of the file
+abbrev pub resizes : List OpeningCall → ℕ
+resizes [] = 0
+resizes (opened path access ∷ calls) = resizes calls
+resizes (locked lock answer ∷ calls) = resizes calls
+resizes (synced ∷ calls) = resizes calls
+resizes (measured n ∷ calls) = resizes calls
+resizes (got at piece ∷ calls) = resizes calls
+resizes (resized n ∷ calls) = resizes calls + 1
+resizes (listed path ∷ calls) = resizes calls
+
+-- no call set the length of the file
+abbrev pub KeepsLength : Option (List OpeningCall) → Option (List OpeningCall) → Type 0
+KeepsLength old new = option_map resizes new ≡ option_map resizes old
+
+-- reads that give these pieces, one behind the other, from a byte on
+abbrev pub reads : ℕ → List (List ℕ) → List OpeningCall
+reads byte [] = []
+reads byte (piece ∷ pieces) = got byte piece ∷ reads (byte + length piece) pieces
+
+-- reads from a byte on gave these bytes
+abbrev pub GetsFrom : ℕ → Option (List OpeningCall) → Option (List OpeningCall) → List ℕ → Type 0
+GetsFrom byte old new bytes = (pieces : List (List ℕ)) × (concat pieces ≡ bytes) × Adds old new (reads byte pieces)
+
+-- reads from byte 0 on gave these bytes
+abbrev pub Gets : Option (List OpeningCall) → Option (List OpeningCall) → List ℕ → Type 0
+Gets old new bytes = GetsFrom 0 old new bytes
+
+-- the file was measured, and reads gave all of its whole sectors
+abbrev pub Loads : Option (List OpeningCall) → Option (List OpeningCall) → List ℕ → Type 0
+Loads old new copy =
+    (n : ℕ) × (pieces : List (List ℕ)) × (concat pieces ≡ copy) × (length copy ≡ 512 * (n / 512))
+    × Adds old new (measured n ∷ reads 0 pieces)
+
+-- a lock was requested, and no other open file excludes it
+abbrev pub TakesLock : Lock → Option (List OpeningCall) → Option (List OpeningCall) → Type 0
+TakesLock lock old new = (answer : LockAnswer) × (answer ≢ Held) × Adds old new (locked lock answer ∷ [])
+
+-- the file was locked, synced, measured and read
+abbrev pub LoadsLocked : Lock → Option (List OpeningCall) → Option (List OpeningCall) → List ℕ → Type 0
+LoadsLocked lock old new copy =
+    (answer : LockAnswer) × (n : ℕ) × (pieces : List (List ℕ)) × (answer ≢ Held) × (concat pieces ≡ copy)
+    × (length copy ≡ 512 * (n / 512))
+    × Adds old new (locked lock answer ∷ synced ∷ measured n ∷ reads 0 pieces)
+
+-- the file was locked, emptied, extended to this number of bytes and synced, and then its folder was synced
+abbrev pub MakesZeros : List ℕ → ℕ → Option (List OpeningCall) → Option (List OpeningCall) → Type 0
+MakesZeros path bytes old new =
+    (answer : LockAnswer) × (answer ≢ Held)
+    × Adds old new (locked Exclusive answer ∷ resized 0 ∷ resized bytes ∷ synced ∷ listed path ∷ [])
+
+-- These calls and no others opened a device. It has the whole sectors that were read.
+pub record IsOpened (path : List ℕ) (access : Access) (lock : Lock) (calls : List OpeningCall) (disk : Disk)
+    : Type 0 where
+  pub answer : LockAnswer
+  pub bytes : ℕ
+  pub pieces : List (List ℕ)
+  pub made : calls ≡ opened path access ∷ locked lock answer ∷ synced ∷ measured bytes ∷ reads 0 pieces
+  pub free : answer ≢ Held
+  pub size : disk.sectors ≡ bytes / 512
+  pub whole : length (concat pieces) ≡ 512 * (bytes / 512)
+  pub seen : Agrees disk.seen (image_of (concat pieces))
+
+-- These calls and no others made the file of a device of `sectors` sectors.
+pub record IsMade (path : List ℕ) (sectors : ℕ) (calls : List OpeningCall) : Type 0 where
+  pub answer : LockAnswer
+  pub made : calls ≡ opened path Create ∷ locked Exclusive answer
+      ∷ resized 0 ∷ resized (512 * sectors) ∷ synced ∷ listed path ∷ []
+  pub free : answer ≢ Held
+
+-- the bytes of a file after a call
+abbrev pub bytes_after : List ℕ → OpeningCall → List ℕ
+bytes_after bytes (opened path access) = bytes
+bytes_after bytes (locked lock answer) = bytes
+bytes_after bytes synced = bytes
+bytes_after bytes (measured n) = bytes
+bytes_after bytes (got at piece) = bytes
+bytes_after bytes (resized n) = take n (bytes ++ replicate n 0)
+bytes_after bytes (listed path) = bytes
+
+-- what a call says of a file with these bytes is true
+abbrev pub IsTrueOf : List ℕ → OpeningCall → Type 0
+IsTrueOf bytes (opened path access) = ⊤
+IsTrueOf bytes (locked lock answer) = ⊤
+IsTrueOf bytes synced = ⊤
+IsTrueOf bytes (measured n) = n ≡ length bytes
+IsTrueOf bytes (got at piece) = piece ≡ take (length piece) (drop at bytes)
+IsTrueOf bytes (resized n) = ⊤
+IsTrueOf bytes (listed path) = ⊤
+
+-- a file with the bytes `first` answers each call truly, and has the bytes `now` after the last
+abbrev pub Answers : List ℕ → List OpeningCall → List ℕ → Type 0
+Answers first [] now = now ≡ first
+Answers first (call ∷ calls) now = IsTrueOf first call × Answers (bytes_after first call) calls now
+
+-- if the file answered truly, whatever it held, the device has its whole sectors
+abbrev pub Mirrors : List OpeningCall → Disk → Type 0
+Mirrors calls disk =
+    (first now : List ℕ) → Answers first calls now
+    → (disk.sectors ≡ length now / 512) × ((i : ℕ) → i < disk.sectors → disk.seen i ≡ image_of now i)

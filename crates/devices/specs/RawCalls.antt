@@ -1,0 +1,50 @@
+-- The calls of a file of the operating system, and what they do to its sectors.
+use Rattle.devices.specs.Names.{ℕ, List, [], length, Option, None, Some, ⊤, concat, flat_map, sectors_of}
+use Rattle.std.specs.Prelude.{◌≡◌, ◌+◌, ◌*◌, ◌∷◌, ◌++◌}
+use Rattle.devices.specs.declared.record.Outcome.TheVariants.{Keep}
+use Rattle.devices.specs.Past.{Event, synced, cut, writes_of}
+
+-- a call that went well: bytes taken from a byte on, or what was written made durable
+pub data Call : Type 0 where
+  took : ℕ → List ℕ → Call
+  kept : Call
+
+-- known calls, and more; what isn't known stays so
+abbrev pub Adds : {X : Type 0} → Option (List X) → Option (List X) → List X → Type 0
+Adds None now more = now ≡ None
+Adds (Some calls) None more = ⊥
+Adds (Some calls) (Some now) more = now ≡ calls ++ more
+
+-- what happens to a file of sectors: these bytes are written from a sector on, in pieces; it is synced; or the power is
+-- cut
+pub data Deed : Type 0 where
+  writes : ℕ → List (List ℕ) → Deed
+  syncs : Deed
+  cuts : Deed
+
+-- pieces are taken one behind the other from a byte on
+abbrev pub taken : ℕ → List (List ℕ) → List Call
+taken byte [] = []
+taken byte (piece ∷ pieces) = took byte piece ∷ taken (byte + length piece) pieces
+
+-- the calls that do it
+abbrev pub calls_of : Deed → List Call
+calls_of (writes at pieces) = taken (512 * at) pieces
+calls_of syncs = kept ∷ []
+calls_of cuts = []
+
+-- what it is to a device
+abbrev pub events_by : Deed → List Event
+events_by (writes at pieces) = writes_of at (sectors_of (concat pieces)) (concat pieces)
+events_by syncs = synced ∷ []
+events_by cuts = cut Keep ∷ []
+
+-- all of the bytes were taken from a byte on, one piece after another
+abbrev pub Takes : ℕ → Option (List Call) → Option (List Call) → List ℕ → Type 0
+Takes byte old new bytes = (pieces : List (List ℕ)) × (concat pieces ≡ bytes) × Adds old new (taken byte pieces)
+
+-- known calls, and no others, did these events
+abbrev pub Tells : List Event → Option (List Call) → Type 0
+Tells events None = ⊤
+Tells events (Some calls) = (deeds : List Deed) × (events ≡ flat_map events_by deeds) ×
+    (calls ≡ flat_map calls_of deeds)

@@ -1,0 +1,16 @@
+-- What holds of a file and its copy, whatever was done to it.
+use Rattle.devices.specs.Names.{ℕ, List, length, All, IsWhole, Agrees, image_of}
+use Rattle.std.specs.Prelude.{◌≡◌, ◌<◌, ◌≤◌, ◌*◌}
+use Rattle.devices.specs.Past.{Event, State, at_first, replay}
+
+-- the sectors after all that was done to the file
+abbrev pub now_of : List ℕ → List Event → State
+now_of first events = replay (at_first (image_of first)) events
+
+-- the copy has the sectors that the file has
+pub record IsCopy (sectors : ℕ) (copy first : List ℕ) (events : List Event) : Type 0 where
+  pub few : sectors ≤ 131072
+  pub size : length copy ≡ 512 * sectors
+  pub fits : All (λ b. b < 256) copy
+  pub present_is : Agrees (image_of copy) (now_of first events).present
+  pub durable_whole : IsWhole sectors (now_of first events).durable

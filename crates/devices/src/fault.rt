@@ -1,0 +1,40 @@
+// Why a file is no device.
+ghost use Rattle.std.specs.Prelude.{◌≡◌};
+ghost use Rattle.devices.specs.declared.fault.FileFault.TheVariants.{Io, NoMemory};
+
+use std::alloc::AllocError;
+use std::io;
+use thiserror::Error;
+
+/// Why a file can't be opened or made as a device.
+#[derive(Clone, Copy, Debug, PartialEq, Eq, Error)]
+pub enum FileFault {
+    /// The system refused a call on the file.
+    #[error("the file can't be opened, read or written")]
+    Io,
+    /// The file is longer than a device of `MAX_SECTORS`.
+    #[error("the file is longer than 64 MiB")]
+    Long,
+    /// Another device is open in the file.
+    #[error("another device is open in the file")]
+    Held,
+    /// Memory ran out.
+    #[error("memory ran out")]
+    NoMemory,
+}
+
+impl From<io::Error> for FileFault {
+    ghost from_gives = { λ _ e. e ≡ Io };
+
+    fn from(_error: io::Error) -> FileFault {
+        FileFault::Io
+    }
+}
+
+impl From<AllocError> for FileFault {
+    ghost from_gives = { λ _ e. e ≡ NoMemory };
+
+    fn from(_error: AllocError) -> FileFault {
+        FileFault::NoMemory
+    }
+}

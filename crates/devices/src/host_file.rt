@@ -1,0 +1,132 @@
+// A file of the operating system, as a file of sectors.
+ghost use Rattle.std.specs.Prelude.{◌≡◌, ◌*◌, ◌≤◌, [], false, nat_lt, IfSome, OnOk};
+ghost use Rattle.devices.specs.RawCalls.{Adds, Takes, Tells, calls_of, syncs};
+ghost use Rattle.devices.specs.Steps.{fresh};
+
+use crate::history::{History, Step};
+use crate::raw_file::RawFile;
+use crate::sector_copy::SectorCopy;
+use crate::sector_file::SectorFile;
+use device::{Failed, SECTOR_SIZE};
+use std::io::ErrorKind;
+
+/// An open file of the operating system, which nothing else writes to.
+///
+/// Its history is what its calls did, as long as none has failed.
+#[derive(Drop)]
+pub struct HostFile<F: RawFile> {
+    file: F,
+    // A call has failed.
+    is_broken: bool,
+    history: History,
+    ghost broken: { is_broken ≡ nat_lt 0 history.failures },
+    ghost reported: { is_broken ≡ false → ∥ Tells history.events (F.calls file) ∥₁ },
+}
+
+// Writes all of the bytes at the byte `at`. A call that was interrupted is made again.
+fn put_fully<F: RawFile>(file: &mut F, at: u64, from: &[u8]) -> Result<(), Failed>
+    requires { at ≤ 512 * 131072 }
+    ensures { OnOk result (Takes at (F.calls file.old) (F.calls file.new) from.now) }
+{
+    let mut done = 0;
+    for _ in 0..u64::MAX {
+        if done == from.len() {
+            return Ok(());
+        }
+        match file.put(at + done as u64, &from[done..]) {
+            Ok(0) => return Err(Failed),
+            Ok(count) => done += count,
+            Err(error) => {
+                if error.kind() != ErrorKind::Interrupted {
+                    return Err(Failed);
+                }
+            }
+        }
+    }
+    Err(Failed)
+}
+
+// Writes these sectors from `at` on.
+fn put_sectors<F: RawFile>(file: &mut F, at: u64, from: &[u8]) -> Result<(), Failed>
+    requires { at ≤ 131072 }
+    ensures { OnOk result (Takes (512 * at) (F.calls file.old) (F.calls file.new) from.now) }
+{
+    put_fully(file, at * SECTOR_SIZE as u64, from)
+}
+
+// Makes durable what was written.
+fn sync_all<F: RawFile>(file: &mut F) -> Result<(), Failed>
+    ensures { OnOk result (Adds (F.calls file.old) (F.calls file.new) (calls_of syncs)) }
+{
+    file.keep().map_err(|_| Failed)
+}
+
+// The history of a file that holds these sectors, and to which nothing has been done. It takes no
+// bytes: the loop is there because no slice has them all.
+fn history_of(copy: &SectorCopy) -> History
+    ensures { result ≡ fresh copy.now }
+{
+    let mut history = History::new(&[]);
+    for at in 0..copy.sectors() {
+        let bytes = copy.sector(at);
+        history = history.then(&Step::Held { bytes });
+    }
+    history
+}
+
+impl<F: RawFile> HostFile<F> {
+    /// A file that holds these sectors, on which nothing has been done.
+    pub fn new(file: F, copy: &SectorCopy) -> HostFile<F>
+        requires { IfSome (F.calls file) (λ calls. calls ≡ []) }
+        ensures first { result.history.first ≡ copy.now }
+        ensures events { result.history.events ≡ [] }
+        ensures failures { result.history.failures ≡ 0 }
+        ensures file { result.file ≡ file }
+    {
+        HostFile {
+            file,
+            is_broken: false,
+            history: history_of(copy),
+        }
+    }
+
+    /// The file beneath.
+    pub fn file(&self) -> &F
+        ensures { result.now ≡ self.now.file }
+    {
+        &self.file
+    }
+}
+
+impl<F: RawFile> SectorFile for HostFile<F> {
+    ghost first = { λ f. f.history.first };
+
+    ghost events = { λ f. f.history.events };
+
+    ghost failures = { λ f. f.history.failures };
+
+    fn write(&mut self, at: u64, from: &[u8]) -> Result<(), Failed> {
+        let history = self.history.then(&Step::Wrote { at, bytes: from });
+        if !self.is_broken && put_sectors(&mut self.file, at, from).is_ok() {
+            self.history = history;
+            return Ok(());
+        }
+        self.is_broken = true;
+        self.history = history.then(&Step::Failed);
+        Err(Failed)
+    }
+
+    fn sync(&mut self) -> Result<(), Failed> {
+        if !self.is_broken && sync_all(&mut self.file).is_ok() {
+            self.history = self.history.then(&Step::Synced);
+            return Ok(());
+        }
+        self.is_broken = true;
+        self.history = self.history.then(&Step::Failed);
+        Err(Failed)
+    }
+
+    fn power_cut(&mut self) {
+        self.history = self.history.then(&Step::Cut);
+    }
+}

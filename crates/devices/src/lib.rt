@@ -1,0 +1,31 @@
+//! Devices with a record of what was done to them. `Memory` is one in memory, made with the outcome of its power
+//! cuts; `Fuse` makes any device stop after some calls. A device in a file has all of its sectors but those of zeros
+//! copied into memory when it is opened: reads are answered from the copy, and writes go to the file and to the copy.
+//! There ghost data is the record, so it takes no memory.
+#![tactic(auto)]
+
+mod fault;
+mod file_device;
+mod fuse;
+mod history;
+mod host_file;
+mod memory;
+mod mirror;
+mod open;
+mod openable;
+mod raw_file;
+mod record;
+mod sector_copy;
+mod sector_file;
+pub mod sectors;
+
+pub use fault::FileFault;
+pub use file_device::{CopiedFile, FileDevice};
+pub use fuse::Fuse;
+pub use host_file::HostFile;
+pub use memory::Memory;
+pub use openable::{Access, Lock, LockAnswer, Openable};
+pub use raw_file::RawFile;
+pub use record::Outcome;
+pub use sector_copy::SectorCopy;
+pub use sector_file::SectorFile;

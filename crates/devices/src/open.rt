@@ -1,0 +1,254 @@
+// Opening and making a device in a file.
+ghost use Rattle.std.specs.Prelude.{◌≡◌, ◌≢◌, ◌⊎◌, ◌<◌, ◌≤◌, ◌*◌, ◌/◌, ℕ, [], ◌∷◌, length, replicate};
+ghost use Rattle.std.specs.Prelude.{nat_lt};
+ghost use Rattle.std.specs.Prelude.{if◌then◌else◌, IfErr, IfOk, IfSome, IsErrOf, OnOk, OnErr, Ok, Err};
+ghost use Rattle.device.specs.Calls.{Agrees, Only, sectors_of, image_of};
+ghost use Rattle.devices.specs.FileDevice.{file_disk, raw_file};
+ghost use Rattle.devices.specs.OpeningCalls.{locked, measured, synced, Gets, GetsFrom, Loads, LoadsLocked};
+ghost use Rattle.devices.specs.OpeningCalls.{TakesLock, MakesZeros, KeepsLength, IsOpened, IsMade, Mirrors};
+ghost use Rattle.devices.specs.RawCalls.{Adds};
+
+use crate::fault::FileFault;
+use crate::file_device::CopiedFile;
+use crate::host_file::HostFile;
+use crate::openable::{Access, Lock, LockAnswer, Openable};
+use crate::sector_copy::SectorCopy;
+use device::{MAX_SECTORS, SECTOR_SIZE};
+use std::alloc::Global;
+use std::io::ErrorKind;
+
+// The number of whole sectors in this number of bytes, or `Long`.
+fn whole_sectors(bytes: u64) -> Result<u64, FileFault>
+    ensures { result ≡ (if nat_lt 67108864 bytes then Err FileFault.Long else Ok (bytes / 512)) }
+{
+    if bytes > MAX_SECTORS * SECTOR_SIZE as u64 {
+        return Err(FileFault::Long);
+    }
+    Ok(bytes / SECTOR_SIZE as u64)
+}
+
+// How many sectors are read at once.
+const READ_SECTORS: usize = 128;
+
+// Fills `into` with the bytes of the file from `at` on. An interrupted call is made again.
+fn get_fully<F: Openable>(file: &mut F, at: usize, into: &mut [u8]) -> Result<(), FileFault>
+    requires { at ≤ 512 * 131072 }
+    ensures bytes { OnOk result (GetsFrom at (F.opening file.old) (F.opening file.new) into.new) }
+    ensures held { IfErr result (λ fault. fault ≢ FileFault.Held) }
+    ensures long { IfErr result (λ fault. fault ≢ FileFault.Long) }
+    ensures length { KeepsLength (F.opening file.old) (F.opening file.new) }
+    ensures calls { F.calls file.new ≡ F.calls file.old }
+{
+    let mut done = 0;
+    for _ in 0..u64::MAX {
+        if done == into.len() {
+            return Ok(());
+        }
+        match file.get((at + done) as u64, &mut into[done..]) {
+            Ok(0) => return Err(FileFault::Io),
+            Ok(count) => done += count,
+            Err(error) => {
+                if error.kind() != ErrorKind::Interrupted {
+                    return Err(FileFault::Io);
+                }
+            }
+        }
+    }
+    Err(FileFault::Io)
+}
+
+// Reads the first bytes of the file into all sectors of `copy`, through `buffer`.
+fn get_sectors<F: Openable>(
+    file: &mut F,
+    buffer: &mut [u8],
+    copy: &mut SectorCopy,
+) -> Result<(), FileFault>
+    requires buffer { length buffer.old ≡ 65536 }
+    requires few { sectors_of copy.old ≤ 131072 }
+    ensures bytes { OnOk result (Gets (F.opening file.old) (F.opening file.new) copy.new) }
+    ensures size { length copy.new ≡ length copy.old }
+    ensures held { IfErr result (λ fault. fault ≢ FileFault.Held) }
+    ensures long { IfErr result (λ fault. fault ≢ FileFault.Long) }
+    ensures length { KeepsLength (F.opening file.old) (F.opening file.new) }
+    ensures calls { F.calls file.new ≡ F.calls file.old }
+{
+    let sectors = copy.sectors();
+    for i in 0..sectors.div_ceil(READ_SECTORS) {
+        let at = READ_SECTORS * i;
+        let count = (sectors - at).min(READ_SECTORS);
+        let part = &mut buffer[..count * SECTOR_SIZE];
+        get_fully(file, at * SECTOR_SIZE, part)?;
+        copy.put(at, part);
+    }
+    Ok(())
+}
+
+// Returns the first sectors of the file.
+fn get_all<F: Openable>(
+    alloc: Global,
+    file: &mut F,
+    sectors: usize,
+) -> Result<SectorCopy, FileFault>
+    requires { sectors ≤ 131072 }
+    ensures bytes { IfOk result (λ copy. Gets (F.opening file.old) (F.opening file.new) copy) }
+    ensures size { IfOk result (λ copy. length copy ≡ 512 * sectors) }
+    ensures held { IfErr result (λ fault. fault ≢ FileFault.Held) }
+    ensures long { IfErr result (λ fault. fault ≢ FileFault.Long) }
+    ensures length { KeepsLength (F.opening file.old) (F.opening file.new) }
+    ensures calls { F.calls file.new ≡ F.calls file.old }
+{
+    let mut copy = SectorCopy::zeros(alloc, sectors)?;
+    let mut buffer = vec![in alloc; 0; READ_SECTORS * SECTOR_SIZE]?;
+    get_sectors(file, &mut buffer, &mut copy)?;
+    Ok(copy)
+}
+
+// Reads all whole sectors of the file.
+fn load<F: Openable>(alloc: Global, file: &mut F) -> Result<SectorCopy, FileFault>
+    ensures read { IfOk result (λ copy. Loads (F.opening file.old) (F.opening file.new) copy) }
+    ensures few { IfOk result (λ copy. sectors_of copy ≤ 131072) }
+    ensures long { IsErrOf result FileFault.Long
+        → (n : ℕ) × (67108864 < n) × Adds (F.opening file.old) (F.opening file.new) (measured n ∷ []) }
+    ensures fault { IfErr result (λ fault. fault ≢ FileFault.Held) }
+    ensures length { KeepsLength (F.opening file.old) (F.opening file.new) }
+    ensures calls { F.calls file.new ≡ F.calls file.old }
+{
+    let sectors = whole_sectors(file.length()?)?;
+    let copy = get_all(alloc, file, sectors as usize)?;
+    Ok(copy)
+}
+
+// Takes a lock on the file, or goes without one where the system has none. `Held` where another open file excludes it.
+fn take_lock<F: Openable>(file: &mut F, lock: Lock) -> Result<(), FileFault>
+    ensures ok { OnOk result (TakesLock lock (F.opening file.old) (F.opening file.new)) }
+    ensures held { IsErrOf result FileFault.Held
+        → Adds (F.opening file.old) (F.opening file.new) (locked lock LockAnswer.Held ∷ []) }
+    ensures fault { IfErr result (λ fault. (fault ≡ FileFault.Io) ⊎ (fault ≡ FileFault.Held)) }
+    ensures length { KeepsLength (F.opening file.old) (F.opening file.new) }
+    ensures calls { F.calls file.new ≡ F.calls file.old }
+{
+    match file.lock(lock)? {
+        LockAnswer::Held => Err(FileFault::Held),
+        LockAnswer::Granted | LockAnswer::Unavailable => Ok(()),
+    }
+}
+
+// Locks the file, makes it durable and reads it. At `Held` the only call was for the lock.
+fn load_locked<F: Openable>(
+    alloc: Global,
+    file: &mut F,
+    lock: Lock,
+) -> Result<SectorCopy, FileFault>
+    ensures read { IfOk result (λ copy. LoadsLocked lock (F.opening file.old) (F.opening file.new) copy) }
+    ensures few { IfOk result (λ copy. sectors_of copy ≤ 131072) }
+    ensures held { IsErrOf result FileFault.Held
+        → Adds (F.opening file.old) (F.opening file.new) (locked lock LockAnswer.Held ∷ []) }
+    ensures long { IsErrOf result FileFault.Long → (answer : LockAnswer) × (n : ℕ) × (67108864 < n)
+        × Adds (F.opening file.old) (F.opening file.new) (locked lock answer ∷ synced ∷ measured n ∷ []) }
+    ensures length { KeepsLength (F.opening file.old) (F.opening file.new) }
+    ensures calls { F.calls file.new ≡ F.calls file.old }
+{
+    take_lock(file, lock)?;
+    file.sync()?;
+    load(alloc, file)
+}
+
+// Locks the file, fills it with zeros and makes it durable. At `Held` the only call was for the
+// lock.
+fn make_zeros<F: Openable>(
+    rt: &HostRuntime,
+    file: &mut F,
+    path: &str,
+    bytes: u64,
+) -> Result<(), FileFault>
+    ensures made { OnOk result (MakesZeros path.now bytes (F.opening file.old) (F.opening file.new)) }
+    ensures held { IsErrOf result FileFault.Held
+        → Adds (F.opening file.old) (F.opening file.new) (locked Lock.Exclusive LockAnswer.Held ∷ []) }
+    ensures fault { IfErr result (λ fault. (fault ≡ FileFault.Io) ⊎ (fault ≡ FileFault.Held)) }
+    ensures calls { F.calls file.new ≡ F.calls file.old }
+{
+    take_lock(file, Lock::Exclusive)?;
+    file.resize(0)?;
+    file.resize(bytes)?;
+    file.sync()?;
+    file.sync_folder(rt, path)?;
+    Ok(())
+}
+
+// Opens the file at `path`, locks it, and gives the device in it.
+fn open_locked<F: Openable>(
+    rt: &HostRuntime,
+    path: &str,
+    access: Access,
+    lock: Lock,
+) -> Result<CopiedFile<HostFile<F>>, FileFault>
+    ensures opening { IfOk result (λ d. IfSome (F.opening (raw_file d))
+        (λ calls. IsOpened path.now access lock calls (file_disk d))) }
+    ensures mirror { IfOk result (λ d. IfSome (F.opening (raw_file d)) (λ calls. Mirrors calls (file_disk d))) }
+    ensures durable { IfOk result (λ d. Only (file_disk d).seen (file_disk d)) }
+    ensures failures { IfOk result (λ d. (file_disk d).failures ≡ 0) }
+{
+    let mut file = F::at(rt, path, access)?;
+    let copy = load_locked(rt.alloc(), &mut file, lock)?;
+    Ok(CopiedFile::over(file, copy))
+}
+
+impl<F: Openable> CopiedFile<HostFile<F>> {
+    /// The device in the file at `path`, which has to be there. Its sectors are the whole ones of
+    /// the file; the bytes behind the last sector stay. The file is locked and synced before it
+    /// is read, so what a read of the device gives at first is durable. Until the device is dropped no other is open
+    /// in the file.
+    ///
+    /// `Held` where another device is open in it. `Long` where the file has more bytes than `MAX_SECTORS` sectors. `Io`
+    /// where the system refuses to open, sync, measure or read it, as it does with a file that isn't there, a folder or
+    /// a pipe. `NoMemory` where there is no memory for a copy of it.
+    pub fn open(rt: &HostRuntime, path: &str) -> Result<CopiedFile<HostFile<F>>, FileFault>
+        ensures opening { IfOk result (λ d. IfSome (F.opening (raw_file d))
+            (λ calls. IsOpened path.now Access.Write Lock.Exclusive calls (file_disk d))) }
+        ensures mirror { IfOk result (λ d. IfSome (F.opening (raw_file d)) (λ calls. Mirrors calls (file_disk d))) }
+        ensures durable { IfOk result (λ d. Only (file_disk d).seen (file_disk d)) }
+        ensures failures { IfOk result (λ d. (file_disk d).failures ≡ 0) }
+    {
+        open_locked(rt, path, Access::Write, Lock::Exclusive)
+    }
+
+    /// As `open`, of a file that needn't be writable: each write to the device fails. Others that were opened so may
+    /// be open in the file too.
+    pub fn open_to_read(rt: &HostRuntime, path: &str) -> Result<CopiedFile<HostFile<F>>, FileFault>
+        ensures opening { IfOk result (λ d. IfSome (F.opening (raw_file d))
+            (λ calls. IsOpened path.now Access.Read Lock.Shared calls (file_disk d))) }
+        ensures mirror { IfOk result (λ d. IfSome (F.opening (raw_file d)) (λ calls. Mirrors calls (file_disk d))) }
+        ensures durable { IfOk result (λ d. Only (file_disk d).seen (file_disk d)) }
+        ensures failures { IfOk result (λ d. (file_disk d).failures ≡ 0) }
+    {
+        open_locked(rt, path, Access::Read, Lock::Shared)
+    }
+
+    /// A device of `sectors` sectors, all zeros, in a new file at `path`. A file that is there is emptied first. The
+    /// zeros are synced, and the folder that has the file, where the system lets it be opened. Until the device is
+    /// dropped no other is open in the file.
+    ///
+    /// `Held` where another device is open in the file; it isn't changed then. `Io` if the system
+    /// refuses to make, lengthen or sync the file, which may then be there with any length.
+    /// `NoMemory` where there is no memory for a copy of it, and then no file was touched.
+    pub fn create(
+        rt: &HostRuntime,
+        path: &str,
+        sectors: u64,
+    ) -> Result<CopiedFile<HostFile<F>>, FileFault>
+        requires { sectors ≤ MAX_SECTORS }
+        ensures opening { IfOk result (λ d. IfSome (F.opening (raw_file d))
+            (λ calls. IsMade path.now sectors calls)) }
+        ensures fault { IfErr result (λ fault. fault ≢ FileFault.Long) }
+        ensures mirror { IfOk result (λ d. IfSome (F.opening (raw_file d)) (λ calls. Mirrors calls (file_disk d))) }
+        ensures size { IfOk result (λ d. (file_disk d).sectors ≡ sectors) }
+        ensures zeros { IfOk result (λ d. (i : ℕ) → i < sectors → (file_disk d).seen i ≡ replicate 512 0) }
+        ensures durable { IfOk result (λ d. Only (file_disk d).seen (file_disk d)) }
+        ensures failures { IfOk result (λ d. (file_disk d).failures ≡ 0) }
+    {
+        let zeros = SectorCopy::zeros(rt.alloc(), sectors as usize)?;
+        let mut file = F::at(rt, path, Access::Create)?;
+        make_zeros(rt, &mut file, path, sectors * SECTOR_SIZE as u64)?;
+        Ok(CopiedFile::over(file, zeros))
+    }
+}

@@ -1,0 +1,155 @@
+// A file in which a device can be opened or made, call by call.
+ghost use Rattle.std.specs.Prelude.{◌≡◌, ◌↔◌, ℕ, List, [], ◌∷◌, Option, None, take, length, IfOk, IfSome, IsOk};
+ghost use Rattle.std.specs.Prelude.{IsErrOf, OnOk, OnErr};
+ghost use Rattle.std.specs.Io.{ReadsAtMost};
+ghost use Rattle.devices.specs.OpeningCalls.{OpeningCall, opened, locked, synced, measured, got, resized, listed};
+ghost use Rattle.devices.specs.RawCalls.{Adds};
+
+use crate::raw_file::RawFile;
+use std::fs::{File, OpenOptions, TryLockError};
+use std::io::{self, Seek, SeekFrom};
+use std::os::unix::fs::FileExt;
+use std::path::Path;
+
+/// What a file is opened for.
+#[derive(Clone, Copy, Debug, PartialEq, Eq)]
+pub enum Access {
+    /// To be read. The file has to be there.
+    Read,
+    /// To be read and written. The file has to be there.
+    Write,
+    /// To be read and written. A file that isn't there is made.
+    Create,
+}
+
+/// A lock on a whole file.
+#[derive(Clone, Copy, Debug, PartialEq, Eq)]
+pub enum Lock {
+    /// No other lock is on the file.
+    Exclusive,
+    /// Each other lock on the file is shared too.
+    Shared,
+}
+
+/// The answer to a request for a lock.
+#[derive(Clone, Copy, Debug, PartialEq, Eq)]
+pub enum LockAnswer {
+    /// The lock is taken.
+    Granted,
+    /// Another open file holds a lock that excludes it.
+    Held,
+    /// The system gives no lock on this file.
+    Unavailable,
+}
+
+/// A file in which a device can be opened or made, and the calls of this trait with their answers,
+/// where they are known. Each method is one call.
+pub trait Openable: RawFile {
+    // These calls, in order.
+    ghost opening: { Self → Option (List OpeningCall) };
+
+    /// Opens the file at `path`.
+    fn at(rt: &HostRuntime, path: &str, access: Access) -> io::Result<Self>
+    where
+        Self: Sized,
+        ensures opened { IfOk result (λ file. IfSome (opening file) (λ calls. calls ≡ opened path.now access ∷ [])) }
+        ensures fresh { IfOk result (λ file. IfSome (Self.calls file) (λ calls. calls ≡ [])) };
+
+    /// Requests a lock, and doesn't wait.
+    fn lock(&mut self, lock: Lock) -> io::Result<LockAnswer>
+        ensures ok { IfOk result (λ answer. Adds (opening self.old) (opening self.new) (locked lock answer ∷ [])) }
+        ensures err { OnErr result (opening self.new ≡ opening self.old) }
+        ensures calls { Self.calls self.new ≡ Self.calls self.old };
+
+    /// Makes durable all that was done to the file.
+    fn sync(&mut self) -> io::Result<()>
+        ensures ok { OnOk result (Adds (opening self.old) (opening self.new) (synced ∷ [])) }
+        ensures err { OnErr result (opening self.new ≡ opening self.old) }
+        ensures calls { Self.calls self.new ≡ Self.calls self.old };
+
+    /// The number of bytes in the file.
+    fn length(&mut self) -> io::Result<u64>
+        ensures ok { IfOk result (λ n. Adds (opening self.old) (opening self.new) (measured n ∷ [])) }
+        ensures err { OnErr result (opening self.new ≡ opening self.old) }
+        ensures calls { Self.calls self.new ≡ Self.calls self.old };
+
+    /// Reads bytes of the file from the byte `at` on into the front of `into`, as many as the
+    /// system gives.
+    fn get(&mut self, at: u64, into: &mut [u8]) -> io::Result<usize>
+        ensures bound { ReadsAtMost result into.new }
+        ensures ok { IfOk result (λ n. Adds (opening self.old) (opening self.new) (got at (take n into.new) ∷ [])) }
+        ensures err { OnErr result (opening self.new ≡ opening self.old) }
+        ensures calls { Self.calls self.new ≡ Self.calls self.old };
+
+    /// Cuts the file to this number of bytes, or adds zeros up to it.
+    fn resize(&mut self, bytes: u64) -> io::Result<()>
+        ensures ok { OnOk result (Adds (opening self.old) (opening self.new) (resized bytes ∷ [])) }
+        ensures err { OnErr result (opening self.new ≡ opening self.old) }
+        ensures calls { Self.calls self.new ≡ Self.calls self.old };
+
+    /// Makes durable that the file stands in the folder of `path`, where the system lets that
+    /// folder be opened.
+    fn sync_folder(&mut self, rt: &HostRuntime, path: &str) -> io::Result<()>
+        ensures ok { OnOk result (Adds (opening self.old) (opening self.new) (listed path.now ∷ [])) }
+        ensures err { OnErr result (opening self.new ≡ opening self.old) }
+        ensures calls { Self.calls self.new ≡ Self.calls self.old };
+}
+
+// The answer to a try for a lock.
+fn answer_of(answer: Result<(), TryLockError>) -> LockAnswer
+    ensures granted { (result ≡ LockAnswer.Granted) ↔ IsOk answer }
+    ensures held { (result ≡ LockAnswer.Held) ↔ IsErrOf answer TryLockError.WouldBlock }
+{
+    match answer {
+        Ok(()) => LockAnswer::Granted,
+        Err(TryLockError::WouldBlock) => LockAnswer::Held,
+        Err(TryLockError::Error(_)) => LockAnswer::Unavailable,
+    }
+}
+
+/// Nothing is known of its calls: what it does is trusted.
+impl Openable for File {
+    ghost opening = { λ _. None };
+
+    fn at(rt: &HostRuntime, path: &str, access: Access) -> io::Result<File> {
+        OpenOptions::new()
+            .read(true)
+            .write(access != Access::Read)
+            .create(access == Access::Create)
+            .open(rt, path)
+    }
+
+    fn lock(&mut self, lock: Lock) -> io::Result<LockAnswer> {
+        Ok(answer_of(match lock {
+            Lock::Exclusive => self.try_lock(),
+            Lock::Shared => self.try_lock_shared(),
+        }))
+    }
+
+    fn sync(&mut self) -> io::Result<()> {
+        self.sync_all()
+    }
+
+    fn length(&mut self) -> io::Result<u64> {
+        self.seek(SeekFrom::End(0))
+    }
+
+    fn get(&mut self, at: u64, into: &mut [u8]) -> io::Result<usize> {
+        self.read_at(into, at)
+    }
+
+    fn resize(&mut self, bytes: u64) -> io::Result<()> {
+        self.set_len(bytes)
+    }
+
+    fn sync_folder(&mut self, rt: &HostRuntime, path: &str) -> io::Result<()> {
+        let folder = match Path::new(path).parent() {
+            Some(folder) if !folder.as_os_str().is_empty() => folder,
+            _ => Path::new("."),
+        };
+        match File::open(rt, folder) {
+            Ok(folder) => folder.sync_all(),
+            Err(_) => Ok(()),
+        }
+    }
+}

@@ -1,0 +1,151 @@
+// A copy of a device's sectors in memory, without those of zeros.
+ghost use Rattle.std.specs.Prelude.{◌≡◌, ◌≢◌, ◌<◌, ◌≤◌, ◌+◌, ◌*◌, ◌%◌, ◌↔◌, ℕ, All, IfOk, IsTrue, length, replicate};
+ghost use Rattle.device.specs.Calls.{AreSectors, Elsewhere, image_of, sectors_of};
+ghost use Rattle.collections.specs.SparseVec.{item_at};
+ghost use Rattle.devices.specs.SectorCopy.{bytes_of};
+
+use crate::sectors;
+use collections::SparseVec;
+use device::SECTOR_SIZE;
+use std::alloc::{AllocError, Global};
+use std::marker::Model;
+
+/// The bytes of sectors, one sector behind the other.
+///
+/// All memory is reserved when it is made, so no later call lacks memory. The system gives memory
+/// for a sector when bytes other than zeros are first put there.
+#[derive(Drop)]
+pub struct SectorCopy {
+    // By number, the sectors that held other bytes than zeros. The others hold zeros.
+    stored: SparseVec<[u8; SECTOR_SIZE]>,
+}
+
+impl Model for SectorCopy {
+    ghost use Rattle.std.specs.Prelude.{List, ℕ};
+    ghost use Rattle.devices.specs.SectorCopy.{AreWhole, bytes_in};
+
+    ghost Value = { List ℕ };
+
+    ghost view = { λ c. bytes_in c.stored };
+
+    ghost invariant = { λ c. AreWhole c.stored };
+}
+
+// Whether all bytes are 0. Without an early exit this is compiled to vector instructions.
+fn are_zeros(bytes: &[u8]) -> bool
+    ensures { IsTrue result ↔ (bytes.now ≡ replicate (length bytes.now) 0) }
+{
+    let mut any = 0;
+    for byte in bytes {
+        any |= *byte;
+    }
+    any == 0
+}
+
+// These bytes as an array.
+fn array_of(bytes: &[u8]) -> [u8; SECTOR_SIZE]
+    requires { length bytes.now ≡ 512 }
+    ensures { result ≡ bytes.now }
+{
+    let mut array = [0; SECTOR_SIZE];
+    array.copy_from_slice(bytes);
+    array
+}
+
+// Puts a sector in the place of another. Zeros aren't stored where nothing was.
+fn store(stored: &mut SparseVec<[u8; SECTOR_SIZE]>, at: usize, sector: &[u8])
+    requires size { length sector.now ≡ 512 }
+    requires inside { at < length stored.old }
+    ensures here { bytes_of (item_at stored.new at) ≡ sector.now }
+    ensures others { (i : ℕ) → i ≢ at → item_at stored.new i ≡ item_at stored.old i }
+    ensures length { length stored.new ≡ length stored.old }
+{
+    if stored.has(at) {
+        stored.item_mut(at).copy_from_slice(sector);
+    } else if !are_zeros(sector) {
+        stored.add(at, array_of(sector));
+    }
+}
+
+impl SectorCopy {
+    /// Sectors of zeros. Fails only if memory runs out.
+    pub fn zeros(alloc: Global, sectors: usize) -> Result<SectorCopy, AllocError>
+        ensures { IfOk result (λ copy. copy ≡ replicate (512 * sectors) 0) }
+    {
+        Ok(SectorCopy {
+            stored: SparseVec::new(alloc, sectors)?,
+        })
+    }
+
+    /// These sectors. Fails only if memory runs out.
+    pub fn of(alloc: Global, bytes: &[u8]) -> Result<SectorCopy, AllocError>
+        requires { length bytes.now % 512 ≡ 0 }
+        ensures { IfOk result (λ copy. copy ≡ bytes.now) }
+    {
+        let mut copy = SectorCopy::zeros(alloc, bytes.len() / SECTOR_SIZE)?;
+        copy.put(0, bytes);
+        Ok(copy)
+    }
+
+    /// The number of sectors.
+    pub fn sectors(&self) -> usize
+        ensures size { length self.now ≡ 512 * result }
+        ensures fits { All (λ b. b < 256) self.now }
+    {
+        self.stored.len()
+    }
+
+    /// The bytes of a sector.
+    pub fn sector(&self, at: usize) -> &[u8]
+        requires { 512 * (at + 1) ≤ length self.now }
+        ensures { result.now ≡ image_of self.now at }
+    {
+        if self.stored.has(at) {
+            self.stored.item(at)
+        } else {
+            &[0; SECTOR_SIZE]
+        }
+    }
+
+    /// Reads whole sectors from `at` on.
+    pub fn get(&self, at: usize, into: &mut [u8])
+        requires whole { length into.old % 512 ≡ 0 }
+        requires inside { 512 * (at + sectors_of into.old) ≤ length self.now }
+        ensures { AreSectors (image_of self.now) at into.new }
+    {
+        // So `at + i` is no overflow.
+        let _sectors = self.sectors();
+        for i in 0..into.len() / SECTOR_SIZE {
+            sectors::put(into, i, self.sector(at + i));
+        }
+    }
+
+    // Puts a sector in the place of another.
+    fn put_sector(&mut self, at: usize, sector: &[u8])
+        requires size { length sector.now ≡ 512 }
+        requires inside { 512 * (at + 1) ≤ length self.old }
+        ensures here { image_of self.new at ≡ sector.now }
+        ensures others { Elsewhere at 1 (image_of self.old) (image_of self.new) }
+        ensures length { length self.new ≡ length self.old }
+        ensures fits { All (λ b. b < 256) self.new }
+    {
+        store(&mut self.stored, at, sector);
+    }
+
+    /// Puts whole sectors in the place of those from `at` on.
+    pub fn put(&mut self, at: usize, from: &[u8])
+        requires whole { length from.now % 512 ≡ 0 }
+        requires inside { 512 * (at + sectors_of from.now) ≤ length self.old }
+        ensures written { AreSectors (image_of self.new) at from.now }
+        ensures elsewhere { Elsewhere at (sectors_of from.now) (image_of self.old) (image_of self.new) }
+        ensures length { length self.new ≡ length self.old }
+        ensures fits { All (λ b. b < 256) self.new }
+    {
+        // So `at + i` is no overflow.
+        let _sectors = self.sectors();
+        for i in 0..from.len() / SECTOR_SIZE {
+            let start = i * SECTOR_SIZE;
+            self.put_sector(at + i, &from[start..start + SECTOR_SIZE]);
+        }
+    }
+}

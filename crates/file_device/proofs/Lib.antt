@@ -1,9 +1,0 @@
-mod Names
-mod Copies
-mod Deeds
-mod Mirrored
-mod Openings
-mod Walks
-mod Stored
-mod Zeros
-mod Histories

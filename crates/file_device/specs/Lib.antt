@@ -1,9 +1,0 @@
-pub mod Names
-pub mod Codes
-pub mod FileDevice
-pub mod OpeningCalls
-pub mod RawCalls
-pub mod SectorCopy
-pub mod Sound
-pub mod SoundLaws
-pub mod Steps

@@ -1,4 +1,0 @@
-pub mod Calls
-pub mod Clusters
-pub mod Fault
-pub mod Frames

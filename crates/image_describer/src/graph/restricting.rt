@@ -1,0 +1,116 @@
+// The part of a description that is drawn.
+ghost use Rattle.std.specs.Prelude.{◌≡◌, None, Some};
+ghost use Rattle.std.specs.List.{AllZip, filter};
+ghost use Rattle.collections.specs.Marks.{is_marked};
+ghost use Rattle.image_describer.specs.Part.{IsPart, IsPartOfNode, IsPartOfProcess, leads_inside, space_inside};
+
+use collections::NumberSet;
+use description::{BankEntry, Description, NodeEntry, PageEntry, ProcessEntry, SlotEntry};
+use model::Capability;
+
+// Whether a number is in a set. One past the set isn't.
+fn has(inside: &NumberSet, number: u64) -> bool
+    ensures { result ≡ is_marked inside.now number }
+{
+    inside.next(number as usize) == Some(number as usize)
+}
+
+// Whether a capability names nothing, or an object of a set.
+fn leads_inside(inside: &NumberSet, capability: Option<Capability>) -> bool
+    ensures { result ≡ leads_inside (is_marked inside.now) capability }
+{
+    match capability {
+        Some(capability) => match capability.named() {
+            Some(object) => has(inside, object),
+            None => true,
+        },
+        None => true,
+    }
+}
+
+// An address space, or none if it names an object outside a set.
+fn space_inside(inside: &NumberSet, space: Option<Capability>) -> Option<Capability>
+    ensures { result ≡ space_inside (is_marked inside.now) space }
+{
+    if leads_inside(inside, space) {
+        space
+    } else {
+        Some(Capability::Void)
+    }
+}
+
+// Leaves the slots whose capabilities name nothing, or an object of a set.
+fn restrict_slots(inside: &NumberSet, slots: &mut Vec<SlotEntry>)
+    ensures { slots.new.items
+        ≡ filter (λ s. leads_inside (is_marked inside.now) s.capability) slots.old.items }
+{
+    slots.retain(|slot| leads_inside(inside, slot.capability));
+}
+
+fn restrict_process(inside: &NumberSet, process: &mut ProcessEntry)
+    ensures { IsPartOfProcess (is_marked inside.now) process.old process.new }
+{
+    process.space = space_inside(inside, process.space);
+    restrict_slots(inside, &mut process.registers);
+}
+
+fn restrict_processes(inside: &NumberSet, processes: &mut [ProcessEntry])
+    ensures { AllZip (IsPartOfProcess (is_marked inside.now)) processes.old processes.new }
+{
+    for process in processes.iter_mut() {
+        restrict_process(inside, process);
+    }
+}
+
+fn restrict_node(inside: &NumberSet, node: &mut NodeEntry)
+    ensures { IsPartOfNode (is_marked inside.now) node.old node.new }
+{
+    restrict_slots(inside, &mut node.slots);
+}
+
+fn restrict_nodes(inside: &NumberSet, nodes: &mut [NodeEntry])
+    ensures { AllZip (IsPartOfNode (is_marked inside.now)) nodes.old nodes.new }
+{
+    for node in nodes.iter_mut() {
+        restrict_node(inside, node);
+    }
+}
+
+// Leaves the entries with a number of a set.
+fn keep_banks(inside: &NumberSet, banks: &mut Vec<BankEntry>)
+    ensures { banks.new.items ≡ filter (λ b. is_marked inside.now b.number) banks.old.items }
+{
+    banks.retain(|bank| has(inside, bank.number));
+}
+
+fn keep_processes(inside: &NumberSet, processes: &mut Vec<ProcessEntry>)
+    ensures { processes.new.items ≡ filter (λ p. is_marked inside.now p.root) processes.old.items }
+{
+    processes.retain(|process| has(inside, process.root));
+}
+
+fn keep_nodes(inside: &NumberSet, nodes: &mut Vec<NodeEntry>)
+    ensures { nodes.new.items ≡ filter (λ n. is_marked inside.now n.number) nodes.old.items }
+{
+    nodes.retain(|node| has(inside, node.number));
+}
+
+fn keep_pages(inside: &NumberSet, pages: &mut Vec<PageEntry>)
+    ensures { pages.new.items ≡ filter (λ p. is_marked inside.now p.number) pages.old.items }
+{
+    pages.retain(|page| has(inside, page.number));
+}
+
+/// Restricts a description to a set of numbers: it leaves the objects that have one, and of what they
+/// hold the capabilities that name nothing or such an object. In the graph of what is left the boxes
+/// are those of the set, and the arrows those between them.
+pub fn restrict(description: &mut Description, inside: &NumberSet)
+    ensures { IsPart (is_marked inside.now) description.old description.new }
+{
+    keep_banks(inside, &mut description.banks);
+    keep_processes(inside, &mut description.processes);
+    keep_nodes(inside, &mut description.nodes);
+    keep_pages(inside, &mut description.pages);
+    restrict_processes(inside, description.processes.as_mut_slice());
+    restrict_nodes(inside, description.nodes.as_mut_slice());
+}

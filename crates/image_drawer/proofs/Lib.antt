@@ -1,8 +1,0 @@
-mod Names
-pub mod Arrows
-pub mod Boxes
-pub mod Listed
-pub mod Once
-mod Parts
-pub mod Texts
-pub mod Reported

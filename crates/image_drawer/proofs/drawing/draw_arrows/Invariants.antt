@@ -1,6 +1,0 @@
-use Rattle.image_drawer.proofs.Names.{take, flat_map, Appends, arrow_line}
-use Rattle.image_drawer.proofs.drawing.draw_arrows.Given as goal
-
-abbrev pub invariant-loop-part : goal.invariant-loop-part
-invariant-loop-part g l = Appends (g.W.Write.contents l.fn.writer) (g.W.Write.contents l.writer)
-    (flat_map (λ p. flat_map arrow_line (g.P.Part.arrows_of p)) (take l.part-index l.parts))

@@ -1,4 +1,0 @@
-pub mod Names
-pub mod Graph
-pub mod Laws
-pub mod Part

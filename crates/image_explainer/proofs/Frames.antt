@@ -1,0 +1,55 @@
+-- Slots and frames.
+use Rattle.image_explainer.proofs.Names.{ℕ, nat_le, List, Option, None, Some, take, drop, refl, sym, ap, subst, inl, inr, arith, cases_lt, Image, Cap, Frame}
+use Rattle.image_explainer.proofs.Names.{Geometry, IsKeptCap, Entry, CheckpointHeader, Shape, capability_bytes, IsFrameOf, shape_of, HasDirectory, HasHeader}
+use Rattle.image_explainer.proofs.Names.{HasPlan, frame_in, frame_sector, sectors_from, shaped_at, shape_bytes, Plan, FramePart, HoldsCap, IsFault, FitsOr}
+use Rattle.image_explainer.proofs.Names.{IsWholeFrame}
+use Rattle.std.proofs.Common.{◌≡◌, ◌+◌, ◌-◌, ◌*◌, ◌<◌, ◌∙◌}
+use Rattle.layout.specs.declared.shape.Shape.TheVariants as shape
+use Rattle.image_explainer.specs.declared.sectors.fault.SectorFault.TheVariants as fault
+
+-- a slot more has a capability
+pub slots_more : (g : Geometry) (age : ℕ) (bytes : List ℕ) (k : ℕ) → ((j : ℕ) → j < k → HoldsCap g age bytes j) → HoldsCap g age bytes k → (j : ℕ) → j < k + 1 →
+    HoldsCap g age bytes j
+slots_more g age bytes k before here j lt = elim (cases_lt j k) [
+  | inl less ↦ before j less
+  | inr le ↦ let same : k ≡ j = omega (arith, lt, le) in subst (HoldsCap g age bytes) same here
+]
+
+-- as the code cuts it
+pub slot_read : (g : Geometry) (age : ℕ) (bytes : List ℕ) (k at : ℕ) (c : Cap) → at ≡ 32 + 24 * k → IsKeptCap g age c →
+    take (at + 24 - at) (drop at bytes) ≡ capability_bytes c → HoldsCap g age bytes k
+slot_read g age bytes k at c place kept is =
+    let size : at + 24 - at ≡ 24 = omega arith in
+    (c, kept, ap (λ (n : ℕ). take 24 (drop n bytes)) (sym place) ∙ ap (λ (n : ℕ). take n (drop at bytes)) (sym size) ∙ is)
+
+-- a frame more can be kept
+pub frames_more : (image : Image) (p : Plan) (h : CheckpointHeader) (es : List Entry) (n : ℕ) → ((m : ℕ) → m < n → IsWholeFrame image p h es m) →
+    IsWholeFrame image p h es n → (m : ℕ) → m < n + 1 → IsWholeFrame image p h es m
+frames_more image p h es n before here m lt = elim (cases_lt m n) [
+  | inl less ↦ before m less
+  | inr le ↦ let same : n ≡ m = omega (arith, lt, le) in subst (IsWholeFrame image p h es) same here
+]
+
+-- the bytes of a frame as they lie in sectors
+module _ (g : Geometry) (age n at : ℕ) (image : Image) (form : Shape) (run : List ℕ) (found : Option FramePart) where
+  pub node_at : form ≡ shape.Node → run ≡ sectors_from image at 2 → FitsOr g age n run found → FitsOr g age n (shaped_at image at form) found
+  node_at is read fits = subst (λ (s : Shape). FitsOr g age n (shaped_at image at s) found) (sym is) (subst (λ (b : List ℕ). FitsOr g age n b found) read fits)
+
+  pub packed_at : (rank : ℕ) (node : List ℕ) → form ≡ shape.Packed rank → run ≡ sectors_from image at 8 → node ≡ shape_bytes (shape.Packed rank) run →
+      FitsOr g age n node found
+      → FitsOr g age n (shaped_at image at form) found
+  packed_at rank node is read unpacked fits =
+      subst (λ (s : Shape). FitsOr g age n (shaped_at image at s) found) (sym is)
+      (subst (λ (b : List ℕ). FitsOr g age n b found) (unpacked ∙ ap (shape_bytes (shape.Packed rank)) read) fits)
+
+-- what is wrong with a frame of the image
+module _ (size : ℕ) (image : Image) (p : Plan) (h : CheckpointHeader) (es : List Entry) (n at : ℕ) (form : Shape)
+    (there : at ≡ frame_sector p h.generation es n) (as_is : form ≡ shape_of p n) where
+  frame_there : shaped_at image at form ≡ frame_in image p h.generation es n
+  frame_there = ap (λ (s : ℕ). shaped_at image s form) there ∙ ap (λ (s : Shape). shaped_at image (frame_sector p h.generation es n) s) as_is
+
+  pub frame_fault : (part : FramePart) → HasPlan image size p → HasHeader image p h → HasDirectory image p h es → n < p.geometry.nodes + p.geometry.pages
+      → FitsOr p.geometry h.age n (shaped_at image at form) (Some part) → IsFault size image (fault.Frame n (nat_le p.geometry.nodes n) part)
+  frame_fault part plan header directory inside broken =
+      let b = subst (λ (b : List ℕ). FitsOr p.geometry h.age n b (Some part)) frame_there broken in
+      ((p, h, es, plan, header, directory, (n, inside, b.0)), (p, h, es, plan, header, directory, inside, refl, b.0, b.1))

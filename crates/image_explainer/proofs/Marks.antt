@@ -1,0 +1,112 @@
+-- A superblock has its mark, and an image with one is large enough.
+use Rattle.image_explainer.proofs.Names.{ℕ, List, [], length, replicate, take, drop, refl, sym, ap, subst, ⊎_elim, append_assoc, length-append, take_at}
+use Rattle.image_explainer.proofs.Names.{drop_at, arith, codes, length-replicate, Image, HomeRange, half_number, number, zeros, HasPlan, IsTooSmall, total_in}
+use Rattle.image_explainer.proofs.Names.{HasMark, IsPlan, Plan, ranges_bytes, superblock_bytes, unused, version_number, total_reported}
+use Rattle.std.proofs.Common.{◌≡◌, ◌+◌, ◌-◌, ◌*◌, ◌∷◌, ◌++◌, ◌∙◌}
+
+long : (n : ℕ) → length (number n) ≡ 8
+unfolding number
+long n = refl
+
+half : (n : ℕ) → length (half_number n) ≡ 4
+unfolding half_number
+half n = refl
+
+no_range : length (ranges_bytes []) ≡ 0
+unfolding ranges_bytes
+no_range = refl
+
+three : (a b c z : List ℕ) → (a ++ b ++ c) ++ z ≡ a ++ (b ++ (c ++ z))
+three a b c z = simp append_assoc
+
+cons_range : (r : HomeRange) (rs : List HomeRange) → ranges_bytes (r ∷ rs) ≡ number r.first ++ (number r.count ++ (number r.sector ++ ranges_bytes rs))
+unfolding ranges_bytes
+cons_range r rs = three (number r.first) (number r.count) (number r.sector) (ranges_bytes rs)
+
+ranges_long : (rs : List HomeRange) → length (ranges_bytes rs) ≡ 24 * length rs
+ranges_long [] = no_range
+ranges_long (r ∷ rs) = ap (λ (x : List ℕ). length x) (cons_range r rs) ∙ length-append (number r.first) (number r.count ++ (number r.sector ++ ranges_bytes rs))
+    ∙ omega (
+      arith,
+      length-append (number r.count) (number r.sector ++ ranges_bytes rs),
+      length-append (number r.sector) (ranges_bytes rs),
+      long r.first,
+      long r.count,
+      long r.sector,
+      ranges_long rs,
+    )
+
+deep : (a b c d e f g h i j z : List ℕ) →
+    a ++ b ++ c ++ d ++ e ++ f ++ g ++ h ++ i ++ j ++ z ≡ a ++ (b ++ (c ++ (d ++ (e ++ (f ++ (g ++ (h ++ (i ++ (j ++ z)))))))))
+deep a b c d e f g h i j z = simp append_assoc
+
+nine : (a b c d e f g h i j : List ℕ) → length (a ++ b ++ c ++ d ++ e ++ f ++ g ++ h ++ i ++ j) ≡ length a + length b + length c + length d + length e + length
+    f + length g + length h + length i + length j
+nine a b c d e f g h i j = simp length-append
+
+module _ (p : Plan) (is : IsPlan p) where
+  abbrev all_ranges : List HomeRange
+  all_ranges = p.ranges ++ replicate (8 - length p.ranges) unused
+
+  eight : length (ranges_bytes all_ranges) ≡ 192
+  eight = ranges_long all_ranges ∙
+      omega (arith, length-append p.ranges (replicate (8 - length p.ranges) unused), length-replicate (8 - length p.ranges) unused, is.few)
+
+  abbrev rest : List ℕ
+  rest = number p.geometry.nodes ++
+      (number p.geometry.pages ++
+      (number p.geometry.log ++ (number p.half_0 ++ (number p.half_1 ++ (number p.total ++ (ranges_bytes all_ranges ++ zeros 256))))))
+
+  abbrev front : List ℕ
+  front =
+      codes "EROSCKPT" ++ half_number (version_number p.version) ++ half_number (length p.ranges)
+      ++ number p.geometry.nodes ++ number p.geometry.pages ++ number p.geometry.log ++ number p.half_0 ++ number p.half_1 ++ number p.total ++ ranges_bytes
+      all_ranges
+
+  begins : superblock_bytes p ≡ codes "EROSCKPT" ++ (half_number (version_number p.version) ++ (half_number (length p.ranges) ++ rest))
+  unfolding superblock_bytes
+  begins = deep (codes "EROSCKPT") (half_number (version_number p.version)) (half_number (length p.ranges))
+      (number p.geometry.nodes) (number p.geometry.pages) (number p.geometry.log) (number p.half_0) (number p.half_1) (number p.total)
+      (ranges_bytes (p.ranges ++ replicate (8 - length p.ranges) unused)) (zeros 256)
+
+  ends : superblock_bytes p ≡ front ++ zeros 256
+  unfolding superblock_bytes
+  ends = refl
+
+  front_long : length front ≡ 256
+  front_long = nine (codes "EROSCKPT") (half_number (version_number p.version)) (half_number (length p.ranges))
+      (number p.geometry.nodes) (number p.geometry.pages) (number p.geometry.log) (number p.half_0) (number p.half_1) (number p.total) (ranges_bytes all_ranges)
+      ∙ omega (
+        arith,
+        half (version_number p.version),
+        half (length p.ranges),
+        long p.geometry.nodes,
+        long p.geometry.pages,
+        long p.geometry.log,
+        long p.half_0,
+        long p.half_1,
+        long p.total,
+        eight,
+      )
+
+  pub marked : HasMark (superblock_bytes p)
+  marked = record {
+    magic = ap (take 8) begins ∙ take_at (codes "EROSCKPT") (half_number (version_number p.version) ++ (half_number (length p.ranges) ++ rest)) 8 refl;
+    version = (
+      p.version,
+      ap (λ (b : List ℕ). take 4 (drop 8 b)) begins
+          ∙ ap (take 4) (drop_at (codes "EROSCKPT") (half_number (version_number p.version) ++ (half_number (length p.ranges) ++ rest)) 8 refl)
+          ∙ take_at (half_number (version_number p.version)) (half_number (length p.ranges) ++ rest) 4 (half (version_number p.version)),
+    );
+    blank = ap (drop 256) ends ∙ drop_at front (zeros 256) 256 front_long;
+  }
+
+module _ (size : ℕ) (image : Image) (p : Plan) (plan : HasPlan image size p) where
+  pub has_mark : HasMark (image 0)
+  has_mark = subst HasMark (sym plan.spelt) (marked p plan.fits)
+
+  pub not_small : IsTooSmall image size → ⊥
+  not_small small = ⊎_elim
+      (λ few. omega (arith, few, plan.least))
+      (λ less. let total : total_in (image 0) ≡ p.total = ap total_in plan.spelt ∙ total_reported p plan.fits in omega (arith, less, total, plan.whole))
+      small

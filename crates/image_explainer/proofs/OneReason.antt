@@ -1,0 +1,131 @@
+-- Sectors are bad for one reason.
+use Rattle.image_explainer.proofs.Names.{ℕ, Some, None, List, refl, sym, ap, subst, Image, BadImage, Entry, CheckpointHeader, header_bytes, HasBadDirectory}
+use Rattle.image_explainer.proofs.Names.{HasBadHeader, HasDirectory, HasHeader, HasNoHeader, HasPlan, IsBadBy, option_at, Plan, same_directory, same_header}
+use Rattle.image_explainer.proofs.Names.{same_plan, IsWhole, IsWholeFrame}
+use Rattle.std.proofs.Common.{◌≡◌, ◌+◌, ◌<◌, ◌∙◌}
+use Rattle.layout.specs.declared.bad_image.BadImage.TheVariants as bad
+use Rattle.image_explainer.proofs.Marks.{has_mark, not_small}
+
+module _ (size : ℕ) (image : Image) where
+  some_header : (p : Plan) (h : CheckpointHeader) → HasHeader image p h → HasNoHeader image → ⊥
+  some_header p h header none = let never : None ≡ Some (header_bytes h) = sym (ap (option_at image) none) ∙ header.spelt in cc
+
+  good_header : (p q : Plan) (h : CheckpointHeader) → HasPlan image size p → HasPlan image size q → HasHeader image q h → HasBadHeader image p → ⊥
+  good_header p q h one other header broken = subst (HasBadHeader image) (same_plan image size p q one other) broken h header.fits header.spelt
+
+  same_both : (p q : Plan) (g h : CheckpointHeader) → HasPlan image size p → HasPlan image size q → HasHeader image p g → HasHeader image q h →
+      HasBadDirectory image p g → HasBadDirectory image q h
+  same_both p q g h one other first second broken =
+      let plans : p ≡ q = same_plan image size p q one other in
+      let first_there : HasHeader image q g = subst (λ (x : Plan). HasHeader image x g) plans first in
+      let there : HasBadDirectory image q g = subst (λ (x : Plan). HasBadDirectory image x g) plans broken in
+      subst (HasBadDirectory image q) (same_header image q g h first_there second) there
+
+  -- a lesser reason doesn't hold beside a greater one
+  pub one_reason : (a b : BadImage) → IsBadBy image size a → IsBadBy image size b → a ≡ b
+  one_reason bad.Small bad.Small x y = refl
+  one_reason bad.Small bad.NotASuperblock x y = absurd (y.0 x)
+  one_reason bad.Small bad.BadGeometry x y = absurd (y.0 x)
+  one_reason bad.Small bad.NoHeader x y = absurd (not_small size image y.0 y.1 x)
+  one_reason bad.Small bad.BadHeader x y = absurd (not_small size image y.0 y.1 x)
+  one_reason bad.Small bad.BadDirectory x y = absurd (not_small size image y.0 y.2 x)
+  one_reason bad.Small bad.BadFrame x y = absurd (not_small size image y.0 y.3 x)
+  one_reason bad.NotASuperblock bad.Small x y = absurd (x.0 y)
+  one_reason bad.NotASuperblock bad.NotASuperblock x y = refl
+  one_reason bad.NotASuperblock bad.BadGeometry x y = absurd (x.1 y.1)
+  one_reason bad.NotASuperblock bad.NoHeader x y = absurd (x.1 (has_mark size image y.0 y.1))
+  one_reason bad.NotASuperblock bad.BadHeader x y = absurd (x.1 (has_mark size image y.0 y.1))
+  one_reason bad.NotASuperblock bad.BadDirectory x y = absurd (x.1 (has_mark size image y.0 y.2))
+  one_reason bad.NotASuperblock bad.BadFrame x y = absurd (x.1 (has_mark size image y.0 y.3))
+  one_reason bad.BadGeometry bad.Small x y = absurd (x.0 y)
+  one_reason bad.BadGeometry bad.NotASuperblock x y = absurd (y.1 x.1)
+  one_reason bad.BadGeometry bad.BadGeometry x y = refl
+  one_reason bad.BadGeometry bad.NoHeader x y = absurd (x.2 y.0 y.1.fits y.1.spelt)
+  one_reason bad.BadGeometry bad.BadHeader x y = absurd (x.2 y.0 y.1.fits y.1.spelt)
+  one_reason bad.BadGeometry bad.BadDirectory x y = absurd (x.2 y.0 y.2.fits y.2.spelt)
+  one_reason bad.BadGeometry bad.BadFrame x y = absurd (x.2 y.0 y.3.fits y.3.spelt)
+  one_reason bad.NoHeader bad.Small x y = absurd (not_small size image x.0 x.1 y)
+  one_reason bad.NoHeader bad.NotASuperblock x y = absurd (y.1 (has_mark size image x.0 x.1))
+  one_reason bad.NoHeader bad.BadGeometry x y = absurd (y.2 x.0 x.1.fits x.1.spelt)
+  one_reason bad.NoHeader bad.NoHeader x y = refl
+  one_reason bad.NoHeader bad.BadHeader x y = absurd (y.2 x.2)
+  one_reason bad.NoHeader bad.BadDirectory x y = absurd (some_header y.0 y.1 y.3 x.2)
+  one_reason bad.NoHeader bad.BadFrame x y = absurd (some_header y.0 y.1 y.4 x.2)
+  one_reason bad.BadHeader bad.Small x y = absurd (not_small size image x.0 x.1 y)
+  one_reason bad.BadHeader bad.NotASuperblock x y = absurd (y.1 (has_mark size image x.0 x.1))
+  one_reason bad.BadHeader bad.BadGeometry x y = absurd (y.2 x.0 x.1.fits x.1.spelt)
+  one_reason bad.BadHeader bad.NoHeader x y = absurd (x.2 y.2)
+  one_reason bad.BadHeader bad.BadHeader x y = refl
+  one_reason bad.BadHeader bad.BadDirectory x y = absurd (good_header x.0 y.0 y.1 x.1 y.2 y.3 x.3)
+  one_reason bad.BadHeader bad.BadFrame x y = absurd (good_header x.0 y.0 y.1 x.1 y.3 y.4 x.3)
+  one_reason bad.BadDirectory bad.Small x y = absurd (not_small size image x.0 x.2 y)
+  one_reason bad.BadDirectory bad.NotASuperblock x y = absurd (y.1 (has_mark size image x.0 x.2))
+  one_reason bad.BadDirectory bad.BadGeometry x y = absurd (y.2 x.0 x.2.fits x.2.spelt)
+  one_reason bad.BadDirectory bad.NoHeader x y = absurd (some_header x.0 x.1 x.3 y.2)
+  one_reason bad.BadDirectory bad.BadHeader x y = absurd (good_header y.0 x.0 x.1 y.1 x.2 x.3 y.3)
+  one_reason bad.BadDirectory bad.BadDirectory x y = refl
+  one_reason bad.BadDirectory bad.BadFrame x y = absurd (same_both x.0 y.0 x.1 y.1 x.2 y.3 x.3 y.4 x.4 y.2 y.5.fits y.5.count y.5.spelt)
+  one_reason bad.BadFrame bad.Small x y = absurd (not_small size image x.0 x.3 y)
+  one_reason bad.BadFrame bad.NotASuperblock x y = absurd (y.1 (has_mark size image x.0 x.3))
+  one_reason bad.BadFrame bad.BadGeometry x y = absurd (y.2 x.0 x.3.fits x.3.spelt)
+  one_reason bad.BadFrame bad.NoHeader x y = absurd (some_header x.0 x.1 x.4 y.2)
+  one_reason bad.BadFrame bad.BadHeader x y = absurd (good_header y.0 x.0 x.1 y.1 x.3 x.4 y.3)
+  one_reason bad.BadFrame bad.BadDirectory x y = absurd (same_both y.0 x.0 y.1 x.1 y.2 x.3 y.3 x.4 y.4 x.2 x.5.fits x.5.count x.5.spelt)
+  one_reason bad.BadFrame bad.BadFrame x y = refl
+  one_reason bad.BadCapability b x y = absurd x
+  one_reason bad.Small bad.BadCapability x y = absurd y
+  one_reason bad.NotASuperblock bad.BadCapability x y = absurd y
+  one_reason bad.BadGeometry bad.BadCapability x y = absurd y
+  one_reason bad.NoHeader bad.BadCapability x y = absurd y
+  one_reason bad.BadHeader bad.BadCapability x y = absurd y
+  one_reason bad.BadDirectory bad.BadCapability x y = absurd y
+  one_reason bad.BadFrame bad.BadCapability x y = absurd y
+  one_reason bad.BadProcess b x y = absurd x
+  one_reason bad.Small bad.BadProcess x y = absurd y
+  one_reason bad.NotASuperblock bad.BadProcess x y = absurd y
+  one_reason bad.BadGeometry bad.BadProcess x y = absurd y
+  one_reason bad.NoHeader bad.BadProcess x y = absurd y
+  one_reason bad.BadHeader bad.BadProcess x y = absurd y
+  one_reason bad.BadDirectory bad.BadProcess x y = absurd y
+  one_reason bad.BadFrame bad.BadProcess x y = absurd y
+  one_reason bad.BadBank b x y = absurd x
+  one_reason bad.Small bad.BadBank x y = absurd y
+  one_reason bad.NotASuperblock bad.BadBank x y = absurd y
+  one_reason bad.BadGeometry bad.BadBank x y = absurd y
+  one_reason bad.NoHeader bad.BadBank x y = absurd y
+  one_reason bad.BadHeader bad.BadBank x y = absurd y
+  one_reason bad.BadDirectory bad.BadBank x y = absurd y
+  one_reason bad.BadFrame bad.BadBank x y = absurd y
+
+  -- all frames can be kept
+  abbrev AreWhole : Plan → CheckpointHeader → List Entry → Type 0
+  AreWhole p h es = (n : ℕ) → n < p.geometry.nodes + p.geometry.pages → IsWholeFrame image p h es n
+
+  all_same : (p q : Plan) (g h : CheckpointHeader) (ds es : List Entry) → HasPlan image size p → HasPlan image size q → HasHeader image p g →
+      HasHeader image q h
+      → HasDirectory image p g ds → HasDirectory image q h es → AreWhole p g ds → AreWhole q h es
+  all_same p q g h ds es one other first second here there whole =
+      let plans : p ≡ q = same_plan image size p q one other in
+      let first_there : HasHeader image q g = subst (λ (x : Plan). HasHeader image x g) plans first in
+      let headers : g ≡ h = same_header image q g h first_there second in
+      let here_there : HasDirectory image q g ds = subst (λ (x : Plan). HasDirectory image x g ds) plans here in
+      let here_both : HasDirectory image q h ds = subst (λ (x : CheckpointHeader). HasDirectory image q x ds) headers here_there in
+      let directories : ds ≡ es = same_directory image q h ds es here_both there in
+      let whole_there : AreWhole q g ds = subst (λ (x : Plan). AreWhole x g ds) plans whole in
+      let whole_both : AreWhole q h ds = subst (λ (x : CheckpointHeader). AreWhole q x ds) headers whole_there in
+      subst (λ (x : List Entry). AreWhole q h x) directories whole_both
+
+  -- where nothing is wrong, there is no reason
+  pub whole_not_bad : (reason : BadImage) → IsWhole size image → IsBadBy image size reason → ⊥
+  whole_not_bad bad.Small w x = not_small size image w.0 w.3 x
+  whole_not_bad bad.NotASuperblock w x = x.1 (has_mark size image w.0 w.3)
+  whole_not_bad bad.BadGeometry w x = x.2 w.0 w.3.fits w.3.spelt
+  whole_not_bad bad.NoHeader w x = some_header w.0 w.1 w.4 x.2
+  whole_not_bad bad.BadHeader w x = good_header x.0 w.0 w.1 x.1 w.3 w.4 x.3
+  whole_not_bad bad.BadDirectory w x = same_both x.0 w.0 x.1 w.1 x.2 w.3 x.3 w.4 x.4 w.2 w.5.fits w.5.count w.5.spelt
+  whole_not_bad bad.BadFrame w x =
+      let whole = all_same w.0 x.0 w.1 x.1 w.2 x.2 w.3 x.3 w.4 x.4 w.5 x.5 w.6 in
+      let frame = whole x.6.0 x.6.1 in
+      x.6.2 frame.0 frame.1
+  whole_not_bad bad.BadCapability w x = absurd x
+  whole_not_bad other w x = absurd x

@@ -1,0 +1,50 @@
+-- Where the directory lies, and images with nothing wrong in their sectors.
+use Rattle.image_explainer.proofs.Names.{ℕ, List, Result, Ok, Err, length, take, sym, ap, arith, OnOk, Image, Entry, CheckpointHeader, AllFitting, IsDirectory}
+use Rattle.image_explainer.proofs.Names.{directory_bytes, HasDirectory, HasHeader, HasPlan, directory_in, directory_length, directory_sector, sectors_from}
+use Rattle.image_explainer.proofs.Names.{slot_sector, IsPlan, Plan, half_within, DirectoryPart, BreaksDirectory, IsFault}
+use Rattle.std.proofs.Common.{◌≡◌, ◌+◌, ◌-◌, ◌*◌, ◌/◌, ◌≤◌, ◌∙◌}
+use Rattle.image_explainer.specs.declared.sectors.fault.SectorFault.TheVariants as fault
+use Rattle.image_explainer.proofs.Directories.{no_spelling}
+
+-- the directory lies behind the last slot
+pub behind_slots : (p : Plan) (generation at : ℕ) → 1 ≤ p.geometry.log → at ≡ slot_sector p generation (p.geometry.log - 1) →
+    at + 9 ≡ directory_sector p generation
+behind_slots p generation at some is = omega (arith, some, is)
+
+pub directory_inside : (p : Plan) (generation at n size : ℕ) → IsPlan p → at ≡ slot_sector p generation (p.geometry.log - 1) → n ≤ p.geometry.log →
+    p.total ≤ size
+    → 512 * (at + 9 + (n + 31) / 32) ≤ 512 * size
+directory_inside p generation at n size plan is few inside =
+    omega (arith, behind_slots p generation at (omega (arith, plan.geometry.least_log)) is, (half_within p generation plan).1, few, inside)
+
+-- the entries that were read are those of the image
+module _ (image : Image) (size : ℕ) (p : Plan) (h : CheckpointHeader) (es : List Entry) (at sector : ℕ) (run : List ℕ)
+    (some : 1 ≤ p.geometry.log) (is : at ≡ slot_sector p h.generation (p.geometry.log - 1)) (here : sector ≡ at + 9)
+    (n : ℕ) (count : n ≡ h.entries) (read : run ≡ sectors_from image sector ((n + 31) / 32)) (spelt : take (16 * n) run ≡ directory_bytes es) where
+  place : sector ≡ directory_sector p h.generation
+  place = here ∙ behind_slots p h.generation at some is
+
+  spelt_there : directory_in image p h.generation h.entries ≡ directory_bytes es
+  spelt_there =
+      ap (λ (k : ℕ). directory_in image p h.generation k) (sym count)
+      ∙ ap (λ (s : ℕ). take (16 * n) (sectors_from image s (directory_length n))) (sym place)
+      ∙ ap (take (16 * n)) (sym read) ∙ spelt
+
+  pub directory_fault : (part : DirectoryPart) → HasPlan image size p → HasHeader image p h → length es ≡ n → AllFitting es →
+      BreaksDirectory p.geometry es part → IsFault size image (fault.Directory sector part)
+  directory_fault part plan header len fits broken = (
+    (
+      p,
+      h,
+      plan,
+      header,
+      λ ds is_directory same_count same. no_spelling p.geometry es part (directory_in image p h.generation h.entries) fits spelt_there broken
+          ds is_directory same,
+    ),
+    (p, h, es, plan, header, place, len ∙ count, fits, spelt_there, broken),
+  )
+
+-- what is so after a success
+pub on_ok : {T E : Type 0} (A B : Type 0) (r : Result T E) → (A → B) → OnOk r A → OnOk r B
+on_ok A B (Ok x) leads is = leads is
+on_ok A B (Err e) leads is = tt

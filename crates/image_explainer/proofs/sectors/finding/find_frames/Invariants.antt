@@ -1,0 +1,7 @@
+use Rattle.image_explainer.proofs.Names.{ℕ, Image, IsCopy, IsWholeFrame}
+use Rattle.std.proofs.Common.{◌<◌}
+use Rattle.image_explainer.proofs.sectors.finding.find_frames.Given as goal
+
+abbrev pub invariant-loop-number : goal.invariant-loop-number
+invariant-loop-number l =
+    (image : Image) → IsCopy image l.bytes → (n : ℕ) → n < l.number → IsWholeFrame image l.superblock l.header l.entries n

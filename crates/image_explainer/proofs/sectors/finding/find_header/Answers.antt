@@ -1,0 +1,24 @@
+use Rattle.image_explainer.proofs.Names.{ap, Geometry}
+use Rattle.image_explainer.proofs.SectorCopies.{one_sector}
+use Rattle.image_explainer.proofs.Headers.{header_found, header_refused}
+use Rattle.image_explainer.proofs.sectors.finding.find_header.Goals as goal
+
+pub returns-clause-found : goal.returns-clause-found
+returns-clause-found c = λ image copy plan.
+    header_found image c.args.size c.geometry.result.log c.args.superblock.now (ap (λ (g : Geometry). g.log) c.geometry.ensures.value)
+    c.sectors.result.now c.sectors-2.result.now c.sectors-3.result.now c.sectors-4.result.now
+    (one_sector image 1 c.sectors.result.now (c.sectors.ensures.value image copy))
+    (one_sector image 2 c.sectors-2.result.now (c.sectors-2.ensures.value image copy))
+    (one_sector image 3 c.sectors-3.result.now (c.sectors-3.ensures.value image copy))
+    (one_sector image 4 c.sectors-4.result.now (c.sectors-4.ensures.value image copy))
+    c.choose.result c.choose.ensures.found
+
+pub returns-clause-refused : goal.returns-clause-refused
+returns-clause-refused c = λ image copy plan.
+    header_refused image c.args.size c.geometry.result.log c.args.superblock.now (ap (λ (g : Geometry). g.log) c.geometry.ensures.value)
+    c.sectors.result.now c.sectors-2.result.now c.sectors-3.result.now c.sectors-4.result.now
+    (one_sector image 1 c.sectors.result.now (c.sectors.ensures.value image copy))
+    (one_sector image 2 c.sectors-2.result.now (c.sectors-2.ensures.value image copy))
+    (one_sector image 3 c.sectors-3.result.now (c.sectors-3.ensures.value image copy))
+    (one_sector image 4 c.sectors-4.result.now (c.sectors-4.ensures.value image copy))
+    c.choose.result c.choose.ensures.refused plan

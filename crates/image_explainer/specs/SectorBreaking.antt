@@ -1,0 +1,151 @@
+-- What is wrong in the sectors of an image: the part for which one of the reasons 1 to 7 to refuse it holds.
+use Rattle.std.specs.Prelude.{◌≡◌, ◌≢◌, ◌⊎◌, ◌+◌, ◌-◌, ◌*◌, ◌%◌, ◌^◌, ◌<◌, ◌≤◌, ◌==◌, nat_le, nat_lt, if◌then◌else◌}
+use Rattle.std.specs.Prelude.{false, ℕ, codes, drop, length, take, List, Some}
+use Rattle.device.specs.Disk.{Image}
+use Rattle.model.specs.declared.capability.Cap.{Cap}
+use Rattle.model.specs.declared.frame.Frame.{Frame}
+use Rattle.model.specs.declared.geometry.Geometry.{Geometry}
+use Rattle.model.specs.Keepable.{IsKeptCap}
+use Rattle.layout.specs.declared.bad_image.BadImage.{BadImage}
+use Rattle.layout.specs.declared.bad_image.BadImage.TheVariants as bad
+use Rattle.layout.specs.declared.directory.Entry.{Entry}
+use Rattle.layout.specs.declared.header.CheckpointHeader.{CheckpointHeader}
+use Rattle.layout.specs.declared.version.Version.{Version}
+use Rattle.layout.specs.Bytes.{half_number, number_from, zeros}
+use Rattle.layout.specs.Capability.{capability_bytes}
+use Rattle.layout.specs.Directory.{AllFitting, directory_bytes, entry_at}
+use Rattle.layout.specs.Frame.{IsFrameOf}
+use Rattle.layout.specs.Gate.{is_open}
+use Rattle.layout.specs.Header.{IsHeader, header_bytes}
+use Rattle.layout.specs.Image.{HasDirectory, HasHeader, HasPlan, IsBadBy, committed_slot, directory_in}
+use Rattle.layout.specs.Image.{directory_sector, frame_in, sequence_in, total_in}
+use Rattle.layout.specs.Superblock.{IsGeometry, IsPlan, Plan, superblock_bytes, version_number}
+use Rattle.image_explainer.specs.declared.sectors.fault.DirectoryPart.{DirectoryPart}
+use Rattle.image_explainer.specs.declared.sectors.fault.DirectoryPart.TheVariants as entry
+use Rattle.image_explainer.specs.declared.sectors.fault.FramePart.{FramePart}
+use Rattle.image_explainer.specs.declared.sectors.fault.FramePart.TheVariants as frame
+use Rattle.image_explainer.specs.declared.sectors.fault.GeometryPart.{GeometryPart}
+use Rattle.image_explainer.specs.declared.sectors.fault.GeometryPart.TheVariants as geometry
+use Rattle.image_explainer.specs.declared.sectors.fault.HeaderPart.{HeaderPart}
+use Rattle.image_explainer.specs.declared.sectors.fault.HeaderPart.TheVariants as header
+use Rattle.image_explainer.specs.declared.sectors.fault.NotCounted.{NotCounted}
+use Rattle.image_explainer.specs.declared.sectors.fault.NotCounted.TheVariants as uncounted
+use Rattle.image_explainer.specs.declared.sectors.fault.SectorFault.{SectorFault}
+use Rattle.image_explainer.specs.declared.sectors.fault.SectorFault.TheVariants as fault
+use Rattle.image_explainer.specs.declared.sectors.fault.SuperblockPart.{SuperblockPart}
+use Rattle.image_explainer.specs.declared.sectors.fault.SuperblockPart.TheVariants as superblock
+
+-- the reason to refuse an image for a fault
+abbrev pub sector_reason : SectorFault → BadImage
+sector_reason (fault.Small sectors needed) = bad.Small
+sector_reason (fault.Superblock part) = bad.NotASuperblock
+sector_reason (fault.Geometry part) = bad.BadGeometry
+sector_reason (fault.NoHeader first second) = bad.NoHeader
+sector_reason (fault.Header sector part) = bad.BadHeader
+sector_reason (fault.Directory sector part) = bad.BadDirectory
+sector_reason (fault.Frame number is_page part) = bad.BadFrame
+
+-- the number at a byte
+abbrev pub number_at : List ℕ → ℕ → ℕ
+number_at bytes at = number_from (drop at bytes)
+
+-- reason 2: sector 0 has another magic, another version, or something else than zeros at its end
+abbrev pub BreaksMark : List ℕ → SuperblockPart → Type 0
+BreaksMark bytes superblock.Magic = take 8 bytes ≡ codes "EROSCKPT" → ⊥
+BreaksMark bytes superblock.Version = (v : Version) → take 4 (drop 8 bytes) ≡ half_number (version_number v) → ⊥
+BreaksMark bytes superblock.Tail = drop 256 bytes ≡ zeros 256 → ⊥
+
+-- a number isn't in a range
+abbrev pub IsOutside : ℕ → ℕ → ℕ → Type 0
+IsOutside least most n = (n < least) ⊎ (most < n)
+
+abbrev pub geometry_in : List ℕ → Geometry
+geometry_in bytes = record { nodes = number_at bytes 16; pages = number_at bytes 24; log = number_at bytes 32 }
+
+-- reason 3: a number is outside its limits; or none is, and the places aren't those of a superblock
+abbrev pub BreaksGeometry : List ℕ → GeometryPart → Type 0
+BreaksGeometry bytes (geometry.Nodes n) = (n ≡ number_at bytes 16) × IsOutside 16 4096 n
+BreaksGeometry bytes (geometry.Pages n) = (n ≡ number_at bytes 24) × IsOutside 1 4096 n
+BreaksGeometry bytes (geometry.Log n) = (n ≡ number_at bytes 32) × IsOutside 16 4096 n
+BreaksGeometry bytes (geometry.Total n) = (n ≡ number_at bytes 56) × (131072 < n)
+BreaksGeometry bytes geometry.Places =
+    IsGeometry (geometry_in bytes) × (number_at bytes 56 ≤ 131072) ×
+    ((p : Plan) → IsPlan p → bytes ≡ superblock_bytes p → ⊥)
+
+-- reason 4: why the header of a slot doesn't count
+abbrev pub IsNotCounted : List ℕ → List ℕ → ℕ → NotCounted → Type 0
+IsNotCounted header gate slot uncounted.Closed = is_open gate ≡ false
+IsNotCounted header gate slot (uncounted.Misplaced sequence) = (sequence ≡ sequence_in header) × (sequence % 2 ≢ slot)
+
+abbrev pub header_in : List ℕ → CheckpointHeader
+header_in bytes = record {
+  sequence = number_at bytes 8;
+  generation = number_at bytes 16;
+  entries = number_at bytes 24;
+  age = number_at bytes 32;
+}
+
+-- reason 5: a field is above its limit; or none is, and another byte is wrong
+abbrev pub BreaksHeader : ℕ → List ℕ → HeaderPart → Type 0
+BreaksHeader log bytes (header.Entries entries slots) = (entries ≡ number_at bytes 24) × (slots ≡ log) ×
+    (slots < entries)
+BreaksHeader log bytes (header.Age age) = (age ≡ number_at bytes 32) × (2 ^ 62 < age)
+BreaksHeader log bytes (header.Generation generation age) = (generation ≡ number_at bytes 16) ×
+    (age ≡ number_at bytes 32) × (2 * age < generation)
+BreaksHeader log bytes (header.Sequence sequence age) =
+    (sequence ≡ number_at bytes 8) × (age ≡ number_at bytes 32) ×
+    (2 * age + (if number_at bytes 24 == 0 then 1 else 0) < sequence)
+BreaksHeader log bytes header.Bytes = IsHeader log (header_in bytes) × (bytes ≡ header_bytes (header_in bytes) → ⊥)
+
+-- reason 6: an entry has the number of no object or of no slot, isn't above the entry before it, or has the slot of
+-- another
+abbrev pub BreaksDirectory : Geometry → List Entry → DirectoryPart → Type 0
+BreaksDirectory g es (entry.Object k object) = (k < length es) × ((entry_at es k).object ≡ object) ×
+    (g.nodes + g.pages ≤ object)
+BreaksDirectory g es (entry.Slot k slot) = (k < length es) × ((entry_at es k).slot ≡ slot) × (g.log ≤ slot)
+BreaksDirectory g es (entry.Order k object before) =
+    (0 < k) × (k < length es) × ((entry_at es k).object ≡ object) × ((entry_at es (k - 1)).object ≡ before) ×
+    (object ≤ before)
+BreaksDirectory g es (entry.Shared j k slot) = (j < k) × (k < length es) × ((entry_at es j).slot ≡ slot) ×
+    ((entry_at es k).slot ≡ slot)
+
+-- slot k of a node's frame has a capability that can be kept
+abbrev pub HoldsCap : Geometry → ℕ → List ℕ → ℕ → Type 0
+HoldsCap g age bytes k = (c : Cap) × IsKeptCap g age c × (take 24 (drop (32 + 24 * k) bytes) ≡ capability_bytes c)
+
+-- reason 7: a count is above the age, a slot has no capability, or none of this is so and the frame can't be kept
+abbrev pub BreaksFrame : Geometry → ℕ → ℕ → List ℕ → FramePart → Type 0
+BreaksFrame g age n bytes (frame.Allocations count most) = (count ≡ number_at bytes 8) × (most ≡ age) × (most < count)
+BreaksFrame g age n bytes (frame.Calls count most) = (count ≡ number_at bytes 16) × (most ≡ age) × (most < count)
+BreaksFrame g age n bytes (frame.Count slot count most) =
+    (n < g.nodes) × (slot < 32) × (HoldsCap g age bytes slot → ⊥) × (count ≡ number_at bytes (48 + 24 * slot)) ×
+    (most ≡ age) × (most < count)
+BreaksFrame g age n bytes (frame.Slot slot) = (n < g.nodes) × (slot < 32) × (HoldsCap g age bytes slot → ⊥)
+BreaksFrame g age n bytes frame.Body =
+    (number_at bytes 8 ≤ age) × (number_at bytes 16 ≤ age) × (n < g.nodes → (k : ℕ) → k < 32 → HoldsCap g age bytes k)
+
+-- what a fault names is wrong in the `size` sectors of an image
+abbrev pub BreaksSectors : ℕ → Image → SectorFault → Type 0
+BreaksSectors size c (fault.Small sectors needed) = (sectors ≡ size) ×
+    (needed ≡ (if nat_lt size 5 then 5 else total_in (c 0))) × (sectors < needed)
+BreaksSectors size c (fault.Superblock part) = BreaksMark (c 0) part
+BreaksSectors size c (fault.Geometry part) = BreaksGeometry (c 0) part
+BreaksSectors size c (fault.NoHeader first second) = IsNotCounted (c 1) (c 2) 0 first × IsNotCounted (c 3) (c 4) 1
+    second
+BreaksSectors size c (fault.Header sector part) =
+    (p : Plan) × HasPlan c size p × (slot : ℕ) × (committed_slot c ≡ Some slot) × (sector ≡ 1 + 2 * slot) × BreaksHeader
+    p.geometry.log (c sector) part
+BreaksSectors size c (fault.Directory sector part) =
+    (p : Plan) × (h : CheckpointHeader) × (es : List Entry) × HasPlan c size p × HasHeader c p h ×
+    (sector ≡ directory_sector p h.generation)
+    × (length es ≡ h.entries) × AllFitting es × (directory_in c p h.generation h.entries ≡ directory_bytes es) ×
+    BreaksDirectory p.geometry es part
+BreaksSectors size c (fault.Frame number is_page part) =
+    (p : Plan) × (h : CheckpointHeader) × (es : List Entry) × HasPlan c size p × HasHeader c p h × HasDirectory c p h es
+    × (number < p.geometry.nodes + p.geometry.pages) × (is_page ≡ nat_le p.geometry.nodes number)
+    × ((f : Frame) → IsFrameOf p.geometry h.age number (frame_in c p h.generation es number) f → ⊥)
+    × BreaksFrame p.geometry h.age number (frame_in c p h.generation es number) part
+
+-- the least reason that holds is the fault's, and what it names is wrong
+abbrev pub IsFault : ℕ → Image → SectorFault → Type 0
+IsFault size c f = IsBadBy c size (sector_reason f) × BreaksSectors size c f

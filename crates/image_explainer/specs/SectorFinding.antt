@@ -1,0 +1,94 @@
+-- What the searches for a fault find on their way.
+use Rattle.std.specs.Prelude.{◌≡◌, ℕ, ◌+◌, ◌-◌, ◌*◌, ◌<◌, ◌≤◌, ◌==◌, if◌then◌else◌, length, List, Option, None, Some}
+use Rattle.device.specs.Disk.{Image}
+use Rattle.device.specs.Calls.{AreSectors}
+use Rattle.model.specs.declared.frame.Frame.{Frame}
+use Rattle.model.specs.declared.geometry.Geometry.{Geometry}
+use Rattle.layout.specs.declared.directory.Entry.{Entry}
+use Rattle.layout.specs.declared.header.CheckpointHeader.{CheckpointHeader}
+use Rattle.layout.specs.Directory.{IsEntry, entry_at}
+use Rattle.layout.specs.Frame.{IsFrameOf}
+use Rattle.layout.specs.Header.{IsHeader, header_bytes}
+use Rattle.layout.specs.Image.{HasDirectory, HasHeader, HasPlan, committed_of, does_count, frame_in, sequence_in}
+use Rattle.layout.specs.Superblock.{HasMark, IsPlan, Plan, superblock_bytes}
+use Rattle.image_explainer.specs.declared.sectors.fault.FramePart.{FramePart}
+use Rattle.image_explainer.specs.declared.sectors.fault.FramePart.TheVariants as frame
+use Rattle.image_explainer.specs.declared.sectors.fault.SectorFault.{SectorFault}
+use Rattle.image_explainer.specs.declared.sectors.fault.SectorFault.TheVariants as fault
+use Rattle.image_explainer.specs.SectorBreaking.{BreaksFrame, BreaksGeometry, BreaksHeader, BreaksMark, HoldsCap}
+use Rattle.image_explainer.specs.SectorBreaking.{IsNotCounted}
+use Rattle.image_explainer.specs.SectorBreaking.{number_at}
+
+-- bytes are a copy of the sectors of an image, as many as they have
+abbrev pub IsCopy : Image → List ℕ → Type 0
+IsCopy image bytes = AreSectors image 0 bytes
+
+-- the frame of an object can be kept
+abbrev pub IsWholeFrame : Image → Plan → CheckpointHeader → List Entry → ℕ → Type 0
+IsWholeFrame image p h es n = (f : Frame) × IsFrameOf p.geometry h.age n (frame_in image p h.generation es n) f
+
+-- none of the reasons 1 to 7 holds
+abbrev pub IsWhole : ℕ → Image → Type 0
+IsWhole size image =
+    (p : Plan) × (h : CheckpointHeader) × (es : List Entry) × HasPlan image size p × HasHeader image p h × HasDirectory
+    image p h es
+    × ((n : ℕ) → n < p.geometry.nodes + p.geometry.pages → IsWholeFrame image p h es n)
+
+-- a sector isn't a superblock's
+abbrev pub BreaksSector : List ℕ → SectorFault → Type 0
+BreaksSector bytes (fault.Superblock part) = (HasMark bytes → ⊥) × BreaksMark bytes part
+BreaksSector bytes (fault.Geometry part) = HasMark bytes × ((p : Plan) → IsPlan p → bytes ≡ superblock_bytes p → ⊥) ×
+    BreaksGeometry bytes part
+BreaksSector bytes _ = ⊥
+
+-- of the bytes of two headers and their gates: the slot of the committed one, and its bytes
+abbrev pub slot_of : List ℕ → List ℕ → List ℕ → List ℕ → Option ℕ
+slot_of first first_gate second second_gate =
+    committed_of (does_count first first_gate 0) (sequence_in first) (does_count second second_gate 1)
+    (sequence_in second)
+
+abbrev pub picked : ℕ → List ℕ → List ℕ → List ℕ
+picked slot first second = if slot == 0 then first else second
+
+abbrev pub HasHeaderIn : ℕ → List ℕ → List ℕ → List ℕ → List ℕ → CheckpointHeader → Type 0
+HasHeaderIn log first first_gate second second_gate h =
+    (slot : ℕ) × (slot < 2) × (slot_of first first_gate second second_gate ≡ Some slot) × IsHeader log h ×
+    (picked slot first second ≡ header_bytes h)
+
+-- the header in a sector is none
+abbrev pub RefusesHeader : ℕ → ℕ → List ℕ → SectorFault → Type 0
+RefusesHeader sector log bytes (fault.Header at part) = (at ≡ sector) ×
+    ((h : CheckpointHeader) → IsHeader log h → bytes ≡ header_bytes h → ⊥) × BreaksHeader log bytes part
+RefusesHeader sector log bytes _ = ⊥
+
+abbrev pub HasNoneIn : ℕ → List ℕ → List ℕ → List ℕ → List ℕ → SectorFault → Type 0
+HasNoneIn log first first_gate second second_gate (fault.NoHeader one other) =
+    (slot_of first first_gate second second_gate ≡ None) × IsNotCounted first first_gate 0 one × IsNotCounted second
+    second_gate 1 other
+HasNoneIn log first first_gate second second_gate f =
+    (slot : ℕ) × (slot < 2) × (slot_of first first_gate second second_gate ≡ Some slot) × RefusesHeader (1 + 2 * slot)
+    log (picked slot first second) f
+
+-- an entry has this slot
+abbrev pub IsSlotOf : List Entry → ℕ → Type 0
+IsSlotOf es slot = (k : ℕ) × (k < length es) × ((entry_at es k).slot ≡ slot)
+
+-- an entry is as it must be, and so it stands behind those before it
+pub record IsAmong (g : Geometry) (es : List Entry) (k : ℕ) : Type 0 where
+  pub own : IsEntry g (entry_at es k)
+  pub rises : 1 ≤ k → (entry_at es (k - 1)).object < (entry_at es k).object
+  pub apart : (j : ℕ) → j < k → (entry_at es j).slot ≡ (entry_at es k).slot → ⊥
+
+-- what is wrong with the slots of a node's frame, or that nothing is
+abbrev pub BreaksSlots : Geometry → ℕ → List ℕ → FramePart → Type 0
+BreaksSlots g age bytes (frame.Count slot count most) =
+    (slot < 32) × (HoldsCap g age bytes slot → ⊥) × (count ≡ number_at bytes (48 + 24 * slot)) × (most ≡ age) ×
+    (most < count)
+BreaksSlots g age bytes (frame.Slot slot) = (slot < 32) × (HoldsCap g age bytes slot → ⊥)
+BreaksSlots g age bytes frame.Body = (k : ℕ) → k < 32 → HoldsCap g age bytes k
+BreaksSlots g age bytes _ = ⊥
+
+-- bytes are a frame that can be kept, or which part of them is wrong
+abbrev pub FitsOr : Geometry → ℕ → ℕ → List ℕ → Option FramePart → Type 0
+FitsOr g age n bytes None = (f : Frame) × IsFrameOf g age n bytes f
+FitsOr g age n bytes (Some part) = ((f : Frame) → IsFrameOf g age n bytes f → ⊥) × BreaksFrame g age n bytes part

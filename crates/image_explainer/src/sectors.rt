@@ -1,0 +1,14 @@
+// What is wrong in the sectors of an image, and where, for the reasons 1 to 7 to refuse it.
+mod directory;
+mod fault;
+mod finding;
+mod frame;
+mod header;
+mod place;
+mod reading;
+mod superblock;
+
+pub use fault::{
+    DirectoryPart, FramePart, GeometryPart, HeaderPart, NotCounted, SectorFault, SuperblockPart,
+};
+pub use finding::find_in_sectors;

@@ -1,0 +1,211 @@
+// What is wrong with the sectors of an image: reasons 1 to 7, in a copy of all of them.
+ghost use Rattle.std.specs.Prelude.{◌≡◌, ◌+◌, ◌*◌, ◌<◌, ◌≤◌, ℕ, length, IfErr, IfOk, OnOk};
+ghost use Rattle.device.specs.Disk.{Image};
+ghost use Rattle.layout.specs.Frames.{IsObject};
+ghost use Rattle.layout.specs.Directory.{IsDirectory};
+ghost use Rattle.layout.specs.Header.{IsHeader};
+ghost use Rattle.layout.specs.Image.{HasDirectory, HasHeader, HasPlan, shaped_at};
+ghost use Rattle.layout.specs.Shape.{IsShapeFor, shape_length};
+ghost use Rattle.layout.specs.Superblock.{IsPlan};
+ghost use Rattle.image_explainer.specs.SectorBreaking.{IsFault};
+ghost use Rattle.image_explainer.specs.SectorFinding.{FitsOr, IsCopy, IsWhole, IsWholeFrame};
+
+use crate::sectors::directory::{find_entry, read_entries};
+use crate::sectors::fault::{FramePart, SectorFault};
+use crate::sectors::frame::find_part;
+use crate::sectors::header::choose;
+use crate::sectors::place::frame_sector;
+use crate::sectors::reading::sectors;
+use crate::sectors::superblock::superblock_in;
+use ckpt_log::Log;
+use layout::{
+    CheckpointHeader, ENTRY_BYTES, Entry, NODE_FRAME_BYTES, Scratch, Shape, Superblock, total_in,
+    unpack_node,
+};
+use model::Geometry;
+
+// Reads the superblock, or finds why there is none.
+fn find_superblock(bytes: &[u8], size: u64) -> Result<Superblock, SectorFault>
+    requires { length bytes.now ≡ 512 * size }
+    ensures found { (image : Image) → IsCopy image bytes.now → IfOk result (λ s. HasPlan image size s) }
+    ensures refused { (image : Image) → IsCopy image bytes.now → IfErr result (IsFault size image) }
+    ensures fits { IfOk result (λ s. IsPlan s × (s.total ≤ size)) }
+{
+    if size < 5 {
+        return Err(SectorFault::Small {
+            sectors: size,
+            needed: 5,
+        });
+    }
+    let sector = sectors(bytes, 0, 1);
+    let needed = total_in(sector);
+    if size < needed {
+        return Err(SectorFault::Small {
+            sectors: size,
+            needed,
+        });
+    }
+    superblock_in(sector)
+}
+
+// Reads the committed header, or finds why there is none.
+fn find_header(
+    bytes: &[u8],
+    size: u64,
+    superblock: &Superblock,
+) -> Result<CheckpointHeader, SectorFault>
+    requires size { length bytes.now ≡ 512 * size }
+    requires least { 5 ≤ size }
+    ensures found { (image : Image) → IsCopy image bytes.now → HasPlan image size superblock.now
+        → IfOk result (HasHeader image superblock.now) }
+    ensures refused { (image : Image) → IsCopy image bytes.now → HasPlan image size superblock.now
+        → IfErr result (IsFault size image) }
+    ensures fits { IfOk result (IsHeader superblock.now.geometry.log) }
+{
+    choose(
+        sectors(bytes, 1, 1),
+        sectors(bytes, 2, 1),
+        sectors(bytes, 3, 1),
+        sectors(bytes, 4, 1),
+        superblock.geometry().log,
+    )
+}
+
+// Reads the directory of the committed header into as many entries as that says, or finds what is
+// wrong with it.
+fn find_directory(
+    bytes: &[u8],
+    size: u64,
+    superblock: &Superblock,
+    header: CheckpointHeader,
+    entries: &mut [Entry],
+) -> Result<(), SectorFault>
+    requires size { length bytes.now ≡ 512 * size }
+    requires inside { superblock.now.total ≤ size }
+    requires length { length entries.old ≡ header.entries }
+    requires few { header.entries ≤ superblock.now.geometry.log }
+    ensures found { (image : Image) → IsCopy image bytes.now → HasPlan image size superblock.now
+        → HasHeader image superblock.now header
+        → OnOk result (HasDirectory image superblock.now header entries.new) }
+    ensures refused { (image : Image) → IsCopy image bytes.now → HasPlan image size superblock.now
+        → HasHeader image superblock.now header → IfErr result (IsFault size image) }
+    ensures fits { OnOk result (IsDirectory superblock.now.geometry entries.new) }
+{
+    let geometry = superblock.geometry();
+    let sector = Log::new(superblock).slot_sector(header.generation, geometry.log - 1) + 9;
+    let count = (entries.len() + 31) / 32;
+    read_entries(
+        &sectors(bytes, sector, count)[..ENTRY_BYTES * entries.len()],
+        entries,
+    );
+    match find_entry(geometry, entries) {
+        Some(part) => Err(SectorFault::Directory { sector, part }),
+        None => Ok(()),
+    }
+}
+
+// Which part of the frame of an object that lies at a sector is wrong, if one is.
+fn find_at(
+    bytes: &[u8],
+    sector: u64,
+    shape: Shape,
+    geometry: Geometry,
+    number: u64,
+    age: u64,
+    scratch: &mut Scratch,
+) -> Option<FramePart>
+    requires shape { IsShapeFor geometry number shape }
+    requires object { IsObject geometry number }
+    requires inside { 512 * (sector + shape_length shape) ≤ length bytes.now }
+    ensures { (image : Image) → IsCopy image bytes.now
+        → FitsOr geometry age number (shaped_at image sector shape) result }
+{
+    match shape {
+        Shape::Node => find_part(sectors(bytes, sector, 2), geometry, number, age, scratch),
+        Shape::Packed(rank) => {
+            let mut node = [0; NODE_FRAME_BYTES];
+            unpack_node(sectors(bytes, sector, 8), rank as usize, &mut node);
+            find_part(&node, geometry, number, age, scratch)
+        }
+        Shape::Page => find_part(sectors(bytes, sector, 9), geometry, number, age, scratch),
+    }
+}
+
+// What is wrong with the saved frame of an object, if anything is.
+fn find_frame(
+    bytes: &[u8],
+    size: u64,
+    superblock: &Superblock,
+    header: CheckpointHeader,
+    entries: &[Entry],
+    number: u64,
+    scratch: &mut Scratch,
+) -> Result<(), SectorFault>
+    requires size { length bytes.now ≡ 512 * size }
+    requires inside { superblock.now.total ≤ size }
+    requires directory { IsDirectory superblock.now.geometry entries.now }
+    requires object { IsObject superblock.now.geometry number }
+    ensures whole { (image : Image) → IsCopy image bytes.now
+        → OnOk result (IsWholeFrame image superblock.now header entries.now number) }
+    ensures refused { (image : Image) → IsCopy image bytes.now → HasPlan image size superblock.now
+        → HasHeader image superblock.now header → HasDirectory image superblock.now header entries.now
+        → IfErr result (IsFault size image) }
+{
+    let sector = frame_sector(superblock, header, entries, number);
+    let geometry = superblock.geometry();
+    let shape = superblock.shape(number);
+    match find_at(bytes, sector, shape, geometry, number, header.age, scratch) {
+        None => Ok(()),
+        Some(part) => Err(SectorFault::Frame {
+            number,
+            is_page: number >= geometry.nodes,
+            part,
+        }),
+    }
+}
+
+// What is wrong with the first frame that can't be kept, if one can't.
+fn find_frames(
+    bytes: &[u8],
+    size: u64,
+    superblock: &Superblock,
+    header: CheckpointHeader,
+    entries: &[Entry],
+    scratch: &mut Scratch,
+) -> Result<(), SectorFault>
+    requires size { length bytes.now ≡ 512 * size }
+    requires inside { superblock.now.total ≤ size }
+    requires directory { IsDirectory superblock.now.geometry entries.now }
+    ensures whole { (image : Image) → IsCopy image bytes.now
+        → OnOk result ((n : ℕ) → IsObject superblock.now.geometry n
+        → IsWholeFrame image superblock.now header entries.now n) }
+    ensures refused { (image : Image) → IsCopy image bytes.now → HasPlan image size superblock.now
+        → HasHeader image superblock.now header → HasDirectory image superblock.now header entries.now
+        → IfErr result (IsFault size image) }
+{
+    let geometry = superblock.geometry();
+    for number in 0..geometry.nodes + geometry.pages {
+        find_frame(bytes, size, superblock, header, entries, number, scratch)?;
+    }
+    Ok(())
+}
+
+/// What is wrong with the sectors of the image that `bytes` is a copy of: the least of the reasons
+/// 1 to 7 that holds. The entries are memory for as many as a directory may have.
+pub fn find_in_sectors(
+    bytes: &[u8],
+    size: u64,
+    entries: &mut [Entry],
+    scratch: &mut Scratch,
+) -> Result<(), SectorFault>
+    requires size { length bytes.now ≡ 512 * size }
+    requires entries { length entries.old ≡ 4096 }
+    ensures whole { (image : Image) → IsCopy image bytes.now → OnOk result (IsWhole size image) }
+    ensures refused { (image : Image) → IsCopy image bytes.now → IfErr result (IsFault size image) }
+{
+    let superblock = find_superblock(bytes, size)?;
+    let header = find_header(bytes, size, &superblock)?;
+    let named = &mut entries[..header.entries as usize];
+    find_directory(bytes, size, &superblock, header, named)?;
+    find_frames(bytes, size, &superblock, header, named, scratch)
+}

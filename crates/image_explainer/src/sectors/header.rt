@@ -1,0 +1,108 @@
+// Why no header is committed, or the committed one is none.
+ghost use Rattle.std.specs.Prelude.{◌≡◌, ◌↔◌, ◌<◌, true, false, length, IfErr, IfNone, IfOk, IfSome, Some};
+ghost use Rattle.layout.specs.declared.header.CheckpointHeader.{CheckpointHeader};
+ghost use Rattle.layout.specs.Header.{IsHeader, header_bytes};
+ghost use Rattle.layout.specs.Image.{does_count};
+ghost use Rattle.image_explainer.specs.SectorBreaking.{BreaksHeader, IsNotCounted};
+ghost use Rattle.image_explainer.specs.SectorFinding.{HasHeaderIn, HasNoneIn, RefusesHeader};
+
+use crate::sectors::fault::{HeaderPart, NotCounted, SectorFault};
+use crate::sectors::reading::number_at;
+use layout::{CheckpointHeader, Gate, decode_gate, decode_header, sequence_in};
+use model::MAX_AGE;
+
+// Why a header in a slot doesn't count, if it doesn't.
+fn why_not(header: &[u8], gate: &[u8], slot: u64) -> Option<NotCounted>
+    requires header { length header.now ≡ 512 }
+    requires gate { length gate.now ≡ 512 }
+    ensures some { IfSome result (IsNotCounted header.now gate.now slot) }
+    ensures closed { IfSome result (λ _. does_count header.now gate.now slot ≡ false) }
+    ensures none { IfNone result (does_count header.now gate.now slot ≡ true) }
+{
+    if decode_gate(gate) == Gate::Closed {
+        return Some(NotCounted::Closed);
+    }
+    let sequence = sequence_in(header);
+    if sequence % 2 != slot {
+        return Some(NotCounted::Misplaced(sequence));
+    }
+    None
+}
+
+// Which part of a header is outside its limits, where a half of the log has `log` slots.
+fn header_part(bytes: &[u8], log: u64) -> HeaderPart
+    requires size { length bytes.now ≡ 512 }
+    requires refused { (h : CheckpointHeader) → IsHeader log h → bytes.now ≡ header_bytes h → ⊥ }
+    ensures { BreaksHeader log bytes.now result }
+{
+    let sequence = number_at(bytes, 8);
+    let generation = number_at(bytes, 16);
+    let entries = number_at(bytes, 24);
+    let age = number_at(bytes, 32);
+    if entries > log {
+        return HeaderPart::Entries {
+            entries,
+            slots: log,
+        };
+    }
+    if age > MAX_AGE {
+        return HeaderPart::Age(age);
+    }
+    let most = if entries == 0 { 2 * age + 1 } else { 2 * age };
+    if generation > 2 * age {
+        HeaderPart::Generation { generation, age }
+    } else if sequence > most {
+        HeaderPart::Sequence { sequence, age }
+    } else {
+        HeaderPart::Bytes
+    }
+}
+
+// Reads the header in a sector.
+fn header_at(sector: u64, bytes: &[u8], log: u64) -> Result<CheckpointHeader, SectorFault>
+    requires { length bytes.now ≡ 512 }
+    ensures found { IfOk result (λ h. IsHeader log h × (bytes.now ≡ header_bytes h)) }
+    ensures refused { IfErr result (RefusesHeader sector log bytes.now) }
+{
+    match decode_header(bytes, log) {
+        Ok(header) => Ok(header),
+        Err(_) => Err(SectorFault::Header {
+            sector,
+            part: header_part(bytes, log),
+        }),
+    }
+}
+
+/// Returns the committed one of two headers, each with its gate, or why there is none. A half of
+/// the log has `log` slots.
+pub(crate) fn choose(
+    first: &[u8],
+    first_gate: &[u8],
+    second: &[u8],
+    second_gate: &[u8],
+    log: u64,
+) -> Result<CheckpointHeader, SectorFault>
+    requires first { length first.now ≡ 512 }
+    requires first_gate { length first_gate.now ≡ 512 }
+    requires second { length second.now ≡ 512 }
+    requires second_gate { length second_gate.now ≡ 512 }
+    ensures found { IfOk result (HasHeaderIn log first.now first_gate.now second.now second_gate.now) }
+    ensures refused { IfErr result
+        (HasNoneIn log first.now first_gate.now second.now second_gate.now) }
+{
+    match (
+        why_not(first, first_gate, 0),
+        why_not(second, second_gate, 1),
+    ) {
+        (Some(one), Some(other)) => Err(SectorFault::NoHeader(one, other)),
+        (None, Some(_)) => header_at(1, first, log),
+        (Some(_), None) => header_at(3, second, log),
+        (None, None) => {
+            if sequence_in(first) < sequence_in(second) {
+                header_at(3, second, log)
+            } else {
+                header_at(1, first, log)
+            }
+        }
+    }
+}

@@ -1,0 +1,74 @@
+// Why sector 0 is no superblock.
+ghost use Rattle.std.specs.Prelude.{◌≡◌, ◌↔◌, drop, length, take, IfErr, IfOk, IsTrue};
+ghost use Rattle.layout.specs.declared.version.Version.{Version};
+ghost use Rattle.layout.specs.Bytes.{half_number};
+ghost use Rattle.layout.specs.Superblock.{HasMark, IsPlan, Plan, superblock_bytes, version_number};
+ghost use Rattle.image_explainer.specs.SectorBreaking.{BreaksGeometry, BreaksMark};
+ghost use Rattle.image_explainer.specs.SectorFinding.{BreaksSector};
+
+use crate::sectors::fault::{GeometryPart, SectorFault, SuperblockPart};
+use crate::sectors::reading::number_at;
+use device::MAX_SECTORS;
+use layout::{BadImage, Superblock, decode_superblock};
+
+// Whether a superblock's sector has a version that there is.
+#[tactic(auto, unfolding(layout::specs::Bytes::half_number))]
+fn has_version(bytes: &[u8]) -> bool
+    requires { length bytes.now ≡ 512 }
+    ensures { IsTrue result ↔ ((v : Version) × (take 4 (drop 8 bytes.now) ≡ half_number (version_number v))) }
+{
+    let version = &bytes[8..12];
+    version == [1, 0, 0, 0].as_slice() || version == [2, 0, 0, 0].as_slice()
+}
+
+// Which part of the mark isn't a superblock's.
+fn mark_part(bytes: &[u8]) -> SuperblockPart
+    requires size { length bytes.now ≡ 512 }
+    requires refused { HasMark bytes.now → ⊥ }
+    ensures { BreaksMark bytes.now result }
+{
+    if !bytes.starts_with(b"EROSCKPT") {
+        SuperblockPart::Magic
+    } else if !has_version(bytes) {
+        SuperblockPart::Version
+    } else {
+        SuperblockPart::Tail
+    }
+}
+
+// Which number of a superblock is outside its limits.
+fn geometry_part(bytes: &[u8]) -> GeometryPart
+    requires size { length bytes.now ≡ 512 }
+    requires refused { (p : Plan) → IsPlan p → bytes.now ≡ superblock_bytes p → ⊥ }
+    ensures { BreaksGeometry bytes.now result }
+{
+    let nodes = number_at(bytes, 16);
+    let pages = number_at(bytes, 24);
+    let log = number_at(bytes, 32);
+    let total = number_at(bytes, 56);
+    if nodes < 16 || nodes > 4096 {
+        GeometryPart::Nodes(nodes)
+    } else if pages < 1 || pages > 4096 {
+        GeometryPart::Pages(pages)
+    } else if log < 16 || log > 4096 {
+        GeometryPart::Log(log)
+    } else if total > MAX_SECTORS {
+        GeometryPart::Total(total)
+    } else {
+        GeometryPart::Places
+    }
+}
+
+/// Returns the superblock in a sector, or why it is none.
+pub(crate) fn superblock_in(bytes: &[u8]) -> Result<Superblock, SectorFault>
+    requires { length bytes.now ≡ 512 }
+    ensures found { IfOk result (λ s. bytes.now ≡ superblock_bytes s) }
+    ensures fits { IfOk result (λ s. IsPlan s) }
+    ensures refused { IfErr result (BreaksSector bytes.now) }
+{
+    match decode_superblock(bytes) {
+        Ok(superblock) => Ok(superblock),
+        Err(BadImage::NotASuperblock) => Err(SectorFault::Superblock(mark_part(bytes))),
+        Err(_) => Err(SectorFault::Geometry(geometry_part(bytes))),
+    }
+}

@@ -1,0 +1,64 @@
+// Devices that are too small, and that stop.
+use device::Device;
+use devices::{Fuse, Memory, Outcome};
+use image_builder::build;
+use std::alloc::Global;
+use std::test::Fail;
+
+const PRIME: &str = "bank = [{ number = 0, owner = 0, limit = 1 }]";
+
+const SECOND: &str = "layout = 2\nbank = [{ number = 0, owner = 0, limit = 1 }]";
+
+// The number of the fault of a description of 16 nodes, or 0 where its image is built.
+fn fault<D: Device>(alloc: Global, rest: &str, device: &mut D) -> Result<u64, Fail> {
+    let mut text = String::new(alloc);
+    text.push_str("nodes = 16\npages = 8\nlog = 16\n")?;
+    text.push_str(rest)?;
+    let table = toml::table_from_str(alloc, text.as_str())
+        .ok()
+        .ok_or("no table")?;
+    match build(alloc, &table, device) {
+        Ok(()) => Ok(0),
+        Err(fault) => Ok(fault.number()),
+    }
+}
+
+#[test]
+fn a_small_device_is_reported_last(rt: HostRuntime) -> Result<(), Fail> {
+    for (rest, reported) in [
+        (PRIME, 7),
+        (SECOND, 7),
+        ("colour = 1", 1),
+        ("layout = '2'", 1),
+        ("layout = 0", 2),
+        ("layout = 3", 2),
+        ("age = 4611686018427387905", 2),
+        ("bank = [{ number = 16, owner = 0, limit = 1 }]", 3),
+        ("node = [{number=5, owner=0, slots=[[32, 'void']]}]", 4),
+        ("node = [{number=5, owner=0, slots=[[0, 'node 6']]}]", 5),
+        ("", 6),
+    ] {
+        let mut device = Memory::new(rt.alloc(), 398, 2000, Outcome::Keep)?;
+        assert_eq!(rt;
+            fault(rt.alloc(), rest, &mut device)?,
+            reported,
+            "of {rest}"
+        );
+    }
+    Ok(())
+}
+
+// The closed gates are found by a sync and 4 reads; the front of an image is 3 writes, its frames are
+// 24 or by version 2, with 4 clusters, 12, and there are 2 more syncs.
+#[test]
+fn a_device_that_stops_is_reported(rt: HostRuntime) -> Result<(), Fail> {
+    for (rest, needed) in [(PRIME, 34), (SECOND, 22)] {
+        for calls in 0..40 {
+            let device = Memory::new(rt.alloc(), 399, 2000, Outcome::Keep)?;
+            let reported = if calls < needed { 8 } else { 0 };
+            let found = fault(rt.alloc(), rest, &mut Fuse::new(device, calls))?;
+            assert_eq!(rt; found, reported, "of {rest} after {calls} calls");
+        }
+    }
+    Ok(())
+}

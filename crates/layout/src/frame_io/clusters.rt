@@ -1,0 +1,28 @@
+// Zeros in a cluster.
+ghost use Rattle.std.specs.Prelude.{◌≡◌, ◌<◌, ◌≤◌, ℕ, length};
+ghost use Rattle.layout.specs.Bytes.{zeros};
+ghost use Rattle.layout.specs.declared.shape.Shape.TheVariants as shape;
+ghost use Rattle.layout.specs.Shape.{shape_bytes};
+ghost use Rattle.layout.specs.Clusters.{IsBlankBehind};
+
+// The bytes of a node's place in a cluster.
+const PLACE_BYTES: usize = 800;
+
+// Makes all bytes 0.
+fn blank(bytes: &mut [u8])
+    ensures { bytes.new ≡ zeros (length bytes.old) }
+{
+    bytes.fill(0);
+}
+
+/// Makes the bytes of a cluster 0 that lie behind its first `nodes` places. The frames in these places stay.
+pub fn blank_behind(cluster: &mut [u8], nodes: u64)
+    requires nodes { nodes ≤ 5 }
+    requires cluster { length cluster.old ≡ 4096 }
+    ensures blank { IsBlankBehind nodes cluster.new }
+    ensures places { (rank : ℕ) → rank < nodes →
+        shape_bytes (shape.Packed rank) cluster.new ≡ shape_bytes (shape.Packed rank) cluster.old }
+    ensures size { length cluster.new ≡ 4096 }
+{
+    blank(&mut cluster[PLACE_BYTES * nodes as usize..]);
+}

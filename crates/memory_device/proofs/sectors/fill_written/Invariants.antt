@@ -1,9 +1,0 @@
-use Rattle.memory_device.proofs.Names.{take, replicate, All, image_of, Patches, names}
-use Rattle.std.proofs.Common.{◌<◌}
-use Rattle.memory_device.proofs.sectors.fill_written.Given as goal
-
-abbrev pub invariant-loop-entry : goal.invariant-loop-entry
-invariant-loop-entry l = record {
-  patched : Patches (names (take l.entry-index l.entries)) (λ _. replicate 512 l.byte) (image_of l.initial.into) (image_of l.into);
-  fits : All (λ b. b < 256) l.initial.into → All (λ b. b < 256) l.into;
-}

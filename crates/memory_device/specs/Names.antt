@@ -1,9 +1,0 @@
--- The names of other crates that the definitions here cite.
-pub use Rattle.device.specs.Calls.{Agrees, image_of}
-pub use Rattle.device.specs.Disk.{Disk, Image, IsWhole}
-pub use Rattle.std.proofs.Common.{ap, arith, length-drop, subst, sym}
-pub use Rattle.std.proofs.Math.Path.{fun_ext}
-pub use Rattle.std.proofs.lemmas.List.{drop_all, length-take-le, take_all}
-pub use Rattle.std.proofs.lemmas.List.Elements.{All-drop, All-take}
-pub use Rattle.std.specs.Prelude.{All, Bool, IsErr, List, None, Option, Result, Some, [], drop, false, length}
-pub use Rattle.std.specs.Prelude.{option_map, replicate, suc, take, true, unwrap_or, vec_len, zero, ℕ}

@@ -1,0 +1,292 @@
+-- The order of a bank of a closed set stays in the set.
+use Rattle.model_laws.proofs.Names.{inl, inr, ℕ, nat_eq, Bool, true, false, not, List, [], length, refl, sym, ap, subst, arith, IsTrue, slice_index_or}
+use Rattle.model_laws.proofs.Names.{range_with_len, false≢true, cases_eq, and_parts, or_cases, or_right, not-true, eqb-true, eqb-false, Capability, Void, Page}
+use Rattle.model_laws.proofs.Names.{Node, Process, Bank, Geometry, Content, Object, Arguments, BankOrder, ResultCode, chain, is_under, allocated, are_free}
+use Rattle.model_laws.proofs.Names.{bank_allocated, free_nodes, free_pages, freed, freed_by, has_quota, inherited, new_annex, new_node, new_page, new_root}
+use Rattle.model_laws.proofs.Names.{on_bank, process_allocated, under, with_new, StaysInside, is_bank, is_free, is_root, root_in, slots_in, OrderOutcome}
+use Rattle.model_laws.proofs.Names.{refused, is_member, rescind, NamesItsKind, annex_at, content_at, object_at, owner_at, Encloses, IsKept, StaysWithin}
+use Rattle.std.proofs.Common.{◌≡◌, ◌≢◌, ◌⊎◌, ◌+◌, ◌==◌, ◌<◌, ◌≤◌, ◌&&◌, if◌then◌else◌, ◌∷◌, ◌∙◌, nat_lt}
+use Rattle.model_laws.proofs.Cases.{chosen}
+use Rattle.model_laws.proofs.BankFreed.{tree_induction, under_found}
+use Rattle.model_laws.proofs.BankRescind.{used_where}
+use Rattle.model_laws.proofs.BankReturn.{inherited_content, inherited_object}
+use Rattle.model_laws.proofs.BankTree.{IsTree, at_new, at_other, chain_unfolds, chain_zero, length_new}
+use Rattle.model_laws.proofs.BankTree.{member_head, tree_of}
+use Rattle.model_laws.proofs.NumberLists.{AllDiffer, filter_once, found_in, member_cases, only_member}
+use Rattle.model_laws.proofs.SoundOrders.{IsNow}
+use Rattle.model_laws.proofs.SoundWorlds.{holds_void}
+use Rattle.model.specs.declared.object.Content.TheVariants as content
+use Rattle.model.specs.declared.order.BankOrder.TheVariants as bank
+use Rattle.model.specs.declared.order.ResultCode.TheVariants as code
+use Rattle.model_laws.proofs.Kept.{kept_refl, stays_refl, stays_rescind, stays_trans}
+
+-- an outcome whose objects, and the capability that it gives, stay in a set
+abbrev pub OutcomeStays : (ℕ → Bool) → List Object → OrderOutcome → Type 0
+OutcomeStays inside os o = StaysWithin inside os o.objects × StaysInside inside o.capability
+
+-- a content that has authority over members alone
+record IsFresh (inside : ℕ → Bool) (c : Content Capability) : Type 0 where
+  annex : is_root c ≡ true → IsTrue (inside (root_in c).annex)
+  slots : (i : ℕ) → StaysInside inside (slice_index_or (slots_in c) i Void)
+  space : StaysInside inside (root_in c).space
+
+-- contents that hold nothing
+fresh_page : (inside : ℕ → Bool) → IsFresh inside new_page
+fresh_page inside = record { annex = λ e. cc; slots = λ i. inl tt; space = inl tt }
+
+fresh_node : (inside : ℕ → Bool) → IsFresh inside new_node
+fresh_node inside = record { annex = λ e. cc; slots = λ i. holds_void (λ c. StaysInside inside c) (inl tt) i; space = inl tt }
+
+fresh_annex : (inside : ℕ → Bool) → IsFresh inside new_annex
+fresh_annex inside = record { annex = λ e. cc; slots = λ i. holds_void (λ c. StaysInside inside c) (inl tt) i; space = inl tt }
+
+fresh_root : (inside : ℕ → Bool) (a : ℕ) → IsTrue (inside a) → IsFresh inside (new_root a)
+fresh_root inside a is = record { annex = λ e. is; slots = λ i. inl tt; space = inl tt }
+
+fresh_bank : (inside : ℕ → Bool) (limit : ℕ) → IsFresh inside (content.Bank limit)
+fresh_bank inside limit = record { annex = λ e. cc; slots = λ i. inl tt; space = inl tt }
+
+module _ (g : Geometry) (inside : ℕ → Bool) (os : List Object) (h : IsNow g os) (k : Encloses inside os) where
+  tree : IsTree os
+  tree = tree_of g os h.frame
+
+  refused_stays : (why : ResultCode) → OutcomeStays inside os (refused os why)
+  refused_stays why = (stays_refl inside os k, inl tt)
+
+  -- what a bank inside owns is inside
+  owner_inside : (n : ℕ) → is_free (content_at os n) ≡ false → IsTrue (inside (owner_at os n)) → IsTrue (inside n)
+  owner_inside n used is = k.closed.owned (owner_at os n) n is (tree.owners n (λ gone. false≢true (sym used ∙ gone))) used refl
+
+  -- new objects
+
+  -- each object is as it was, or a member whose content has authority over members alone
+  changed_stays : (us : List Object) → ((n : ℕ) → (object_at us n ≡ object_at os n) ⊎ (IsTrue (inside n) × IsFresh inside (content_at us n)))
+      → StaysWithin inside os us
+  changed_stays us each = record {
+    encloses = record {
+      closed = record {
+        annexes = λ p is process. elim (each p) [
+          | inl same ↦
+              subst (λ (o : Object). IsTrue (inside (root_in o.content).annex)) (sym same)
+              (k.closed.annexes p is (ap (λ (o : Object). is_root o.content) (sym same) ∙ process))
+          | inr new ↦ new.1.annex process
+        ];
+        owned = λ b n is bank used owner. elim (each n) [
+          | inl same ↦
+              owner_inside n (ap (λ (o : Object). is_free o.content) (sym same) ∙ used)
+              (ap inside (ap (λ (o : Object). o.owner) (sym same) ∙ owner) ∙ is)
+          | inr new ↦ new.0
+        ];
+        slots = λ n i is. elim (each n) [
+          | inl same ↦ subst (λ (o : Object). StaysInside inside (slice_index_or (slots_in o.content) i Void)) (sym same) (k.closed.slots n i is)
+          | inr new ↦ new.1.slots i
+        ];
+        spaces = λ p is. elim (each p) [
+          | inl same ↦ subst (λ (o : Object). StaysInside inside (root_in o.content).space) (sym same) (k.closed.spaces p is)
+          | inr new ↦ new.1.space
+        ];
+      };
+      free = λ n gone. elim (each n) [ inl same ↦ k.free n (ap (λ (o : Object). is_free o.content) (sym same) ∙ gone) | inr new ↦ new.0 ];
+    };
+    kept = λ n out. elim (each n) [
+      | inl same ↦ subst (λ o. IsKept inside (object_at os n) o) (sym same) (kept_refl inside (object_at os n))
+      | inr new ↦ absurd (false≢true (sym out ∙ new.0))
+    ];
+  }
+
+  -- the number of an object that is free
+  abbrev IsUnused : ℕ → Type 0
+  IsUnused n = (n < length os) × IsTrue (is_free (content_at os n))
+
+  -- each free number of a range of objects is one
+  unused_at : (from count : ℕ) → from + count ≤ length os → (ns : List ℕ) → are_free os (range_with_len from count) ≡ ns → (n : ℕ) → is_member ns n ≡ true →
+      IsUnused n
+  unused_at from count fits ns e n member =
+      let found = found_in (λ n. is_free (content_at os n)) from count n (subst (λ xs. is_member xs n ≡ true) (sym e) member) in
+      (omega (arith, fits, found.1), found.2)
+
+  -- one new object
+  new_stays : (n b : ℕ) (c : Content Capability) → IsUnused n → IsFresh inside c → StaysWithin inside os (with_new os n b c)
+  new_stays n b c unused fresh = changed_stays (with_new os n b c) (λ x. elim (cases_eq x n) [
+    | inl e ↦ rw e (inr (k.free n unused.1, subst (λ (o : Object). IsFresh inside o.content) (sym (at_new os n b c unused.0)) fresh))
+    | inr differ ↦ inl (at_other os n b c x differ)
+  ])
+
+  allocated_stays : (from count : ℕ) → from + count ≤ length os → (b : ℕ) (c : Content Capability) (named : ℕ → Capability) → IsFresh inside c
+      → ((n : ℕ) → IsTrue (inside n) → StaysInside inside (named n)) → (ns : List ℕ) → are_free os (range_with_len from count) ≡ ns
+      → OutcomeStays inside os (allocated os b ns c named)
+  allocated_stays from count fits b c named fresh stays [] e = refused_stays code.NoFrame
+  allocated_stays from count fits b c named fresh stays (n ∷ ns) e =
+      let unused : IsUnused n = unused_at from count fits (n ∷ ns) e n (member_head n n ns refl) in
+      (new_stays n b c unused fresh, stays n (k.free n unused.1))
+
+  -- a new process: a root and its annex
+  process_stays : (p a b : ℕ) → p ≢ a → IsUnused p → IsUnused a → StaysWithin inside os (with_new (with_new os p b (new_root a)) a b new_annex)
+  process_stays p a b apart root annex =
+      let rooted = with_new os p b (new_root a) in
+      let whole = with_new rooted a b new_annex in
+      let root_there : object_at whole p ≡ record { owner = b; content = new_root a } =
+      at_other rooted a b new_annex p apart ∙ at_new os p b (new_root a) root.0
+      in
+      let annex_there : object_at whole a ≡ record { owner = b; content = new_annex } =
+      at_new rooted a b new_annex (omega (arith, length_new os p b (new_root a), annex.0))
+      in
+      changed_stays whole (λ x. elim (cases_eq x a) [
+        | inl e ↦ rw e (inr (k.free a annex.1, subst (λ (o : Object). IsFresh inside o.content) (sym annex_there) (fresh_annex inside)))
+        | inr no_annex ↦ elim (cases_eq x p) [
+          | inl e ↦ rw e (inr (k.free p root.1, subst (λ (o : Object). IsFresh inside o.content) (sym root_there) (fresh_root inside a (k.free a annex.1))))
+          | inr no_root ↦ inl (at_other rooted a b new_annex x no_annex ∙ at_other os p b (new_root a) x no_root)
+        ]
+      ])
+
+  -- what a bank gives up
+
+  -- what goes is inside
+  gone_stays : (set : List ℕ) → ((n : ℕ) → is_member set n ≡ true → IsTrue (inside n)) → StaysWithin inside os (rescind set os)
+  gone_stays set within = stays_rescind inside os set k within
+
+  freed_stays : (b : ℕ) (ns : List ℕ) → ((n : ℕ) → is_member ns n ≡ true → IsTrue (inside n)) → OutcomeStays inside os (freed os b ns)
+  freed_stays b [] within = refused_stays code.BadCapability
+  freed_stays b (n ∷ ns) within = chosen (OutcomeStays inside os) (owner_at os n == b) _ _ (λ _. (gone_stays (n ∷ ns) within, inl tt))
+      (λ _. refused_stays code.NotFromThisBank)
+
+  -- what a capability with full access names that stays inside is inside
+  full_inside : (a o n : ℕ) → (a ≡ 3) ⊎ IsTrue (inside o) → is_member (if a == 0 then o ∷ [] else []) n ≡ true → IsTrue (inside n)
+  full_inside a o n within member = go (a == 0) refl member
+    where
+      go : (t : Bool) → (a == 0) ≡ t → is_member (if t then o ∷ [] else []) n ≡ true → IsTrue (inside n)
+      go true e found = elim within [
+        | inl weak ↦ absurd (omega (arith, weak, eqb-true a 0 e))
+        | inr is ↦ ap inside (only_member o n found) ∙ is
+      ]
+      go false e found = cc
+
+  -- what a capability frees that stays inside is inside
+  freed_inside : (c : Capability) → NamesItsKind os c → StaysInside inside c → (n : ℕ) → is_member (freed_by os c) n ≡ true → IsTrue (inside n)
+  freed_inside (Page o a) names within n member = full_inside a.0 o n within member
+  freed_inside (Node o a) names within n member = full_inside a.0 o n within member
+  freed_inside (Process p) names (inl weak) n member = absurd weak
+  freed_inside (Process p) names (inr is) n member = elim (member_cases p (annex_at os p ∷ []) n member) [
+    | inl same ↦ ap inside same ∙ is
+    | inr later ↦ ap inside (only_member (annex_at os p) n later) ∙ k.closed.annexes p is names
+  ]
+  freed_inside c names within n member = cc
+
+  -- a bank whose chain passes through one inside is inside
+  above_inside : (b : ℕ) → IsTrue (inside b) → (c : ℕ) → IsTrue (is_bank (content_at os c)) → is_member (chain os c) b ≡ true → IsTrue (inside c)
+  above_inside b is =
+      tree_induction os tree (λ c. is_member (chain os c) b ≡ true → IsTrue (inside c))
+      (λ e. ap inside (sym (only_member 0 b (ap (λ xs. is_member xs b) (sym (chain_zero os 0 refl)) ∙ e))) ∙ is)
+      (λ c bank far above e.
+      elim (member_cases c (chain os (owner_at os c)) b (ap (λ xs. is_member xs b) (sym (chain_unfolds os tree c bank far)) ∙ e)) [
+        | inl same ↦ ap inside (sym same) ∙ is
+        | inr later ↦ owner_inside c (used_where is_bank refl (content_at os c) bank) (above later)
+      ])
+
+  -- all that is under a bank inside is inside
+  under_inside : (b : ℕ) → IsTrue (inside b) → (n : ℕ) → is_member (under os b) n ≡ true → IsTrue (inside n)
+  under_inside b is n e = elim (or_cases (n == b) (is_under os b (object_at os n)) (under_found os b n e).1) [
+    | inl same ↦ ap inside (eqb-true n b same) ∙ is
+    | inr below ↦
+        let parts = and_parts (not (is_free (content_at os n))) (is_member (chain os (owner_at os n)) b) below in
+        let used = not-true (is_free (content_at os n)) parts.0 in
+        owner_inside n used (above_inside b is (owner_at os n) (tree.owners n (λ gone. false≢true (sym used ∙ gone))) parts.1)
+  ]
+
+  -- what a bank owned is transferred, and nothing else changes
+  module _ (b : ℕ) (kind : IsTrue (is_bank (content_at os b))) (on : b ≢ 0) (is : IsTrue (inside b)) where
+    transferred : (n : ℕ) → (object_at (inherited os b) n ≡ object_at os n) ⊎ IsTrue (inside n)
+    transferred n = go (not (is_free (content_at os n)) && (owner_at os n == b)) refl (inherited_object os tree b kind on n)
+      where
+        go : (t : Bool) → (not (is_free (content_at os n)) && (owner_at os n == b)) ≡ t
+            → object_at (inherited os b) n ≡ (if t then record { owner = owner_at os b; content = content_at os n } else object_at os n)
+            → (object_at (inherited os b) n ≡ object_at os n) ⊎ IsTrue (inside n)
+        go true e stands =
+            let parts = and_parts (not (is_free (content_at os n))) (owner_at os n == b) e in
+            inr (owner_inside n (not-true (is_free (content_at os n)) parts.0) (ap inside (eqb-true (owner_at os n) b parts.1) ∙ is))
+        go false e stands = inl stands
+
+    inherited_stays : StaysWithin inside os (inherited os b)
+    inherited_stays = changed_stays (inherited os b) (λ n. elim (transferred n) [
+      | inl kept ↦ inl kept
+      | inr member ↦ inr (
+        member,
+        subst (IsFresh inside) (sym (inherited_content os tree b kind on n)) (record {
+          annex = k.closed.annexes n member;
+          slots = λ i. k.closed.slots n i member;
+          space = k.closed.spaces n member;
+        }),
+      )
+    ])
+
+  -- each order of a bank
+
+  module _ (b : ℕ) (args : Arguments) (kind : IsTrue (is_bank (content_at os b))) (is : IsTrue (inside b)) where
+    page_made_stays : OutcomeStays inside os (on_bank g os b bank.NewPage args)
+    unfolding on_bank free_pages
+    page_made_stays = chosen (OutcomeStays inside os) (has_quota os b 1) _ _
+        (λ _. allocated_stays g.nodes g.pages (omega (arith, h.frame.size)) b new_page _ (fresh_page inside) (λ n is. inr is) (free_pages g os) refl)
+        (λ _. refused_stays code.Limit)
+
+    node_made_stays : OutcomeStays inside os (on_bank g os b bank.NewNode args)
+    unfolding on_bank free_nodes
+    node_made_stays = chosen (OutcomeStays inside os) (has_quota os b 1) _ _
+        (λ _. allocated_stays 0 g.nodes (omega (arith, h.frame.size)) b new_node _ (fresh_node inside) (λ n is. inr is) (free_nodes g os) refl)
+        (λ _. refused_stays code.Limit)
+
+    bank_made_stays : OutcomeStays inside os (on_bank g os b bank.NewBank args)
+    unfolding on_bank free_nodes
+    bank_made_stays = chosen (OutcomeStays inside os) (has_quota os b 1) _ _ (λ _. go (free_nodes g os) refl) (λ _. refused_stays code.Limit)
+      where
+        go : (ns : List ℕ) → are_free os (range_with_len 0 g.nodes) ≡ ns → OutcomeStays inside os (bank_allocated os b ns args.first)
+        go [] e = refused_stays code.NoFrame
+        go (n ∷ ns) e = chosen (OutcomeStays inside os) (nat_lt (length (chain os b)) 16) _ _
+            (λ _. allocated_stays 0 g.nodes (omega (arith, h.frame.size)) b (content.Bank args.first) Bank (fresh_bank inside args.first) (λ n is. inr is)
+            (n ∷ ns) e)
+            (λ _. refused_stays code.TooDeep)
+
+    process_made_stays : OutcomeStays inside os (on_bank g os b bank.NewProcess args)
+    unfolding on_bank free_nodes
+    process_made_stays = chosen (OutcomeStays inside os) (has_quota os b 2) _ _ (λ _. go (free_nodes g os) refl) (λ _. refused_stays code.Limit)
+      where
+        go : (ns : List ℕ) → are_free os (range_with_len 0 g.nodes) ≡ ns → OutcomeStays inside os (process_allocated os b ns)
+        go [] e = refused_stays code.NoFrame
+        go (p ∷ []) e = refused_stays code.NoFrame
+        go (p ∷ a ∷ ns) e =
+            let root : IsUnused p = unused_at 0 g.nodes (omega (arith, h.frame.size)) (p ∷ a ∷ ns) e p (member_head p p (a ∷ ns) refl) in
+            let annex : IsUnused a = unused_at 0 g.nodes (omega (arith, h.frame.size)) (p ∷ a ∷ ns) e a
+            (or_right (nat_eq a p) (is_member (a ∷ ns) a) (member_head a a ns refl))
+            in
+            let once = subst AllDiffer e (filter_once (λ n. is_free (content_at os n)) 0 g.nodes) in
+            let apart : p ≢ a = λ same. false≢true (sym once.0 ∙ member_head p a ns same) in
+            (process_stays p a b apart root annex, inr (k.free p root.1))
+
+    destroyed_stays : OutcomeStays inside os (on_bank g os b bank.Destroy args)
+    unfolding on_bank
+    destroyed_stays = chosen (OutcomeStays inside os) (b == 0) _ _ (λ _. refused_stays code.PrimeBank)
+        (λ _. (gone_stays (under os b) (under_inside b is), inl tt))
+
+    returned_stays : OutcomeStays inside os (on_bank g os b bank.ReturnToParent args)
+    unfolding on_bank
+    returned_stays = chosen (OutcomeStays inside os) (b == 0) _ _ (λ _. refused_stays code.PrimeBank) (λ e.
+        let transferred = inherited_stays b kind (eqb-false b 0 e) is in (
+          stays_trans inside os (inherited os b) (rescind (b ∷ []) (inherited os b)) transferred
+              (stays_rescind inside (inherited os b) (b ∷ []) transferred.encloses
+              (λ n member. ap inside (only_member b n member) ∙ is)),
+          inl tt,
+        ))
+
+-- if the argument of an order of a bank of the set stays in the set, so does the outcome
+pub bank_stays : (g : Geometry) (inside : ℕ → Bool) (os : List Object) (b : ℕ) (requested : BankOrder) (args : Arguments) → IsNow g os
+    → IsTrue (is_bank (content_at os b)) → IsTrue (inside b) → NamesItsKind os args.capability → StaysInside inside args.capability → Encloses inside os
+    → StaysWithin inside os (on_bank g os b requested args).objects × StaysInside inside (on_bank g os b requested args).capability
+unfolding on_bank
+bank_stays g inside os b bank.NewPage args h is member names within k = page_made_stays g inside os h k b args is member
+bank_stays g inside os b bank.NewNode args h is member names within k = node_made_stays g inside os h k b args is member
+bank_stays g inside os b bank.NewProcess args h is member names within k = process_made_stays g inside os h k b args is member
+bank_stays g inside os b bank.NewBank args h is member names within k = bank_made_stays g inside os h k b args is member
+bank_stays g inside os b bank.Free args h is member names within k =
+    freed_stays g inside os h k b (freed_by os args.capability) (freed_inside g inside os h k args.capability names within)
+bank_stays g inside os b bank.Destroy args h is member names within k = destroyed_stays g inside os h k b args is member
+bank_stays g inside os b bank.ReturnToParent args h is member names within k = returned_stays g inside os h k b args is member
+bank_stays g inside os b bank.Remaining args h is member names within k = (stays_refl inside os k, inl tt)

@@ -1,0 +1,3 @@
+// Confinement: what processes can change that have authority over a set of numbers alone.
+pub mod laws;
+pub mod worked;

@@ -1,6 +1,0 @@
-use Rattle.std.proofs.Common.{◌≡◌, ℕ, ◌*◌, ◌<◌, ◌≤◌}
-use Rattle.number_set.specs.Bits.{bit_of}
-use Rattle.number_set.proofs.bits.first_set.Given as goal
-
-abbrev pub invariant-loop-word : goal.invariant-loop-word
-invariant-loop-word l = (m : ℕ) → l.from ≤ m → m < l.word * 64 → bit_of l.words m ≡ 0

@@ -1,0 +1,179 @@
+-- What stands at a number, of frames and of the objects that they stand for.
+use Rattle.recovery.proofs.Names.{ℕ, zero, suc, Bool, true, List, Option, Some, length, refl, sym, ap, IsTrue, get_or-map, eqb-true, length-map, Cap}
+use Rattle.recovery.proofs.Names.{Capability, Void, Number, Page, Node, Space, Process, Start, Resume, Bank, Discrim, Frame, Content, Object, Role, blank_frame}
+use Rattle.recovery.proofs.Names.{conveyed, frame_at, header_at, headers, object_of, objects_of, is_annex, is_bank, is_free, is_node, is_page, is_root}
+use Rattle.recovery.proofs.Names.{is_waiting, limit_in, map_content, role_number, role_of, root_in, NamesItsKind, annex_at, content_at, is_process, owner_at}
+use Rattle.recovery.proofs.Names.{root_at, HaveTheirRoles, mapped, IsRootOf, NamesItsRole, annex_in, is_waiting_root, owner_of, role_at}
+use Rattle.std.proofs.Common.{◌≡◌, ◌==◌, ◌∙◌}
+use Rattle.model.specs.declared.object.Content.TheVariants as content
+use Rattle.model.specs.declared.object.Role.TheVariants as role
+
+-- the header, the content and the owner at a number
+pub header_is : (fs : List Frame) (n : ℕ) → header_at (headers fs) n ≡ (frame_at fs n).header
+header_is fs n = get_or-map (λ (f : Frame). f.header) fs n blank_frame
+
+pub content_is : (fs : List Frame) (n : ℕ) → content_at (objects_of fs) n ≡ map_content (conveyed (headers fs)) (frame_at fs n).content
+unfolding objects_of
+content_is fs n = ap (λ (o : Object). o.content) (get_or-map (object_of (headers fs)) fs n blank_frame)
+
+pub owner_is : (fs : List Frame) (n : ℕ) → owner_at (objects_of fs) n ≡ owner_of fs n
+unfolding objects_of
+owner_is fs n = ap (λ (o : Object). o.owner) (get_or-map (object_of (headers fs)) fs n blank_frame)
+
+pub length_is : (fs : List Frame) → length (objects_of fs) ≡ length fs
+unfolding objects_of
+length_is fs = length-map fs (object_of (headers fs))
+
+-- Kinds by role.
+abbrev pub is : Role → Role → Bool
+is r s = role_number r == role_number s
+
+role_from : ℕ → Role
+role_from zero = role.Free
+role_from (suc zero) = role.Page
+role_from (suc (suc zero)) = role.Node
+role_from (suc (suc (suc zero))) = role.Root
+role_from (suc (suc (suc (suc zero)))) = role.Annex
+role_from _ = role.Bank
+
+from_number : (r : Role) → role_from (role_number r) ≡ r
+unfolding role_from
+from_number role.Free = refl
+from_number other = refl
+
+-- roles of one number are the same
+pub is_same : (r s : Role) → is r s ≡ true → r ≡ s
+is_same r s same = sym (from_number r) ∙ ap role_from (eqb-true (role_number r) (role_number s) same) ∙ from_number s
+
+record AreTested {C : Type 0} (c : Content C) : Type 0 where
+  free : is_free c ≡ is (role_of c) role.Free
+  page : is_page c ≡ is (role_of c) role.Page
+  node : is_node c ≡ is (role_of c) role.Node
+  root : is_root c ≡ is (role_of c) role.Root
+  annex : is_annex c ≡ is (role_of c) role.Annex
+  bank : is_bank c ≡ is (role_of c) role.Bank
+
+tested : {C : Type 0} (c : Content C) → AreTested c
+tested content.Free = record { free = refl; page = refl; node = refl; root = refl; annex = refl; bank = refl }
+tested other = record { free = refl; page = refl; node = refl; root = refl; annex = refl; bank = refl }
+
+-- roots, whatever capabilities they hold
+annex_map : (f : Cap → Capability) (c : Content Cap) → annex_in (map_content f c) ≡ annex_in c
+annex_map f content.Free = refl
+annex_map f other = refl
+
+waiting_map : (f : Cap → Capability) (c : Content Cap) → is_waiting_root (map_content f c) ≡ is_waiting_root c
+waiting_map f content.Free = refl
+waiting_map f other = refl
+
+root_annex : (c : Content Capability) → is_root c ≡ true → annex_in c ≡ Some (root_in c).annex
+root_annex (content.Root r) root = refl
+root_annex other root = cc
+
+-- one number in an option
+pub some_same : (a b : ℕ) → (let x : Option ℕ = Some a in x) ≡ Some b → a ≡ b
+some_same a b same = cc
+
+annex_root : (c : Content Capability) (a : ℕ) → annex_in c ≡ Some a → IsTrue (is_root c) × ((root_in c).annex ≡ a)
+annex_root (content.Root r) a root = (refl, some_same r.annex a root)
+annex_root other a root = cc
+
+waiting_root : (c : Content Capability) → is_waiting_root c ≡ true → IsTrue (is_root c) × IsTrue (is_waiting (root_in c).state)
+waiting_root (content.Root r) waits = (refl, waits)
+waiting_root other waits = cc
+
+root_waiting : (c : Content Capability) → is_waiting_root c ≡ is_waiting (root_in c).state
+root_waiting content.Free = refl
+root_waiting other = refl
+
+pub limit_is : (fs : List Frame) (n : ℕ) → limit_in (content_at (objects_of fs) n) ≡ limit_in (frame_at fs n).content
+limit_is fs n = ap (λ (c : Content Capability). limit_in c) (content_is fs n) ∙ (mapped (conveyed (headers fs)) (frame_at fs n).content).limit
+
+module _ (fs : List Frame) (p : ℕ) where
+  annex_is : annex_in (content_at (objects_of fs) p) ≡ annex_in (frame_at fs p).content
+  annex_is = ap (λ (c : Content Capability). annex_in c) (content_is fs p) ∙ annex_map (conveyed (headers fs)) (frame_at fs p).content
+
+  -- a process is a root with its annex, and the other way round
+  pub root_of : IsTrue (is_process (objects_of fs) p) → IsRootOf fs p (annex_at (objects_of fs) p)
+  root_of process = sym annex_is ∙ root_annex (content_at (objects_of fs) p) process
+
+  pub process_of : (a : ℕ) → IsRootOf fs p a → IsTrue (is_process (objects_of fs) p) × (annex_at (objects_of fs) p ≡ a)
+  process_of a root = annex_root (content_at (objects_of fs) p) a (annex_is ∙ root)
+
+  waiting_is : is_waiting_root (content_at (objects_of fs) p) ≡ is_waiting_root (frame_at fs p).content
+  waiting_is = ap (λ (c : Content Capability). is_waiting_root c) (content_is fs p) ∙ waiting_map (conveyed (headers fs)) (frame_at fs p).content
+
+  waiting_of : IsTrue (is_waiting_root (frame_at fs p).content) → IsTrue (is_process (objects_of fs) p) × IsTrue (is_waiting (root_at (objects_of fs) p).state)
+  waiting_of waits = waiting_root (content_at (objects_of fs) p) (waiting_is ∙ waits)
+
+  waits_of : IsTrue (is_waiting (root_at (objects_of fs) p).state) → IsTrue (is_waiting_root (frame_at fs p).content)
+  waits_of waits = sym waiting_is ∙ root_waiting (content_at (objects_of fs) p) ∙ waits
+
+-- what the roles of frames say of objects, and the other way round
+module _ (fs : List Frame) (roles : HaveTheirRoles fs) (n : ℕ) where
+  role_is : role_of (content_at (objects_of fs) n) ≡ role_at fs n
+  role_is = ap (λ (c : Content Capability). role_of c) (content_is fs n) ∙ (mapped (conveyed (headers fs)) (frame_at fs n).content).role ∙ sym (roles n)
+
+  to_role : (r : Role) (b : Bool) → b ≡ is (role_of (content_at (objects_of fs) n)) r → b ≡ true → role_at fs n ≡ r
+  to_role r b test passes = sym role_is ∙ is_same (role_of (content_at (objects_of fs) n)) r (sym test ∙ passes)
+
+  of_role : (r : Role) (b : Bool) → b ≡ is (role_of (content_at (objects_of fs) n)) r → role_at fs n ≡ r → b ≡ is r r
+  of_role r b test same = test ∙ ap (λ (s : Role). is s r) (role_is ∙ same)
+
+  pub free_role : is_free (content_at (objects_of fs) n) ≡ true → role_at fs n ≡ role.Free
+  free_role = to_role role.Free (is_free (content_at (objects_of fs) n)) (tested (content_at (objects_of fs) n)).free
+
+  pub role_free : role_at fs n ≡ role.Free → is_free (content_at (objects_of fs) n) ≡ true
+  role_free = of_role role.Free (is_free (content_at (objects_of fs) n)) (tested (content_at (objects_of fs) n)).free
+
+  pub page_role : is_page (content_at (objects_of fs) n) ≡ true → role_at fs n ≡ role.Page
+  page_role = to_role role.Page (is_page (content_at (objects_of fs) n)) (tested (content_at (objects_of fs) n)).page
+
+  pub role_page : role_at fs n ≡ role.Page → is_page (content_at (objects_of fs) n) ≡ true
+  role_page = of_role role.Page (is_page (content_at (objects_of fs) n)) (tested (content_at (objects_of fs) n)).page
+
+  pub node_role : is_node (content_at (objects_of fs) n) ≡ true → role_at fs n ≡ role.Node
+  node_role = to_role role.Node (is_node (content_at (objects_of fs) n)) (tested (content_at (objects_of fs) n)).node
+
+  pub role_node : role_at fs n ≡ role.Node → is_node (content_at (objects_of fs) n) ≡ true
+  role_node = of_role role.Node (is_node (content_at (objects_of fs) n)) (tested (content_at (objects_of fs) n)).node
+
+  pub root_role : is_root (content_at (objects_of fs) n) ≡ true → role_at fs n ≡ role.Root
+  root_role = to_role role.Root (is_root (content_at (objects_of fs) n)) (tested (content_at (objects_of fs) n)).root
+
+  pub role_root : role_at fs n ≡ role.Root → is_root (content_at (objects_of fs) n) ≡ true
+  role_root = of_role role.Root (is_root (content_at (objects_of fs) n)) (tested (content_at (objects_of fs) n)).root
+
+  pub annex_role : is_annex (content_at (objects_of fs) n) ≡ true → role_at fs n ≡ role.Annex
+  annex_role = to_role role.Annex (is_annex (content_at (objects_of fs) n)) (tested (content_at (objects_of fs) n)).annex
+
+  pub role_annex : role_at fs n ≡ role.Annex → is_annex (content_at (objects_of fs) n) ≡ true
+  role_annex = of_role role.Annex (is_annex (content_at (objects_of fs) n)) (tested (content_at (objects_of fs) n)).annex
+
+  pub bank_role : is_bank (content_at (objects_of fs) n) ≡ true → role_at fs n ≡ role.Bank
+  bank_role = to_role role.Bank (is_bank (content_at (objects_of fs) n)) (tested (content_at (objects_of fs) n)).bank
+
+  pub role_bank : role_at fs n ≡ role.Bank → is_bank (content_at (objects_of fs) n) ≡ true
+  role_bank = of_role role.Bank (is_bank (content_at (objects_of fs) n)) (tested (content_at (objects_of fs) n)).bank
+
+-- what a capability names
+module _ (fs : List Frame) (roles : HaveTheirRoles fs) where
+  pub names_kind : (c : Capability) → NamesItsRole fs c → NamesItsKind (objects_of fs) c
+  names_kind (Page o a) names = role_page fs roles o names
+  names_kind (Node o a) names = role_node fs roles o names
+  names_kind (Space o h a) names = role_node fs roles o names
+  names_kind (Process p) names = role_root fs roles p names
+  names_kind (Start p key) names = role_root fs roles p names
+  names_kind (Resume p) names = waiting_of fs p names
+  names_kind (Bank b) names = role_bank fs roles b names
+  names_kind other names = tt
+
+  pub names_role : (c : Capability) → NamesItsKind (objects_of fs) c → NamesItsRole fs c
+  names_role (Page o a) names = page_role fs roles o names
+  names_role (Node o a) names = node_role fs roles o names
+  names_role (Space o h a) names = node_role fs roles o names
+  names_role (Process p) names = root_role fs roles p names
+  names_role (Start p key) names = root_role fs roles p names
+  names_role (Resume p) names = waits_of fs p names.1
+  names_role (Bank b) names = bank_role fs roles b names
+  names_role other names = tt

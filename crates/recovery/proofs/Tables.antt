@@ -1,0 +1,42 @@
+-- What the table of headers and the contents in memory say of frames.
+use Rattle.recovery.proofs.Names.{ℕ, inl, inr, List, length, sym, ap, arith, cases_lt, get_or_past, Cap, Frame, ObjectHeader, Content, blank_frame, frame_at}
+use Rattle.recovery.proofs.Names.{frames_in, header_at, headers, held_at, Parts, frames_of, frame_in, headers_in, length_in, role_at}
+use Rattle.std.proofs.Common.{◌≡◌, ◌<◌, ◌≤◌, ◌∙◌}
+use Rattle.model.specs.declared.object.Role.TheVariants as role
+use Rattle.recovery.proofs.Standing.{header_is}
+
+-- a header that was read
+pub header_read : (p : Parts) (hs : List ObjectHeader) (h : ObjectHeader) (n : ℕ) → hs ≡ p.headers → h ≡ header_at hs n → h ≡ (frame_at (frames_of p) n).header
+header_read p hs h n table is =
+    is
+    ∙ ap (λ (ks : List ObjectHeader). header_at ks n) (table ∙ sym (headers_in p.headers p.contents))
+    ∙ header_is (frames_of p) n
+
+-- a content that was read
+pub content_read : (p : Parts) (n : ℕ) (c : Content Cap) → n < length p.headers → c ≡ held_at p.contents n → c ≡ (frame_at (frames_of p) n).content
+content_read p n c known is = is ∙ sym (ap (λ (f : Frame). f.content) (frame_in p.headers p.contents n known))
+
+-- the table is that of the frames
+pub table_read : (p : Parts) (hs : List ObjectHeader) → hs ≡ p.headers → hs ≡ headers (frames_of p)
+table_read p hs table = table ∙ sym (headers_in p.headers p.contents)
+
+-- past the table there is no frame, and each number of another role than free is in it
+pub frame_beyond : (p : Parts) (n : ℕ) → length p.headers ≤ n → frame_at (frames_of p) n ≡ blank_frame
+frame_beyond p n past = get_or_past (frames_of p) n blank_frame (omega (arith, length_in p.headers p.contents, past))
+
+pub role_known : (p : Parts) (n : ℕ) → (role_at (frames_of p) n ≡ role.Free → ⊥) → n < length p.headers
+role_known p n used = elim (cases_lt n (length p.headers)) [
+  | inl inside ↦ inside
+  | inr past ↦ absurd (used (ap (λ (f : Frame). f.header.role) (frame_beyond p n past)))
+]
+
+pub annex_known : (p : Parts) (n : ℕ) → role_at (frames_of p) n ≡ role.Annex → n < length p.headers
+annex_known p n annex = role_known p n (λ free. let wrong : role.Annex ≡ role.Free = sym annex ∙ free in cc)
+
+pub bank_known : (p : Parts) (n : ℕ) → role_at (frames_of p) n ≡ role.Bank → n < length p.headers
+bank_known p n bank = role_known p n (λ free. let wrong : role.Bank ≡ role.Free = sym bank ∙ free in cc)
+
+-- a read-only call leaves the frames
+pub frames_looked : (old now : Parts) → now.headers ≡ old.headers → now.contents ≡ old.contents → frames_of now ≡ frames_of old
+frames_looked old now hs cs =
+    ap (λ (ks : List ObjectHeader). frames_in ks now.contents) hs ∙ ap (frames_in old.headers) cs

@@ -1,0 +1,41 @@
+use Rattle.recovery.proofs.Names.{ℕ, List, ap, length, slice_index, subst, sym, MatchOption, Frame, ObjectHeader, frames_of, IsAboveLimit, role_at}
+use Rattle.std.proofs.Common.{◌≡◌, ◌≤◌, ◌^◌, ◌-◌, ◌∙◌}
+use Rattle.model.specs.declared.object.Role.TheVariants as role
+use Rattle.recovery.proofs.Tables.{frames_looked}
+use Rattle.recovery.proofs.Trees.{bank_counted, count_all, limited, limits_count, owned_tree}
+use Rattle.recovery.proofs.consistency.banks.find_unbanked.Goals as goal
+
+pub count_usages-requires-clause-tree : goal.count_usages-requires-clause-tree
+count_usages-requires-clause-tree g c =
+    let p = g.F.Frames.parts c.args.store.now in
+    owned_tree p.geometry (2 ^ 64 - 1) (frames_of p) c.requires (rw c.in-None.is at c.find_unowned.ensures)
+
+pub count_usages-requires-clause-each : goal.count_usages-requires-clause-each
+count_usages-requires-clause-each g c =
+    let p = g.F.Frames.parts c.args.store.now in
+    bank_counted p.geometry (2 ^ 64 - 1) p c.requires c.table.result.now c.count-count.result c.table.ensures c.count-count.ensures
+
+pub find_above_limit-requires-clause-limits : goal.find_above_limit-requires-clause-limits
+find_above_limit-requires-clause-limits g c =
+    let p = g.F.Frames.parts c.args.store.now in
+    let all = count_all p.geometry (2 ^ 64 - 1) p c.requires c.table.result.now c.count-count.result c.table.ensures c.count-count.ensures in
+    ap (λ (xs : List ℕ). length xs) c.deref-in-None.ensures.value
+    ∙ limits_count p.geometry (2 ^ 64 - 1) p c.requires c.table.result.now c.count-count.result c.table.ensures c.count-count.ensures
+    c.in_ok-usages-in-None.usages.items c.in_ok-limits-in-None.limits.items c.in_ok-usages-in-None.ensures.counted c.in_ok-limits-in-None.ensures.limits
+    ∙ all
+    ∙ sym (ap (λ (hs : List ObjectHeader). length hs) c.in_ok-limits-in-None.ensures.only_reads.snapshots.headers)
+
+pub returns-in_ok-limits-in-None-clause-found : goal.returns-in_ok-limits-in-None-clause-found
+returns-in_ok-limits-in-None-clause-found g c =
+    let p = g.F.Frames.parts c.args.store.now in
+    let q = g.F.Frames.parts c.read_limits.new.store in
+    let usages = c.deref.result.now in
+    let limits = c.deref-in-None.result.now in
+    let snapshots = c.in_ok-limits-in-None.ensures.only_reads.snapshots in
+    let same : frames_of q ≡ frames_of p = frames_looked p q snapshots.headers snapshots.contents in
+    limited p.geometry (2 ^ 64 - 1) p c.requires c.table.result.now c.count-count.result c.table.ensures c.count-count.ensures usages limits
+    (λ b bank. ap (λ (xs : List ℕ). slice_index xs b) c.deref.ensures.value ∙ c.in_ok-usages-in-None.ensures.counted b bank)
+    (c.deref-in-None.ensures.value ∙ c.in_ok-limits-in-None.ensures.limits)
+    (rw c.in-None.is at c.find_unowned.ensures) c.find_above_limit.result
+    (subst (λ (fs : List Frame). MatchOption c.find_above_limit.result ((b : ℕ) → role_at fs b ≡ role.Bank → slice_index usages b ≤ slice_index limits b)
+    (λ why. IsAboveLimit fs usages limits why)) same c.find_above_limit.ensures)

@@ -1,0 +1,124 @@
+// Whether each held capability is none, stale, or names what it is for.
+ghost use Rattle.std.specs.Prelude.{◌≡◌, ◌↔◌, ◌<◌, false, [], length, IfOk, IsTrue};
+ghost use Rattle.std.specs.List.{All};
+ghost use Rattle.model.specs.Frame.{frame_at};
+ghost use Rattle.model.specs.Keepable.{AreKeepable, caps_in};
+ghost use Rattle.capability.specs.Parts.{HaveTheirRoles, OnlyReads, frames_of};
+ghost use Rattle.recovery.specs.Consistency.{AreNamed, IsNamed, NamesItsRole};
+ghost use Rattle.recovery.specs.Noted.{AreNoted};
+
+use crate::consistency::processes::{Noted, is_waiting};
+use crate::consistency::table::has_role;
+use capability::Frames;
+use model::{Cap, Capability, ContentRef, Refusal, Role};
+
+/// Whether the object that a capability names is what the capability is for.
+#[inline(always)]
+pub fn names_its_role<F: Frames>(store: &F, notes: &[Option<Noted>], capability: Capability) -> bool
+    requires { AreNoted (frames_of (F.parts store.now)) notes.now }
+    ensures { IsTrue result ↔ NamesItsRole (frames_of (F.parts store.now)) capability }
+{
+    match capability {
+        Capability::Page { object, .. } => has_role(store, object, Role::Page),
+        Capability::Node { object, .. } => has_role(store, object, Role::Node),
+        Capability::Space { object, .. } => has_role(store, object, Role::Node),
+        Capability::Process(process) => has_role(store, process, Role::Root),
+        Capability::Start { process, .. } => has_role(store, process, Role::Root),
+        Capability::Resume(process) => is_waiting(notes, process),
+        Capability::Bank(bank) => has_role(store, bank, Role::Bank),
+        Capability::Void => true,
+        Capability::Number(_) => true,
+        Capability::Discrim => true,
+    }
+}
+
+/// Whether a held capability has no greater count than its object, and where the counts are the same
+/// names what it is for.
+#[inline(always)]
+pub fn is_named<F: Frames>(store: &F, notes: &[Option<Noted>], held: Cap) -> bool
+    requires { AreNoted (frames_of (F.parts store.now)) notes.now }
+    ensures { IsTrue result ↔ IsNamed (frames_of (F.parts store.now)) held }
+{
+    let current = store.table().current_count(held.what);
+    if held.count == current {
+        return names_its_role(store, notes, held.what);
+    }
+    held.count < current
+}
+
+// The same of each of some capabilities.
+fn are_all_named<F: Frames>(store: &F, notes: &[Option<Noted>], held: &[Cap]) -> bool
+    requires { AreNoted (frames_of (F.parts store.now)) notes.now }
+    ensures { IsTrue result ↔ All (IsNamed (frames_of (F.parts store.now))) held.now }
+{
+    for capability in held {
+        if !is_named(store, notes, *capability) {
+            return false;
+        }
+    }
+    true
+}
+
+// The same of each capability that an object holds, which is fetched.
+fn holds_named<F: Frames>(store: &F, notes: &[Option<Noted>], number: u64) -> bool
+    requires fetched { F.IsFetched store.now number }
+    requires notes { AreNoted (frames_of (F.parts store.now)) notes.now }
+    ensures { let frames = frames_of (F.parts store.now) in
+        IsTrue result ↔ All (IsNamed frames) (caps_in (frame_at frames number).content) }
+{
+    match store.frame(number) {
+        ContentRef::Node(slots) => are_all_named(store, notes, &slots[..]),
+        ContentRef::Root(root) => is_named(store, notes, root.space),
+        ContentRef::Annex(registers) => are_all_named(store, notes, &registers[..]),
+        _ => true,
+    }
+}
+
+// Whether an object may hold capabilities, by its role.
+fn may_hold<F: Frames>(store: &F, number: u64) -> bool
+    requires { HaveTheirRoles (frames_of (F.parts store.now)) }
+    ensures { result ≡ false → caps_in (frame_at (frames_of (F.parts store.now)) number).content ≡ [] }
+{
+    matches!(
+        store.table().header(number).role,
+        Role::Node | Role::Root | Role::Annex
+    )
+}
+
+// The same of each capability that an object holds. It is fetched if it may hold some.
+fn has_named<F: Frames>(
+    store: &mut F,
+    notes: &[Option<Noted>],
+    number: u64,
+) -> Result<bool, Refusal>
+    requires known { number < length (F.parts store.old).headers }
+    requires keepable { AreKeepable (F.parts store.old).geometry u64.MAX
+        (frames_of (F.parts store.old)) }
+    requires notes { AreNoted (frames_of (F.parts store.old)) notes.now }
+    ensures named { let frames = frames_of (F.parts store.old) in IfOk result (λ named.
+        IsTrue named ↔ All (IsNamed frames) (caps_in (frame_at frames number).content)) }
+    ensures only_reads { OnlyReads F.parts F.ContinuesTo store.old store.new result }
+{
+    if !may_hold(store, number) {
+        return Ok(true);
+    }
+    store.fetch(&[number])?;
+    Ok(holds_named(store, notes, number))
+}
+
+/// Whether each capability that an object holds has no greater count than the object that it names,
+/// and where the counts are the same names what it is for. Objects are fetched one at a time.
+pub(crate) fn are_named<F: Frames>(store: &mut F, notes: &[Option<Noted>]) -> Result<bool, Refusal>
+    requires keepable { AreKeepable (F.parts store.old).geometry u64.MAX
+        (frames_of (F.parts store.old)) }
+    requires notes { AreNoted (frames_of (F.parts store.old)) notes.now }
+    ensures named { IfOk result (λ named. IsTrue named ↔ AreNamed (frames_of (F.parts store.old))) }
+    ensures only_reads { OnlyReads F.parts F.ContinuesTo store.old store.new result }
+{
+    for number in 0..store.table().count() {
+        if !has_named(store, notes, number)? {
+            return Ok(false);
+        }
+    }
+    Ok(true)
+}

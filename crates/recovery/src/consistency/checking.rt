@@ -1,0 +1,74 @@
+// The check of all frames.
+ghost use Rattle.std.specs.Prelude.{◌≡◌, ◌↔◌, ◌<◌, ◌≤◌, ◌^◌, IfOk, OnOk, IsErrOf};
+ghost use Rattle.model.specs.Keepable.{AreKeepable, IsSoundFrames};
+ghost use Rattle.capability.specs.Parts.{OnlyReads, OnlyFetches, frames_of};
+ghost use Rattle.recovery.specs.Consistency.{IsInconsistent, Tells};
+
+use crate::consistency::banks::find_unbanked;
+use crate::consistency::capabilities::are_named;
+use crate::consistency::processes::{are_whole, read_notes};
+use capability::Frames;
+use checkpoint::OpenFault;
+use layout::BadImage;
+use model::Refusal;
+use std::alloc::Global;
+
+// The least reason why frames that can be kept are inconsistent, if there is one.
+fn reason<F: Frames>(alloc: Global, store: &mut F) -> Result<Option<BadImage>, Refusal>
+    requires { AreKeepable (F.parts store.old).geometry u64.MAX (frames_of (F.parts store.old)) }
+    ensures tells { IfOk result (λ why. Tells (frames_of (F.parts store.old)) why) }
+    ensures only_reads { OnlyReads F.parts F.ContinuesTo store.old store.new result }
+{
+    let notes = read_notes(alloc, store)?;
+    if !are_named(store, &notes)? {
+        return Ok(Some(BadImage::BadCapability));
+    }
+    if !are_whole(alloc, store, &notes)? {
+        return Ok(Some(BadImage::BadProcess));
+    }
+    match find_unbanked(alloc, store)? {
+        None => Ok(None),
+        Some(_) => Ok(Some(BadImage::BadBank)),
+    }
+}
+
+/// The fault of opening a device whose objects can't be read: want of memory, unless the device
+/// failed.
+pub fn opening_fault(why: Refusal) -> OpenFault
+    ensures failed { (result ≡ OpenFault.Failed) ↔ (why ≡ Refusal.Fault) }
+    ensures no_reason { (why : BadImage) → result ≡ OpenFault.Bad why → ⊥ }
+{
+    match why {
+        Refusal::Fault => OpenFault::Failed,
+        _ => OpenFault::NoMemory,
+    }
+}
+
+/// Checks frames that can be kept at an age: whether they stand for a sound world (EROS: the
+/// consistency check of a checkpoint).
+///
+/// Every object is read, one at a time, and no object changes. Takes memory in proportion to the
+/// number of objects, and gives it back.
+///
+/// `Bad` with the least of the reasons 8 to 10 if they stand for none: the capabilities are checked
+/// first, then the processes, then the banks. `NoMemory` if memory ran out, and `Failed` exactly if
+/// the device failed.
+pub fn check<F: Frames>(alloc: Global, store: &mut F, age: u64) -> Result<(), OpenFault>
+    requires keepable { AreKeepable (F.parts store.old).geometry age
+        (frames_of (F.parts store.old)) }
+    requires most { age ≤ 2 ^ 62 }
+    ensures sound { OnOk result (IsSoundFrames (F.parts store.old).geometry age
+        (frames_of (F.parts store.old))) }
+    ensures inconsistent { (why : BadImage) → IsErrOf result (OpenFault.Bad why)
+        → IsInconsistent (frames_of (F.parts store.old)) why }
+    ensures snapshots { OnlyFetches F.parts F.ContinuesTo store.old store.new }
+    ensures later { (F.parts store.old).failures ≤ (F.parts store.new).failures }
+    ensures cause { IsErrOf result OpenFault.Failed
+        ↔ ((F.parts store.old).failures < (F.parts store.new).failures) }
+{
+    match reason(alloc, store) {
+        Ok(None) => Ok(()),
+        Ok(Some(why)) => Err(OpenFault::Bad(why)),
+        Err(fault) => Err(opening_fault(fault)),
+    }
+}

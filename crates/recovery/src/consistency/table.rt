@@ -1,0 +1,21 @@
+// What the table of headers says of an object, by number. Nothing is fetched.
+ghost use Rattle.std.specs.Prelude.{◌≡◌, ◌↔◌, IsTrue};
+ghost use Rattle.capability.specs.Parts.{frames_of};
+ghost use Rattle.recovery.specs.Consistency.{owner_of, role_at};
+
+use capability::Frames;
+use model::Role;
+
+/// Whether an object has a role. What is no number is free.
+pub fn has_role<F: Frames>(store: &F, number: u64, role: Role) -> bool
+    ensures { IsTrue result ↔ (role_at (frames_of (F.parts store.now)) number ≡ role) }
+{
+    store.table().header(number).role == role
+}
+
+// The owner of an object.
+pub(crate) fn owner<F: Frames>(store: &F, number: u64) -> u64
+    ensures { result ≡ owner_of (frames_of (F.parts store.now)) number }
+{
+    store.table().header(number).owner
+}

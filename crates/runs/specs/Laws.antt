@@ -1,0 +1,58 @@
+-- What holds of every run: what it writes is settled where nothing is wanting, and what it can change is bounded.
+use Rattle.runs.specs.Names.{ℕ, Bool, true, false, List, [], Contains, Command, Geometry, IsClosed, Machine, Running}
+use Rattle.runs.specs.Names.{Saved, Up, candidates, opened, Reported, Turn, IsRun, output_of, second, takes_memory}
+use Rattle.runs.specs.Names.{Says, object_at, Disk, Image, LeavesOnly, OpenFault, AreBy, IsKept, with_free, Parts, View}
+use Rattle.runs.specs.Names.{Power, Denotes, RefusesToOpen, IsNoReason, Opens, Stands, disk_of}
+use Rattle.std.specs.Prelude.{◌≡◌, ◌≢◌, ◌⊎◌, ◌∷◌}
+use Rattle.model.specs.declared.answer.Answer.TheVariants as answer
+use Rattle.model.specs.declared.answer.Refusal.TheVariants as refusal
+use Rattle.model.specs.declared.line.Line.TheVariants as line
+use Rattle.runs.specs.KernelRuns.{IsRunOf, lines_in}
+
+-- the device didn't fail in a turn, and memory didn't run out if its command takes memory
+pub record IsSteady (t : Turn) : Type 0 where
+  pub device : t.reply ≢ Reported (answer.Refused refusal.Fault)
+  pub memory : (c : Command) → Says t.line (line.Command c) → takes_memory c ≡ true →
+      t.reply ≢ Reported (answer.Refused refusal.NoMemory)
+
+abbrev pub AreSteady : List Turn → Type 0
+AreSteady [] = Unit {0}
+AreSteady (t ∷ ts) = IsSteady t × AreSteady ts
+
+-- two such runs of a machine that is up on the same lines write the same and end at the same machine
+abbrev pub SteadyRunsAgree : Type 0
+SteadyRunsAgree = (g : Geometry) (s : Running) (ts us : List Turn) (a b : Machine) → IsRun g (Up s) ts a →
+    IsRun g (Up s) us b → lines_in ts ≡ lines_in us →
+    AreSteady ts → AreSteady us → (output_of ts ≡ output_of us) × (a ≡ b)
+
+-- what a run may leave saved: a candidate of one of its machines, or what one of its commands is to save besides
+abbrev pub MaySave : Machine → List Turn → Saved → Type 0
+MaySave m [] s = Contains (candidates m) s
+MaySave m (t ∷ ts) s = Contains (candidates m) s ⊎
+    ((c : Command) × Says t.line (line.Command c) × Contains (second m c) s) ⊎ MaySave t.after ts s
+
+-- The parameters are ghost members of a device and of an object store.
+module _ {D S : Type 0} (disk : D → Disk) (view : S → View D) (parts : S → Parts) where
+  -- the authority bound: over a run of invocations and memory references by processes of a closed set, and by those
+  -- that they make of free numbers, each object outside the set that wasn't free is kept
+  abbrev pub RunsAreConfined : Type 0
+  RunsAreConfined = (g : Geometry) (s t : Running) (old new : Power D S) (turns : List Turn) (inside : ℕ → Bool) →
+      Stands disk view parts g old (Up s) → Stands disk view parts g new (Up t) →
+      IsRunOf disk view parts g (Up s) old new turns →
+      IsClosed s.now.objects inside → AreBy (with_free s.now.objects inside) turns → (n : ℕ) →
+      with_free s.now.objects inside n ≡ false →
+      IsKept inside (object_at s.now.objects n) (object_at t.now.objects n)
+
+  -- a device that holds an image is opened at a saved part, or the device fails, or memory runs out
+  abbrev pub IsOpenedAt : Geometry → ℕ → Image → Saved → Type 0
+  IsOpenedAt g size c s = (d : D) → (disk d).sectors ≡ size → (disk d).seen ≡ c →
+      ((k : Power D S) → Opens disk view parts d k → Stands disk view parts g k (Up (opened g s)))
+      × ((back : D) (why : OpenFault) → RefusesToOpen disk d back why → IsNoReason why)
+
+  -- the headline: at every moment since a run began a crash leaves what denotes a saved part of the run, and opening it
+  -- stands there
+  abbrev pub CrashesAreSurvived : Type 0
+  CrashesAreSurvived = (g : Geometry) (m : Machine) (old new : Power D S) (turns : List Turn) →
+      Stands disk view parts g old m → IsRunOf disk view parts g m old new turns →
+      LeavesOnly (disk_of disk view parts old) (disk_of disk view parts new) (λ c. (s : Saved) × MaySave m turns s
+      × Denotes g (disk_of disk view parts old).sectors c s × IsOpenedAt g (disk_of disk view parts old).sectors c s)

@@ -1,0 +1,29 @@
+//! Laws of runs, each the contract of a function that does nothing.
+
+ghost use Rattle.runs.specs.Laws.{CrashesAreSurvived, RunsAreConfined, SteadyRunsAgree};
+
+use checkpoint::ObjectStore;
+use device::Device;
+
+/// If the machine is up and the device doesn't fail, the machine at the start and the script settle
+/// what is written: every store, and every device, writes the same. Memory must not run out at a
+/// `show`, `restart` or `cut`; no other command can be answered `NoMemory`.
+pub fn steady_runs_agree()
+    ensures { SteadyRunsAgree }
+{}
+
+/// Where all lines are invocations, loads and stores by processes of a closed set of numbers, and of
+/// those that they make of what was free, and the kernel is still up, each object outside the set that
+/// wasn't free is as it was, but that capabilities in it that name a member may be void (EROS:
+/// confinement).
+pub fn runs_are_confined<D: Device, S: ObjectStore<D>>()
+    ensures { RunsAreConfined D.disk S.view S.parts }
+{}
+
+/// The headline, in one sentence: at every moment since a run began a crash leaves what denotes a
+/// checkpoint that is committed in its course, or one that a line of it is to commit; and a device that
+/// holds it is opened at that one, unless it fails or memory is wanting. Which of them it is at which
+/// moment, the run says of each of its turns.
+pub fn crashes_are_survived<D: Device, S: ObjectStore<D>>()
+    ensures { CrashesAreSurvived D.disk S.view S.parts }
+{}

@@ -1,4 +1,0 @@
-mod Names
-mod Agreeing
-mod Confining
-mod Surviving

@@ -1,5 +1,0 @@
-use Rattle.runs_laws.proofs.Confining.{runs_confined}
-use Rattle.runs_laws.proofs.laws.runs_are_confined.Goals as goal
-
-pub returns : goal.returns
-returns g c = runs_confined g.D.Device.disk g.S.ObjectStore.view g.S.Frames.parts

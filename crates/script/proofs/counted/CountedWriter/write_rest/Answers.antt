@@ -1,0 +1,48 @@
+use Rattle.std.proofs.Common.{ℕ, arith, length-drop, length-take}
+use Rattle.std.proofs.KnownBytes.{Appends-kept}
+use Rattle.script.proofs.Fronts.{broke_off, kept_nil, took_more, taken_all}
+use Rattle.script.proofs.counted.CountedWriter.write_rest.Goals as goal
+use Rattle.script.proofs.counted.CountedWriter.write_rest.Goals.{in-Ok, in-Err+else-ne}
+
+pub returns-then-done-text : goal.returns-then-done-text
+returns-then-done-text g c = record {
+  taken = taken_all _ _ c.args.text.now c.loop.done c.if-done-text.true c.loop.invariant.taken;
+  none_failed = c.loop.invariant.none_failed;
+}
+
+pub returns-in-Ok-eq0 : goal.returns-in-Ok-eq0
+returns-in-Ok-eq0 g c =
+    let kept = kept_nil _ _ (rw c.in-Ok-eq0.field-0-test at c.in-Ok-eq0.ensures.bytes) in (
+      c.fail.ensures.fault,
+      broke_off _ _ c.args.text.now c.loop.done _ (rw c.fail.ensures.inner (Appends-kept _ _ _ _ c.loop.invariant.taken kept))
+          c.loop.invariant.none_failed c.fail.ensures.failures,
+    )
+
+pub returns-then-ne : goal.returns-then-ne
+returns-then-ne g c = (
+  c.fail-then-ne.ensures.fault,
+  broke_off _ _ c.args.text.now c.loop.done _
+      (rw c.fail-then-ne.ensures.inner (Appends-kept _ _ _ _ c.loop.invariant.taken c.in-Err.ensures.bytes))
+      c.loop.invariant.none_failed c.fail-then-ne.ensures.failures,
+)
+
+pub returns : goal.returns
+returns g c = (
+  c.fail-2.ensures.fault,
+  broke_off _ _ c.args.text.now c.loop.done _ (rw c.fail-2.ensures.inner c.loop.invariant.taken)
+      c.loop.invariant.none_failed c.fail-2.ensures.failures,
+)
+
+pub loop-preserved : goal.loop-preserved
+loop-preserved g c = elim c.match-write.branch [
+  | in-Ok w ↦ record {
+    within = omega (arith, w.in-Ok.ensures.bound, length-take {A = ℕ}, length-drop {A = ℕ});
+    taken = rw w.done-is (took_more _ _ _ c.args.text.now c.loop.done w.in-Ok.count c.loop.invariant.taken w.in-Ok.ensures.bytes);
+    none_failed = c.loop.invariant.none_failed;
+  }
+  | in-Err+else-ne w ↦ record {
+    within = omega arith;
+    taken = rw w.done-is (Appends-kept _ _ _ _ c.loop.invariant.taken w.in-Err.ensures.bytes);
+    none_failed = c.loop.invariant.none_failed;
+  }
+]

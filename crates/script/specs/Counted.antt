@@ -1,0 +1,21 @@
+-- A writer whose failures are counted.
+use Rattle.script.specs.Names.{ℕ, List, Option, writer_contents, BufWriter}
+use Rattle.script.specs.Writing.{Written}
+use Rattle.script.specs.declared.counted.CountedWriter.{CountedWriter}
+use Rattle.script.specs.declared.counted.BufferedOutput.{BufferedOutput}
+
+-- the writer beneath
+abbrev pub inner_writer : {W : Type 0} → CountedWriter W → W
+inner_writer w = w.inner
+
+-- how many of its calls have failed
+abbrev pub failed_writes : {W : Type 0} → CountedWriter W → ℕ
+failed_writes w = w.failures.number
+
+-- what it has taken, and how many of its calls have failed
+abbrev pub written_by : {W : Type 0} → (W → Option (List ℕ)) → CountedWriter W → Written
+written_by contents w = record { contents = contents w.inner; failures = w.failures.number }
+
+-- the buffer beneath, and what it counts
+abbrev pub counted_buffer : {W A : Type 0} → BufferedOutput W A → CountedWriter (BufWriter W A)
+counted_buffer b = b.counted

@@ -1,6 +1,0 @@
-use Rattle.sector_faults.proofs.Names.{ℕ, HoldsCap}
-use Rattle.std.proofs.Common.{◌<◌}
-use Rattle.sector_faults.proofs.frame.find_slot.Given as goal
-
-abbrev pub invariant-loop-k : goal.invariant-loop-k
-invariant-loop-k l = (j : ℕ) → j < l.k → HoldsCap l.geometry l.age l.bytes j

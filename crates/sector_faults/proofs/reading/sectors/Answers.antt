@@ -1,5 +1,0 @@
-use Rattle.sector_faults.proofs.Copies.{sectors_in}
-use Rattle.sector_faults.proofs.reading.sectors.Goals as goal
-
-pub returns-clause-value : goal.returns-clause-value
-returns-clause-value c = λ image copy. sectors_in image c.args.bytes.now c.args.at c.args.count copy c.requires.inside

@@ -1,7 +1,0 @@
-use Rattle.sector_faults.proofs.Frames.{frames_more}
-use Rattle.sector_faults.proofs.sectors.find_frames.Goals as goal
-
-pub loop-number-preserved : goal.loop-number-preserved
-loop-number-preserved c = λ image copy.
-    frames_more image c.args.superblock.now c.args.header c.args.entries.now c.loop-number.number (c.loop-number.invariant image copy)
-    (c.in_ok-find_frame.ensures.whole image copy)

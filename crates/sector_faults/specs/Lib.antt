@@ -1,2 +1,0 @@
-pub mod Breaking
-pub mod Finding
