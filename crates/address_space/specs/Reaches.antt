@@ -10,7 +10,7 @@ use Rattle.address_space.specs.declared.walking.Reached.{Reached}
 
 -- the page reached and its access, or the fault
 abbrev pub reported : Result Reached MemoryFault → Result (ℕ × Access) MemoryFault
-reported (Ok reached) = Ok (reached.page, reached.access)
+reported (Ok reached) = Ok (reached.page, record { 0 = reached.access })
 reported (Err why) = Err why
 
 -- what is reached, if anything is, is a page

@@ -19,16 +19,20 @@ use model::{MemoryFault, SLOTS, WORDS};
 pub struct Reached {
     /// The number of the page.
     pub page: u64,
-    /// The union of the accesses of all capabilities on the way to it.
-    pub access: Access,
+    /// The bits of the union of the accesses of all capabilities on the way to it. They take a whole
+    /// word, because copies of a struct with padding are slow.
+    pub access: u64,
 }
 
 impl Reached {
     // A page that a capability with this access names.
     fn at(page: u64, access: Access) -> Reached
-        ensures { result ≡ record { page = page; access = access } }
+        ensures { result ≡ record { page = page; access = access.0 } }
     {
-        Reached { page, access }
+        Reached {
+            page,
+            access: u64::from(access.bits()),
+        }
     }
 }
 
@@ -81,7 +85,7 @@ pub fn walk<F: Frames>(
     ensures fetches { FetchesOrFails F.parts F.ContinuesTo frames.old frames.new result }
 {
     match find(frames, capability, address / WORDS as u64)? {
-        Ok(found) if for_write && !found.access.is_empty() => Ok(Err(MemoryFault::ReadOnly)),
+        Ok(found) if for_write && found.access != 0 => Ok(Err(MemoryFault::ReadOnly)),
         reached => Ok(reached),
     }
 }

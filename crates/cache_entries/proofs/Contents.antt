@@ -17,9 +17,7 @@ read : (ks : List Kind) (ps : List (Option (List ℕ))) (ns : List (Option (List
 unfolding contents_in
 read ks ps ns k = elim (cases_lt k (length ks)) [
   | inl within ↦ get_or-map-range_with_len (content_at ks ps ns) 0 (length ks) k k content.Free within (omega arith)
-  | inr past ↦
-      get_or_past (contents_in ks ps ns) k content.Free (omega (arith, past, length_contents ks ps ns))
-      ∙ sym (ap (λ (b : Kind). content_in b (item_at ps k) (item_at ns k)) (get_or_past ks k kind.Free past))
+  | inr past ↦ rw (get_or_past ks k kind.Free past) (get_or_past (contents_in ks ps ns) k content.Free (omega (arith, past, length_contents ks ps ns)))
 ]
 
 -- what a body of a kind has
@@ -76,9 +74,7 @@ module _ {ks : List Kind} {ps : List (Option (List ℕ))} {ns : List (Option (Li
           pages = omega (arith, pages, are.pages, length-set ks k b);
           nodes = omega (arith, nodes, are.nodes, length-set ks k b);
           room = λ m. elim (cases_eq m k) [
-            | inl same ↦
-                subst (λ (i : ℕ). HasRoom (kind_at (set ks k b) i) (item_at qs i) (item_at ms i)) (sym same)
-                (subst (λ (a : Kind). HasRoom a (item_at qs k) (item_at ms k)) (sym here) room)
+            | inl same ↦ rw (same, here) room
             | inr other ↦ rw (get_or-set_other ks k m b kind.Free other, same_pages m other, same_nodes m other) (are.room m)
           ];
         };
@@ -145,9 +141,7 @@ module _ {ks : List Kind} {ps : List (Option (List ℕ))} {ns : List (Option (Li
       no_words other o s none = refl
 
       pub no_page : words_are_of b ≡ false → v ≡ set v k (with_word_in (held_at v k) index word)
-      no_page none =
-          unchanged (with_word_in (content_in b (item_at ps k) (item_at ns k)) index word) (no_words b (item_at ps k) (item_at ns k) none)
-          ∙ ap (λ (c : Content Cap). set v k (with_word_in c index word)) (sym held)
+      no_page none = rw held (unchanged (with_word_in (content_in b (item_at ps k) (item_at ns k)) index word) (no_words b (item_at ps k) (item_at ns k) none))
 
       word_in : (a : Kind) (w : List ℕ) (s : Option (List Cap)) → words_are_of a ≡ true → with_word_in (content_in a (Some w) s) index word ≡ content_in a
           (Some (set w index word)) s
@@ -187,9 +181,7 @@ module _ {ks : List Kind} {ps : List (Option (List ℕ))} {ns : List (Option (Li
     pub no_slots : slots_are_of b ≡ false → (change : Content Cap → Content Cap) →
         ((a : Kind) (o : Option (List ℕ)) (s : Option (List Cap)) → slots_are_of a ≡ false → change (content_in a o s) ≡ content_in a o s) →
         v ≡ set v k (change (held_at v k))
-    no_slots none change same =
-        unchanged (change (content_in b (item_at ps k) (item_at ns k))) (sym (same b (item_at ps k) (item_at ns k) none))
-        ∙ ap (λ (c : Content Cap). set v k (change c)) (sym held)
+    no_slots none change same = rw held (unchanged (change (content_in b (item_at ps k) (item_at ns k))) (sym (same b (item_at ps k) (item_at ns k) none)))
 
 -- a slot of a content
 module _ (slot : ℕ) (c : Cap) where
@@ -215,8 +207,7 @@ all_held ks ps ns free =
 pub slots_in : (o : Option (List ℕ)) (s : List Cap) (i : ℕ) (cs : List Cap) (a : Kind) → slots_are_of a ≡ true →
     with_slots_in (content_in a o (Some s)) i cs ≡ content_in a o (Some (slots_from s i cs))
 slots_in o s i [] a is = refl
-slots_in o s i (c ∷ cs) a is =
-    ap (λ (d : Content Cap). with_slots_in d (i + 1) cs) (slot_in i c o s a is) ∙ slots_in o (set s i c) (i + 1) cs a is
+slots_in o s i (c ∷ cs) a is = rw (slot_in i c o s a is) (slots_in o (set s i c) (i + 1) cs a is)
 
 pub no_slots_in : (i : ℕ) (cs : List Cap) (a : Kind) (o : Option (List ℕ)) (s : Option (List Cap)) → slots_are_of a ≡ false → with_slots_in
     (content_in a o s) i cs ≡ content_in a o s

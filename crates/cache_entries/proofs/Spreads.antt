@@ -1,15 +1,15 @@
 -- Places of numbers.
 use Rattle.cache_entries.proofs.Names.{ArePlaced, AreSpread, inl, inr, ℕ, zero, suc, Bool, true, false, true≢false, List, [], length, map, set, take, get_or}
 use Rattle.cache_entries.proofs.Names.{Option, Some, None, is_some, refl, sym, ap, subst, arith, nat_eq, eqb-true, nat_lt, cond, cases_eq, cases_lt, lt-ltb}
-use Rattle.cache_entries.proofs.Names.{le-ltb, length-map, length-set, length-take-le, length-append, take_all, get_or_default, get_or-replicate}
+use Rattle.cache_entries.proofs.Names.{le-ltb, length-map, length-set, length-take-le, take_all, get_or_default, get_or-replicate}
 use Rattle.cache_entries.proofs.Names.{length-replicate, replicate, get_or-set_same, get_or-set_other, get_or_past, none-some, same_Some, slice_get, is_member}
 use Rattle.cache_entries.proofs.Names.{AllDiffer, OrderState, order_of, place_at, place_below, used_last, used_longest_ago, without, changed_once, get_map}
 use Rattle.cache_entries.proofs.Names.{IsFilled}
 use Rattle.std.proofs.Common.{◌≡◌, ◌≢◌, ◌⊎◌, ◌+◌, ◌-◌, ◌<◌, ◌≤◌, ◌∷◌, ◌++◌, ◌∙◌}
 use Rattle.cache_entries.proofs.Turns.{filled_back, filled_front}
-use Rattle.cache_entries.proofs.Orders.{differ_without, gone, length_without, member_head, still}
+use Rattle.cache_entries.proofs.Orders.{gone, length_without, member_head, still}
 use Rattle.cache_entries.proofs.Recent.{front_apart, front_stays, listed_member}
-use Rattle.cache_entries.proofs.Turns.{at_end, differ_end, either, in_front, in_tail, member_used, without_here, without_tail}
+use Rattle.cache_entries.proofs.Turns.{either, in_front, in_tail, member_used, without_here, without_tail}
 
 -- ---- members of a list and of its first ones
 

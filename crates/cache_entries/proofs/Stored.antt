@@ -41,17 +41,8 @@ module _ (o : OrderState) {ps ks : List (Content Cap)} {ms : List Bool} (are : A
 
   -- a number that has a place
   module _ (n : ℕ) {p : ℕ} (at : place_at o.places n ≡ Some p) (spread : AreSpread o) where
-    pub entry_is : entry_at s.at n ≡ Some (entry p)
-    entry_is = at_is n ∙ ap (option_map entry) at
-
     pub below : p < o.most
     below = spread.within n p at
-
-    pub present_within : p < length ps
-    present_within = omega (arith, below, are.presents)
-
-    pub kept_within : p < length ks
-    kept_within = omega (arith, below, are.kepts)
 
     pub mark_within : p < length ms
     mark_within = omega (arith, below, are.marks)
@@ -64,7 +55,7 @@ module _ (o : OrderState) {ps ks : List (Content Cap)} {ms : List Bool} (are : A
         (length-map o.places (option_map (entry_in qs js ls)) ∙ sym (length-map o.places (option_map entry)))
         (omega (arith, some_within o.places n (ap is_some at), length-map o.places (option_map entry)))
         (get_map (option_map (entry_in qs js ls)) o.places n None None refl ∙ ap (option_map (entry_in qs js ls)) at
-        ∙ ap Some here ∙ sym (ap (option_map change) entry_is))
+        ∙ ap Some here ∙ sym (ap (option_map change) (at_is n ∙ ap (option_map entry) at)))
         (λ m other. get_map (option_map (entry_in qs js ls)) o.places m None None refl
         ∙ elsewhere (place_at o.places m) (λ q is. others q (λ same. other (spread.apart m n p (is ∙ ap Some same) at)))
         ∙ sym (get_map (option_map entry) o.places m None None refl)))
@@ -80,7 +71,8 @@ module _ (o : OrderState) {ps ks : List (Content Cap)} {ms : List Bool} (are : A
     present_put change =
         let c = change (held_at ps p) in
         replaced (set ps p c) ks ms (changing change)
-        (ap (λ (d : Content Cap). let e : Entry = record { present = d; kept = (entry p).kept } in e) (get_or-set_same ps p c content.Free present_within))
+        (ap (λ (d : Content Cap). let e : Entry = record { present = d; kept = (entry p).kept } in e)
+        (get_or-set_same ps p c content.Free (omega (arith, below, are.presents))))
         (λ q other. ap (λ (d : Content Cap). let e : Entry = record { present = d; kept = (entry q).kept } in e) (get_or-set_other ps p q c content.Free other))
 
     -- something else is kept, or nothing
@@ -93,7 +85,7 @@ module _ (o : OrderState) {ps ks : List (Content Cap)} {ms : List Bool} (are : A
         replaced ps (set ks p c) (set ms p true) (λ e. record e { kept = Some e.present })
         (ap (λ (d : Option (Content Cap)). let e : Entry = record { present = held_at ps p; kept = d } in e)
         (ap (λ (t : Bool). kept_by t (held_at (set ks p c) p)) (get_or-set_same ms p true false mark_within) ∙ ap Some
-        (get_or-set_same ks p c content.Free kept_within)))
+        (get_or-set_same ks p c content.Free (omega (arith, below, are.kepts)))))
         (λ q other. ap (λ (d : Option (Content Cap)). let e : Entry = record { present = held_at ps q; kept = d } in e)
         (ap (λ (t : Bool). kept_by t (held_at (set ks p c) q)) (get_or-set_other ms p q true false other)
         ∙ ap (kept_by (get_or ms q false)) (get_or-set_other ks p q c content.Free other)))

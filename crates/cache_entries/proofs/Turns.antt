@@ -1,6 +1,6 @@
 -- Numbers that are used in turn, and those whose use the order doesn't have yet.
 use Rattle.cache_entries.proofs.Names.{Uses, AreLatest, AreSpread, inl, inr, ℕ, zero, suc, nat_eq, Bool, true, false, cond, true≢false, List, [], length, set}
-use Rattle.cache_entries.proofs.Names.{take, drop, get_or, Option, Some, refl, sym, ap, subst, arith, Contains, slice_get, take_more, eqb-true, eq-eqb, ne_eqb}
+use Rattle.cache_entries.proofs.Names.{take, drop, get_or, Some, refl, sym, ap, subst, arith, Contains, slice_get, take_more, eqb-true, eq-eqb, ne_eqb}
 use Rattle.cache_entries.proofs.Names.{cases_eq, none-some, same_Some, is_member, AllDiffer, OrderState, used_in_turn, used_last, without, keys_of}
 use Rattle.cache_entries.proofs.Names.{length-append, promoted, IsFilled, used_all}
 use Rattle.std.proofs.Common.{◌≡◌, ◌≢◌, ◌⊎◌, ◌+◌, ◌||◌, ◌∷◌, ◌++◌, ◌<◌, ◌≤◌, ◌∙◌}
@@ -316,13 +316,65 @@ settles (m ∷ ms) rest order after n some first is used are =
 
 -- ---- a number is moved to the end of a list
 
--- a list without a number that stands at an index
-pub without_at : (n : ℕ) (ns : List ℕ) (place : ℕ) → slice_get ns place ≡ Some n → AllDiffer ns → without n ns ≡ take place ns ++ drop (suc place) ns
-without_at n [] place at once = absurd (none-some n at)
-without_at n (m ∷ ms) zero at once = without_here n m ms (sym (same_Some m n at))
-without_at n (m ∷ ms) (suc place) at once =
-    let other : n ≢ m = λ same. true≢false (sym (listed_member ms place n at) ∙ ap (is_member ms) same ∙ once.0) in
-    without_tail n m ms other ∙ ap (λ (rest : List ℕ). m ∷ rest) (without_at n ms place at once.1)
+-- those behind the first move up, one after the other
+up_one : (m : ℕ) (ms : List ℕ) (i : ℕ) → i < length ms → set (take i ms ++ drop i (m ∷ ms)) i (get_or (take i ms ++ drop i (m ∷ ms)) (suc i) 0) ≡ take
+    (suc i) ms ++ drop i ms
+up_one m [] i below = absurd (omega (arith, below))
+up_one m (k ∷ ks) zero below = refl
+up_one m (k ∷ ks) (suc i) below = ap (λ (rest : List ℕ). k ∷ rest) (up_one k ks i (omega (arith, below)))
+
+up_last : (m n : ℕ) (ms : List ℕ) (i : ℕ) → i ≡ length ms → set (take i ms ++ drop i (m ∷ ms)) i n ≡ ms ++ n ∷ []
+up_last m n [] zero is = refl
+up_last m n [] (suc i) is = absurd (omega (arith, is))
+up_last m n (k ∷ ks) zero is = absurd (omega (arith, is))
+up_last m n (k ∷ ks) (suc i) is = ap (λ (rest : List ℕ). k ∷ rest) (up_last k n ks i (omega (arith, is)))
+
+apart_from : (m : ℕ) (ms : List ℕ) (place n : ℕ) → slice_get ms place ≡ Some n → is_member ms m ≡ false → n ≢ m
+apart_from m ms place n at none same = true≢false (sym (listed_member ms place n at) ∙ ap (is_member ms) same ∙ none)
+
+module _ (n : ℕ) where
+  pub move_begun : (ns : List ℕ) (place : ℕ) → slice_get ns place ≡ Some n → AllDiffer ns → ns ≡ take place (without n ns) ++ drop place ns
+  move_begun [] place at once = absurd (none-some n at)
+  move_begun (m ∷ ms) zero at once = refl
+  move_begun (m ∷ ms) (suc place) at once =
+      ap (λ (rest : List ℕ). m ∷ rest) (move_begun ms place at once.1)
+      ∙ ap (λ (rest : List ℕ). take (suc place) rest ++ drop place ms) (sym (without_tail n m ms (apart_from m ms place n at once.0)))
+
+  move_up : (ns : List ℕ) (place i : ℕ) → slice_get ns place ≡ Some n → AllDiffer ns → place ≤ i → suc i < length ns →
+      set (take i (without n ns) ++ drop i ns) i (get_or (take i (without n ns) ++ drop i ns) (suc i) 0) ≡ take (suc i) (without n ns) ++ drop (suc i) ns
+  move_up [] place i at once from below = absurd (none-some n at)
+  move_up (m ∷ ms) zero i at once from below =
+      subst (λ (rest : List ℕ). set (take i rest ++ drop i (m ∷ ms)) i (get_or (take i rest ++ drop i (m ∷ ms)) (suc i) 0) ≡ take (suc i) rest ++ drop i ms)
+      (sym (without_here n m ms (sym (same_Some m n at)))) (up_one m ms i (omega (arith, below)))
+  move_up (m ∷ ms) (suc place) zero at once from below = absurd (omega (arith, from))
+  move_up (m ∷ ms) (suc place) (suc i) at once from below =
+      subst (λ (rest : List ℕ). set (take (suc i) rest ++ drop i ms) (suc i) (get_or (take (suc i) rest ++ drop i ms) (suc (suc i)) 0) ≡ take (suc (suc i))
+      rest ++ drop (suc i) ms)
+      (sym (without_tail n m ms (apart_from m ms place n at once.0)))
+      (ap (λ (rest : List ℕ). m ∷ rest) (move_up ms place i at once.1 (omega (arith, from)) (omega (arith, below))))
+
+  pub moved_up : (xs ns : List ℕ) (place i j : ℕ) → slice_get ns place ≡ Some n → AllDiffer ns → place ≤ i → j ≡ suc i → j < length ns →
+      xs ≡ take i (without n ns) ++ drop i ns → set xs i (get_or xs j 0) ≡ take j (without n ns) ++ drop j ns
+  moved_up xs ns place i j at once from next below is =
+      ap (λ (ys : List ℕ). set ys i (get_or ys j 0)) is
+      ∙ subst (λ (k : ℕ). set (take i (without n ns) ++ drop i ns) i (get_or (take i (without n ns) ++ drop i ns) k 0) ≡ take k (without n ns) ++ drop k
+      ns) (sym next)
+      (move_up ns place i at once from (omega (arith, next, below)))
+
+  move_last : (ns : List ℕ) (place i : ℕ) → slice_get ns place ≡ Some n → AllDiffer ns → place ≤ i → suc i ≡ length ns →
+      set (take i (without n ns) ++ drop i ns) i n ≡ without n ns ++ n ∷ []
+  move_last [] place i at once from last = absurd (none-some n at)
+  move_last (m ∷ ms) zero i at once from last =
+      subst (λ (rest : List ℕ). set (take i rest ++ drop i (m ∷ ms)) i n ≡ rest ++ n ∷ []) (sym (without_here n m ms (sym (same_Some m n at))))
+      (up_last m n ms i (omega (arith, last)))
+  move_last (m ∷ ms) (suc place) zero at once from last = absurd (omega (arith, from))
+  move_last (m ∷ ms) (suc place) (suc i) at once from last =
+      subst (λ (rest : List ℕ). set (take (suc i) rest ++ drop i ms) (suc i) n ≡ rest ++ n ∷ []) (sym (without_tail n m ms (apart_from m ms place n at once.0)))
+      (ap (λ (rest : List ℕ). m ∷ rest) (move_last ms place i at once.1 (omega (arith, from)) (omega (arith, last))))
+
+  pub moved_last : (xs ns : List ℕ) (place i : ℕ) → slice_get ns place ≡ Some n → AllDiffer ns → place ≤ i → suc i ≡ length ns →
+      xs ≡ take i (without n ns) ++ drop i ns → set xs i n ≡ without n ns ++ n ∷ []
+  moved_last xs ns place i at once from last is = ap (λ (ys : List ℕ). set ys i n) is ∙ move_last ns place i at once from last
 
 -- ---- an order with places
 

@@ -53,14 +53,26 @@ fn place_of(numbers: &[u64], number: u64) -> Option<usize>
 }
 
 // Moves the number at index `place` to the end, and those behind it one index forward.
+fn shift_to_end(numbers: &mut [u64], place: usize, number: u64)
+    requires there { slice_get numbers.old place ≡ Some number }
+    requires once { AllDiffer numbers.old }
+    ensures { numbers.new ≡ without number numbers.old ++ number ∷ [] }
+{
+    let last = numbers.len() - 1;
+    for i in place..last {
+        numbers[i] = numbers[i + 1];
+    }
+    numbers[last] = number;
+}
+
+// The same in a `Vec`.
 fn move_to_end(numbers: &mut Vec<u64>, place: usize, number: u64)
     requires there { slice_get numbers.old.items place ≡ Some number }
     requires once { AllDiffer numbers.old.items }
     ensures moved { numbers.new.items ≡ without number numbers.old.items ++ number ∷ [] }
     ensures capacity { vec_capacity numbers.new ≡ vec_capacity numbers.old }
 {
-    numbers.remove(place);
-    numbers.push_reserved(number);
+    shift_to_end(numbers, place, number);
 }
 
 // Moves the first of the latest numbers to the end of the order.

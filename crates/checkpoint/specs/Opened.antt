@@ -1,19 +1,14 @@
 -- The results of opening a device, and why one isn't opened.
-use Rattle.checkpoint.specs.Names.{ℕ, Result, IsErrOf, ⊤, Image, Disk, Agrees, Narrows, Peeks, IsBadBy}
-use Rattle.std.specs.Prelude.{◌≡◌, ◌↔◌, ◌<◌, ◌≤◌}
-use Rattle.checkpoint.specs.declared.open_fault.OpenFault.{OpenFault}
-use Rattle.checkpoint.specs.declared.open_fault.OpenFault.TheVariants as refusal
+use Rattle.checkpoint.specs.Names.{ℕ, ⊤, Image, Disk, Agrees, Narrows, Peeks, IsBadBy}
+use Rattle.std.specs.Prelude.{◌≡◌, ◌<◌}
+use Rattle.layout.specs.declared.open_fault.OpenFault.{OpenFault}
+use Rattle.layout.specs.declared.open_fault.OpenFault.TheVariants as refusal
 
 -- why an image is refused, where the device didn't fail
 abbrev pub IsBadFor : Image → ℕ → OpenFault → Type 0
 IsBadFor image size refusal.Failed = ⊤
 IsBadFor image size refusal.NoMemory = ⊤
 IsBadFor image size (refusal.Bad reason) = IsBadBy image size reason
-
--- the count of failures rises exactly where the device failed, and never falls
-pub record CountsOpen {T : Type 0} (old new : Disk) (result : Result T OpenFault) : Type 0 where
-  pub never_falls : old.failures ≤ new.failures
-  pub cause : IsErrOf result refusal.Failed ↔ (old.failures < new.failures)
 
 -- nothing was written: a crash leaves nothing that it couldn't have left before
 pub record OnlyReads (old new : Disk) : Type 0 where

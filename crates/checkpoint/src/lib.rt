@@ -3,9 +3,10 @@
 #![tactic(auto)]
 
 mod committed;
-mod open_fault;
+mod open_refused;
 mod store;
 
 pub use committed::Checkpoint;
-pub use open_fault::{OpenFault, OpenRefused};
+pub use layout::OpenFault;
+pub use open_refused::OpenRefused;
 pub use store::ObjectStore;

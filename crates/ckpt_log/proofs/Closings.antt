@@ -6,7 +6,7 @@ use Rattle.ckpt_log.proofs.Names.{WasKeptOrHasNone}
 use Rattle.std.proofs.Common.{◌≡◌, ◌≤◌, ◌+◌, ◌*◌, ◌%◌, ◌∙◌}
 use Rattle.std.specs.Prelude.{◌==◌, ◌&&◌}
 use Rattle.ckpt_log.proofs.Runs.{IsClosing}
-use Rattle.ckpt_log.proofs.Winners.{Wins, belongs, committed, counts_at, counts_if, number_at, opened, winner}
+use Rattle.ckpt_log.proofs.Commits.{Wins, belongs, committed, counts_at, counts_if, number_at, opened, winner}
 
 -- ---- an image whose gates alone change
 

@@ -1,13 +1,8 @@
 mod Names
-pub mod BesideHeaders
+pub mod Places
 pub mod Closings
 pub mod Commits
-pub mod Denoted
-mod Directories
-pub mod Places
-mod ReadBack
-mod Refusals
-pub mod Runs
 pub mod SavedStates
+mod Directories
+pub mod Runs
 mod Sectors
-mod Winners

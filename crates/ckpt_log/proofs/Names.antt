@@ -26,8 +26,8 @@ unfoldable pub use Rattle.layout.specs.Image.{sectors_from}
 pub use Rattle.layout.specs.Superblock.{IsPlan, Plan}
 pub use Rattle.layout.specs.declared.bad_image.BadImage.{BadImage}
 pub use Rattle.layout.specs.declared.directory.Entry.{Entry}
-pub use Rattle.layout.specs.declared.frame_io.fault.Unreadable.{Unreadable}
-pub use Rattle.layout.specs.declared.frame_io.fault.Unreadable.TheVariants.{Bad, Failed}
+pub use Rattle.layout.specs.declared.open_fault.OpenFault.{OpenFault}
+pub use Rattle.layout.specs.declared.open_fault.OpenFault.TheVariants.{Bad, Failed, NoMemory}
 pub use Rattle.layout.specs.declared.gate.Gate.TheVariants.{Closed, Open}
 pub use Rattle.layout.specs.declared.header.CheckpointHeader.{CheckpointHeader}
 pub use Rattle.model.specs.Frame.{frame_at}
@@ -39,7 +39,7 @@ pub use Rattle.std.proofs.Math.Seq.{take-append_seam}
 pub use Rattle.std.proofs.lemmas.Bool.{and_from, and_parts, cases_eq, cases_lt, eq-eqb, eqb-true, le-ltb, lt-ltb}
 pub use Rattle.std.proofs.lemmas.List.{drop-replicate, take-replicate, take_all}
 pub use Rattle.std.proofs.lemmas.Nat.{from_le_bytes-to_le_bytes_8}
-pub use Rattle.std.proofs.lemmas.Result.{err_from_is_err_and}
+pub use Rattle.std.proofs.lemmas.Result.{err_from_is_err_and, on_ok_weaker}
 pub use Rattle.std.specs.Int.{from_le_bytes, w64}
 pub use Rattle.std.specs.Prelude.{OnOk, codes, cond}
 pub use Rattle.ckpt_log.specs.Closing.{AreClosed, IsLesser, KeepsOrHasNone, SparesRest, WasKeptOrHasNone}

@@ -1,6 +1,10 @@
--- Where slots and directories lie in a half of the log.
+-- Where slots and directories lie.
 use Rattle.ckpt_log.proofs.Names.{inl, inr, arith, cases_lt, shape_of, half_within, half_apart, few_sectors, SlotsAreInside, FramesAreInSlots}
-use Rattle.ckpt_log.proofs.Names.{DirectoriesAreInside, HalvesAreWithin, HalvesAreApart, SlotsAreApart, SlotsSpareDirectories}
+use Rattle.ckpt_log.proofs.Names.{DirectoriesAreInside, HalvesAreWithin, HalvesAreApart, SlotsAreApart, SlotsSpareDirectories, ℕ, List, take, ap, Plan, IsPlan}
+use Rattle.ckpt_log.proofs.Names.{place_length, frame_sector, half_sector, slot_sector, directory_sector, directory_length, same_sectors, same_shaped}
+use Rattle.ckpt_log.proofs.Names.{SequencesAreReported, NextFollows, HeadersSpareSectors, HeadersSpareFrames, HeadersSpareSlots, HeadersSpareDirectories}
+use Rattle.std.proofs.Common.{◌+◌, ◌*◌, ◌≤◌}
+use Rattle.ckpt_log.proofs.Commits.{sequence_of, next_fits, precedes}
 
 pub slots_inside : SlotsAreInside
 slots_inside p generation slot lt = record { starts = omega arith; ends = omega arith }
@@ -27,3 +31,36 @@ pub halves_apart : HalvesAreApart
 halves_apart p a b fits differ = half_apart p a b fits differ
 
 pub ruleset place_laws = (slots_inside, frames_in_slots, directories_inside, halves_within, halves_apart, slots_apart, slots_spare_directories)
+
+-- ---- what lies apart from the headers
+
+pub sequences_reported : SequencesAreReported
+sequences_reported h fits = sequence_of h fits
+
+pub next_follows : NextFollows
+next_follows image room h next is commits after = let more = next_fits is in precedes image h next commits (omega (arith, more)) after
+
+pub spare_sectors : HeadersSpareSectors
+spare_sectors old new h at n behind e = (e.before 0 (omega arith), λ i lt. e.after (at + i) (omega (arith, behind)))
+
+pub spare_frames : HeadersSpareFrames
+spare_frames old new h p generation es object behind e =
+    same_shaped (frame_sector p generation es object) (shape_of p object) old new
+    (spare_sectors old new h (frame_sector p generation es object) (place_length p object) behind e).1
+
+pub half_behind : (p : Plan) (generation : ℕ) → IsPlan p → 5 ≤ half_sector p generation
+half_behind p generation fits = (half_within p generation fits).0
+
+pub spare_slots : HeadersSpareSlots
+spare_slots old new h p generation slot object fits e =
+    let behind = half_behind p generation fits in
+    same_shaped (slot_sector p generation slot) (shape_of p object) old new
+    (spare_sectors old new h (slot_sector p generation slot) (place_length p object) (omega (arith, behind)) e).1
+
+pub spare_directories : HeadersSpareDirectories
+spare_directories old new h p generation n fits e =
+    let behind = half_behind p generation fits in
+    ap (λ (b : List ℕ). take (16 * n) b) (same_sectors (directory_sector p generation) (directory_length n) old new
+    (spare_sectors old new h (directory_sector p generation) (directory_length n) (omega (arith, behind)) e).1)
+
+pub ruleset header_laws = (sequences_reported, next_follows, spare_sectors, spare_frames, spare_slots, spare_directories)

@@ -1,5 +1,5 @@
 -- One sector of a device.
-use Rattle.ckpt_log.proofs.Names.{ℕ, List, [], Result, Ok, Err, length, take, drop, refl, sym, ap, arith, append-nil, take_all, OnOk, Image, Disk, Agrees}
+use Rattle.ckpt_log.proofs.Names.{ℕ, List, [], length, take, drop, refl, sym, ap, arith, append-nil, take_all, Image, Disk, Agrees}
 use Rattle.ckpt_log.proofs.Names.{AreSectors, sectors_of, sectors_from, LeavesOnly, CountsNow, ends}
 use Rattle.std.proofs.Common.{◌≡◌, ◌+◌, ◌*◌, ◌/◌, ◌++◌, ◌∙◌}
 
@@ -16,11 +16,6 @@ sector_is image {at} {bytes} size are =
 -- what a read gives where a run ends has what a crash leaves
 pub seen_has : {old new : Disk} {P : Image → Type 0} → LeavesOnly old new P → CountsNow new → new.may_leave new.seen → P new.seen
 seen_has {old} {new} {P} run counts_now left = ends run counts_now new.seen left
-
--- what follows from what is so at Ok
-pub on_ok : {T E : Type 0} (result : Result T E) {P Q : Type 0} → (P → Q) → OnOk result P → OnOk result Q
-on_ok (Ok value) {P} {Q} follows is = follows is
-on_ok (Err error) {P} {Q} follows is = tt
 
 one_from : (image : Image) (at : ℕ) → sectors_from image at 1 ≡ image at ++ []
 unfolding sectors_from

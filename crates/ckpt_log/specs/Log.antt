@@ -1,12 +1,12 @@
 -- Which header in the log is committed, and which objects its directory names.
 use Rattle.ckpt_log.specs.Names.{ℕ, Option, Some, None, List, take, ⊤, BadImage, Entry, CheckpointHeader, header_bytes}
 use Rattle.ckpt_log.specs.Names.{IsHeader, Image, HasHeader, HasDirectory, HasNoHeader, HasBadHeader, HasBadDirectory}
-use Rattle.ckpt_log.specs.Names.{Plan, Unreadable}
+use Rattle.ckpt_log.specs.Names.{Plan, OpenFault}
 use Rattle.std.specs.Prelude.{◌≡◌}
 use Rattle.layout.specs.declared.bad_image.BadImage.TheVariants as bad
 use Rattle.ckpt_log.specs.declared.header_slot.HeaderSlot.{HeaderSlot}
 use Rattle.ckpt_log.specs.declared.header_slot.HeaderSlot.TheVariants.{First, Second}
-use Rattle.layout.specs.declared.frame_io.fault.Unreadable.TheVariants as fault
+use Rattle.layout.specs.declared.open_fault.OpenFault.TheVariants as fault
 
 -- of the bytes of two headers those in this slot
 abbrev pub chosen : Option HeaderSlot → List ℕ → List ℕ → Option (List ℕ)
@@ -26,7 +26,7 @@ IsRefusedBy room bytes bad.BadHeader = (bytes ≡ None → ⊥) ×
 IsRefusedBy room bytes _ = ⊥
 
 -- why an image has no committed header, where the device didn't fail
-abbrev pub HasNone : Image → Plan → Unreadable → Type 0
+abbrev pub HasNone : Image → Plan → OpenFault → Type 0
 HasNone image p fault.Failed = ⊤
 HasNone image p (fault.Bad bad.NoHeader) = HasNoHeader image
 HasNone image p (fault.Bad bad.BadHeader) = (HasNoHeader image → ⊥) × HasBadHeader image p
@@ -37,7 +37,7 @@ abbrev pub HasCommitted : Image → Plan → CheckpointHeader → List Entry →
 HasCommitted image p h entries = HasHeader image p h × HasDirectory image p h (take h.entries entries)
 
 -- why an image has no committed header with a directory: the least reason, where the device didn't fail
-abbrev pub HasNoCommitted : Image → Plan → Unreadable → Type 0
+abbrev pub HasNoCommitted : Image → Plan → OpenFault → Type 0
 HasNoCommitted image p (fault.Bad bad.BadDirectory) = (h : CheckpointHeader) × HasHeader image p h × HasBadDirectory
     image p h
 HasNoCommitted image p e = HasNone image p e

@@ -1,11 +1,12 @@
 -- What the slots of the log and its directories hold.
 use Rattle.ckpt_log.specs.Names.{ℕ, List, ⊤, Frame, Geometry, BadDirectory, Entry, directory_bytes, IsDirectory}
-use Rattle.ckpt_log.specs.Names.{IsFrameOf, frame_bytes, Unreadable, Failed, Bad, IsRefused}
+use Rattle.ckpt_log.specs.Names.{IsFrameOf, frame_bytes, OpenFault, Failed, NoMemory, Bad, IsRefused}
 use Rattle.std.specs.Prelude.{◌≡◌}
 
 -- bytes are refused where they spell no directory
-abbrev pub IsBadDirectory : Geometry → List ℕ → Unreadable → Type 0
+abbrev pub IsBadDirectory : Geometry → List ℕ → OpenFault → Type 0
 IsBadDirectory g bytes Failed = ⊤
+IsBadDirectory g bytes NoMemory = ⊥
 IsBadDirectory g bytes (Bad reason) = (reason ≡ BadDirectory) ×
     ((es : List Entry) → IsDirectory g es → bytes ≡ directory_bytes es → ⊥)
 
@@ -13,10 +14,10 @@ IsBadDirectory g bytes (Bad reason) = (reason ≡ BadDirectory) ×
 abbrev pub SlotsAreReadBack : Type 0
 SlotsAreReadBack = (g : Geometry) (age object : ℕ) (f : Frame) → IsFrameOf g age object (frame_bytes g object f) f →
     ((read : Frame) → IsFrameOf g age object (frame_bytes g object f) read → read ≡ f)
-    × ((e : Unreadable) → IsRefused g age object (frame_bytes g object f) e → e ≡ Failed)
+    × ((e : OpenFault) → IsRefused g age object (frame_bytes g object f) e → e ≡ Failed)
 
 -- and so is a directory
 abbrev pub DirectoriesAreReadBack : Type 0
 DirectoriesAreReadBack = (g : Geometry) (es : List Entry) → IsDirectory g es →
     ((read : List Entry) → IsDirectory g read → directory_bytes es ≡ directory_bytes read → read ≡ es)
-    × ((e : Unreadable) → IsBadDirectory g (directory_bytes es) e → e ≡ Failed)
+    × ((e : OpenFault) → IsBadDirectory g (directory_bytes es) e → e ≡ Failed)

@@ -3,7 +3,7 @@ ghost use Rattle.std.specs.Prelude.{◌≡◌, ◌≤◌, length, option_map, If
 ghost use Rattle.layout.specs.Image.{does_count, committed_of, HasHeader};
 ghost use Rattle.device.specs.Calls.{Counts};
 ghost use Rattle.layout.specs.Calls.{ReadsOnly};
-ghost use Rattle.layout.specs.Fault.{CountsFailed};
+ghost use Rattle.layout.specs.Fault.{CountsOpen};
 ghost use Rattle.ckpt_log.specs.HeaderSlot.{slot_number, header_at, gate_at};
 ghost use Rattle.ckpt_log.specs.Log.{chosen, IsHeaderIn, IsRefusedBy, HasNone, HasCommitted, HasNoCommitted};
 
@@ -12,7 +12,7 @@ use crate::log::Log;
 use crate::sector::read_sector;
 use device::{Device, Failed, SECTOR_SIZE};
 use layout::{
-    BadImage, CheckpointHeader, Entry, Gate, Unreadable, decode_gate, decode_header, sequence_in,
+    BadImage, CheckpointHeader, Entry, Gate, OpenFault, decode_gate, decode_header, sequence_in,
 };
 
 // Reads the header of a slot, and answers whether it counts: its gate is open, and it belongs in
@@ -67,12 +67,12 @@ fn choose(
 
 impl<'a> Log<'a> {
     // The committed header.
-    fn find_header<D: Device>(&self, device: &mut D) -> Result<CheckpointHeader, Unreadable>
+    fn find_header<D: Device>(&self, device: &mut D) -> Result<CheckpointHeader, OpenFault>
         requires inside { self.now.total ≤ (D.disk device.old).sectors }
         ensures found { IfOk result (λ h. HasHeader (D.disk device.old).seen self.now h) }
         ensures refused { IfErr result (λ e. HasNone (D.disk device.old).seen self.now e) }
         ensures reads { ReadsOnly (D.disk device.old) (D.disk device.new) }
-        ensures cause { CountsFailed (D.disk device.old) (D.disk device.new) result }
+        ensures cause { CountsOpen (D.disk device.old) (D.disk device.new) result }
     {
         let room = self.geometry().log;
         let mut first = [0; SECTOR_SIZE];
@@ -99,7 +99,7 @@ impl<'a> Log<'a> {
         &self,
         device: &mut D,
         directory: &mut [Entry],
-    ) -> Result<CheckpointHeader, Unreadable>
+    ) -> Result<CheckpointHeader, OpenFault>
         requires room { self.now.geometry.log ≤ length directory.old }
         requires inside { self.now.total ≤ (D.disk device.old).sectors }
         ensures found { IfOk result (λ h.
@@ -107,7 +107,7 @@ impl<'a> Log<'a> {
         ensures refused { IfErr result (λ e. HasNoCommitted (D.disk device.old).seen self.now e) }
         ensures length { length directory.new ≡ length directory.old }
         ensures reads { ReadsOnly (D.disk device.old) (D.disk device.new) }
-        ensures cause { CountsFailed (D.disk device.old) (D.disk device.new) result }
+        ensures cause { CountsOpen (D.disk device.old) (D.disk device.new) result }
     {
         let header = self.find_header(device)?;
         let named = &mut directory[..header.entries as usize];

@@ -4,13 +4,13 @@ ghost use Rattle.layout.specs.Directory.{directory_bytes, IsDirectory};
 ghost use Rattle.layout.specs.Image.{directory_sector, directory_length, directory_in, sectors_from};
 ghost use Rattle.device.specs.Calls.{Counts};
 ghost use Rattle.layout.specs.Calls.{ReadsOnly, WritesAt};
-ghost use Rattle.layout.specs.Fault.{CountsFailed};
+ghost use Rattle.layout.specs.Fault.{CountsOpen};
 ghost use Rattle.ckpt_log.specs.Slot.{IsBadDirectory};
 
 use crate::log::Log;
 use device::{Device, Failed, SECTOR_SIZE};
 use layout::{
-    BadImage, ENTRY_BYTES, Entry, Unreadable, decode_directory, encode_directory, read_sectors,
+    BadImage, ENTRY_BYTES, Entry, OpenFault, decode_directory, encode_directory, read_sectors,
     write_sectors,
 };
 use model::Geometry;
@@ -29,6 +29,33 @@ fn put_entries(entries: &[Entry], into: &mut [u8])
     ensures size { length into.new ≡ length into.old }
 {
     encode_directory(entries, &mut into[..ENTRY_BYTES * entries.len()]);
+}
+
+// Writes a directory into the sectors from `at` on, in a buffer of zeros that has space for them.
+fn write_entries<D: Device>(
+    device: &mut D,
+    at: u64,
+    entries: &[Entry],
+    zeros: &mut [u8],
+) -> Result<(), Failed>
+    requires zeros { zeros.old ≡ replicate (length zeros.old) 0 }
+    requires few { length entries.now ≤ 4096 }
+    requires room { 512 * directory_length (length entries.now) ≤ length zeros.old }
+    requires inside { at + directory_length (length entries.now) ≤ (D.disk device.old).sectors }
+    ensures written { OnOk result (take (16 * length entries.now)
+        (sectors_from (D.disk device.new).seen at (directory_length (length entries.now)))
+        ≡ directory_bytes entries.now) }
+    ensures rest { OnOk result (drop (16 * length entries.now)
+        (sectors_from (D.disk device.new).seen at (directory_length (length entries.now)))
+        ≡ replicate (512 * directory_length (length entries.now) - 16 * length entries.now) 0) }
+    ensures writes { WritesAt at (directory_length (length entries.now))
+        (D.disk device.old) (D.disk device.new) }
+    ensures cause { Counts (D.disk device.old) (D.disk device.new) result }
+{
+    let sectors = (entries.len() + ENTRIES_IN_SECTOR - 1) / ENTRIES_IN_SECTOR;
+    let run = &mut zeros[..SECTOR_SIZE * sectors];
+    put_entries(entries, run);
+    write_sectors(device, at, sectors, run)
 }
 
 // Reads a directory of as many entries as `into` takes from the first of the bytes.
@@ -74,11 +101,10 @@ impl<'a> Log<'a> {
             return Ok(());
         }
         let at = self.directory_sector(generation);
-        let mut bytes = [0; MAX_BYTES];
-        let sectors = (entries.len() + ENTRIES_IN_SECTOR - 1) / ENTRIES_IN_SECTOR;
-        let run = &mut bytes[..SECTOR_SIZE * sectors];
-        put_entries(entries, run);
-        write_sectors(device, at, sectors, run)
+        if entries.len() <= ENTRIES_IN_SECTOR {
+            return write_entries(device, at, entries, &mut [0; SECTOR_SIZE]);
+        }
+        write_entries(device, at, entries, &mut [0; MAX_BYTES])
     }
 
     /// Reads a directory of as many entries as `into` takes from the half of a generation. It takes
@@ -91,7 +117,7 @@ impl<'a> Log<'a> {
         device: &mut D,
         generation: u64,
         into: &mut [Entry],
-    ) -> Result<(), Unreadable>
+    ) -> Result<(), OpenFault>
         requires few { length into.old ≤ self.now.geometry.log }
         requires inside { self.now.total ≤ (D.disk device.old).sectors }
         ensures found { OnOk result (IsDirectory self.now.geometry into.new
@@ -101,7 +127,7 @@ impl<'a> Log<'a> {
             (directory_in (D.disk device.new).seen self.now generation (length into.old)) e) }
         ensures reads { ReadsOnly (D.disk device.old) (D.disk device.new) }
         ensures untouched { length into.old ≡ 0 → device.new ≡ device.old }
-        ensures cause { CountsFailed (D.disk device.old) (D.disk device.new) result }
+        ensures cause { CountsOpen (D.disk device.old) (D.disk device.new) result }
     {
         if into.is_empty() {
             return Ok(());

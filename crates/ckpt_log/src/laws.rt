@@ -44,7 +44,7 @@ pub fn what_is_written_is_read()
 /// The bytes of a header have its sequence number, so the header with the next one may be published
 /// after the committed one. A write of a header's slot leaves the superblock and all that lies
 /// behind the headers: frames and directories. It does nothing: its contract is the law.
-#[tactic(auto, using(crate::proofs::BesideHeaders::header_laws))]
+#[tactic(auto, using(crate::proofs::Places::header_laws))]
 pub fn headers_spare_the_rest()
     ensures sequences { SequencesAreReported }
     ensures next { NextFollows }

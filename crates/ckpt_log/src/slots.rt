@@ -7,13 +7,13 @@ ghost use Rattle.layout.specs.Homes.{place_length, shape_of};
 ghost use Rattle.layout.specs.Image.{bytes_at, sectors_from, slot_sector};
 ghost use Rattle.layout.specs.Calls.{ReadsOnly, WritesAt};
 ghost use Rattle.layout.specs.Clusters.{HasZerosBeside};
-ghost use Rattle.layout.specs.Fault.{CountsFailed};
+ghost use Rattle.layout.specs.Fault.{CountsOpen};
 ghost use Rattle.layout.specs.Frames.{IsObject, IsRefused};
 ghost use Rattle.model.specs.Frame.{content_behind};
 
 use crate::log::Log;
 use device::{Device, Failed};
-use layout::{Body, Scratch, Unreadable, read_frame, write_frame, write_page};
+use layout::{Body, OpenFault, Scratch, read_frame, write_frame, write_page};
 use model::{Cap, ContentRef, ObjectHeader};
 
 impl<'a> Log<'a> {
@@ -31,7 +31,7 @@ impl<'a> Log<'a> {
         number: u64,
         age: u64,
         scratch: &mut Scratch,
-    ) -> Result<(ObjectHeader, Body), Unreadable>
+    ) -> Result<(ObjectHeader, Body), OpenFault>
         requires object { IsObject self.now.geometry number }
         requires slot { slot < self.now.geometry.log }
         requires inside { self.now.total ≤ (D.disk device.old).sectors }
@@ -42,7 +42,7 @@ impl<'a> Log<'a> {
             (bytes_at (D.disk device.new).seen (slot_sector self.now generation slot)
             self.now number) e) }
         ensures reads { ReadsOnly (D.disk device.old) (D.disk device.new) }
-        ensures cause { CountsFailed (D.disk device.old) (D.disk device.new) result }
+        ensures cause { CountsOpen (D.disk device.old) (D.disk device.new) result }
     {
         let at = self.slot_sector(generation, slot);
         let shape = self.shape(number);

@@ -1,6 +1,6 @@
 -- The slots whose sectors have the frames of objects, and their entries.
 use Rattle.home_ranges.proofs.Names.{ℕ, suc, Bool, Option, Some, None, List, [], length, refl, sym, ap, inl, inr, arith, cases_eq, eq-eqb, ne_eqb, Entry}
-use Rattle.home_ranges.proofs.Names.{entry_at, home_place, slot_in, slot_beside, or_beside, frame_slot_in, Plan, found_slot}
+use Rattle.home_ranges.proofs.Names.{entry_at, home_place, slot_in, slot_beside, or_beside, frame_slot_in, Plan, found_slot, same_Some}
 use Rattle.std.proofs.Common.{◌≡◌, ◌<◌, ◌∷◌, ◌∙◌}
 use Rattle.std.specs.Prelude.{if◌then◌else◌}
 
@@ -20,13 +20,10 @@ pub record HasBeside (p : Plan) (es : List Entry) (n slot : ℕ) : Type 0 where
   pub home_is : home_place p (entry_at es index).object ≡ home_place p n
   pub slot_is : (entry_at es index).slot ≡ slot
 
-pub same_some : {a b : ℕ} → Some a ≡ Some b → a ≡ b
-same_some e = cc
-
 pub found_beside : (p : Plan) (es : List Entry) (n s : ℕ) → slot_beside p es n ≡ Some s → HasBeside p es n s
 found_beside p [] n s is = absurd cc
 found_beside p (e ∷ es) n s is = elim (cases_eq (home_place p e.object) (home_place p n)) [
-  | inl same ↦ record { index = 0; within = omega arith; home_is = same; slot_is = same_some (sym (beside_here p e es n same) ∙ is) }
+  | inl same ↦ record { index = 0; within = omega arith; home_is = same; slot_is = same_Some _ _ (sym (beside_here p e es n same) ∙ is) }
   | inr other ↦
       let rest = found_beside p es n s (sym (beside_behind p e es n other) ∙ is) in
       record { index = suc rest.index; within = omega (arith, rest.within); home_is = rest.home_is; slot_is = rest.slot_is }
@@ -50,5 +47,5 @@ frame_slot_entry p es n s frame_slot = by (slot_in es n) refl where
   by None none = found_beside p es n s (sym (beside_frame_slot p es n none) ∙ frame_slot)
   by (Some t) own =
       let entry = found_slot es n t own in
-      let same : t ≡ s = same_some (sym (own_frame_slot p es n own) ∙ frame_slot) in
+      let same : t ≡ s = same_Some _ _ (sym (own_frame_slot p es n own) ∙ frame_slot) in
       record { index = entry.index; within = entry.within; home_is = ap (home_place p) entry.object_is; slot_is = entry.slot_is ∙ same }

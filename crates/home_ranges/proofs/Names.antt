@@ -27,6 +27,7 @@ pub use Rattle.std.proofs.Common.{refl, subst, suc, sym, true, zero, ℕ, ⊎_el
 pub use Rattle.std.proofs.lemmas.Bool.{cases_eq, cases_lt, eq-eqb, ne_eqb}
 pub use Rattle.std.proofs.lemmas.Bool.Decides.{nat_tests}
 pub use Rattle.std.proofs.lemmas.List.{get_or-map, get_or_append_left, length-map}
+pub use Rattle.std.proofs.lemmas.Option.{same_Some}
 pub use Rattle.std.specs.Prelude.{OnOk, ⊤}
 pub use Rattle.home_ranges.specs.Home.{EndsInZeros, HaveHome, HoldsHome}
 pub use Rattle.home_ranges.specs.Laws.{FramesAreHome, FramesStay, NumbersAreApart, PlacesAreApart, PlacesAreWithin, PlacesSpareLog, home_extent}

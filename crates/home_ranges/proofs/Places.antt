@@ -5,7 +5,7 @@ use Rattle.home_ranges.proofs.Names.{Extent, HomeRange, Half, First, Second, Sha
 use Rattle.home_ranges.proofs.Names.{place_in, place_by, home_place, rank_in, shape_of, place_length, sectors_from, node_shape, shape_bytes, shape_length, Plan}
 use Rattle.home_ranges.proofs.Names.{IsPlan, Cover, IsOfOneKind, IsWithin, IsApart, IsInside, extent_at, extents, nodes_length, range_extent, half_extent}
 use Rattle.home_ranges.proofs.Names.{half_start, itself, apart_inside, apart_turned, many, half_at, IsObject, EndsInZeros, HaveHome, HoldsHome, home_extent}
-use Rattle.home_ranges.proofs.Names.{PlacesAreWithin, PlacesAreApart, NumbersAreApart, PlacesSpareLog}
+use Rattle.home_ranges.proofs.Names.{PlacesAreWithin, PlacesAreApart, NumbersAreApart, PlacesSpareLog, same_Some}
 use Rattle.std.proofs.Common.{◌≡◌, ◌⊎◌, ◌+◌, ◌-◌, ◌*◌, ◌/◌, ◌%◌, ◌<◌, ◌≤◌, ◌∷◌, ◌∙◌}
 use Rattle.std.specs.Prelude.{if◌then◌else◌}
 use Rattle.home_ranges.proofs.Tests.{if_false, if_true, in_false, in_true}
@@ -316,13 +316,6 @@ written_home (Err error) bytes image fits is place shape length held = tt
 
 -- ---- the range that was found
 
--- the sector of a range lies on a device
-sector_fits : {p : Plan} {i : ℕ} → IsPlan p → i < length p.ranges → (range_at p.ranges i).sector ≤ 131072
-sector_fits {p} {i} fits lt = let within = range_within fits lt in omega (arith, within.1, fits.total)
-
-same_range : {q r : HomeRange} → Some q ≡ Some r → q ≡ r
-same_range e = cc
-
 -- the range that has a number, and so the place of the number
 pub record IsRangeOf (p : Plan) (number : ℕ) (r : HomeRange) : Type 0 where
   pub sector : r.sector ≤ 131072
@@ -331,9 +324,9 @@ pub record IsRangeOf (p : Plan) (number : ℕ) (r : HomeRange) : Type 0 where
 range_of : {p : Plan} {number : ℕ} {r : HomeRange} → IsPlan p → IsObject p.geometry number → Some r ≡ range_with p.ranges number → IsRangeOf p number r
 range_of {p} {number} {r} fits is reported =
     let at = found number fits is in
-    let same : r ≡ range_at p.ranges at.0 = same_range (reported ∙ at.1.found) in
+    let same : r ≡ range_at p.ranges at.0 = same_Some _ _ (reported ∙ at.1.found) in
     record {
-      sector = subst (λ (q : HomeRange). q.sector ≤ 131072) (sym same) (sector_fits fits at.1.within);
+      sector = subst (λ (q : HomeRange). q.sector ≤ 131072) (sym same) (let within = range_within fits at.1.within in omega (arith, within.1, fits.total));
       place = ap (λ (q : Option HomeRange). place_by p.version p.geometry q number) (sym reported);
     }
 
@@ -495,7 +488,7 @@ module _ {p : Plan} {number : ℕ} (fits : IsPlan p) (is : IsObject p.geometry n
       let there = found number fits is in
       let at = there.1 in
       let q : HomeRange = range_at p.ranges there.0 in
-      let one : r ≡ q = same_range (reported ∙ at.found) in
+      let one : r ≡ q = same_Some _ _ (reported ∙ at.found) in
       let few : n ≡ min (q.count - (number - q.first)) (5 - rank) = subst (λ (x : HomeRange). n ≡ min (x.count - (number - x.first)) (5 - rank)) one count in
       let here = ranked_in at.has (sym (shape_is p at) ∙ shape) in record {
         object = λ k lt. omega (arith, lt, few, here.nodes, at.has.low, at.has.high);
@@ -503,7 +496,7 @@ module _ {p : Plan} {number : ℕ} (fits : IsPlan p) (is : IsObject p.geometry n
             (omega (arith, lt, few, here.value, at.has.low));
         all = λ a is_a low same.
             let both = one_range fits is_a is same in
-            let other : range_at p.ranges both.0 ≡ q = same_range (sym both.1.other.found ∙ at.found) in
+            let other : range_at p.ranges both.0 ≡ q = same_Some _ _ (sym both.1.other.found ∙ at.found) in
             let a_has : Has p.geometry q a = subst (λ (x : HomeRange). Has p.geometry x a) other both.1.one.has in
             let place : place_in p.version p.geometry q a ≡ place_in p.version p.geometry q number = subst
             (λ (x : HomeRange). place_in p.version p.geometry x a ≡ place_in p.version p.geometry x number) other both.1.place in

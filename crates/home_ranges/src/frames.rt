@@ -5,13 +5,13 @@ ghost use Rattle.layout.specs.Frame.{IsFrameOf, frame_of};
 ghost use Rattle.layout.specs.Homes.{home_place, place_length};
 ghost use Rattle.layout.specs.Image.{bytes_at, sectors_from};
 ghost use Rattle.layout.specs.Calls.{ReadsOnly, WritesAt};
-ghost use Rattle.layout.specs.Fault.{CountsFailed};
+ghost use Rattle.layout.specs.Fault.{CountsOpen};
 ghost use Rattle.layout.specs.Frames.{IsObject, IsRefused};
 ghost use Rattle.home_ranges.specs.Home.{HoldsHome};
 
 use crate::home::Home;
 use device::{Device, Failed};
-use layout::{Body, Scratch, Unreadable, read_frame, write_sectors};
+use layout::{Body, OpenFault, Scratch, read_frame, write_sectors};
 use model::ObjectHeader;
 
 impl<'a> Home<'a> {
@@ -27,7 +27,7 @@ impl<'a> Home<'a> {
         number: u64,
         age: u64,
         scratch: &mut Scratch,
-    ) -> Result<(ObjectHeader, Body), Unreadable>
+    ) -> Result<(ObjectHeader, Body), OpenFault>
         requires object { IsObject self.now.geometry number }
         requires inside { self.now.total ≤ (D.disk device.old).sectors }
         ensures found { IfOk result (λ read. IsFrameOf self.now.geometry age number
@@ -37,7 +37,7 @@ impl<'a> Home<'a> {
             (bytes_at (D.disk device.new).seen (home_place self.now number) self.now number)
             e) }
         ensures reads { ReadsOnly (D.disk device.old) (D.disk device.new) }
-        ensures cause { CountsFailed (D.disk device.old) (D.disk device.new) result }
+        ensures cause { CountsOpen (D.disk device.old) (D.disk device.new) result }
     {
         let at = self.place(number);
         let shape = self.shape(number);

@@ -2,7 +2,7 @@
 pub use Rattle.capability.proofs.Keeping.{keepable_later}
 pub use Rattle.checkpoint.specs.Opened.{OnlyReads}
 pub use Rattle.checkpoint.specs.Saved.{Holds, SavedFrames, kept_of}
-pub use Rattle.checkpoint.specs.declared.open_fault.OpenFault.{OpenFault}
+pub use Rattle.layout.specs.declared.open_fault.OpenFault.{OpenFault}
 pub use Rattle.description.proofs.DescribedOnce.{described_once}
 pub use Rattle.description.specs.Described.{HasFields, HasNumbers, IsDescribed, IsWorldFault}
 pub use Rattle.description.specs.Outcomes.{Fails}
@@ -54,6 +54,6 @@ pub use Rattle.image_builder.specs.Built.{Builds, BuildsFrom, IsAccepted, IsFirs
 pub use Rattle.image_builder.specs.Built.{plan_for}
 pub use Rattle.image_builder.specs.Checked.{AreLaid, IsLeftBuilding, IsRefusedEarly, IsSoundDescription}
 pub use Rattle.image_builder.specs.Laws.{NoFault, OneFault}
-pub use Rattle.image_builder.specs.Upgraded.{IsLeftUpgrading, IsNotUpgraded, IsOnlyRead, IsOpenedFrom, Upgrades, upgraded}
+pub use Rattle.image_builder.specs.Upgraded.{IsLeftUpgrading, IsNotUpgraded, IsOnlyRead, IsOpenedFrom, Upgrades, WritesUpgraded, upgraded}
 unfoldable pub use Rattle.image_builder.specs.Upgraded.{numbered}
 pub use Rattle.image_builder.specs.declared.upgrade_fault.UpgradeFault.{UpgradeFault}

@@ -5,7 +5,7 @@ use Rattle.image_builder.proofs.Names.{SavedState, Plan, OpenFault, OnlyReads, k
 use Rattle.image_builder.proofs.Names.{IsSoundSaved, RefusesToOpen, UpgradeFault, IsLeftUpgrading, IsNotUpgraded, IsOnlyRead, Upgrades, numbered, upgraded}
 use Rattle.std.proofs.Common.{◌≡◌, ◌<◌, ◌≤◌, ◌∙◌}
 use Rattle.std.specs.Prelude.{◌≢◌, IfOk}
-use Rattle.checkpoint.specs.declared.open_fault.OpenFault.TheVariants as opening
+use Rattle.layout.specs.declared.open_fault.OpenFault.TheVariants as opening
 use Rattle.image_builder.specs.declared.upgrade_fault.UpgradeFault.TheVariants as fault
 use Rattle.image_builder.proofs.Images.{holds_one}
 use Rattle.image_builder.proofs.Numbered.{directory_numbered, length_numbered}

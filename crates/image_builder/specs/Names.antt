@@ -2,15 +2,16 @@
 pub use Rattle.capability.specs.Parts.{frames_of}
 pub use Rattle.checkpoint.specs.Opened.{OnlyReads}
 pub use Rattle.checkpoint.specs.Saved.{Holds, SavedFrames, kept_of}
-pub use Rattle.checkpoint.specs.declared.open_fault.OpenFault.{OpenFault}
+pub use Rattle.layout.specs.declared.open_fault.OpenFault.{OpenFault}
 pub use Rattle.description.specs.Described.{HasFields, HasNumbers, IsDescribed}
 pub use Rattle.description.specs.Reading.{IsDescription}
 pub use Rattle.description.specs.declared.entry.Description.{Description}
 pub use Rattle.device.specs.Calls.{Elsewhere}
 pub use Rattle.device.specs.Disk.{Disk, Image}
+pub use Rattle.device.specs.Moments.{LeavesOnly}
 pub use Rattle.image_writer.specs.Faults.{fault_number}
 pub use Rattle.image_writer.specs.Laid.{MayBeLaid, laid_again, plan_from}
-pub use Rattle.image_writer.specs.Written.{first_saved, first_state}
+pub use Rattle.image_writer.specs.Written.{IsLeftWriting, first_saved, first_state}
 pub use Rattle.image_writer.specs.declared.fault.BuildFault.{BuildFault}
 pub use Rattle.image_writer.specs.declared.fault.BuildFault.TheVariants.{Failed, Field, Limits, NoMemory, Number, Owner}
 pub use Rattle.image_writer.specs.declared.fault.BuildFault.TheVariants.{Shape, Small, Target}

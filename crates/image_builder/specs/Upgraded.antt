@@ -1,9 +1,9 @@
 -- What `upgrade` writes, and why it doesn't.
-use Rattle.image_builder.specs.Names.{ℕ, List, [], Disk, Image, Elsewhere, Entry, Two, Encodes, SavedState, OpenFault}
+use Rattle.image_builder.specs.Names.{ℕ, List, [], Disk, Image, Elsewhere, LeavesOnly, Entry, Two, Encodes, SavedState}
 use Rattle.image_builder.specs.Names.{OnlyReads, Holds, SavedFrames, kept_of, frames_of, StoreState, parts_of, saved_by}
-use Rattle.image_builder.specs.Names.{laid_again, IsSoundSaved, RefusesToOpen}
-use Rattle.std.specs.Prelude.{◌≡◌, ◌⊎◌, ◌↔◌, ◌+◌, ◌<◌, ◌≤◌, ◌∷◌}
-use Rattle.checkpoint.specs.declared.open_fault.OpenFault.TheVariants as opening
+use Rattle.image_builder.specs.Names.{laid_again, IsLeftWriting, IsSoundSaved, OpenFault, RefusesToOpen}
+use Rattle.std.specs.Prelude.{◌≡◌, ◌≢◌, ◌⊎◌, ◌↔◌, ◌+◌, ◌<◌, ◌≤◌, ◌∷◌, Result, IfErr, IfOk, IsErrOf, OnOk}
+use Rattle.layout.specs.declared.open_fault.OpenFault.TheVariants as opening
 use Rattle.image_builder.specs.declared.upgrade_fault.UpgradeFault.{UpgradeFault}
 use Rattle.image_builder.specs.declared.upgrade_fault.UpgradeFault.TheVariants as fault
 
@@ -30,6 +30,21 @@ pub record Upgrades (old before new : Disk) : Type 0 where
   pub encodes : Encodes new.seen new.sectors (upgraded state)
   pub crash : (c : Image) → new.may_leave c → Encodes c new.sectors (upgraded state)
   pub elsewhere : Elsewhere 0 (laid_again Two state.plan).total before.seen new.seen
+
+-- a saved state was written over what a new device held, by version 2 of the layout; or why not
+pub record WritesUpgraded {E : Type 0} (disk : E → Disk) (s : SavedState) (old new : E)
+    (result : Result ℕ UpgradeFault) : Type 0 where
+  pub total : IfOk result (λ total. total ≡ (laid_again Two s.plan).total)
+  pub encodes : OnOk result (Encodes (disk new).seen (disk new).sectors (upgraded s))
+  pub crash : OnOk result ((c : Image) → (disk new).may_leave c → Encodes c (disk new).sectors (upgraded s))
+  pub elsewhere : OnOk result (Elsewhere 0 (laid_again Two s.plan).total (disk old).seen (disk new).seen)
+  pub small : IsErrOf result fault.Small → (disk old).sectors < (laid_again Two s.plan).total
+  pub opened : IfErr result (λ why. (of_old : OpenFault) → why ≢ fault.Old of_old)
+  pub untouched : IfErr result (λ why. why ≢ fault.Failed → new ≡ old)
+  pub any_moment : LeavesOnly (disk old) (disk new) (λ c. IsLeftWriting (disk old) (kept_of s) c)
+  pub size : (disk new).sectors ≡ (disk old).sectors
+  pub later : (disk old).failures ≤ (disk new).failures
+  pub cause : IsErrOf result fault.Failed ↔ ((disk old).failures < (disk new).failures)
 
 -- the old device wasn't opened, as by a kernel
 abbrev pub IsNotOpened : {D : Type 0} → (D → Disk) → D → OpenFault → Type 0

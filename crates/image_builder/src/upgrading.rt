@@ -7,7 +7,7 @@ ghost use Rattle.layout.specs.declared.version.Version.TheVariants.{Two};
 ghost use Rattle.layout.specs.Image.{Encodes, HasPlan};
 ghost use Rattle.layout.specs.Superblock.{Plan};
 ghost use Rattle.layout.specs.Calls.{ReadsOnly};
-ghost use Rattle.checkpoint.specs.Opened.{CountsOpen};
+ghost use Rattle.layout.specs.Fault.{CountsOpen};
 ghost use Rattle.checkpoint.specs.Saved.{kept_of};
 ghost use Rattle.image_writer.specs.Laid.{laid_again};
 ghost use Rattle.image_writer.specs.Written.{IsLeftWriting};
@@ -18,7 +18,7 @@ ghost use Rattle.model.specs.Frame.{frames_in};
 ghost use Rattle.object_cache.specs.StoreState.{parts_of, saved_by};
 ghost use Rattle.capability.specs.Parts.{frames_of};
 ghost use Rattle.image_builder.specs.Upgraded.{IsLeftUpgrading, IsNotUpgraded, IsOpenedFrom, IsRefusedAsOld};
-ghost use Rattle.image_builder.specs.Upgraded.{ReadsAndCloses, Upgrades, numbered, upgraded};
+ghost use Rattle.image_builder.specs.Upgraded.{ReadsAndCloses, Upgrades, WritesUpgraded, numbered};
 
 use crate::closable::ClosableDevice;
 use crate::upgrade_fault::UpgradeFault;
@@ -84,24 +84,8 @@ fn write_over<D: Device, E: Device>(
     requires contents { length contents.now ≡ length headers.now }
     requires frames { frames_in headers.now contents.now
         ≡ (saved_state (seen_of D.disk saved.now) saved.now.books).frames }
-    ensures total { IfOk result (λ total. total ≡ (laid_again Two saved.now.books.plan).total) }
-    ensures encodes { OnOk result (Encodes (E.disk new.new).seen (E.disk new.new).sectors
-        (upgraded (saved_state (seen_of D.disk saved.now) saved.now.books))) }
-    ensures crash { OnOk result ((c : Image) → (E.disk new.new).may_leave c
-        → Encodes c (E.disk new.new).sectors
-        (upgraded (saved_state (seen_of D.disk saved.now) saved.now.books))) }
-    ensures elsewhere { OnOk result (Elsewhere 0 (laid_again Two saved.now.books.plan).total
-        (E.disk new.old).seen (E.disk new.new).seen) }
-    ensures small { IsErrOf result UpgradeFault.Small
-        → (E.disk new.old).sectors < (laid_again Two saved.now.books.plan).total }
-    ensures opened { IfErr result (λ fault. (why : OpenFault) → fault ≢ UpgradeFault.Old why) }
-    ensures untouched { IfErr result (λ fault. fault ≢ UpgradeFault.Failed → new.new ≡ new.old) }
-    ensures any_moment { LeavesOnly (E.disk new.old) (E.disk new.new) (λ c. IsLeftWriting
-        (E.disk new.old) (kept_of (saved_state (seen_of D.disk saved.now) saved.now.books)) c) }
-    ensures size { (E.disk new.new).sectors ≡ (E.disk new.old).sectors }
-    ensures later { (E.disk new.old).failures ≤ (E.disk new.new).failures }
-    ensures cause { IsErrOf result UpgradeFault.Failed
-        ↔ ((E.disk new.old).failures < (E.disk new.new).failures) }
+    ensures { WritesUpgraded E.disk (saved_state (seen_of D.disk saved.now) saved.now.books) new.old
+        new.new result }
 {
     let superblock = lay_out_again(Version::Two, saved.superblock());
     let sectors = new.sectors();
@@ -131,22 +115,7 @@ fn write_store<D: Device, E: Device>(
     requires encoded { (image : Image) × (size : ℕ) × Encodes image size (saved_by D.disk store) }
     requires sound { IsSoundSaved (saved_by D.disk store).plan.geometry (kept_of (saved_by D.disk store)) }
     requires frames { frames_of (parts_of D.disk store) ≡ (saved_by D.disk store).frames }
-    ensures total { IfOk result.0 (λ total. total ≡ (laid_again Two (saved_by D.disk store).plan).total) }
-    ensures encodes { OnOk result.0 (Encodes (E.disk new.new).seen (E.disk new.new).sectors
-        (upgraded (saved_by D.disk store))) }
-    ensures crash { OnOk result.0 ((c : Image) → (E.disk new.new).may_leave c
-        → Encodes c (E.disk new.new).sectors (upgraded (saved_by D.disk store))) }
-    ensures elsewhere { OnOk result.0 (Elsewhere 0 (laid_again Two (saved_by D.disk store).plan).total
-        (E.disk new.old).seen (E.disk new.new).seen) }
-    ensures small { IsErrOf result.0 UpgradeFault.Small
-        → (E.disk new.old).sectors < (laid_again Two (saved_by D.disk store).plan).total }
-    ensures opened { IfErr result.0 (λ fault. (why : OpenFault) → fault ≢ UpgradeFault.Old why) }
-    ensures untouched { IfErr result.0 (λ fault. fault ≢ UpgradeFault.Failed → new.new ≡ new.old) }
-    ensures any_moment { LeavesOnly (E.disk new.old) (E.disk new.new) (λ c. IsLeftWriting
-        (E.disk new.old) (kept_of (saved_by D.disk store)) c) }
-    ensures size { (E.disk new.new).sectors ≡ (E.disk new.old).sectors }
-    ensures later { (E.disk new.old).failures ≤ (E.disk new.new).failures }
-    ensures cause { IsErrOf result.0 UpgradeFault.Failed ↔ ((E.disk new.old).failures < (E.disk new.new).failures) }
+    ensures writes { WritesUpgraded E.disk (saved_by D.disk store) new.old new.new result.0 }
     ensures device { result.1 ≡ store.durable.beneath }
 {
     let (saved, objects) = store.into_parts(alloc);

@@ -1,9 +1,10 @@
 -- Which header is committed, and what is wrong with it.
-use Rattle.image_explainer.proofs.Names.{ℕ, zero, suc, Bool, true, false, List, Option, None, Some, Result, Ok, Err, refl, sym, ap, subst, arith, IfErr, IfNone}
-use Rattle.image_explainer.proofs.Names.{IfOk, lt-ltb, Image, CheckpointHeader, IsHeader, header_bytes, HasHeader, HasPlan, committed_of, committed_bytes}
+use Rattle.image_explainer.proofs.Names.{ℕ, zero, suc, Bool, true, false, List, Option, None, Some, refl, sym, ap, subst, arith, IfNone}
+use Rattle.image_explainer.proofs.Names.{ControlFlow, Continue, Break, MatchControlFlow, lt-ltb, Image, CheckpointHeader, IsHeader, header_bytes, HasHeader}
+use Rattle.image_explainer.proofs.Names.{HasPlan, committed_of, committed_bytes}
 use Rattle.image_explainer.proofs.Names.{committed_slot, option_at, Plan, SectorFault, IsFault, HasHeaderIn, HasNoneIn, RefusesHeader, picked, slot_of}
 use Rattle.std.proofs.Common.{◌≡◌, ◌+◌, ◌*◌, ◌<◌, ◌∙◌}
-use Rattle.std.specs.Prelude.{if◌then◌else◌}
+use Rattle.std.specs.Prelude.{if◌then◌else◌, ⊤}
 use Rattle.image_explainer.specs.declared.sectors.fault.SectorFault.TheVariants as fault
 
 -- the second counts, and the first doesn't or has a smaller number
@@ -20,10 +21,11 @@ module _ (log : ℕ) (first first_gate second second_gate : List ℕ) (slot : �
     refused_in (fault.Header at part) is = (slot, lt, wins, is)
     refused_in other is = absurd is
 
-    pub none_in : (r : Result CheckpointHeader SectorFault) → IfErr r (RefusesHeader (1 + 2 * slot) log (picked slot first second)) →
-        IfErr r (HasNoneIn log first first_gate second second_gate)
-    none_in (Ok h) is = tt
-    none_in (Err f) is = refused_in f is
+    pub chosen : (r : ControlFlow SectorFault CheckpointHeader)
+        → MatchControlFlow r (λ h. IsHeader log h × (picked slot first second ≡ header_bytes h)) (RefusesHeader (1 + 2 * slot) log (picked slot first second))
+        → MatchControlFlow r (HasHeaderIn log first first_gate second second_gate) (HasNoneIn log first first_gate second second_gate)
+    chosen (Continue h) is = (slot, lt, wins, is.0, is.1)
+    chosen (Break f) is = refused_in f is
 
 -- of an image whose first sectors these are
 module _ (image : Image) (size log : ℕ) (p : Plan) (same : log ≡ p.geometry.log) where
@@ -73,13 +75,16 @@ module _ (image : Image) (size log : ℕ) (p : Plan) (same : log ≡ p.geometry.
 
   -- the bytes that were read are those of the image
   module _ (a b c d : List ℕ) (ea : a ≡ image 1) (eb : b ≡ image 2) (ec : c ≡ image 3) (ed : d ≡ image 4) where
-    pub header_found : (r : Result CheckpointHeader SectorFault) → IfOk r (HasHeaderIn log a b c d) → IfOk r (HasHeader image p)
-    header_found (Ok h) is = found_header h (rw (← ea, ← eb, ← ec, ← ed) is)
-    header_found (Err f) is = tt
+    pub header_found : (r : ControlFlow SectorFault CheckpointHeader) → MatchControlFlow r (HasHeaderIn log a b c d) (HasNoneIn log a b c d)
+        → HasPlan image size p → MatchControlFlow r (HasHeader image p) (IsFault size image)
+    header_found (Continue h) is plan = found_header h (rw (← ea, ← eb, ← ec, ← ed) is)
+    header_found (Break f) is plan = no_header f plan (rw (← ea, ← eb, ← ec, ← ed) is)
 
-    pub header_refused : (r : Result CheckpointHeader SectorFault) → IfErr r (HasNoneIn log a b c d) → HasPlan image size p → IfErr r (IsFault size image)
-    header_refused (Ok h) is plan = tt
-    header_refused (Err f) is plan = no_header f plan (rw (← ea, ← eb, ← ec, ← ed) is)
+-- a header that was read has as many entries as there may be
+pub header_fits : (log : ℕ) (a b c d : List ℕ) (r : ControlFlow SectorFault CheckpointHeader)
+    → MatchControlFlow r (HasHeaderIn log a b c d) (HasNoneIn log a b c d) → MatchControlFlow r (IsHeader log) (λ _. ⊤)
+header_fits log a b c d (Continue h) is = is.3
+header_fits log a b c d (Break f) is = tt
 
 -- what is so where nothing was found
 pub if_none : {T : Type 0} (A : Type 0) (found : Option T) → found ≡ None → IfNone found A → A

@@ -3,10 +3,11 @@ pub use Rattle.byteorder.specs.Endian.{little_number}
 pub use Rattle.byteorder.specs.Numbers.{little_from-take}
 pub use Rattle.capability.proofs.References.{not_annex, not_node, not_root}
 pub use Rattle.capability.specs.Parts.{Parts, frames_of}
-pub use Rattle.checkpoint.specs.Opened.{CountsOpen, OnlyReads, Refuses}
+pub use Rattle.layout.specs.Fault.{CountsOpen}
+pub use Rattle.checkpoint.specs.Opened.{OnlyReads, Refuses}
 pub use Rattle.checkpoint.specs.Saved.{Holds, SavedFrames}
 pub use Rattle.checkpoint.specs.Store.{OpensStore}
-pub use Rattle.checkpoint.specs.declared.open_fault.OpenFault.{OpenFault}
+pub use Rattle.layout.specs.declared.open_fault.OpenFault.{OpenFault}
 pub use Rattle.device.proofs.Images.{agrees_is}
 pub use Rattle.device.proofs.Moments.{CountsNow, peeks_on}
 pub use Rattle.device.specs.Calls.{Agrees, AreSectors}
@@ -60,6 +61,7 @@ pub use Rattle.recovery.specs.Consistency.{AreNamed, AreWholeProcesses, IsIncons
 pub use Rattle.recovery.specs.Denotes.{saved_of}
 pub use Rattle.recovery.specs.Noted.{AreNoted}
 pub use Rattle.recovery.specs.declared.consistency.processes.Noted.{Noted}
+pub use Rattle.std.proofs.Common.{Break, Continue, ControlFlow}
 pub use Rattle.std.proofs.Common.{Bool, Err, List, None, Ok, Option, Result, Some, [], ap, append-nil, append_assoc, arith, drop, drop_at, false, get_or, inl}
 pub use Rattle.std.proofs.Common.{inr, length, length-append, nat_le, refl, replicate, slice_index_or, subst, suc, sym, take, take-add, take_at, true, zero, ℕ}
 pub use Rattle.std.proofs.Common.{⊎_elim}
@@ -69,6 +71,7 @@ pub use Rattle.std.proofs.lemmas.List.{length-take, take-append-drop, take_rest}
 pub use Rattle.std.proofs.lemmas.Nat.{le_bytes_8}
 pub use Rattle.std.specs.Int.{from_le_bytes, w64}
 pub use Rattle.std.specs.List.{All}
+pub use Rattle.std.specs.ControlFlow.{MatchControlFlow}
 pub use Rattle.std.specs.Prelude.{IfErr, IfNone, IfOk, IfSome, OnOk, codes, decimal}
 pub use Rattle.image_explainer.specs.Breaking.{BreaksFrames, IsMisnamed, IsUnmatched, reason_of}
 pub use Rattle.image_explainer.specs.Explained.{AreBadForOneReason, Explains, IsExplainedBy}

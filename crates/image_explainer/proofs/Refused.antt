@@ -4,7 +4,7 @@ use Rattle.image_explainer.proofs.Names.{BadImage, IsBadBy, OpenFault, CountsOpe
 use Rattle.image_explainer.proofs.Names.{Explains}
 use Rattle.std.proofs.Common.{◌∙◌}
 use Rattle.std.specs.Prelude.{Option}
-use Rattle.checkpoint.specs.declared.open_fault.OpenFault.TheVariants as open_fault
+use Rattle.layout.specs.declared.open_fault.OpenFault.TheVariants as open_fault
 use Rattle.image_explainer.specs.declared.fault.ImageFault.TheVariants as fault
 use Rattle.image_explainer.proofs.Reasons.{explained_sectors}
 

@@ -1,5 +1,6 @@
 -- Where the directory lies, and images with nothing wrong in their sectors.
-use Rattle.image_explainer.proofs.Names.{ℕ, List, Result, Ok, Err, length, take, sym, ap, arith, OnOk, Image, Entry, CheckpointHeader, AllFitting, IsDirectory}
+use Rattle.image_explainer.proofs.Names.{ℕ, List, ControlFlow, Continue, Break, MatchControlFlow, length, take, sym, ap, arith, Image, Entry, CheckpointHeader}
+use Rattle.image_explainer.proofs.Names.{AllFitting, IsDirectory}
 use Rattle.image_explainer.proofs.Names.{directory_bytes, HasDirectory, HasHeader, HasPlan, directory_in, directory_length, directory_sector, sectors_from}
 use Rattle.image_explainer.proofs.Names.{slot_sector, IsPlan, Plan, half_within, DirectoryPart, BreaksDirectory, IsFault}
 use Rattle.std.proofs.Common.{◌≡◌, ◌+◌, ◌-◌, ◌*◌, ◌/◌, ◌≤◌, ◌∙◌}
@@ -44,7 +45,8 @@ module _ (image : Image) (size : ℕ) (p : Plan) (h : CheckpointHeader) (es : Li
     (p, h, es, plan, header, place, len ∙ count, fits, spelt_there, broken),
   )
 
--- what is so after a success
-pub on_ok : {T E : Type 0} (A B : Type 0) (r : Result T E) → (A → B) → OnOk r A → OnOk r B
-on_ok A B (Ok x) leads is = leads is
-on_ok A B (Err e) leads is = tt
+-- what is so where it goes on
+pub on_continue : {F T : Type 0} (A B : Type 0) (P : F → Type 0) (r : ControlFlow F T) → (A → B) → MatchControlFlow r (λ _. A) P →
+    MatchControlFlow r (λ _. B) P
+on_continue A B P (Continue x) leads is = leads is
+on_continue A B P (Break e) leads is = is

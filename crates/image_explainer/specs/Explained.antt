@@ -4,7 +4,7 @@ use Rattle.model.specs.declared.geometry.Geometry.{Geometry}
 use Rattle.model.specs.Machine.{Saved}
 use Rattle.device.specs.Disk.{Disk, Image}
 use Rattle.layout.specs.declared.bad_image.BadImage.{BadImage}
-use Rattle.checkpoint.specs.declared.open_fault.OpenFault.{OpenFault}
+use Rattle.layout.specs.declared.open_fault.OpenFault.{OpenFault}
 use Rattle.checkpoint.specs.Opened.{OnlyReads}
 use Rattle.recovery.specs.Denotes.{Denotes}
 use Rattle.recovery.specs.Recovered.{IsBad, RefusesToOpen}

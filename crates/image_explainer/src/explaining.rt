@@ -2,7 +2,8 @@
 ghost use Rattle.std.specs.Prelude.{◌≡◌, ◌↔◌, ◌*◌, ◌≤◌, length, IfErr, IfOk};
 ghost use Rattle.layout.specs.declared.bad_image.BadImage.{BadImage};
 ghost use Rattle.layout.specs.Image.{IsBadBy};
-ghost use Rattle.checkpoint.specs.Opened.{CountsOpen, Refuses};
+ghost use Rattle.layout.specs.Fault.{CountsOpen};
+ghost use Rattle.checkpoint.specs.Opened.{Refuses};
 ghost use Rattle.layout.specs.Calls.{ReadsOnly};
 ghost use Rattle.image_explainer.specs.SectorBreaking.{IsFault};
 ghost use Rattle.object_cache.specs.StoreState.{parts_of, view_of};
@@ -17,8 +18,8 @@ use checkpoint::{ObjectStore, OpenFault};
 use device::{Device, SECTOR_SIZE};
 use layout::{Entry, MAX_LOG, Scratch};
 use object_cache::PlainStore;
-use recovery::opening_fault;
 use std::alloc::{AllocError, Global};
+use std::ops::ControlFlow;
 
 // What is wrong with the objects of a store that was made of a device, and the device beneath.
 fn explain_objects<D: Device>(
@@ -35,7 +36,7 @@ fn explain_objects<D: Device>(
     let device = store.into_device();
     match found {
         Ok(found) => (Ok(found), device),
-        Err(fault) => (Err(opening_fault(fault)), device),
+        Err(fault) => (Err(fault.into()), device),
     }
 }
 
@@ -72,8 +73,8 @@ fn find_in_copy<D: Device>(
         Ok(()) => {}
     }
     match find_in_sectors(copy, size, entries, scratch) {
-        Ok(()) => unreachable!(),
-        Err(fault) => Ok(fault),
+        ControlFlow::Continue(()) => unreachable!(),
+        ControlFlow::Break(fault) => Ok(fault),
     }
 }
 

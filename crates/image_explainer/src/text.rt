@@ -1,5 +1,5 @@
 // The line about a fault.
-ghost use Rattle.std.specs.Prelude.{◌≡◌, ◌+◌, ◌++◌, ◌≤◌, length};
+ghost use Rattle.std.specs.Prelude.{◌≡◌, ◌+◌, ◌++◌, ◌∷◌, ◌≤◌, codes, decimal, length};
 ghost use Rattle.image_explainer.specs.Text.{fault_text, holder_text, kind_text, misnamed_text};
 ghost use Rattle.image_explainer.specs.Text.{place_text, reason_number, sectors_text, unbanked_text, unmatched_text};
 ghost use Rattle.image_explainer.specs.Text.{directory_part_text, directory_text, frame_part_text, frame_text};
@@ -129,6 +129,21 @@ fn header_line(sector: u64, part: HeaderPart) -> LineText
     line
 }
 
+// Adds which entry isn't above the one before it, with the objects of both.
+fn add_order(line: &mut LineText, entry: u64, object: u64, before: u64)
+    requires { length line.old ≤ 70 }
+    ensures text { line.new ≡ line.old ++ 32 ∷ decimal entry ++ codes ": object" ++ 32 ∷ decimal object
+        ++ codes " is not above the object" ++ 32 ∷ decimal before ++ codes " of the entry before" }
+    ensures short { length line.new ≤ length line.old + 130 }
+{
+    line.number(entry);
+    line.push(b": object");
+    line.number(object);
+    line.push(b" is not above the object");
+    line.number(before);
+    line.push(b" of the entry before");
+}
+
 // Adds what is wrong with an entry of a directory.
 fn add_entry(line: &mut LineText, part: DirectoryPart)
     requires { length line.old ≤ 60 }
@@ -151,14 +166,7 @@ fn add_entry(line: &mut LineText, part: DirectoryPart)
             entry,
             object,
             before,
-        } => {
-            line.number(entry);
-            line.push(b": object");
-            line.number(object);
-            line.push(b" is not above the object");
-            line.number(before);
-            line.push(b" of the entry before");
-        }
+        } => add_order(line, entry, object, before),
         DirectoryPart::Shared {
             first,
             second,

@@ -1,9 +1,9 @@
 -- The names that the proofs here cite: of other crates, and of the definitions of this one.
 pub use Rattle.capability.proofs.FrameLists.{length_in}
 pub use Rattle.checkpoint.specs.Saved.{Holds, SavedFrames, kept_of}
-pub use Rattle.ckpt_log.proofs.BesideHeaders.{half_behind, sequences_reported}
 pub use Rattle.ckpt_log.proofs.Closings.{none_committed}
-pub use Rattle.ckpt_log.proofs.Denoted.{frames_behind}
+pub use Rattle.ckpt_log.proofs.Places.{half_behind, sequences_reported}
+pub use Rattle.ckpt_log.proofs.SavedStates.{frames_behind}
 pub use Rattle.ckpt_log.specs.Closing.{AreClosed, KeepsImage, SparesRest, WasKeptOrHasNone}
 pub use Rattle.device.proofs.Images.{agrees_is, elsewhere_on, elsewhere_same}
 pub use Rattle.device.proofs.Moments.{OnlyNow, leaves_on, leaves_weaker, narrowed, started}

@@ -3,7 +3,7 @@ use Rattle.jobs.proofs.Names.{Written, ℕ, List, Option, Result, Ok, Err, sym, 
 use Rattle.jobs.proofs.Names.{HasNumbers, AreSoundObjects, Focus, Fault, Whole, DrawsImage, DrawsPart, IsHeldTo, KeepsPart, KeepsReached, OfWhole, OpensWhole}
 use Rattle.jobs.proofs.Names.{DescribesSaved, HoldsOfSaved}
 use Rattle.std.proofs.Common.{◌≡◌, ◌<◌, ◌^◌}
-use Rattle.checkpoint.specs.declared.open_fault.OpenFault.TheVariants as opening
+use Rattle.layout.specs.declared.open_fault.OpenFault.TheVariants as opening
 use Rattle.jobs.specs.declared.fault.Fault.TheVariants as fault
 use Rattle.jobs.proofs.ReachedImages.{objects_sound}
 

@@ -7,7 +7,7 @@ use Rattle.jobs.proofs.Names.{grown_is_described, grown_to_itself, grown_spelled
 use Rattle.jobs.proofs.Names.{TellsDescription, TellsGrown, TellsText, DescribesImage, DescribesSaved, IsDescribedIn, ReadsSaved, RefusesSizes, TellsWhole}
 use Rattle.jobs.proofs.Names.{GrownIsDenoted, UnsizedIsWhole}
 use Rattle.std.proofs.Common.{◌≡◌, ◌∙◌}
-use Rattle.checkpoint.specs.declared.open_fault.OpenFault.TheVariants as opening
+use Rattle.layout.specs.declared.open_fault.OpenFault.TheVariants as opening
 use Rattle.jobs.specs.declared.fault.Fault.TheVariants as fault
 
 pub grown_is_denoted : GrownIsDenoted

@@ -2,7 +2,7 @@
 use Rattle.jobs.proofs.Names.{Written, ℕ, List, Option, Result, Ok, Err, sym, subst, Global, Object, Disk, OpenFault, AreSoundObjects, Fault, HoldsOfSaved}
 use Rattle.jobs.proofs.Names.{OpensAndReads, ReachesImage, TellsReach}
 use Rattle.std.proofs.Common.{◌≡◌, Vec}
-use Rattle.checkpoint.specs.declared.open_fault.OpenFault.TheVariants as opening
+use Rattle.layout.specs.declared.open_fault.OpenFault.TheVariants as opening
 use Rattle.jobs.specs.declared.fault.Fault.TheVariants as fault
 
 -- what was answered is all objects that are saved

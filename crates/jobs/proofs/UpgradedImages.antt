@@ -3,7 +3,7 @@ use Rattle.jobs.proofs.Names.{Written, ℕ, List, Option, Ok, Err, refl, ap, ari
 use Rattle.jobs.proofs.Names.{laid_again, UpgradeFault, IsRefusedAsOld, ReadsAndCloses, Upgrades, WroteFront, Fault, UpgradesImage, old_failed, upgraded_text}
 use Rattle.std.proofs.Common.{◌≡◌, ◌∙◌}
 use Rattle.std.specs.Prelude.{◌↔◌, Result}
-use Rattle.checkpoint.specs.declared.open_fault.OpenFault.TheVariants as opening
+use Rattle.layout.specs.declared.open_fault.OpenFault.TheVariants as opening
 use Rattle.image_builder.specs.declared.upgrade_fault.UpgradeFault.TheVariants as upgrade
 use Rattle.jobs.specs.declared.fault.Fault.TheVariants as fault
 

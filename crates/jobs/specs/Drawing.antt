@@ -3,7 +3,7 @@ use Rattle.jobs.specs.Names.{Written, ℕ, Bool, true, false, Option, None, Some
 use Rattle.jobs.specs.Names.{Object, is_process, Disk, OpenFault, RefusesToOpen, WroteFront, Description, boxes}
 use Rattle.jobs.specs.Names.{graph_text, IsPart, holders, is_listed, IsReach}
 use Rattle.std.specs.Prelude.{◌≡◌, ◌∷◌}
-use Rattle.checkpoint.specs.declared.open_fault.OpenFault.TheVariants as opening
+use Rattle.layout.specs.declared.open_fault.OpenFault.TheVariants as opening
 use Rattle.jobs.specs.declared.drawing.Focus.{Focus}
 use Rattle.jobs.specs.declared.fault.Fault.{Fault}
 use Rattle.jobs.specs.declared.fault.Fault.TheVariants as fault

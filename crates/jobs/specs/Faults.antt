@@ -3,7 +3,7 @@ use Rattle.jobs.specs.Names.{Written, ℕ, List, [], codes, decimal, Option, Non
 use Rattle.jobs.specs.Names.{line_of, spaced, BuildFault, UpgradeFault, fault_number, GrowthFault, Stop, cause_text}
 use Rattle.jobs.specs.Names.{RunFault, Writes, reason_number}
 use Rattle.std.specs.Prelude.{◌≡◌, ◌≢◌, ◌∷◌, ◌++◌}
-use Rattle.checkpoint.specs.declared.open_fault.OpenFault.TheVariants as opening
+use Rattle.layout.specs.declared.open_fault.OpenFault.TheVariants as opening
 use Rattle.image_writer.specs.declared.fault.BuildFault.TheVariants as build
 use Rattle.image_builder.specs.declared.upgrade_fault.UpgradeFault.TheVariants as upgrade
 use Rattle.image_describer.specs.declared.sizes.GrowthFault.TheVariants as growth

@@ -3,7 +3,7 @@ use Rattle.jobs.specs.Names.{Written, ℕ, List, Some, Option, Result, Ok, Err, 
 use Rattle.jobs.specs.Names.{IsGeometry, WroteFront, Description, IsDescription, Sizes, IsNotRenumbered, IsRenumbered}
 use Rattle.jobs.specs.Names.{NamesNodes, NamesPages, grown_geometry, description_text}
 use Rattle.std.specs.Prelude.{◌≡◌}
-use Rattle.checkpoint.specs.declared.open_fault.OpenFault.TheVariants as opening
+use Rattle.layout.specs.declared.open_fault.OpenFault.TheVariants as opening
 use Rattle.jobs.specs.declared.fault.Fault.{Fault}
 use Rattle.jobs.specs.declared.fault.Fault.TheVariants as fault
 

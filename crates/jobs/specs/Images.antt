@@ -7,7 +7,7 @@ use Rattle.jobs.specs.Names.{IsDeviceOf, Description, IsDescription, BuildsFrom,
 use Rattle.jobs.specs.Names.{Describes, IsBrief, IsGrown, IsUnsuited, grown_geometry, grown_ranges, description_text}
 use Rattle.jobs.specs.Names.{IsNotUpgraded, Upgrades, Stop, RunsOver, RunsSeen, RunFault, WroteFront}
 use Rattle.std.specs.Prelude.{◌≡◌, ◌≢◌, ◌↔◌, ◌<◌, ◌∷◌}
-use Rattle.checkpoint.specs.declared.open_fault.OpenFault.TheVariants as opening
+use Rattle.layout.specs.declared.open_fault.OpenFault.TheVariants as opening
 use Rattle.image_writer.specs.declared.fault.BuildFault.TheVariants as build
 use Rattle.image_builder.specs.declared.upgrade_fault.UpgradeFault.TheVariants as upgrade
 use Rattle.script.specs.declared.fault.RunFault.TheVariants as run

@@ -4,7 +4,7 @@ use Rattle.jobs.specs.Names.{Wrote, All, find, Global, is_marked, Object, object
 use Rattle.jobs.specs.Names.{Encodes, SavedState, OnlyReads, OpenFault, RefusesToOpen, WroteFront, Step}
 use Rattle.jobs.specs.Names.{IsShortestIfAny, chain_text, reach_text, BoundsRuns, IsReach}
 use Rattle.std.specs.Prelude.{◌≡◌}
-use Rattle.checkpoint.specs.declared.open_fault.OpenFault.TheVariants as opening
+use Rattle.layout.specs.declared.open_fault.OpenFault.TheVariants as opening
 use Rattle.jobs.specs.declared.fault.Fault.{Fault}
 use Rattle.jobs.specs.declared.fault.Fault.TheVariants as fault
 

@@ -15,7 +15,7 @@ use Rattle.std.specs.Prelude.{if◌then◌else◌}
 use Rattle.model.specs.declared.answer.Answer.TheVariants as answer
 use Rattle.model.specs.declared.answer.Refusal.TheVariants as refusal
 use Rattle.model.specs.declared.command.Command.TheVariants as command
-use Rattle.checkpoint.specs.declared.open_fault.OpenFault.TheVariants as fault
+use Rattle.layout.specs.declared.open_fault.OpenFault.TheVariants as fault
 use Rattle.kernel.specs.Power as power
 
 pub header_in : (hs : List ObjectHeader) (cs : List (Content Cap)) (n : ℕ) → (frame_at (frames_in hs cs) n).header ≡ header_at hs n

@@ -9,7 +9,7 @@ pub use Rattle.checkpoint.specs.Refused.{IsCommitAnswer, IsFreezeAnswer, IsJourn
 pub use Rattle.checkpoint.specs.Saved.{Holds, LeavesEither, LeavesOneOf, LeavesSaved, SavedFrames, home_saved, journaled_saved, most, with_words}
 pub use Rattle.checkpoint.specs.Snapshots.{MayCommit, Snapshots, freezing, journaled, left_in, moved, moved_saved, next_saved}
 pub use Rattle.checkpoint.specs.Store.{Continues, FrozenFrames, IsStabilizeAnswer, View, all_frozen, stabilized, whole}
-pub use Rattle.checkpoint.specs.declared.open_fault.OpenFault.{OpenFault}
+pub use Rattle.layout.specs.declared.open_fault.OpenFault.{OpenFault}
 pub use Rattle.device.proofs.Images.{agrees_is}
 pub use Rattle.device.proofs.Moments.{CountsNow, OnlyNow, ends, goes_on_cut, leaves_on, leaves_weaker, started}
 pub use Rattle.device.specs.Calls.{Only}

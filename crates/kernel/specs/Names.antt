@@ -3,7 +3,7 @@ pub use Rattle.capability.specs.Parts.{Parts, Renews, frames_of, objects_in}
 pub use Rattle.checkpoint.specs.Opened.{OnlyReads}
 pub use Rattle.checkpoint.specs.Store.{View}
 pub use Rattle.checkpoint.specs.declared.committed.Checkpoint.{Checkpoint}
-pub use Rattle.checkpoint.specs.declared.open_fault.OpenFault.{OpenFault}
+pub use Rattle.layout.specs.declared.open_fault.OpenFault.{OpenFault}
 pub use Rattle.device.specs.Calls.{Only}
 pub use Rattle.device.specs.Disk.{Disk}
 pub use Rattle.device.specs.declared.device.Failed.{Failed}

@@ -4,7 +4,7 @@ use Rattle.kernel.specs.Names.{OpenFault, OnlyReads, Parts, View, Denotes, Leave
 use Rattle.std.specs.Prelude.{◌≡◌, ◌⊎◌}
 use Rattle.model.specs.declared.answer.Answer.TheVariants as answer
 use Rattle.model.specs.declared.answer.Refusal.TheVariants as refusal
-use Rattle.checkpoint.specs.declared.open_fault.OpenFault.TheVariants as fault
+use Rattle.layout.specs.declared.open_fault.OpenFault.TheVariants as fault
 use Rattle.kernel.specs.Power.{Power}
 use Rattle.kernel.specs.Standing.{Stands, disk_of}
 

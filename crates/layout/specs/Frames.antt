@@ -5,16 +5,17 @@ use Rattle.layout.specs.declared.bad_image.BadImage.TheVariants.{BadFrame}
 use Rattle.layout.specs.Frame.{IsFrameOf, frame_length}
 use Rattle.layout.specs.FrameReader.{frame_from}
 use Rattle.layout.specs.Image.{sectors_from}
-use Rattle.layout.specs.declared.frame_io.fault.Unreadable.{Unreadable}
-use Rattle.layout.specs.declared.frame_io.fault.Unreadable.TheVariants.{Failed, Bad}
+use Rattle.layout.specs.declared.open_fault.OpenFault.{OpenFault}
+use Rattle.layout.specs.declared.open_fault.OpenFault.TheVariants.{Failed, NoMemory, Bad}
 
 -- a number of an object: nodes have the first numbers, pages the next
 abbrev pub IsObject : Geometry → ℕ → Type 0
 IsObject g number = number < g.nodes + g.pages
 
 -- bytes are refused where they spell no frame of the number
-abbrev pub IsRefused : Geometry → ℕ → ℕ → List ℕ → Unreadable → Type 0
+abbrev pub IsRefused : Geometry → ℕ → ℕ → List ℕ → OpenFault → Type 0
 IsRefused g age number bytes Failed = ⊤
+IsRefused g age number bytes NoMemory = ⊥
 IsRefused g age number bytes (Bad reason) = (reason ≡ BadFrame) × ((f : Frame) → IsFrameOf g age number bytes f → ⊥)
 
 -- a header is that of the frame that lies at a sector, of whatever number, in sectors of its own

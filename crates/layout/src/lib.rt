@@ -19,6 +19,7 @@ mod header;
 mod homes;
 mod laws;
 mod node_frame;
+mod open_fault;
 mod page_frame;
 mod shape;
 mod slots;
@@ -34,14 +35,15 @@ pub use extent::{Extent, HomeRange, half_extent, range_extent};
 pub use fields::{header_in, sequence_in, total_in};
 pub use frame::{decode_frame, encode_frame};
 pub use frame_io::{
-    Unreadable, blank_behind, read_frame, read_header, read_packed, read_sectors, write_frame,
-    write_page, write_sectors,
+    blank_behind, read_frame, read_header, read_packed, read_sectors, write_frame, write_page,
+    write_sectors,
 };
 pub use gate::{Gate, decode_gate, encode_gate};
 pub use half::Half;
 pub use header::{CheckpointHeader, decode_header, encode_header};
 pub use laws::{denote_one_state, spell_one_value, what_is_spelt_is_read};
 pub use node_frame::NODE_FRAME_BYTES;
+pub use open_fault::OpenFault;
 pub use page_frame::{PAGE_FRAME_BYTES, encode_page};
 pub use shape::Shape;
 pub use superblock::{MAX_RANGES, Superblock, decode_superblock, encode_superblock};

@@ -1,20 +1,20 @@
 -- The frozen frames become the saved ones.
-use Rattle.migrator.proofs.Names.{ℕ, Bool, true, false, cond, Option, Some, None, List, length, refl, sym, ap, subst, inr, arith, map, replicate}
-use Rattle.migrator.proofs.Names.{range_with_len, length-replicate, Frame, frame_at, IsKeepable, AreKeepable, Image, Disk, Entry, Extent, CheckpointHeader}
-use Rattle.migrator.proofs.Names.{IsDirectory, entry_at, IsFrameOf, frame_from, IsHeader, frame_in, frame_slot_in, slot_in, slot_beside, half_sector, count_of}
-use Rattle.migrator.proofs.Names.{frame_read, frames_read, IsSpelt, AreSpelt, Plan, IsApart, IsInside, half_extent, itself, apart_inside, half_within}
-use Rattle.migrator.proofs.Names.{length_read, read_at, spelt_same, spelt_at, beside_frame_slot, places_within, header_sector, slot_extent, place_extent}
-use Rattle.migrator.proofs.Names.{directory_extent, frames_behind, frames_in_slots, directories_inside, slots_spare_directories, Place, Nowhere, Torn, Whole}
-use Rattle.migrator.proofs.Names.{place_at, slot_of, taken_count, whole_count, has_slot, entries_of, Put, Absent, put_at, put_or, overlaid, slot_bytes, put_of}
-use Rattle.migrator.proofs.Names.{puts_in, ArePut, most, Books, IsDurable, frozen_generation, working_generation, committed, generation_after, Stored}
-use Rattle.migrator.proofs.Names.{saved_state, frozen_of, stored_in, IsRunning, IsKept, next_header, puts, on_snapshots, AreComplete, MayAdopt, SavesOnly}
-use Rattle.migrator.proofs.Names.{SparesKept, adopted, SparesFrames, Spares, maps_same, IsSoundOn}
+use Rattle.migrator.proofs.Names.{ℕ, Bool, true, false, cond, Option, Some, None, List, length, refl, sym, ap, subst, inr, arith, replicate, length-replicate}
+use Rattle.migrator.proofs.Names.{Frame, frame_at, IsKeepable, AreKeepable, Image, Disk, Entry, Extent, CheckpointHeader, IsDirectory, entry_at, IsFrameOf}
+use Rattle.migrator.proofs.Names.{frame_from, IsHeader, frame_in, frame_slot_in, slot_in, slot_beside, half_sector, count_of, frame_read, frames_read, IsSpelt}
+use Rattle.migrator.proofs.Names.{AreSpelt, Plan, IsApart, IsInside, half_extent, itself, apart_inside, half_within, length_read, read_at, spelt_same, spelt_at}
+use Rattle.migrator.proofs.Names.{beside_frame_slot, places_within, header_sector, slot_extent, place_extent, directory_extent, frames_behind, frames_in_slots}
+use Rattle.migrator.proofs.Names.{directories_inside, slots_spare_directories, Place, Nowhere, Torn, Whole, place_at, slot_of, taken_count, whole_count}
+use Rattle.migrator.proofs.Names.{has_slot, entries_of, Put, Absent, put_at, put_or, overlaid, slot_bytes, put_of, puts_in, ArePut, most, Books, IsDurable}
+use Rattle.migrator.proofs.Names.{frozen_generation, working_generation, committed, generation_after, Stored, saved_state, frozen_of, stored_in, IsRunning}
+use Rattle.migrator.proofs.Names.{IsKept, next_header, puts, on_snapshots, AreComplete, MayAdopt, SavesOnly, SparesKept, adopted, SparesFrames, Spares}
+use Rattle.migrator.proofs.Names.{maps_same, IsSoundOn}
 use Rattle.std.proofs.Common.{◌≡◌, ◌+◌, ◌-◌, ◌^◌, ◌<◌, ◌≤◌, ◌∙◌}
 use Rattle.std.specs.Prelude.{◌==◌}
 use Rattle.migrator.proofs.Tables.{all_whole, whole_taken, entries_directory, length_entries, slot_entries, blank_at, blank_table, tally-blank}
-use Rattle.migrator.proofs.Spared.{state_stays}
+use Rattle.migrator.proofs.PlacesApart.{state_stays, in_slot, in_frame_slot, at_home, frame_apart, home_apart, spares_other, homes_behind, no_entries}
+use Rattle.migrator.proofs.PlacesApart.{frame_slot_fits}
 use Rattle.migrator.proofs.Kept.{stored_stays, kept_on}
-use Rattle.migrator.proofs.PlacesApart.{in_slot, in_frame_slot, at_home, frame_apart, home_apart, spares_other, homes_behind, no_entries, frame_slot_fits}
 use Rattle.migrator.proofs.Putting.{put_is, later_half, other_parity, half_spares, none_spares, homes_spare}
 
 -- ---- what is kept through a directory and a header that are written
@@ -139,25 +139,19 @@ module _ {size : ℕ} {image : Image} {b : Books} (k : ℕ) (kept : IsKept size 
             none_put Nowhere e = refl
             none_put (Torn s) e = absurd cc
             none_put (Whole s) e = absurd cc
-      by (Some s) is =
-          ap (frame_from b.plan.geometry n) (slot_frame_in n is) ∙ sym (ap (λ (x : Put). put_or x (frame_at saved_frames n))
-          (put_is image b.plan (frozen_generation b) b.frozen lt ∙ ap (put_of image b.plan (frozen_generation b) n) (whole_at lt is)))
+      by (Some s) is = rw (slot_frame_in n is, put_is image b.plan (frozen_generation b) b.frozen lt, whole_at lt is)
 
     -- the frames that are saved next are the saved ones with the frozen ones in their place
     pub frames_next : frames_read image b.plan (b.header.generation + 1) (entries_of b.frozen) ≡ overlaid frozen_puts saved_frames
     unfolding frames_read overlaid
-    frames_next =
-        maps_same (frame_read image b.plan (b.header.generation + 1) (entries_of b.frozen)) (λ n. put_or (put_at frozen_puts n) (frame_at saved_frames n))
-        (count_of b.plan) frame_next
-        ∙ ap (λ (m : ℕ). map (λ n. put_or (put_at frozen_puts n) (frame_at saved_frames n)) (range_with_len 0 m))
-        (sym (length_read image b.plan b.header.generation b.directory))
+    frames_next = rw (length_read image b.plan b.header.generation b.directory)
+        (maps_same (frame_read image b.plan (b.header.generation + 1) (entries_of b.frozen)) (λ n. put_or (put_at frozen_puts n) (frame_at saved_frames n))
+        (count_of b.plan) frame_next)
 
     module _ {age : ℕ} (keepable : AreKeepable b.plan.geometry age (overlaid frozen_puts saved_frames)) where
       keepable_at : {n : ℕ} → n < count_of b.plan → IsKeepable b.plan.geometry age n (frame_read image b.plan (b.header.generation + 1) (entries_of b.frozen) n)
-      keepable_at {n} lt =
-          subst (IsKeepable b.plan.geometry age n)
-          (ap (λ (xs : List Frame). frame_at xs n) (sym frames_next) ∙ read_at image b.plan (b.header.generation + 1) (entries_of b.frozen) n lt)
-          (keepable.each n lt)
+      keepable_at {n} lt = rw (← ap (λ (xs : List Frame). frame_at xs n) (sym frames_next)
+          ∙ read_at image b.plan (b.header.generation + 1) (entries_of b.frozen) n lt) (keepable.each n lt)
 
       pub spelt_next : AreSpelt image b.plan age (b.header.generation + 1) (entries_of b.frozen)
       spelt_next n lt = by (slot_of (place_at b.frozen n)) refl where
@@ -230,9 +224,6 @@ module _ (disk : Disk) {b : Books} (k : ℕ) (kept : IsKept disk.sectors disk.se
     spelt = λ n s lt is. absurd (let never : Nowhere ≡ Whole s = sym (none n) ∙ is in cc);
   }
 
-  working_put : ArePut disk.seen b.plan (frozen_generation b + 1) b.working
-  working_put = subst (λ (g : ℕ). ArePut disk.seen b.plan g b.working) generation_is kept.working
-
   committed_kept : IsKept disk.sectors disk.seen after
   committed_kept = record {
     readable = search (
@@ -246,7 +237,7 @@ module _ (disk : Disk) {b : Books} (k : ℕ) (kept : IsKept disk.sectors disk.se
     moved = λ i lt. absurd (omega (arith, lt));
     frozen = no_place;
     running = none;
-    working = working_put;
+    working = subst (λ (g : ℕ). ArePut disk.seen b.plan g b.working) generation_is kept.working;
   }
 
   committed_spares : SparesKept after extent

@@ -1,23 +1,21 @@
--- What is kept of a store is kept while its slots are completed.
+-- Clusters: those completed before a commit, and one that the device failed to write.
 use Rattle.migrator.proofs.Names.{ℕ, Option, Some, None, List, refl, sym, ap, subst, arith, Image, Disk, IsTorn, AreKeepable, Entry, Extent, CheckpointHeader}
 use Rattle.migrator.proofs.Names.{entry_at, half_sector, count_of, IsInside, half_extent, found_slot, own_slot, Whole, place_at, slot_of, entries_of}
 use Rattle.migrator.proofs.Names.{AreComplete, Keeps, Unwritten, mended, IfUnwritten, Put, slot_bytes, puts_in, Books, frozen_generation, working_generation}
 use Rattle.migrator.proofs.Names.{FrozenPuts, Stored, stored_in, frozen_of, next_saved, next_header, saved_state, IsKept, LeavesState, MayHaveUnwritten, Holds}
 use Rattle.migrator.proofs.Names.{LeavesSaved, kept_of, Spares, puts, Touches, SparesPuts, Result, Ok, Err, [], length, inl, inr, cases_eq, cases_lt, OnOk}
-use Rattle.migrator.proofs.Names.{OnErr, Elsewhere, image_of, sectors_of, elsewhere_on, OnlyNow, started, Shape, Packed, IsDirectory, home_place, place_length}
-use Rattle.migrator.proofs.Names.{shape_of, bytes_at, sectors_from, shaped_at, slot_in, slot_sector, shape_bytes, Plan, IsPlan, IsApart, apart_inside}
-use Rattle.migrator.proofs.Names.{whole_sectors, IsObject, IsOwn, alone, ranked, begins, place_extent, slot_extent, frames_in_slots, halves_within, slots_apart}
-use Rattle.migrator.proofs.Names.{IsFilled, IsComplete, KeepsOne, EndsInZeros, HasZerosAt, IsGathered, IsUnwritten}
+use Rattle.migrator.proofs.Names.{OnErr, Elsewhere, image_of, sectors_of, elsewhere_on, OnlyNow, started, Shape, Packed, IsDirectory, home_place, shape_of}
+use Rattle.migrator.proofs.Names.{bytes_at, sectors_from, shaped_at, slot_in, slot_sector, shape_bytes, Plan, IsPlan, IsApart, apart_inside, whole_sectors}
+use Rattle.migrator.proofs.Names.{IsObject, IsOwn, alone, ranked, begins, place_extent, slot_extent, frames_in_slots, halves_within, slots_apart, IsFilled}
+use Rattle.migrator.proofs.Names.{IsComplete, KeepsOne, EndsInZeros, HasZerosAt, IsGathered, IsUnwritten, set, frame_in, frame_from, IsSpelt, frame_read}
+use Rattle.migrator.proofs.Names.{IsFrameOf, spelt_same, Place, slot_for, most, IsSpeltIn, Frame, slot_frame, HasUnwritten}
 use Rattle.std.proofs.Common.{◌≡◌, ◌*◌, ◌<◌, ◌∙◌, ◌⊎◌, ◌+◌, ◌-◌, ◌≤◌}
 use Rattle.migrator.proofs.Committing.{frozen_fits}
-use Rattle.migrator.proofs.GoingOn.{GoesOnSeen, goes_spared}
-use Rattle.migrator.proofs.Kept.{puts_same, are_put_same, puts_stay, are_put_on, stored_same, home_stays, readable_stays}
-use Rattle.migrator.proofs.Mended.{mended_disk, leaves_mended, leaves_raw, unmended, mended_here, mended_elsewhere, elsewhere_within, touches_within}
-use Rattle.migrator.proofs.Mended.{touches_on}
-use Rattle.migrator.proofs.PlacesApart.{spares_other, home_apart, found_first}
+use Rattle.migrator.proofs.Kept.{GoesOnSeen, goes_spared, puts_same, are_put_same, puts_stay, are_put_on, stored_same, home_stays, readable_stays}
+use Rattle.migrator.proofs.PlacesApart.{mended_disk, leaves_mended, leaves_raw, unmended, mended_here, mended_elsewhere, elsewhere_within, touches_within}
+use Rattle.migrator.proofs.PlacesApart.{touches_on, spares_other, home_apart, found_first, state_stays, bytes_stay, apart_bytes, apart_frame, other_half}
 use Rattle.migrator.proofs.Putting.{other_parity, half_spares, homes_spare, later_half}
-use Rattle.migrator.proofs.Spared.{state_stays, bytes_stay}
-use Rattle.migrator.proofs.Tables.{slot_entries}
+use Rattle.migrator.proofs.Tables.{slot_entries, set_here, set_there, slot_kept}
 
 module _ {old new : Disk} {b : Books} {was now : Option Unwritten} {k : ℕ} (kept : IsKept old.sectors (mended old.seen was) b) (running : b.size ≡ Some k)
     (keeps : Keeps b.plan (frozen_generation b) (entries_of b.frozen) old was new now) where
@@ -56,11 +54,9 @@ module _ {old new : Disk} {b : Books} {was now : Option Unwritten} {k : ℕ} (ke
   pub frozen_after : frozen_of after b k ≡ frozen_of before b k
   frozen_after = ap (λ (puts : List Put). record { put = puts; size = k }) puts_after
 
-  pub state_after : saved_state after b ≡ saved_state before b
-  state_after = state_stays spares.frames keeps.elsewhere
-
   pub stored_after : stored_in after b ≡ stored_in before b
-  stored_after = stored_same after before b (puts_stay b.plan (working_generation b) b.working working_spares keeps.elsewhere) puts_after state_after
+  stored_after = stored_same after before b (puts_stay b.plan (working_generation b) b.working working_spares keeps.elsewhere) puts_after
+      (state_stays spares.frames keeps.elsewhere)
 
   kept_after : IsKept old.sectors after b
   kept_after = record {
@@ -97,7 +93,7 @@ pub kept_with : {size : ℕ} {image : Image} {b : Books} {o : Option Unwritten} 
 kept_with kept = search
 
 -- once all slots are complete, nothing is unwritten, and nothing changes
-pub record IsReady (old : Disk) (image : Image) (b : Books) (k : ℕ) (mid : Disk) : Type 0 where
+pub record IsCompleted (old : Disk) (image : Image) (b : Books) (k : ℕ) (mid : Disk) : Type 0 where
   pub kept : IsKept mid.sectors mid.seen b
   pub size : mid.sectors ≡ old.sectors
   pub frozen : frozen_of mid.seen b k ≡ frozen_of image b k
@@ -106,7 +102,7 @@ pub record IsReady (old : Disk) (image : Image) (b : Books) (k : ℕ) (mid : Dis
   pub any_moment : LeavesState old (saved_state image b) → LeavesSaved old mid (kept_of (saved_state image b))
 
 pub ready : {old mid : Disk} {b : Books} {was now : Option Unwritten} {k : ℕ} → IsKept old.sectors (mended old.seen was) b → b.size ≡ Some k →
-    Keeps b.plan (frozen_generation b) (entries_of b.frozen) old was mid now → now ≡ None → IsReady old (mended old.seen was) b k mid
+    Keeps b.plan (frozen_generation b) (entries_of b.frozen) old was mid now → now ≡ None → IsCompleted old (mended old.seen was) b k mid
 ready {old} {mid} {b} {was} {now} {k} kept running keeps none =
     let goes = goes_after kept running keeps in
     let image : mended mid.seen now ≡ mid.seen = unmended none in
@@ -134,14 +130,12 @@ complete_at b image {es = es} header entries complete =
     (subst (λ (x : CheckpointHeader). AreComplete image b.plan x.generation es) header complete)
 
 -- what is to be saved may be
-pub keepable_at : {age : ℕ} {old : Disk} {image : Image} {b : Books} {k : ℕ} {mid : Disk} → IsReady old image b k mid →
+pub keepable_at : {age : ℕ} {old : Disk} {image : Image} {b : Books} {k : ℕ} {mid : Disk} → IsCompleted old image b k mid →
     AreKeepable b.plan.geometry age (next_saved puts age (frozen_of image b k) (stored_in image b).saved).frames
     → AreKeepable b.plan.geometry age (next_saved puts age (frozen_of mid.seen b k) (stored_in mid.seen b).saved).frames
 keepable_at {age} {image} {b} {k} {mid} is keepable =
     subst (λ (s : Stored). AreKeepable b.plan.geometry age (next_saved puts age (frozen_of mid.seen b k) s.saved).frames) (sym is.stored)
     (subst (λ (f : FrozenPuts). AreKeepable b.plan.geometry age (next_saved puts age f (stored_in image b).saved).frames) (sym is.frozen) keepable)
-
--- ---- the slots of a checkpoint get the frames of whole clusters
 
 -- ---- a cluster is put together
 
@@ -197,9 +191,7 @@ zeros_written {p} n old new u size seen none zeros rank shape =
 
 pub packed_read : (image : Image) (u : Unwritten) (p : Plan) (n : ℕ) {rank : ℕ} → length u.bytes ≡ 4096 → shape_of p n ≡ Packed rank →
     bytes_at (mended image (Some u)) u.sector p n ≡ shape_bytes (shape_of p n) u.bytes
-packed_read image u p n {rank} size shape =
-    ap (shaped_at (mended image (Some u)) u.sector) shape ∙ ap (shape_bytes (Packed rank)) (cluster_read image u size) ∙
-    ap (λ (s : Shape). shape_bytes s u.bytes) (sym shape)
+packed_read image u p n {rank} size shape = rw (shape, cluster_read image u size)
 
 module _ {p : Plan} (generation : ℕ) {es : List Entry} (i : ℕ) (fits : IsPlan p) (is : IsDirectory p.geometry es) (within : i < length es) where
   abbrev e : Entry
@@ -225,14 +217,12 @@ module _ {p : Plan} (generation : ℕ) {es : List Entry} (i : ℕ) (fits : IsPla
   slot_low : e.slot < p.geometry.log
   slot_low = (is.each i (record { object = 0; slot = 0 }) within).slot
 
-  sectors_inside : IsInside sectors (slot_extent p generation e.slot)
-  sectors_inside = record { starts = omega arith; ends = omega arith }
-
   -- lie apart from the other slots
   others_apart : {j : ℕ} (n : ℕ) → j < length es → (j ≡ i → ⊥) → IsApart (place_extent p generation (entry_at es j).slot n) sectors
   others_apart {j} n lt other =
       apart_inside (place_extent p generation (entry_at es j).slot n) sectors (slot_extent p generation (entry_at es j).slot) (slot_extent p generation e.slot)
-      (frames_in_slots p generation (entry_at es j).slot n) sectors_inside (slots_apart p generation (entry_at es j).slot e.slot differ) where
+      (frames_in_slots p generation (entry_at es j).slot n) (record { starts = omega arith; ends = omega arith })
+      (slots_apart p generation (entry_at es j).slot e.slot differ) where
         differ : (entry_at es j).slot ≡ e.slot → ⊥
         differ same = elim (cases_eq j i) [
           | inl one ↦ other one
@@ -242,10 +232,6 @@ module _ {p : Plan} (generation : ℕ) {es : List Entry} (i : ℕ) (fits : IsPla
           ]
         ]
 
-  -- and from the homes
-  homes_apart : {n : ℕ} → IsObject p.geometry n → IsApart (record { sector = home_place p n; length = place_length p n }) sectors
-  homes_apart {n} is_n = home_apart generation fits is_n (half_of_slot p generation slot_low)
-
   module _ {image new : Image} (change : Elsewhere (slot_sector p generation e.slot) 8 image new) where
     -- what the other slots and the homes have stays
     pub slot_stays : {j : ℕ} (n : ℕ) → j < length es → (j ≡ i → ⊥) → slot_bytes new p generation (entry_at es j).slot n ≡ slot_bytes image p generation
@@ -253,7 +239,7 @@ module _ {p : Plan} (generation : ℕ) {es : List Entry} (i : ℕ) (fits : IsPla
     slot_stays {j} n lt other = bytes_stay p n (others_apart n lt other) change
 
     pub homes_stay : {n : ℕ} → IsObject p.geometry n → bytes_at new (home_place p n) p n ≡ bytes_at image (home_place p n) p n
-    homes_stay {n} is_n = bytes_stay p n (homes_apart is_n) change
+    homes_stay {n} is_n = bytes_stay p n (home_apart generation fits is_n (half_of_slot p generation slot_low)) change
 
     -- so do the clusters that are complete
     pub complete_stays : {j : ℕ} → j < i → IsComplete image p generation es j → IsComplete new p generation es j
@@ -386,3 +372,170 @@ all_complete image p generation es each n s is_n none beside =
     let first = found_first p es n s beside in
     subst (λ (slot : ℕ). slot_bytes image p generation slot n ≡ bytes_at image (home_place p n) p n) first.slot_is
     (each first.index first.within (λ j less same. first.before j less (same ∙ first.home_is)) n is_n (sym first.home_is) none)
+
+-- ---- where nothing is unwritten
+
+-- no checkpoint is on its way
+pub none_idle : (b : Books) (o : Option Unwritten) → MayHaveUnwritten b o → b.size ≡ None → o ≡ None
+none_idle b None has idle = refl
+none_idle b (Some u) has idle = let never : None ≡ Some has.count = sym idle ∙ has.running in absurd cc
+
+-- then no books have any
+pub without : (b : Books) {o : Option Unwritten} → o ≡ None → MayHaveUnwritten b o
+without b none = subst (MayHaveUnwritten b) (sym none) tt
+
+-- ---- what is put leaves it
+
+-- a place with the slot of the one before
+held_torn : (b : Books) (o : Option Unwritten) {n : ℕ} (q : Place) → n < length b.frozen → slot_of q ≡ Some (slot_for b.frozen n) → MayHaveUnwritten b o →
+    MayHaveUnwritten (record b { frozen = set b.frozen n q }) o
+held_torn b None q lt is has = tt
+held_torn b (Some u) {n} q lt is has =
+    let place : slot_of (place_at (set b.frozen n q) has.object) ≡ Some has.slot = elim (cases_eq has.object n) [
+      | inl same ↦
+          ap (λ (m : ℕ). slot_of (place_at (set b.frozen n q) m)) same ∙ ap slot_of (set_here b.frozen lt) ∙ is
+          ∙ ap (λ (k : ℕ). Some k) (slot_kept b.frozen n (ap (λ (m : ℕ). slot_of (place_at b.frozen m)) (sym same) ∙ has.place))
+      | inr other ↦ ap slot_of (set_there b.frozen q other) ∙ has.place
+    ] in
+    search (has, place)
+
+pub held_after : (b : Books) {o p : Option Unwritten} {n : ℕ} (q : Place) → n < length b.frozen → slot_of q ≡ Some (slot_for b.frozen n) →
+    MayHaveUnwritten b o → (p ≡ None) ⊎ (p ≡ o) → MayHaveUnwritten (record b { frozen = set b.frozen n q; unwritten = p }) p
+held_after b {o} {p} {n} q lt is has either = elim either [
+  | inl none ↦ without (record b { frozen = set b.frozen n q; unwritten = p }) none
+  | inr same ↦ subst (MayHaveUnwritten (record b { frozen = set b.frozen n q })) (sym same) (held_torn b o q lt is has)
+]
+
+-- the slot is that of an entry
+pub entry_of : (b : Books) (o : Option Unwritten) → MayHaveUnwritten b o → IfUnwritten b.plan (frozen_generation b) (entries_of b.frozen) o
+entry_of b None has = tt
+entry_of b (Some u) has =
+    let entry = found_slot (entries_of b.frozen) has.object has.slot (slot_entries b.frozen has.object ∙ has.place) in
+    search (has, entry, has.sector_is ∙ ap (slot_sector b.plan (frozen_generation b)) (sym entry.slot_is), ap (shape_of b.plan) entry.object_is ∙ has.shape)
+
+-- a packed frame is that of a node, and of one of five
+is_packed : {p : Plan} {n rank : ℕ} → IsPlan p → n < count_of p → shape_of p n ≡ Packed rank → (n < p.geometry.nodes) × (rank < 5)
+is_packed {p} {n} {rank} fits lt shape =
+    let start = begins p n rank fits lt shape in
+    let at = ranked p n (n - rank) fits lt (omega (arith, lt)) start.first (sym start.home) in
+    (at.3, omega (arith, at.1, start.below))
+
+-- ---- what a read of the device itself gives
+
+abbrev cluster_extent : Unwritten → Extent
+cluster_extent u = record { sector = u.sector; length = 8 }
+
+module _ (size : ℕ) (image : Image) (b : Books) where
+  cluster_inside : {u : Unwritten} → IsKept size (mended image (Some u)) b → HasUnwritten b u →
+      IsInside (cluster_extent u) (half_extent b.plan.geometry (half_sector b.plan (frozen_generation b)))
+  cluster_inside {u} kept has =
+      let fits = frozen_fits kept in
+      let entry : IsUnwritten b.plan (frozen_generation b) (entries_of b.frozen) u = entry_of b (Some u) has in
+      let low = (fits.each entry.index (record { object = 0; slot = 0 }) entry.within).slot in
+      record { starts = omega (arith, entry.sector_is); ends = omega (arith, entry.sector_is, low) }
+
+  -- the saved frames
+  pub saved_raw : (o : Option Unwritten) → IsKept size (mended image o) b → MayHaveUnwritten b o → {n : ℕ} → n < count_of b.plan
+      → frame_in (mended image o) b.plan b.header.generation b.directory n ≡ frame_in image b.plan b.header.generation b.directory n
+  saved_raw None kept has lt = refl
+  saved_raw (Some u) kept has {n} lt =
+      apart_frame image u b.plan b.header.generation b.directory
+      (spares_other b.header (frozen_generation b) kept.plan kept.directory kept.header.entries (other_parity b.header.generation)
+      (cluster_inside kept has)).frames lt
+
+  pub spelt_raw : (o : Option Unwritten) → IsKept size (mended image o) b → MayHaveUnwritten b o → {n : ℕ} → n < count_of b.plan →
+      IsSpelt image b.plan b.header.age b.header.generation b.directory n
+  spelt_raw o kept has {n} lt = spelt_same image (mended image o) b.plan b.header.age b.header.generation b.header.generation b.directory b.directory n
+      (sym (saved_raw o kept has lt)) (kept.saved n lt)
+
+  pub read_raw : (o : Option Unwritten) → IsKept size (mended image o) b → MayHaveUnwritten b o → {n : ℕ} → n < count_of b.plan
+      → frame_read image b.plan b.header.generation b.directory n ≡ frame_read (mended image o) b.plan b.header.generation b.directory n
+  read_raw o kept has {n} lt = ap (λ (bytes : List ℕ). frame_from b.plan.geometry n bytes) (sym (saved_raw o kept has lt))
+
+  -- homes
+  pub home_raw : (o : Option Unwritten) → IsKept size (mended image o) b → MayHaveUnwritten b o → b.header.entries ≡ 0 → {n : ℕ} → n < count_of b.plan
+      → bytes_at image (home_place b.plan n) b.plan n ≡ bytes_at (mended image o) (home_place b.plan n) b.plan n
+  home_raw None kept has home lt = refl
+  home_raw (Some u) kept has home {n} lt = sym (apart_bytes image u b.plan n (home_apart (frozen_generation b) kept.plan lt (cluster_inside kept has)))
+
+  -- what lies in the half of the frames that were put since, also after a write
+  pub working_again : (new : Image) (o : Option Unwritten) → IsKept size (mended image o) b → MayHaveUnwritten b o → {s : ℕ} (n : ℕ) → s < b.plan.geometry.log
+      → slot_bytes (mended new o) b.plan (working_generation b) s n ≡ slot_bytes new b.plan (working_generation b) s n
+  working_again new None kept has n low = refl
+  working_again new (Some u) kept has {s} n low =
+      apart_bytes new u b.plan n (other_half (working_generation b) (frozen_generation b) n kept.plan (later_half b has.running) low (cluster_inside kept has))
+
+  -- and in another slot of the frozen frames
+  pub frozen_raw : (o : Option Unwritten) → IsKept size (mended image o) b → MayHaveUnwritten b o → {s : ℕ} (n : ℕ) → s < b.plan.geometry.log
+      → ((u : Unwritten) → o ≡ Some u → u.sector ≡ slot_sector b.plan (frozen_generation b) s → ⊥) →
+      slot_bytes (mended image o) b.plan (frozen_generation b) s n ≡ slot_bytes image b.plan (frozen_generation b) s n
+  frozen_raw None kept has n low other = refl
+  frozen_raw (Some u) kept has {s} n low other =
+      let t : ℕ = has.slot in
+      let differ : s ≡ t → ⊥ = λ same. other u refl (has.sector_is ∙ ap (slot_sector b.plan (frozen_generation b)) (sym same)) in
+      apart_bytes image u b.plan n (apart_inside (place_extent b.plan (frozen_generation b) s n) (cluster_extent u) (slot_extent b.plan (frozen_generation b) s)
+      (slot_extent b.plan (frozen_generation b) t)
+      (frames_in_slots b.plan (frozen_generation b) s n) (record { starts = omega (arith, has.sector_is); ends = omega (arith, has.sector_is) })
+      (slots_apart b.plan (frozen_generation b) s t differ))
+
+  -- ---- and what its buffer gives
+
+  module _ {u : Unwritten} (kept : IsKept size (mended image (Some u)) b) (has : HasUnwritten b u) (n : ℕ) {s : ℕ} (at : place_at b.frozen n ≡ Whole s)
+      (here : u.sector ≡ slot_sector b.plan (frozen_generation b) s) where
+    -- the frame is that of the object whose slot is unwritten
+    one : has.object ≡ n
+    one =
+        let same_slot : has.slot ≡ s = omega (arith, has.sector_is, here) in
+        elim (cases_eq has.object n) [
+          | inl same ↦ same
+          | inr other ↦ absurd (other (kept.frozen.table.apart has.object n s (has.place ∙ ap (λ (k : ℕ). Some k) same_slot) (ap slot_of at)))
+        ]
+
+    pub own_shape : shape_of b.plan n ≡ Packed has.rank
+    own_shape = ap (shape_of b.plan) (sym one) ∙ has.shape
+
+    pub own_bytes : slot_bytes (mended image (Some u)) b.plan (frozen_generation b) s n ≡ shape_bytes (Packed has.rank) u.bytes
+    own_bytes =
+        ap (λ (at : ℕ). bytes_at (mended image (Some u)) at b.plan n) (sym here) ∙ packed_read image u b.plan n has.size own_shape
+        ∙ ap (λ (shape : Shape). shape_bytes shape u.bytes) own_shape
+
+  -- ---- by the place of a frozen frame
+
+  -- the buffer spells it where it is that slot's
+  pub own_spelt : {o : Option Unwritten} → IsKept size (mended image o) b → MayHaveUnwritten b o → {n s : ℕ} → n < count_of b.plan →
+      place_at b.frozen n ≡ Whole s → {sector : ℕ} → sector ≡ slot_sector b.plan (frozen_generation b) s
+      → (u : Unwritten) × (o ≡ Some u) × (u.sector ≡ sector) → (u : Unwritten) × (o ≡ Some u) × IsSpeltIn u (shape_of b.plan n) b.plan.geometry n
+  own_spelt kept has {n} {s} lt at here is =
+      subst (λ (x : Option Unwritten). (u : Unwritten) × (x ≡ Some u) × IsSpeltIn u (shape_of b.plan n) b.plan.geometry n) (sym is.1)
+      (by is.0 (subst (λ (x : Option Unwritten). IsKept size (mended image x) b) is.1 kept) (subst (MayHaveUnwritten b) is.1 has) (is.2 ∙ here)) where
+        by : (u : Unwritten) → IsKept size (mended image (Some u)) b → HasUnwritten b u → u.sector ≡ slot_sector b.plan (frozen_generation b) s →
+            (v : Unwritten) × (Some u ≡ Some v) × IsSpeltIn v (shape_of b.plan n) b.plan.geometry n
+        by u kept has here =
+            let bytes = own_bytes kept has n at here in (
+              u,
+              refl,
+              record {
+                rank = has.rank;
+                low = (is_packed kept.plan lt (own_shape kept has n at here)).1;
+                packed = own_shape kept has n at here;
+                node = (is_packed kept.plan lt (own_shape kept has n at here)).0;
+                spelt = subst (λ (xs : List ℕ). IsFrameOf b.plan.geometry most n xs (frame_from b.plan.geometry n xs)) bytes (kept.frozen.spelt n s lt at);
+              },
+            )
+
+  -- and gives it
+  pub own_frame : {o : Option Unwritten} → IsKept size (mended image o) b → MayHaveUnwritten b o → (n : ℕ) {s : ℕ} {read : Frame} →
+      place_at b.frozen n ≡ Whole s → {sector : ℕ} → sector ≡ slot_sector b.plan (frozen_generation b) s
+      → (u : Unwritten) × (o ≡ Some u) × (u.sector ≡ sector) →
+      ((u : Unwritten) → o ≡ Some u → read ≡ frame_from b.plan.geometry n (shape_bytes (shape_of b.plan n) u.bytes))
+      → read ≡ slot_frame (mended image o) b.plan (frozen_generation b) s n
+  own_frame kept has n {s} at here is reported =
+      reported is.0 is.1
+      ∙ subst (λ (x : Option Unwritten). frame_from b.plan.geometry n (shape_bytes (shape_of b.plan n) is.0.bytes) ≡ slot_frame (mended image x) b.plan
+      (frozen_generation b) s n) (sym is.1)
+      (by is.0 (subst (λ (x : Option Unwritten). IsKept size (mended image x) b) is.1 kept) (subst (MayHaveUnwritten b) is.1 has) (is.2 ∙ here)) where
+        by : (u : Unwritten) → IsKept size (mended image (Some u)) b → HasUnwritten b u → u.sector ≡ slot_sector b.plan (frozen_generation b) s
+            → frame_from b.plan.geometry n (shape_bytes (shape_of b.plan n) u.bytes) ≡ slot_frame (mended image (Some u)) b.plan (frozen_generation b) s n
+        by u kept has here =
+            ap (frame_from b.plan.geometry n)
+            (ap (λ (shape : Shape). shape_bytes shape u.bytes) (own_shape kept has n at here) ∙ sym (own_bytes kept has n at here))

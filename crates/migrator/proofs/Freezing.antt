@@ -1,8 +1,9 @@
 -- What was put is frozen.
-use Rattle.migrator.proofs.Names.{ℕ, Some, None, List, length, sym, ap, subst, arith, map, replicate, range_with_len, same_lists, length-replicate}
-use Rattle.migrator.proofs.Names.{get_or-replicate, length-map-range_with_len, get_or-map-range_with_len, Image, count_of, Plan, Place, Nowhere, Whole}
-use Rattle.migrator.proofs.Names.{place_at, Put, Absent, held_slot, sum_of, put_of, puts_in, ArePut, Books, frozen_generation, working_generation}
-use Rattle.migrator.proofs.Names.{generation_after, Stored, stored_in, IsRunning, IsKept, freezing_puts}
+use Rattle.migrator.proofs.Names.{ℕ, Some, None, List, length, sym, ap, subst, arith, replicate, range_with_len, same_lists, length-replicate, get_or-replicate}
+use Rattle.migrator.proofs.Names.{length-map-range_with_len, get_or-map-range_with_len, Image, count_of, Plan, Place, Nowhere, Whole, place_at, Put, Absent}
+use Rattle.migrator.proofs.Names.{held_slot, sum_of, put_of, puts_in, ArePut, Books, frozen_generation, working_generation, generation_after, Stored, stored_in}
+use Rattle.migrator.proofs.Names.{IsRunning, IsKept, freezing_puts}
+use Rattle.std.specs.Prelude.{map}
 use Rattle.std.proofs.Common.{◌≡◌, ◌+◌, ◌<◌, ◌≤◌, ◌∙◌}
 use Rattle.migrator.proofs.Putting.{held_taken}
 
@@ -56,8 +57,8 @@ module _ (size : ℕ) (image : Image) (b : Books) (k : ℕ) (none : b.size ≡ N
   stored_of working put = record (stored_in image b) { working = working; frozen = Some (record { put = put; size = k }) }
 
   pub freeze_stored : stored_in image (frozen_books b k) ≡ freezing_puts k (stored_in image b)
-  freeze_stored =
-      ap (λ (puts : List Put). stored_of puts (puts_in image b.plan (frozen_generation b) b.working))
-      (puts_blank image b.plan (b.header.generation + 1 + 1) b.frozen blank (length_puts image b.plan (working_generation b) b.working))
-      ∙ ap (λ (g : ℕ). stored_of (replicate (length (puts_in image b.plan (working_generation b) b.working)) Absent) (puts_in image b.plan g b.working))
-      (sym generation)
+  freeze_stored = rw (
+    puts_blank image b.plan (b.header.generation + 1 + 1) b.frozen blank
+        (length_puts image b.plan (working_generation b) b.working),
+    generation,
+  )

@@ -5,8 +5,7 @@ use Rattle.migrator.proofs.Names.{sectors_from, shaped_at, slot_in, slot_sector,
 use Rattle.migrator.proofs.Names.{WritesAt, IsObject, EndsInZeros, HaveHome, HoldsHome, IsOwn, alone, ranked, HasZerosAt, IsGathered, IsCopied, Touches}
 use Rattle.std.proofs.Common.{◌≡◌, ◌+◌, ◌-◌, ◌*◌, ◌<◌, ◌++◌, ◌∙◌}
 use Rattle.std.proofs.lemmas.List.{length-append}
-use Rattle.migrator.proofs.Spared.{reads_then}
-use Rattle.migrator.proofs.PlacesApart.{in_slot}
+use Rattle.migrator.proofs.PlacesApart.{reads_then, in_slot}
 
 -- ---- one node
 

@@ -6,25 +6,21 @@ use Rattle.migrator.proofs.Names.{IsDirectory, IsEntry, entry_at, IsFrameOf, pag
 use Rattle.migrator.proofs.Names.{frame_slot_in, slot_sector, half_sector, sectors_from, shaped_at, bytes_at, count_of, frame_read, frames_read, IsSpelt}
 use Rattle.migrator.proofs.Names.{AreSpelt, Plan, IsPlan, IsInside, half_extent, half_start, slot_here, slot_behind, length_read, read_at, spelt_same, spelt_at}
 use Rattle.migrator.proofs.Names.{bytes_spelt, Shape, home_place, shape_of, IsShapeFor, page_bytes, WritesAt, slot_extent, directory_extent, slots_inside}
-use Rattle.migrator.proofs.Names.{Place, Nowhere, place_at, Put, slot_bytes, puts_in, ArePut, most, with_words, Books, IsDurable, frozen_generation}
-use Rattle.migrator.proofs.Names.{working_generation, generation_after, FrozenPuts, Stored, journaled, replaced, frozen_of, stored_in, stored_on, IsRunning}
-use Rattle.migrator.proofs.Names.{IsKept, replaced_header, on_snapshots, first_bytes, first_frame, beside_frame_slot, alone, IsHeaderOf, MayAdopt, SparesKept}
-use Rattle.migrator.proofs.Names.{adopted, SparesFrames, Unwritten, mended, MayJournal}
+use Rattle.migrator.proofs.Names.{Place, Nowhere, place_at, Put, slot_bytes, ArePut, most, with_words, Books, IsDurable, frozen_generation, working_generation}
+use Rattle.migrator.proofs.Names.{generation_after, FrozenPuts, Stored, journaled, replaced, frozen_of, stored_in, stored_on, IsRunning, IsKept}
+use Rattle.migrator.proofs.Names.{replaced_header, on_snapshots, first_bytes, first_frame, beside_frame_slot, alone, IsHeaderOf, MayAdopt, SparesKept, adopted}
+use Rattle.migrator.proofs.Names.{SparesFrames, Unwritten, mended, MayJournal}
 use Rattle.std.proofs.Common.{◌≡◌, ◌+◌, ◌*◌, ◌%◌, ◌^◌, ◌<◌, ◌≤◌, ◌∷◌, ◌∙◌}
 use Rattle.std.specs.Prelude.{◌==◌, if◌then◌else◌}
 use Rattle.model.specs.declared.object.Content.TheVariants as content
 use Rattle.model.specs.declared.object.Role.TheVariants as role
-use Rattle.migrator.proofs.Spared.{touches}
-use Rattle.migrator.proofs.Kept.{are_put_same, puts_same, map_set, stored_stays, kept_on}
-use Rattle.migrator.proofs.GoingOn.{goes_seen, goes_spared}
-use Rattle.migrator.proofs.Later.{keepable_later}
-use Rattle.migrator.proofs.PlacesApart.{in_slot, at_home, frame_apart, home_apart, spares_log, none_beside, page_own, no_entries, frame_slot_fits}
+use Rattle.migrator.proofs.PlacesApart.{touches, in_slot, at_home, frame_apart, home_apart, spares_log, none_beside, page_own, no_entries, frame_slot_fits}
+use Rattle.migrator.proofs.PlacesApart.{mended_disk, writes_mended}
+use Rattle.migrator.proofs.Kept.{are_put_same, puts_same, map_set, stored_stays, kept_on, goes_seen, goes_spared}
+use Rattle.migrator.proofs.Publishing.{keepable_later, with_header, idle_books, may_adopt_idle, kept_raw}
 use Rattle.migrator.proofs.Putting.{half_spares, homes_spare, idle_half, none_spares}
 use Rattle.migrator.proofs.Committing.{one_more, slots_apart_directory, directory_inside}
-use Rattle.migrator.proofs.Adopting.{with_header, idle_books, may_adopt_idle}
-use Rattle.migrator.proofs.Saving.{kept_raw}
-use Rattle.migrator.proofs.Buffered.{none_idle}
-use Rattle.migrator.proofs.Mended.{mended_disk, writes_mended}
+use Rattle.migrator.proofs.Completing.{none_idle}
 
 -- ---- generations of one half
 
@@ -86,8 +82,7 @@ module _ {size : ℕ} {image : Image} {b : Books} (kept : IsKept size image b) (
 
   saved_keepable : {n : ℕ} → n < count_of b.plan →
       IsKeepable b.plan.geometry b.header.age n (frame_at (frames_read image b.plan b.header.generation b.directory) n)
-  saved_keepable {n} lt = subst (IsKeepable b.plan.geometry b.header.age n) (sym (read_at image b.plan b.header.generation b.directory n lt))
-      (kept.saved n lt).0
+  saved_keepable {n} lt = rw (read_at image b.plan b.header.generation b.directory n lt) (kept.saved n lt).0
 
 -- the header that was read of its home is the saved one
 pub header_read : {old : Image} {size : ℕ} (new : Image) {b : Books} → IsKept size old b → b.header.entries ≡ 0 → {n at : ℕ} {shape : Shape} →
@@ -233,8 +228,7 @@ module _ {disk : Disk} {b : Books} {n age : ℕ} (may : MayReplace disk b n age)
 
   spelt_next : AreSpelt disk.seen b.plan age again (one_entry n)
   spelt_next m within = elim (cases_eq n m) [
-    | inl same ↦ subst (λ (k : ℕ). IsSpelt disk.seen b.plan age again (one_entry n) k) same
-        (subst (λ (bytes : List ℕ). IsFrameOf b.plan.geometry age n bytes (frame_from b.plan.geometry n bytes)) (sym frame_here) may.spelt)
+    | inl same ↦ rw (← same, frame_here) may.spelt
     | inr other ↦
         let was = spelt_same disk.seen disk.seen b.plan b.header.age again b.header.generation (one_entry n) b.directory m (frame_there within other)
         (kept.saved m within) in
@@ -255,14 +249,13 @@ module _ {disk : Disk} {b : Books} {n age : ℕ} (may : MayReplace disk b n age)
   }
 
   replaced_stored : stored_in disk.seen books ≡ on_snapshots (replaced age n frame) (stored_in disk.seen b)
-  replaced_stored =
-      ap (λ (puts : List Put). stored_as puts (option_map (frozen_of disk.seen books) b.size) (frames_read disk.seen b.plan again (one_entry n)))
-      (puts_same b.plan (working_generation books) (working_generation b) b.working disk.seen disk.seen
-      (λ m s lt is. slot_same disk.seen b.plan (working_generation books) (working_generation b) (after_half b.header.generation b.size) s m))
-      ∙ ap (λ (frozen : Option FrozenPuts). stored_as (puts_in disk.seen b.plan (working_generation b) b.working) frozen
-      (frames_read disk.seen b.plan again (one_entry n))) (none_frozen (frozen_of disk.seen books) (frozen_of disk.seen b) b.size may.free)
-      ∙ ap (λ (fs : List Frame). stored_as (puts_in disk.seen b.plan (working_generation b) b.working) (option_map (frozen_of disk.seen b) b.size) fs)
-      frames_next
+  replaced_stored = rw (
+    puts_same b.plan (working_generation books) (working_generation b) b.working disk.seen disk.seen
+        (λ m s lt is. slot_same disk.seen b.plan (working_generation books) (working_generation b) (after_half b.header.generation b.size) s m),
+    none_frozen
+        (frozen_of disk.seen books) (frozen_of disk.seen b) b.size may.free,
+    frames_next,
+  )
 
   pub may_replace : MayAdopt disk b (replaced_header age b) (one_entry n)
   may_replace = may_adopt_idle (replaced_header age b) (one_entry n) may.stands may.free may.sound refl

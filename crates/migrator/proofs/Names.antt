@@ -3,11 +3,10 @@ pub use Rattle.checkpoint.proofs.Lists.{maps_same}
 pub use Rattle.checkpoint.specs.Opened.{IsBadFor, OnlyReads}
 pub use Rattle.checkpoint.specs.Saved.{Holds, LeavesEither, LeavesSaved, SavedFrames, home_saved, kept_of, most, with_words}
 pub use Rattle.checkpoint.specs.Snapshots.{MayCommit, all_moved, committed, journaled, moved_saved, next_saved, replaced}
-pub use Rattle.checkpoint.specs.declared.open_fault.OpenFault.{OpenFault}
-pub use Rattle.ckpt_log.proofs.BesideHeaders.{next_follows}
-pub use Rattle.ckpt_log.proofs.Denoted.{frames_behind, new_denoted, old_denoted}
-pub use Rattle.ckpt_log.proofs.Places.{directories_inside, frames_in_slots, halves_apart, halves_within, slots_apart, slots_inside, slots_spare_directories}
-pub use Rattle.ckpt_log.proofs.SavedStates.{same_saved}
+pub use Rattle.layout.specs.declared.open_fault.OpenFault.{OpenFault}
+pub use Rattle.ckpt_log.proofs.Places.{directories_inside, frames_in_slots, halves_apart, halves_within, next_follows, slots_apart, slots_inside}
+pub use Rattle.ckpt_log.proofs.Places.{slots_spare_directories}
+pub use Rattle.ckpt_log.proofs.SavedStates.{frames_behind, new_denoted, old_denoted, same_saved}
 pub use Rattle.ckpt_log.specs.Commit.{CommitsOne, HasNew, IsOld, Precedes, header_sector}
 pub use Rattle.ckpt_log.specs.CommitLaws.{HomesAreBehind, IsReady}
 pub use Rattle.ckpt_log.specs.Places.{directory_extent, place_extent, slot_extent}
@@ -19,7 +18,7 @@ pub use Rattle.device.specs.Calls.{Agrees, Counts, Elsewhere, IsTorn, Only, imag
 pub use Rattle.device.specs.Disk.{Disk, Image}
 pub use Rattle.device.specs.Moments.{Elapses, LeavesOnly}
 pub use Rattle.device.specs.declared.device.Failed.{Failed}
-pub use Rattle.home_ranges.proofs.FrameSlots.{beside_behind, beside_frame_slot, beside_here, frame_slot_entry, own_frame_slot, same_some}
+pub use Rattle.home_ranges.proofs.FrameSlots.{beside_behind, beside_frame_slot, beside_here, frame_slot_entry, own_frame_slot}
 pub use Rattle.home_ranges.proofs.Places.{IsOwn, alone, lt_false, lt_true, one_length, places_apart, places_spare_log, places_within, ranked}
 pub use Rattle.home_ranges.proofs.Shared.{begins, home_between, own_of}
 pub use Rattle.home_ranges.specs.Home.{EndsInZeros, HaveHome, HoldsHome}
@@ -37,7 +36,7 @@ unfoldable pub use Rattle.layout.specs.Bytes.{zeros}
 pub use Rattle.layout.specs.Calls.{ReadsOnly, WritesAt}
 pub use Rattle.layout.specs.Directory.{AreRising, IsDirectory, IsEntry, entry_at}
 unfoldable pub use Rattle.layout.specs.Directory.{directory_bytes}
-pub use Rattle.layout.specs.Fault.{CountsFailed}
+pub use Rattle.layout.specs.Fault.{CountsOpen}
 pub use Rattle.layout.specs.Frame.{IsFrameOf, frame_bytes, frame_length, frame_of}
 unfoldable pub use Rattle.layout.specs.Frame.{node_frame_bytes, page_frame_bytes}
 unfoldable pub use Rattle.layout.specs.FrameReader.{frame_from, header_from}
@@ -57,7 +56,6 @@ unfoldable pub use Rattle.layout.specs.Superblock.{superblock_bytes}
 pub use Rattle.layout.specs.declared.bad_image.BadImage.{BadImage}
 pub use Rattle.layout.specs.declared.directory.Entry.{Entry}
 pub use Rattle.layout.specs.declared.extent.Extent.{Extent}
-pub use Rattle.layout.specs.declared.frame_io.fault.Unreadable.{Unreadable}
 pub use Rattle.layout.specs.declared.half.Half.{Half}
 pub use Rattle.layout.specs.declared.half.Half.TheVariants.{First, Second}
 pub use Rattle.layout.specs.declared.header.CheckpointHeader.{CheckpointHeader}
@@ -75,7 +73,7 @@ pub use Rattle.model.specs.declared.frame.ObjectHeader.{ObjectHeader}
 pub use Rattle.model.specs.declared.geometry.Geometry.{Geometry}
 pub use Rattle.model.specs.declared.object.Content.{Content}
 pub use Rattle.std.proofs.Common.{Bool, Err, List, None, Ok, Option, Result, Some, [], ap, append-nil, arith, cond, drop, false, get_or, inl, inr, length}
-pub use Rattle.std.proofs.Common.{length-append, nat_eq, nat_le, nat_lt, not, refl, rules, set, subst, suc, sym, take, true, zero, ℕ, ⊎_elim}
+pub use Rattle.std.proofs.Common.{length-append, map, nat_eq, nat_le, nat_lt, not, refl, rules, set, subst, suc, sym, take, true, zero, ℕ, ⊎_elim}
 pub use Rattle.std.proofs.Math.ListN.{get_or-map}
 pub use Rattle.std.proofs.lemmas.Bool.{cases_eq, cases_lt, eq-eqb, le-ltb, ne_eqb}
 pub use Rattle.std.proofs.lemmas.Bool.Decides.{nat_tests}
@@ -86,7 +84,7 @@ pub use Rattle.std.proofs.lemmas.List.FromFn.{get_or-map-range_with_len, length-
 pub use Rattle.std.proofs.lemmas.Option.{same_Some}
 pub use Rattle.std.proofs.lemmas.Result.{IfErr-weaker, IfOk-weaker, err_from_is_err_and, on_err_weaker, on_ok_weaker}
 pub use Rattle.std.specs.List.{range_with_len}
-pub use Rattle.std.specs.Prelude.{IfErr, IfOk, IsErr, OnErr, OnOk, is_err, map, option_map, replicate, slice_set}
+pub use Rattle.std.specs.Prelude.{IfErr, IsErr, OnErr, OnOk, is_err, option_map, replicate, slice_set}
 pub use Rattle.std.specs.Vec.{vec_capacity}
 pub use Rattle.migrator.specs.Completed.{AreComplete, IsComplete, IsFilled, Keeps, KeepsOne}
 pub use Rattle.migrator.specs.Durable.{DurableState, FrozenPuts, GoesOnDisk, HasUnwritten, IsDurable, IsHome, IsKept, IsLesser, IsReadable, IsRunning}

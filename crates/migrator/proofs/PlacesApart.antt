@@ -1,14 +1,17 @@
--- Which slot has the frame of an object, or of another in its cluster.
+-- Frames that lie apart, and writes apart from them.
 use Rattle.migrator.proofs.Names.{ℕ, zero, suc, Bool, true, false, not, nat_eq, Option, Some, None, List, [], length, refl, sym, ap, subst, inl, inr, arith}
 use Rattle.migrator.proofs.Names.{cases_eq, cases_lt, eq-eqb, Entry, Packed, Page, IsDirectory, AreRising, entry_at, home_place, range_with, rank_in, shape_of}
 use Rattle.migrator.proofs.Names.{slot_in, slot_beside, frame_slot_in, count_of, node_shape, Plan, IsPlan, found_slot, own_slot, rising_to, IsOwn, alone}
-use Rattle.migrator.proofs.Names.{lt_false, beside_behind, beside_here, beside_frame_slot, own_frame_slot, same_some, frame_slot_entry, begins, home_between}
+use Rattle.migrator.proofs.Names.{lt_false, beside_behind, beside_here, beside_frame_slot, own_frame_slot, same_Some, frame_slot_entry, begins, home_between}
 use Rattle.migrator.proofs.Names.{IsFirst, Image, Extent, CheckpointHeader, place_length, bytes_at, frame_in, slot_sector, half_sector, sector_or, IsApart}
 use Rattle.migrator.proofs.Names.{IsInside, half_extent, itself, apart_inside, apart_turned, within_inside, home_extent, places_within, places_apart}
 use Rattle.migrator.proofs.Names.{places_spare_log, place_extent, directory_extent, slots_inside, frames_in_slots, directories_inside, halves_within}
-use Rattle.migrator.proofs.Names.{halves_apart, HomesAreBehind, slot_bytes, frame_extent, Spares}
-use Rattle.std.proofs.Common.{◌≡◌, ◌-◌, ◌<◌, ◌≤◌, ◌∷◌, ◌∙◌, ◌%◌}
-use Rattle.std.specs.Prelude.{if◌then◌else◌}
+use Rattle.migrator.proofs.Names.{halves_apart, HomesAreBehind, slot_bytes, frame_extent, Spares, ⊎_elim, Frame, Disk, Elsewhere, IsTorn, LeavesOnly}
+use Rattle.migrator.proofs.Names.{elsewhere_same, elsewhere_on, leaves_weaker, leaves_on, Encodes, state_in, same_shaped, read_same, ReadsOnly, WritesAt}
+use Rattle.migrator.proofs.Names.{SameFrom, SameWhereRead, same_saved, LeavesState, SparesFrames, Touches, nat_le, nat_lt, nat_tests, image_of, Elapses}
+use Rattle.migrator.proofs.Names.{agrees_is, Geometry, Shape, IsFrameOf, frame_from, shape_bytes, one_frame, most, Unwritten, mended, unwritten_of, IsSpeltIn}
+use Rattle.std.proofs.Common.{◌≡◌, ◌-◌, ◌<◌, ◌≤◌, ◌∷◌, ◌∙◌, ◌%◌, ◌+◌}
+use Rattle.std.specs.Prelude.{if◌then◌else◌, ◌&&◌}
 
 -- ---- the first entry whose home is that of an object
 
@@ -40,7 +43,7 @@ found_first p (e ∷ es) n s is = elim (cases_eq (home_place p e.object) (home_p
     index = 0;
     within = omega arith;
     home_is = same;
-    slot_is = same_some (sym (beside_here p e es n same) ∙ is);
+    slot_is = same_Some _ _ (sym (beside_here p e es n same) ∙ is);
     before = λ j lt. absurd (omega (arith, lt));
   }
   | inr other ↦
@@ -156,8 +159,6 @@ module _ (p : Plan) (es : List Entry) (n rank at : ℕ) (fits : IsPlan p) (is : 
         other (omega (arith, le, within)) (shared ∙ start.home)
   ])
 
--- ---- places of frames that lie apart
-
 -- ---- where the frame of an object is read
 
 pub in_frame_slot : (image : Image) (p : Plan) (generation : ℕ) (es : List Entry) (n : ℕ) {s : ℕ} → frame_slot_in p es n ≡ Some s →
@@ -170,8 +171,7 @@ in_slot image p generation es n {s} is = in_frame_slot image p generation es n (
 
 pub at_home : (image : Image) (p : Plan) (generation : ℕ) (es : List Entry) (n : ℕ) → frame_slot_in p es n ≡ None →
     frame_in image p generation es n ≡ bytes_at image (home_place p n) p n
-at_home image p generation es n is =
-    ap (λ (o : Option ℕ). bytes_at image (sector_or o (slot_sector p generation) (home_place p n)) p n) is
+at_home image p generation es n is = rw is
 
 abbrev extent_of : ℕ → ℕ → Extent
 extent_of sector length = record { sector = sector; length = length }
@@ -179,10 +179,8 @@ extent_of sector length = record { sector = sector; length = length }
 apart_by : (o : Option ℕ) (p : Plan) (generation : ℕ) (es : List Entry) (n : ℕ) (e : Extent) → frame_slot_in p es n ≡ o →
     ((s : ℕ) → frame_slot_in p es n ≡ Some s → IsApart (place_extent p generation s n) e)
     → (frame_slot_in p es n ≡ None → IsApart (home_extent p n) e) → IsApart (frame_extent p generation es n) e
-apart_by None p generation es n e is slot home =
-    subst (λ (o : Option ℕ). IsApart (extent_of (sector_or o (slot_sector p generation) (home_place p n)) (place_length p n)) e) (sym is) (home is)
-apart_by (Some s) p generation es n e is slot home =
-    subst (λ (o : Option ℕ). IsApart (extent_of (sector_or o (slot_sector p generation) (home_place p n)) (place_length p n)) e) (sym is) (slot s is)
+apart_by None p generation es n e is slot home = rw is (home is)
+apart_by (Some s) p generation es n e is slot home = rw is (slot s is)
 
 -- the frame of an object lies apart where both of its places do
 pub frame_apart : (p : Plan) (generation : ℕ) (es : List Entry) (n : ℕ) (e : Extent) →
@@ -253,3 +251,217 @@ spares_home {p} {h} {es} {m} {t} fits is few within has = record {
 -- home frames lie behind the headers
 pub homes_behind : {p : Plan} → IsPlan p → HomesAreBehind p
 homes_behind {p} fits n lt = (places_within p n fits lt).0
+
+-- ---- writes apart from what a saved state is read from
+
+-- a change of other sectors leaves these
+pub stays : {d e : Extent} {old new : Image} → IsApart d e → Elsewhere e.sector e.length old new → SameFrom d.sector d.length old new
+stays {d} apart change i lt = ⊎_elim (λ le. change.before (d.sector + i) (omega (arith, le, lt))) (λ le. change.after (d.sector + i) (omega (arith, le))) apart
+
+-- and the frame that lies in them
+pub bytes_stay : {at : ℕ} (p : Plan) (n : ℕ) {e : Extent} {old new : Image} → IsApart (record { sector = at; length = place_length p n }) e →
+    Elsewhere e.sector e.length old new → bytes_at new at p n ≡ bytes_at old at p n
+bytes_stay {at} p n {e} {old} {new} apart change = same_shaped at (shape_of p n) old new (stays apart change)
+
+pub frame_stays : (p : Plan) (generation : ℕ) (es : List Entry) (e : Extent) {old new : Image} → SparesFrames p generation es e →
+    Elsewhere e.sector e.length old new → (n : ℕ) → n < count_of p → frame_in new p generation es n ≡ frame_in old p generation es n
+frame_stays p generation es e {old} {new} spares change n lt = bytes_stay p n (spares n lt) change
+
+pub state_stays : {p : Plan} {h : CheckpointHeader} {es : List Entry} {e : Extent} {old new : Image} → SparesFrames p h.generation es e →
+    Elsewhere e.sector e.length old new → state_in new p h es ≡ state_in old p h es
+state_stays {p} {h} {es} {e} {old} {new} spares change =
+    ap (λ (fs : List Frame). record { plan = p; header = h; directory = es; frames = fs })
+    (read_same new old p h.generation h.generation es es (frame_stays p h.generation es e spares change))
+
+spares_same : {p : Plan} {h : CheckpointHeader} {es : List Entry} {e : Extent} {old new : Image} → Spares p h es e → Elsewhere e.sector e.length old new →
+    SameWhereRead p h es old new
+spares_same {p} {h} {es} {e} {old} {new} spares change = record {
+  headers = λ i lt. change.before (1 + i) (omega (arith, lt, spares.headers));
+  directory = ⊎_elim (λ none i lt. absurd (omega (arith, none, lt))) (λ apart. stays apart change) spares.directory;
+  frames = λ n lt. stays (spares.frames n lt) change;
+}
+
+-- such a change leaves the saved state
+pub denotes_on : {p : Plan} {h : CheckpointHeader} {es : List Entry} {fs : List Frame} {e : Extent} {size : ℕ} {old new : Image} → Spares p h es e →
+    Elsewhere e.sector e.length old new → Encodes old size (record { plan = p; header = h; directory = es; frames = fs }) →
+    Encodes new size (record { plan = p; header = h; directory = es; frames = fs })
+denotes_on {p} {h} {es} {fs} {e} {size} {old} {new} spares change was =
+    same_saved old new size (record { plan = p; header = h; directory = es; frames = fs }) (λ i lt. change.before (0 + i) (omega (arith, lt, spares.headers)))
+    (spares_same spares change) was
+
+-- ---- over a device
+
+-- a write touches its sectors alone
+pub touches : {at n : ℕ} {old new : Disk} → WritesAt at n old new → Touches at n old new
+touches writes = record { size = writes.size; elsewhere = writes.elsewhere; crash = writes.crash; any_moment = writes.any_moment }
+
+whole : (at n : ℕ) (disk : Disk) (c : Image) → disk.may_leave c → IsTorn at n disk c
+whole at n disk c left = (c, left, elsewhere_same at n c c (λ i. refl))
+
+-- a read touches none
+pub reads_touch : {at n : ℕ} {old new : Disk} → ReadsOnly old new → Touches at n old new
+reads_touch {at} {n} {old} {new} reads = record {
+  size = reads.size;
+  elsewhere = elsewhere_same at n old.seen new.seen reads.seen;
+  crash = λ c left. whole at n old c (reads.crash c left);
+  any_moment = leaves_weaker {old = old} {new = new} {P = old.may_leave} (λ c. IsTorn at n old c) (whole at n old) reads.any_moment;
+}
+
+torn_on : (at n : ℕ) {old mid : Disk} → ReadsOnly old mid → (c : Image) → IsTorn at n mid c → IsTorn at n old c
+torn_on at n reads c torn = (torn.0, reads.crash torn.0 torn.1, torn.2)
+
+-- nor does a write after a read touch others
+pub reads_then : {at n : ℕ} {old mid new : Disk} → ReadsOnly old mid → WritesAt at n mid new → Touches at n old new
+reads_then {at} {n} {old} {mid} {new} reads writes = record {
+  size = writes.size ∙ reads.size;
+  elsewhere = elsewhere_on at n old.seen mid.seen new.seen (elsewhere_same at n old.seen mid.seen reads.seen) writes.elsewhere;
+  crash = λ c left. torn_on at n reads c (writes.crash c left);
+  any_moment = leaves_on {old = old} {mid = mid} {new = new} {P = λ c. IsTorn at n old c} (reads_touch reads).any_moment
+      (leaves_weaker {old = mid} {new = new} {P = λ c. IsTorn at n mid c} (λ c. IsTorn at n old c) (torn_on at n reads) writes.any_moment);
+}
+
+module _ {old new : Disk} {p : Plan} {h : CheckpointHeader} {es : List Entry} {e : Extent} (spares : Spares p h es e)
+    (writes : Touches e.sector e.length old new) where
+  pub state_spared : state_in new.seen p h es ≡ state_in old.seen p h es
+  state_spared = state_stays spares.frames writes.elsewhere
+
+  left_spared : LeavesState old (state_in old.seen p h es) → (c : Image) → IsTorn e.sector e.length old c → Encodes c old.sectors (state_in old.seen p h es)
+  left_spared sound c torn = denotes_on spares torn.2 (sound torn.0 torn.1)
+
+  -- each crash still leaves it
+  pub sound_spared : LeavesState old (state_in old.seen p h es) → LeavesState new (state_in new.seen p h es)
+  sound_spared sound c left = rw (writes.size, state_spared) (left_spared sound c (writes.crash c left))
+
+  -- also at each moment of the write
+  pub moments_spared : LeavesState old (state_in old.seen p h es) → LeavesOnly old new (λ c. Encodes c old.sectors (state_in old.seen p h es))
+  moments_spared sound = leaves_weaker {old = old} {new = new} {P = IsTorn e.sector e.length old} (λ c. Encodes c old.sectors (state_in old.seen p h es))
+      (left_spared sound) writes.any_moment
+
+-- ---- its sectors and the others
+
+mended_by : (image : Image) (u : Unwritten) (i : ℕ) {test : Bool} → (nat_le u.sector i && nat_lt i (u.sector + 8)) ≡ test →
+    mended image (Some u) i ≡ (if test then image_of u.bytes (i - u.sector) else image i)
+mended_by image u i e = ap (λ (b : Bool). if b then image_of u.bytes (i - u.sector) else image i) e
+
+pub mended_here : (image : Image) (u : Unwritten) {i : ℕ} → u.sector ≤ i → i < u.sector + 8 → mended image (Some u) i ≡ image_of u.bytes (i - u.sector)
+mended_here image u {i} low high = mended_by image u i {test = true} (grind (arith, nat_tests))
+
+mended_before : (image : Image) (u : Unwritten) {i : ℕ} → i < u.sector → mended image (Some u) i ≡ image i
+mended_before image u {i} lt = mended_by image u i {test = false} (grind (arith, nat_tests))
+
+mended_behind : (image : Image) (u : Unwritten) {i : ℕ} → u.sector + 8 ≤ i → mended image (Some u) i ≡ image i
+mended_behind image u {i} le = mended_by image u i {test = false} (grind (arith, nat_tests))
+
+-- it is another image in those alone
+pub mended_elsewhere : {image : Image} (u : Unwritten) → Elsewhere u.sector 8 image (mended image (Some u))
+mended_elsewhere {image} u = record { before = λ i lt. mended_before image u lt; after = λ i le. mended_behind image u le }
+
+-- ---- what the buffer spells
+
+pub unwritten_bytes : (sector : Option ℕ) {bytes : List ℕ} {u : Unwritten} → unwritten_of sector bytes ≡ Some u → u.bytes ≡ bytes
+unwritten_bytes None is = absurd cc
+unwritten_bytes (Some at) {bytes} {u} is = let same : record { sector = at; bytes = bytes } ≡ u = cc in ap (λ (v : Unwritten). v.bytes) (sym same)
+
+same_unwritten : {u v : Unwritten} → Some u ≡ Some v → u ≡ v
+same_unwritten e = cc
+
+-- a frame that was read of it is the one that it spells
+pub buffer_read : {g : Geometry} {n : ℕ} {o : Option Unwritten} {u : Unwritten} {shape : Shape} {rank : ℕ} {node : List ℕ} {read : Frame} → o ≡ Some u →
+    shape ≡ Packed rank → (v : Unwritten) × (o ≡ Some v) × IsSpeltIn v shape g n
+    → node ≡ shape_bytes (Packed rank) u.bytes → IsFrameOf g most n node read → read ≡ frame_from g n (shape_bytes shape u.bytes)
+buffer_read {g} {n} {u} {shape} {read} some packed has is found =
+    let spelt : IsSpeltIn u shape g n = subst (λ (v : Unwritten). IsSpeltIn v shape g n) (same_unwritten (sym has.1 ∙ some)) has.2 in
+    let there = subst (λ (s : Shape). IsFrameOf g most n (shape_bytes s u.bytes) (frame_from g n (shape_bytes s u.bytes))) (sym spelt.packed) spelt.spelt in
+    let here = subst (λ (bytes : List ℕ). IsFrameOf g most n bytes read) (is ∙ ap (λ (s : Shape). shape_bytes s u.bytes) (sym packed)) found in
+    one_frame g most n (shape_bytes shape u.bytes) read (frame_from g n (shape_bytes shape u.bytes)) here there
+
+-- ---- sectors that were touched
+
+pub elsewhere_within : {at n : ℕ} {e : Extent} {old new : Image} → IsInside (record { sector = at; length = n }) e → Elsewhere at n old new →
+    Elsewhere e.sector e.length old new
+elsewhere_within inside change =
+    record { before = λ i lt. change.before i (omega (arith, lt, inside.starts)); after = λ i le. change.after i (omega (arith, le, inside.ends)) }
+
+torn_within : (at n : ℕ) {e : Extent} (disk : Disk) (c : Image) → IsInside (record { sector = at; length = n }) e → IsTorn at n disk c →
+    IsTorn e.sector e.length disk c
+torn_within at n {e} disk c inside torn = (torn.0, torn.1, elsewhere_within inside torn.2)
+
+-- are among more
+pub touches_within : {at n : ℕ} {e : Extent} {old new : Disk} → IsInside (record { sector = at; length = n }) e → Touches at n old new →
+    Touches e.sector e.length old new
+touches_within {at} {n} {e} {old} {new} inside touches = record {
+  size = touches.size;
+  elsewhere = elsewhere_within inside touches.elsewhere;
+  crash = λ c left. torn_within at n old c inside (touches.crash c left);
+  any_moment = leaves_weaker {old = old} {new = new} {P = IsTorn at n old} (IsTorn e.sector e.length old) (λ c. torn_within at n old c inside)
+      touches.any_moment;
+}
+
+torn_twice : {at n : ℕ} {old mid : Disk} → Touches at n old mid → (c : Image) → IsTorn at n mid c → IsTorn at n old c
+torn_twice {at} {n} touches c torn =
+    let first = touches.crash torn.0 torn.1 in
+    (first.0, first.1, elsewhere_on at n first.0 torn.0 c first.2 torn.2)
+
+-- and twice
+pub touches_on : {at n : ℕ} {old mid new : Disk} → Touches at n old mid → Touches at n mid new → Touches at n old new
+touches_on {at} {n} {old} {mid} {new} first second = record {
+  size = second.size ∙ first.size;
+  elsewhere = elsewhere_on at n old.seen mid.seen new.seen first.elsewhere second.elsewhere;
+  crash = λ c left. torn_twice first c (second.crash c left);
+  any_moment = leaves_on {old = old} {mid = mid} {new = new} {P = IsTorn at n old} first.any_moment
+      (leaves_weaker {old = mid} {new = new} {P = IsTorn at n mid} (IsTorn at n old) (torn_twice first) second.any_moment);
+}
+
+-- ---- a device as it gives what was written and what wasn't
+
+abbrev pub mended_disk : Disk → Option Unwritten → Disk
+mended_disk disk o = record disk { seen = mended disk.seen o }
+
+-- where nothing is unwritten it is the device
+pub unmended : {image : Image} {o : Option Unwritten} → o ≡ None → mended image o ≡ image
+unmended {image} none = ap (mended image) none
+
+pub elsewhere_mended : {at n : ℕ} {old new : Image} (o : Option Unwritten) → Elsewhere at n old new → Elsewhere at n (mended old o) (mended new o)
+elsewhere_mended None change = change
+elsewhere_mended {old} {new} (Some u) change = record { before = λ i lt. same i (change.before i lt); after = λ i le. same i (change.after i le) } where
+  same : (i : ℕ) → new i ≡ old i → mended new (Some u) i ≡ mended old (Some u) i
+  same i is = ap (λ (bytes : List ℕ). if nat_le u.sector i && nat_lt i (u.sector + 8) then image_of u.bytes (i - u.sector) else bytes) is
+
+pub leaves_mended : {old new : Disk} (a b : Option Unwritten) (P : Image → Type 0) → LeavesOnly old new P → LeavesOnly (mended_disk old a) (mended_disk new b) P
+leaves_mended a b P run = record { later = run.later; each = run.each; before = run.before; keeps = run.keeps }
+
+pub leaves_raw : {old new : Disk} (a b : Option Unwritten) (P : Image → Type 0) → LeavesOnly (mended_disk old a) (mended_disk new b) P → LeavesOnly old new P
+leaves_raw a b P run = record { later = run.later; each = run.each; before = run.before; keeps = run.keeps }
+
+elapses_mended : {old new : Disk} (o : Option Unwritten) → Elapses old new → Elapses (mended_disk old o) (mended_disk new o)
+elapses_mended o time = record { later = time.later; nothing_else = time.nothing_else; keeps = time.keeps }
+
+pub touches_mended : {at n : ℕ} {old new : Disk} (o : Option Unwritten) → Touches at n old new → Touches at n (mended_disk old o) (mended_disk new o)
+touches_mended {at} {n} {old} {new} o touches = search (elsewhere_mended o touches.elsewhere, leaves_mended o o (IsTorn at n old) touches.any_moment)
+
+pub writes_mended : {at n : ℕ} {old new : Disk} (o : Option Unwritten) → WritesAt at n old new → WritesAt at n (mended_disk old o) (mended_disk new o)
+writes_mended {at} {n} {old} {new} o writes =
+    search (elsewhere_mended o writes.elsewhere, leaves_mended o o (IsTorn at n old) writes.any_moment, elapses_mended o writes.time)
+
+pub reads_mended : {old new : Disk} (o : Option Unwritten) → ReadsOnly old new → ReadsOnly (mended_disk old o) (mended_disk new o)
+reads_mended {old} {new} o reads = record {
+  size = reads.size;
+  seen = λ i. ap (λ (image : Image). mended image o i) (agrees_is new.seen old.seen reads.seen);
+  crash = reads.crash;
+  nothing_durable = reads.nothing_durable;
+  any_moment = leaves_mended o o old.may_leave reads.any_moment;
+  time = elapses_mended o reads.time;
+}
+
+-- ---- what lies apart from the slot
+
+-- is what the device gives
+pub apart_bytes : (image : Image) (u : Unwritten) {at : ℕ} (p : Plan) (n : ℕ) →
+    IsApart (record { sector = at; length = place_length p n }) (record { sector = u.sector; length = 8 }) →
+    bytes_at (mended image (Some u)) at p n ≡ bytes_at image at p n
+apart_bytes image u {at} p n apart = bytes_stay p n apart (mended_elsewhere u)
+
+pub apart_frame : (image : Image) (u : Unwritten) (p : Plan) (generation : ℕ) (es : List Entry) →
+    SparesFrames p generation es (record { sector = u.sector; length = 8 }) → {n : ℕ} → n < count_of p
+    → frame_in (mended image (Some u)) p generation es n ≡ frame_in image p generation es n
+apart_frame image u p generation es spares {n} lt = frame_stays p generation es (record { sector = u.sector; length = 8 }) spares (mended_elsewhere u) n lt

@@ -7,17 +7,13 @@ use Rattle.migrator.proofs.Names.{stored_in, stored_on, with_frozen, with_put, w
 use Rattle.migrator.proofs.Names.{HasFreeSlot, ArePut, puts_in, slot_bytes, slot_frame, Touches, entries_of, slot_for, Counts, IsKept, Spares, SparesKept}
 use Rattle.std.proofs.Common.{◌≡◌, ◌⊎◌, ◌∙◌, ◌+◌, ◌<◌, ◌≤◌}
 use Rattle.std.specs.Prelude.{if◌then◌else◌}
-use Rattle.migrator.proofs.Buffered.{entry_of, held_after, without, working_again}
+use Rattle.migrator.proofs.Completing.{entry_of, held_after, without, working_again, goes_after, kept_with, mid_kept, stored_after, keeps_written}
+use Rattle.migrator.proofs.Completing.{unwritten_inside}
 use Rattle.migrator.proofs.Committing.{frozen_fits}
-use Rattle.migrator.proofs.Completing.{goes_after, kept_with, mid_kept, stored_after, keeps_written, unwritten_inside}
-use Rattle.migrator.proofs.GoingOn.{GoesOnSeen, goes_seen, goes_spared, goes_with}
-use Rattle.migrator.proofs.Kept.{stored_stays, kept_on}
-use Rattle.migrator.proofs.Mended.{unmended, writes_mended}
-use Rattle.migrator.proofs.PlacesApart.{place_inside, spares_other}
+use Rattle.migrator.proofs.Kept.{GoesOnSeen, goes_seen, goes_spared, goes_with, stored_stays, kept_on}
+use Rattle.migrator.proofs.PlacesApart.{unmended, writes_mended, place_inside, spares_other, touches}
 use Rattle.migrator.proofs.Putting.{frozen_working, half_spares, homes_spare, later_half, mended as mended_put, other_parity, puts_mended, puts_set}
-use Rattle.migrator.proofs.Putting.{saved_working}
-use Rattle.migrator.proofs.Putting.{set_twice, slot_room, slots_spare, taken_set, torn_put}
-use Rattle.migrator.proofs.Spared.{touches}
+use Rattle.migrator.proofs.Putting.{saved_working, set_twice, slot_room, slots_spare, taken_set, torn_put}
 
 -- ---- among the frames put since, or for the checkpoint on its way
 

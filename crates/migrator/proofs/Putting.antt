@@ -1,11 +1,12 @@
 -- A frame is put into a slot.
-use Rattle.migrator.proofs.Names.{ℕ, zero, suc, Option, Some, None, List, [], length, get_or, set, refl, sym, ap, subst, inl, inr, ⊎_elim, arith, map}
+use Rattle.migrator.proofs.Names.{ℕ, zero, suc, Option, Some, None, List, [], length, get_or, set, refl, sym, ap, subst, inl, inr, ⊎_elim, arith}
 use Rattle.migrator.proofs.Names.{range_with_len, cases_eq, same_lists, length-set, length-map-range_with_len, get_or-map-range_with_len, Frame, Image, Extent}
 use Rattle.migrator.proofs.Names.{IsFrameOf, half_sector, count_of, entry_at, Plan, IsPlan, IsApart, IsInside, half_extent, apart_inside, home_extent}
 use Rattle.migrator.proofs.Names.{slot_extent, place_extent, frames_in_slots, slots_apart, Place, Nowhere, Torn, Whole, place_at, slot_of, has_slot, has_frame}
 use Rattle.migrator.proofs.Names.{tally, taken_count, whole_count, slot_or, slot_for, IsTable, Put, Absent, Kept, put_at, kept_frame, held_slot, sum_of}
 use Rattle.migrator.proofs.Names.{kept_count, HasFreeSlot, slot_bytes, slot_frame, put_of, puts_in, ArePut, most, Books, frozen_generation, generation_after}
 use Rattle.migrator.proofs.Names.{IsRunning, IsKept, Spares, SparesPuts, working_generation}
+use Rattle.std.specs.Prelude.{map}
 use Rattle.std.proofs.Common.{◌≡◌, ◌⊎◌, ◌+◌, ◌%◌, ◌<◌, ◌≤◌, ◌∷◌, ◌∙◌}
 use Rattle.migrator.proofs.Tables.{some_has, tally-set, table_set, set_here, set_there}
 use Rattle.migrator.proofs.Kept.{map_set}
@@ -58,13 +59,11 @@ slot_count image p generation k other = refl
 -- as many frames were put as places are whole
 pub kept_whole : (image : Image) (p : Plan) (generation : ℕ) (ps : List Place) → length ps ≡ count_of p →
     kept_count (puts_in image p generation ps) ≡ whole_count ps
-kept_whole image p generation ps size = ap kept_count (puts_are image p generation ps size) ∙
-    sum_from kept_frame image p generation 0 ps (frame_count image p generation)
+kept_whole image p generation ps size = rw (puts_are image p generation ps size) (sum_from kept_frame image p generation 0 ps (frame_count image p generation))
 
 pub held_taken : (image : Image) (p : Plan) (generation : ℕ) (ps : List Place) → length ps ≡ count_of p →
     sum_of held_slot (puts_in image p generation ps) ≡ taken_count ps
-held_taken image p generation ps size = ap (sum_of held_slot) (puts_are image p generation ps size) ∙
-    sum_from held_slot image p generation 0 ps (slot_count image p generation)
+held_taken image p generation ps size = rw (puts_are image p generation ps size) (sum_from held_slot image p generation 0 ps (slot_count image p generation))
 
 pub put_is : (image : Image) (p : Plan) (generation : ℕ) (ps : List Place) {n : ℕ} → n < count_of p →
     put_at (puts_in image p generation ps) n ≡ put_of image p generation n (place_at ps n)

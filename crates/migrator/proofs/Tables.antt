@@ -3,10 +3,10 @@ use native.Mathlib.Numerals.{unary_clauses}
 use Rattle.migrator.proofs.Names.{ℕ, zero, suc, Bool, true, false, Option, Some, None, List, [], length, set, take, drop, refl, sym, ap, subst, inl, inr, arith}
 use Rattle.migrator.proofs.Names.{length-append, replicate, cases_eq, get_or-map, get_or-set_same, get_or-set_other, get_or_default, take_all, drop_all}
 use Rattle.migrator.proofs.Names.{nil_from_length, length-map, map-set, is_marked, IsNextMarked, HasNoneMarked, Geometry, Entry, entry_at, AreRising, IsEntry}
-use Rattle.migrator.proofs.Names.{IsDirectory, slot_in, slot_here, slot_behind, own_slot, same_some, two_objects, Place, Nowhere, Torn, Whole, place_at}
+use Rattle.migrator.proofs.Names.{IsDirectory, slot_in, slot_here, slot_behind, own_slot, same_Some, two_objects, Place, Nowhere, Torn, Whole, place_at}
 use Rattle.migrator.proofs.Names.{slot_of, is_held, has_slot, has_frame, tally, taken_count, whole_count, slot_or, slot_for, IsTable, entry_before}
-use Rattle.migrator.proofs.Names.{entries_from, entries_of}
-use Rattle.std.proofs.Common.{◌≡◌, ◌+◌, ◌-◌, ◌<◌, ◌≤◌, ◌∷◌, ◌++◌, ◌∙◌, map}
+use Rattle.migrator.proofs.Names.{entries_from, entries_of, map}
+use Rattle.std.proofs.Common.{◌≡◌, ◌+◌, ◌-◌, ◌<◌, ◌≤◌, ◌∷◌, ◌++◌, ◌∙◌}
 use Rattle.std.proofs.lemmas.List.{append-nil}
 
 -- ---- counts
@@ -111,7 +111,7 @@ table_more {ps} {n} q is lt was has =
     let count : taken_count (set ps n q) ≡ taken_count ps + 1 = let set' = tally-set has_slot ps n q lt in let none = none_has (place_at ps n) was in let one =
     some_has q has in omega (arith, set', none, one) in
     let here : (m s : ℕ) → m ≡ n → slot_of (place_at (set ps n q) m) ≡ Some s → s ≡ taken_count ps = λ m s same e.
-    same_some (sym e ∙ ap (λ (k : ℕ). slot_of (place_at (set ps n q) k)) same ∙ ap slot_of (set_here ps lt) ∙ has) in
+    same_Some _ _ (sym e ∙ ap (λ (k : ℕ). slot_of (place_at (set ps n q) k)) same ∙ ap slot_of (set_here ps lt) ∙ has) in
     let there : (m s : ℕ) → (m ≡ n → ⊥) → slot_of (place_at (set ps n q) m) ≡ Some s →
     slot_of (place_at ps m) ≡ Some s = λ m s other e. ap slot_of (sym (set_there ps q other)) ∙ e in
     record {
@@ -379,6 +379,5 @@ unheld_all (suc n) = ap (λ (bs : List Bool). false ∷ bs) (unheld_all n)
 
 pub rewritten : {X : Type 0} (items : List X) {new : List X} {len : ℕ} → length new ≡ length items → len ≡ length items → take len
     (new ++ drop (length new) items) ≡ new
-rewritten {X = X} items {new} {len} long size =
-    ap (λ (xs : List X). take len (new ++ xs)) (drop_all (length new) items (omega (arith, long))) ∙ ap (take len) (append-nil new) ∙
-    take_all len new (omega (arith, long, size))
+rewritten {X = X} items {new} {len} long size = rw (drop_all (length new) items (omega (arith, long)), append-nil new)
+    (take_all len new (omega (arith, long, size)))

@@ -4,11 +4,10 @@ use Rattle.migrator.proofs.Names.{same_Some, Disk, count_of, Absent, Broken, put
 use Rattle.migrator.proofs.Names.{frozen_of, seen_by, stored_on, with_frozen, with_put, subst, Result, Err, IsErr, Counts, counts_on, Frame, IsKeepable}
 use Rattle.migrator.proofs.Names.{IsObject, Plan, Kept, most}
 use Rattle.std.proofs.Common.{◌≡◌, ◌∙◌, ◌<◌, option_map}
-use Rattle.migrator.proofs.Counting.{err_counts}
+use Rattle.migrator.proofs.Publishing.{err_counts, no_ok, on_err}
 use Rattle.migrator.proofs.Freezing.{length_puts}
 use Rattle.migrator.proofs.Moving.{goes_trans}
 use Rattle.migrator.proofs.PutFrames.{put_twice}
-use Rattle.migrator.proofs.Saving.{no_ok, on_err}
 
 torn_room : (old mid : Disk) (b c : Books) {size n : ℕ} → b.size ≡ Some size → c.size ≡ Some size →
     stored_on mid c ≡ with_frozen n Broken (stored_on old b) → n < count_of b.plan

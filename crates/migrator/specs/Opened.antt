@@ -1,11 +1,10 @@
 -- The results of opening a device.
 use Rattle.migrator.specs.Names.{ℕ, None, List, length, take, replicate, ⊤, Frame, Entry, CheckpointHeader, BadImage}
 use Rattle.migrator.specs.Names.{BadFrame, IsFrameOf, AreSpelt, Plan, OpenFault, Image, Disk, Only, IsBadBy, HasHeader}
-use Rattle.migrator.specs.Names.{HasDirectory, frame_in, Unreadable, Holds, OnlyReads}
+use Rattle.migrator.specs.Names.{HasDirectory, frame_in, Holds, OnlyReads}
 use Rattle.std.specs.Prelude.{◌≡◌}
 use Rattle.layout.specs.declared.bad_image.BadImage.TheVariants as bad
-use Rattle.checkpoint.specs.declared.open_fault.OpenFault.TheVariants as refusal
-use Rattle.layout.specs.declared.frame_io.fault.Unreadable.TheVariants as fault
+use Rattle.layout.specs.declared.open_fault.OpenFault.TheVariants as refusal
 use Rattle.migrator.specs.Put.{Absent}
 use Rattle.migrator.specs.Durable.{DurableState, stored_of, is_sound}
 
@@ -16,12 +15,7 @@ HasNoPlan image size bad.NotASuperblock = IsBadBy image size bad.NotASuperblock
 HasNoPlan image size bad.BadGeometry = IsBadBy image size bad.BadGeometry
 HasNoPlan image size _ = ⊥
 
--- the same, where the device didn't fail
-abbrev pub IsNoPlan : Image → ℕ → Unreadable → Type 0
-IsNoPlan image size fault.Failed = ⊤
-IsNoPlan image size (fault.Bad reason) = HasNoPlan image size reason
-
--- and the same for an opening, before it takes memory
+-- the same, or that the device failed
 abbrev pub IsUnplanned : Image → ℕ → OpenFault → Type 0
 IsUnplanned image size refusal.Failed = ⊤
 IsUnplanned image size refusal.NoMemory = ⊥

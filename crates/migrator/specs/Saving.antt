@@ -7,9 +7,8 @@ use Rattle.std.specs.Prelude.{◌≡◌, ◌+◌, ◌<◌, ◌≤◌, ◌^◌}
 use Rattle.migrator.specs.declared.books.Books.{Books}
 use Rattle.migrator.specs.declared.table.Place.{Place}
 use Rattle.migrator.specs.declared.table.Place.TheVariants.{Nowhere, Whole}
-use Rattle.migrator.specs.Durable.{IsDurable, IsKept, frozen_generation, working_generation, IsSoundOn}
-use Rattle.migrator.specs.Durable.{frozen_of, first_bytes, first_frame}
-use Rattle.migrator.specs.Durable.{puts, seen_by, stored_on}
+use Rattle.migrator.specs.Durable.{IsDurable, IsKept, frozen_generation, working_generation, IsSoundOn, frozen_of}
+use Rattle.migrator.specs.Durable.{first_bytes, first_frame, puts, seen_by, stored_on}
 use Rattle.migrator.specs.Table.{place_at, whole_count}
 use Rattle.migrator.specs.Spared.{Spares, SparesFrames}
 

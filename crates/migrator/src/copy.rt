@@ -33,8 +33,13 @@ fn copy_node<D: Device>(device: &mut D, from: u64, to: u64) -> Result<(), Failed
     write_sectors(device, to, 2, &node)
 }
 
-// Copies 9 sectors.
-fn copy_page<D: Device>(device: &mut D, from: u64, to: u64) -> Result<(), Failed>
+// Copies 9 sectors through a buffer.
+fn copy_page<D: Device>(
+    device: &mut D,
+    from: u64,
+    to: u64,
+    buffer: &mut [u8; PAGE_FRAME_BYTES],
+) -> Result<(), Failed>
     requires from { from + 9 ≤ (D.disk device.old).sectors }
     requires to { to + 9 ≤ (D.disk device.old).sectors }
     ensures copied { OnOk result (sectors_from (D.disk device.new).seen to 9
@@ -42,9 +47,8 @@ fn copy_page<D: Device>(device: &mut D, from: u64, to: u64) -> Result<(), Failed
     ensures touches { Touches to 9 (D.disk device.old) (D.disk device.new) }
     ensures cause { Counts (D.disk device.old) (D.disk device.new) result }
 {
-    let mut page = [0; PAGE_FRAME_BYTES];
-    read_sectors(device, from, 9, &mut page)?;
-    write_sectors(device, to, 9, &page)
+    read_sectors(device, from, 9, buffer)?;
+    write_sectors(device, to, 9, buffer)
 }
 
 // Writes the home of the cluster whose first node is `first`: the saved frames of all its nodes,
@@ -76,13 +80,14 @@ fn copy_cluster<D: Device>(
 }
 
 /// Writes the home of an entry's object: the saved frames of all that have it, and zeros in the rest of a cluster. At
-/// `Failed` its sectors may hold any bytes.
+/// `Failed` its sectors may hold any bytes. The buffer is for a page's frame, so that a run of them clears one.
 pub(crate) fn copy_home<D: Device>(
     device: &mut D,
     plan: &Superblock,
     generation: u64,
     directory: &[Entry],
     entry: Entry,
+    buffer: &mut [u8; PAGE_FRAME_BYTES],
 ) -> Result<(), Failed>
     requires directory { IsDirectory plan.now.geometry directory.now }
     requires object { IsObject plan.now.geometry entry.object }
@@ -106,6 +111,6 @@ pub(crate) fn copy_home<D: Device>(
         Shape::Packed(rank) => {
             copy_cluster(device, plan, generation, directory, entry.object - rank)
         }
-        Shape::Page => copy_page(device, from, to),
+        Shape::Page => copy_page(device, from, to, buffer),
     }
 }

@@ -8,14 +8,14 @@ ghost use Rattle.layout.specs.Spelt.{count_of, IsSpelt, AreSpelt, frame_read, fr
 ghost use Rattle.layout.specs.Calls.{ReadsOnly};
 ghost use Rattle.layout.specs.Frames.{IsObject};
 ghost use Rattle.migrator.specs.Opened.{IsBadAt, IsRead};
-ghost use Rattle.checkpoint.specs.Opened.{IsBadFor, CountsOpen, OnlyReads};
+ghost use Rattle.layout.specs.Fault.{CountsOpen};
+ghost use Rattle.checkpoint.specs.Opened.{IsBadFor, OnlyReads};
 
 use crate::intake::Intake;
 use crate::read::{read_saved, superblock_of};
-use checkpoint::OpenFault;
 use ckpt_log::Log;
 use device::Device;
-use layout::{CheckpointHeader, Entry, Scratch, Superblock, Unreadable};
+use layout::{CheckpointHeader, Entry, OpenFault, Scratch, Superblock};
 use std::alloc::Global;
 
 // Reads the saved frame of an object, which is taken behind those before it.
@@ -43,13 +43,10 @@ fn take_frame<D: Device, I: Intake>(
     ensures reads { ReadsOnly (D.disk device.old) (D.disk device.new) }
     ensures cause { CountsOpen (D.disk device.old) (D.disk device.new) result }
 {
-    match read_saved(device, plan, header, directory, number, scratch) {
-        Ok(read) => match taken.take(alloc, read, scratch) {
-            Ok(()) => Ok(()),
-            Err(_) => Err(OpenFault::NoMemory),
-        },
-        Err(Unreadable::Failed) => Err(OpenFault::Failed),
-        Err(Unreadable::Bad(reason)) => Err(OpenFault::Bad(reason)),
+    let read = read_saved(device, plan, header, directory, number, scratch)?;
+    match taken.take(alloc, read, scratch) {
+        Ok(()) => Ok(()),
+        Err(_) => Err(OpenFault::NoMemory),
     }
 }
 
@@ -125,15 +122,8 @@ pub(crate) fn read_image<D: Device, I: Intake>(
     ensures cause { CountsOpen (D.disk device.old) (D.disk device.new) result }
 {
     let log = Log::new(plan);
-    match log.find_committed(device, directory) {
-        Ok(header) => {
-            let named = &directory[..header.entries as usize];
-            match take_frames(alloc, device, plan, header, named, scratch, taken) {
-                Ok(()) => Ok(header),
-                Err(fault) => Err(fault),
-            }
-        }
-        Err(Unreadable::Failed) => Err(OpenFault::Failed),
-        Err(Unreadable::Bad(reason)) => Err(OpenFault::Bad(reason)),
-    }
+    let header = log.find_committed(device, directory)?;
+    let named = &directory[..header.entries as usize];
+    take_frames(alloc, device, plan, header, named, scratch, taken)?;
+    Ok(header)
 }

@@ -4,52 +4,25 @@ ghost use Rattle.layout.specs.Directory.{IsDirectory};
 ghost use Rattle.layout.specs.Frame.{IsFrameOf, frame_of};
 ghost use Rattle.layout.specs.Image.{HasPlan, frame_in};
 ghost use Rattle.layout.specs.Calls.{ReadsOnly};
-ghost use Rattle.layout.specs.Fault.{CountsFailed};
+ghost use Rattle.layout.specs.Fault.{CountsOpen};
 ghost use Rattle.layout.specs.Frames.{IsObject, IsRefused};
 ghost use Rattle.device.specs.Calls.{Counts};
 ghost use Rattle.layout.specs.Spelt.{IsSpelt, frame_read};
 ghost use Rattle.layout.specs.Shape.{shape_length};
 ghost use Rattle.migrator.specs.Headers.{IsHeaderOf};
-ghost use Rattle.migrator.specs.Opened.{IsNoPlan, IsUnplanned};
-ghost use Rattle.checkpoint.specs.Opened.{CountsOpen};
+ghost use Rattle.migrator.specs.Opened.{IsUnplanned};
 ghost use Rattle.migrator.specs.Put.{slot_bytes, slot_frame};
 ghost use Rattle.checkpoint.specs.Saved.{most};
 
 use crate::find::find_frame_slot;
-use checkpoint::OpenFault;
 use ckpt_log::Log;
 use device::{Device, Failed, SECTOR_SIZE};
 use home_ranges::Home;
 use layout::{
-    BadImage, Body, CheckpointHeader, Entry, NODE_FRAME_BYTES, Scratch, Shape, Superblock,
-    Unreadable, decode_superblock, header_in, read_header, read_packed, read_sectors, total_in,
+    BadImage, Body, CheckpointHeader, Entry, NODE_FRAME_BYTES, OpenFault, Scratch, Shape,
+    Superblock, decode_superblock, header_in, read_header, read_packed, read_sectors, total_in,
 };
 use model::ObjectHeader;
-
-// Reads the superblock of a device. It is refused by `Failed` exactly where the device failed, and
-// else by the least of the first three reasons that holds.
-fn read_superblock<D: Device>(device: &mut D) -> Result<Superblock, Unreadable>
-    ensures found { IfOk result (λ s.
-        HasPlan (D.disk device.old).seen (D.disk device.old).sectors s) }
-    ensures refused { IfErr result (λ e.
-        IsNoPlan (D.disk device.old).seen (D.disk device.old).sectors e) }
-    ensures reads { ReadsOnly (D.disk device.old) (D.disk device.new) }
-    ensures cause { CountsFailed (D.disk device.old) (D.disk device.new) result }
-{
-    let sectors = device.sectors();
-    if sectors < 5 {
-        return Err(Unreadable::Bad(BadImage::Small));
-    }
-    let mut sector = [0; SECTOR_SIZE];
-    read_sectors(device, 0, 1, &mut sector)?;
-    if total_in(&sector) > sectors {
-        return Err(Unreadable::Bad(BadImage::Small));
-    }
-    match decode_superblock(&sector) {
-        Ok(superblock) => Ok(superblock),
-        Err(reason) => Err(Unreadable::Bad(reason)),
-    }
-}
 
 /// Reads the superblock of a device, and no other sector. It is refused by `Failed` exactly where
 /// the device failed, and else by the least of the first three reasons that holds. It takes no
@@ -62,11 +35,16 @@ pub fn superblock_of<D: Device>(device: &mut D) -> Result<Superblock, OpenFault>
     ensures reads { ReadsOnly (D.disk device.old) (D.disk device.new) }
     ensures cause { CountsOpen (D.disk device.old) (D.disk device.new) result }
 {
-    match read_superblock(device) {
-        Ok(superblock) => Ok(superblock),
-        Err(Unreadable::Failed) => Err(OpenFault::Failed),
-        Err(Unreadable::Bad(reason)) => Err(OpenFault::Bad(reason)),
+    let sectors = device.sectors();
+    if sectors < 5 {
+        return Err(OpenFault::Bad(BadImage::Small));
     }
+    let mut sector = [0; SECTOR_SIZE];
+    read_sectors(device, 0, 1, &mut sector)?;
+    if total_in(&sector) > sectors {
+        return Err(OpenFault::Bad(BadImage::Small));
+    }
+    Ok(decode_superblock(&sector)?)
 }
 
 /// Reads the header of the frame of this shape that lies in the sectors from `at` on. It is refused
@@ -101,7 +79,7 @@ pub(crate) fn read_saved<D: Device>(
     directory: &[Entry],
     number: u64,
     scratch: &mut Scratch,
-) -> Result<(ObjectHeader, Body), Unreadable>
+) -> Result<(ObjectHeader, Body), OpenFault>
     requires directory { IsDirectory plan.now.geometry directory.now }
     requires object { IsObject plan.now.geometry number }
     requires inside { plan.now.total ≤ (D.disk device.old).sectors }
@@ -111,7 +89,7 @@ pub(crate) fn read_saved<D: Device>(
     ensures refused { IfErr result (λ e. IsRefused plan.now.geometry header.age number
         (frame_in (D.disk device.new).seen plan.now header.generation directory.now number) e) }
     ensures reads { ReadsOnly (D.disk device.old) (D.disk device.new) }
-    ensures cause { CountsFailed (D.disk device.old) (D.disk device.new) result }
+    ensures cause { CountsOpen (D.disk device.old) (D.disk device.new) result }
 {
     let home = Home::new(plan);
     let log = Log::new(plan);
@@ -122,12 +100,12 @@ pub(crate) fn read_saved<D: Device>(
 }
 
 // The failure where a frame that was read before isn't read again.
-fn failure(fault: Unreadable) -> Failed
-    requires { fault ≡ Unreadable.Failed }
+fn failure(fault: OpenFault) -> Failed
+    requires { fault ≡ OpenFault.Failed }
 {
     match fault {
-        Unreadable::Failed => Failed,
-        Unreadable::Bad(_) => unreachable!(),
+        OpenFault::Failed => Failed,
+        OpenFault::NoMemory | OpenFault::Bad(_) => unreachable!(),
     }
 }
 

@@ -1,6 +1,6 @@
 -- A number gets an entry, or has one no more: no object and no frozen frame is another.
-use Rattle.object_cache.proofs.Names.{inl, inr, ℕ, Bool, true, false, true≢false, cond, List, length, set, Option, Some, None, option_map, refl, sym, ap, arith}
-use Rattle.object_cache.proofs.Names.{length-set, cases_eq, ne_eqb, get_or-set_same, get_or-set_other, map-set, get_or-map-range_with_len, none-some, same_Some}
+use Rattle.object_cache.proofs.Names.{inl, inr, ℕ, Bool, true, false, true≢false, List, length, set, Option, Some, None, option_map, refl, sym, ap, arith}
+use Rattle.object_cache.proofs.Names.{length-set, ne_eqb, get_or-set_same, get_or-set_other, map-set, get_or-map-range_with_len, none-some, same_Some}
 use Rattle.object_cache.proofs.Names.{Cap, Content, Role, header_at, held_at, Disk, put_at, DurableState, Stored, below_at, stored_of, maps_same, map_set}
 use Rattle.object_cache.proofs.Names.{Entry, Held, entry_at, new_entry, is_some, Memory, FrozenState, Nothing, mark_at, masked, in_staging, put_body}
 use Rattle.object_cache.proofs.Names.{present_body, content_at, newest_body, below_body, apart_body, frozen_body, frozen_frame, frozen_at, frozen_state_of}
@@ -8,7 +8,7 @@ use Rattle.object_cache.proofs.Names.{frozen_state_body, frozen_state_in_memory,
 use Rattle.object_cache.proofs.Names.{frozen_state_by, frozen_state_at, cached_at, cached_in, with_cached, without, with_entry, Shared, Apart}
 use Rattle.std.proofs.Common.{◌≡◌, ◌≢◌, ◌⊎◌, ◌<◌, ◌∷◌, ◌∙◌}
 use Rattle.object_cache.proofs.Objects.{Alike, cached_entry, cached_stay, clean_alike, content_in, contents_alike, entry_found, fetched_known, frozen_alike}
-use Rattle.object_cache.proofs.Objects.{keepable_alike, unwritten_alike, with_objects}
+use Rattle.object_cache.proofs.Objects.{of_each, keepable_alike, unwritten_alike, with_objects}
 use Rattle.object_cache.proofs.Outcomes.{IsSeenAs}
 use Rattle.model.specs.declared.object.Role.TheVariants as role
 
@@ -27,18 +27,10 @@ module _ {s : Stored} {m : Memory} {es : List (Option Entry)} {n : ℕ} (change 
   cached = with_objects m m.headers es
 
   content_stays : (k : ℕ) → content_at s cached k ≡ content_at s m k
-  content_stays k = elim (cases_eq k n) [
-    | inl same ↦ ap (content_at s cached) same ∙ change.content ∙ ap (content_at s m) (sym same)
-    | inr other ↦ ap (λ o. present_body o (header_at m.headers k).role (newest_body s m k)) (change.entries k other)
-  ]
+  content_stays = of_each n change.content (λ k other. rw (change.entries k other))
 
   frozen_stays : (k : ℕ) → frozen_at s cached k ≡ frozen_at s m k
-  frozen_stays k = elim (cases_eq k n) [
-    | inl same ↦ ap (frozen_at s cached) same ∙ change.frozen ∙ ap (frozen_at s m) (sym same)
-    | inr other ↦
-        ap (λ o. frozen_frame (mark_at m.pending k) (header_at m.frozen_headers k) (frozen_body o (mark_at m.touched k) (below_body s m k))
-        (below_at s k)) (change.entries k other)
-  ]
+  frozen_stays = of_each n change.frozen (λ k other. rw (change.entries k other))
 
   pub cached_alike : Alike s m s (with_objects m m.headers es)
   cached_alike = record { headers = refl; content = content_stays; frozen = frozen_stays }
@@ -52,29 +44,16 @@ module _ {s : Stored} {m : Memory} {es : List (Option Entry)} {n : ℕ} (change 
 
   pub frozen_state_stay : frozen_state_in_memory cached n ≡ frozen_state_in_memory m n → frozen_states_in cached ≡ frozen_states_in m
   unfolding frozen_states_in
-  frozen_state_stay here = maps_same (frozen_state_in_memory cached) (frozen_state_in_memory m) (length m.headers) (λ k below. elim (cases_eq k n) [
-    | inl same ↦ ap (frozen_state_in_memory cached) same ∙ here ∙ ap (frozen_state_in_memory m) (sym same)
-    | inr other ↦ ap (λ o. frozen_state_of o (mark_at m.pending k) (mark_at m.touched k)) (change.entries k other)
-  ])
+  frozen_state_stay here = maps_same (frozen_state_in_memory cached) (frozen_state_in_memory m) (length m.headers)
+      (λ k below. of_each {P = λ j. frozen_state_in_memory cached j ≡ frozen_state_in_memory m j} n here (λ j other. rw (change.entries j other)) k)
 
   pub cached_cache : {left count : ℕ} → IsCache s m left count → IsCache s cached left count
   cached_cache {left} is =
-      let apart : (k : ℕ) (e : Entry) → entry_at es k ≡ Some e → (e.kept ≡ None) ⊎ (mark_at m.pending k ≡ true) = λ k e at. elim (cases_eq k n) [
-        | inl same ↦ elim (change.apart e (ap (entry_at es) (sym same) ∙ at)) [
-          | inl none ↦ inl none
-          | inr pending ↦ inr (ap (mark_at m.pending) same ∙ pending)
-        ]
-        | inr other ↦ is.apart k e (sym (change.entries k other) ∙ at)
-      ] in
+      let apart : (k : ℕ) (e : Entry) → entry_at es k ≡ Some e → (e.kept ≡ None) ⊎ (mark_at m.pending k ≡ true) =
+      of_each n change.apart (λ k other. rw (change.entries k other) (is.apart k)) in
       let freed : (k : ℕ) → entry_at es k ≡ None → mark_at m.pending k ≡ true → (header_at m.frozen_headers k).role ≡ role.Free →
-      (is_kept (put_at s.working k) ≡ true) ⊎ ((header_at m.headers k).role ≡ role.Free) = λ k none pending free. elim (cases_eq k n) [
-        | inl same ↦ elim (change.freed (ap (entry_at es) (sym same) ∙ none) (ap (mark_at m.pending) (sym same) ∙ pending)
-            (ap (λ i. (header_at m.frozen_headers i).role) (sym same) ∙ free)) [
-              | inl put ↦ inl (ap (λ i. is_kept (put_at s.working i)) same ∙ put)
-              | inr was_free ↦ inr (ap (λ i. (header_at m.headers i).role) same ∙ was_free)
-            ]
-        | inr other ↦ is.freed k (sym (change.entries k other) ∙ none) pending free
-      ] in
+      (is_kept (put_at s.working k) ≡ true) ⊎ ((header_at m.headers k).role ≡ role.Free) =
+      of_each n change.freed (λ k other. rw (change.entries k other) (is.freed k)) in
       search (is, clean_alike cached_alike is, unwritten_alike cached_alike is, keepable_alike cached_alike is, change.count ∙ is.entries)
 
 -- ---- an entry that isn't wanted is dropped
@@ -94,8 +73,7 @@ nothing_frozen_state e true touched is = let p = go e.kept touched is in inr (re
 pub no_staging : (staging : Option Held) (pending : List Bool) → ((h : Held) → staging ≡ Some h → mark_at pending h.number ≡ true) → (n : ℕ) (c : Content Cap) →
     mark_at pending n ≡ false → in_staging staging n c ≡ c
 no_staging None pending held n c not_pending = refl
-no_staging (Some h) pending held n c not_pending =
-    ap (λ t. cond t h.content c) (ne_eqb h.number n (λ same. true≢false (sym (held h refl) ∙ ap (mark_at pending) same ∙ not_pending)))
+no_staging (Some h) pending held n c not_pending = rw (ne_eqb h.number n (λ same. true≢false (sym (held h refl) ∙ ap (mark_at pending) same ∙ not_pending)))
 
 module _ {s : Stored} {m : Memory} {left count : ℕ} (is : IsCache s m left count) (n : ℕ) (within : n < length m.headers) (e : Entry)
     (at : entry_at m.entries n ≡ Some e)
@@ -132,14 +110,9 @@ module _ {s : Stored} {m : Memory} {left count : ℕ} (is : IsCache s m left cou
       ap (λ o. frozen_frame (mark_at m.pending n) (header_at m.frozen_headers n) (frozen_body o (mark_at m.touched n) (below_body s m n))
       (below_at s n)) none_now
       ∙ (elim (nothing_frozen_state e (mark_at m.pending n) (mark_at m.touched n) frozen_state_here) [
-        | inl not_pending ↦
-            ap (λ p. frozen_frame p (header_at m.frozen_headers n) (below_body s m n) (below_at s n)) not_pending
-            ∙ sym (ap (λ p. frozen_frame p (header_at m.frozen_headers n) (frozen_body (entry_at m.entries n) (mark_at m.touched n) (below_body s m n))
-            (below_at s n)) not_pending)
-        | inr wanted ↦
-            ap (λ c. frozen_frame (mark_at m.pending n) (header_at m.frozen_headers n) c (below_at s n))
-            (sym (ap (λ o. frozen_body o (mark_at m.touched n) (below_body s m n)) at
-            ∙ ap (λ t. apart_body e.kept t e.present (below_body s m n)) wanted.1 ∙ ap (λ k. apart_body k true e.present (below_body s m n)) wanted.2))
+        | inl not_pending ↦ rw not_pending
+        | inr wanted ↦ rw (ap (λ o. frozen_body o (mark_at m.touched n) (below_body s m n)) at
+            ∙ ap (λ t. apart_body e.kept t e.present (below_body s m n)) wanted.1 ∙ ap (λ k. apart_body k true e.present (below_body s m n)) wanted.2)
       ])
 
   pub drops : Recaches s m dropped n
@@ -262,12 +235,7 @@ module _ {s : Stored} {m : Memory} {left count : ℕ} (is : IsCache s m left cou
     count = length-set m.entries number (Some e);
     entries = λ k other. get_or-set_other m.entries number k (Some e) None other;
     content = ap (λ o. present_body o (header_at m.headers number).role (newest_body s m number)) some_now ∙ present;
-    frozen =
-        ap (λ o. frozen_frame (mark_at m.pending number) (header_at m.frozen_headers number)
-        (frozen_body o (mark_at m.touched number) (below_body s m number)) (below_at s number)) some_now
-        ∙ frozen_by (mark_at m.pending number) (mark_at m.touched number) refl refl
-        ∙ sym (ap (λ o. frozen_frame (mark_at m.pending number) (header_at m.frozen_headers number)
-        (frozen_body o (mark_at m.touched number) (below_body s m number)) (below_at s number)) none);
+    frozen = rw (some_now, none) (frozen_by (mark_at m.pending number) (mark_at m.touched number) refl refl);
     apart = λ f here. inl (ap (λ g. g.kept) (same_Some f e (sym here ∙ some_now)));
     freed = λ gone pending free. absurd (none-some e (sym gone ∙ some_now));
   }
@@ -335,26 +303,21 @@ module _ (s : Stored) (m : Memory) (n : ℕ) (within : n < length m.entries) (e 
 
   frozen_same : frozen_body (entry_at apart_entries n) (mark_at m.touched n) (below_body s m n) ≡ frozen_body (entry_at m.entries n) (mark_at m.touched n)
       (below_body s m n)
-  frozen_same =
-      ap (λ o. frozen_body o (mark_at m.touched n) (below_body s m n)) now
-      ∙ sym (ap (λ o. frozen_body o (mark_at m.touched n) (below_body s m n)) at
-      ∙ ap (λ t. apart_body e.kept t e.present (below_body s m n)) facts.1 ∙ ap (λ k. apart_body k false e.present (below_body s m n)) facts.2)
+  frozen_same = rw now (sym (ap (λ o. frozen_body o (mark_at m.touched n) (below_body s m n)) at
+      ∙ ap (λ t. apart_body e.kept t e.present (below_body s m n)) facts.1 ∙ ap (λ k. apart_body k false e.present (below_body s m n)) facts.2))
 
   pub keeps_apart : Recaches s m apart_entries n
   keeps_apart = record {
     count = length-set m.entries n (option_map (keeping) (entry_at m.entries n));
     entries = λ k other. get_or-set_other m.entries n k (option_map (keeping) (entry_at m.entries n)) None other;
-    content =
-        ap (λ o. present_body o (header_at m.headers n).role (newest_body s m n)) now
-        ∙ sym (ap (λ o. present_body o (header_at m.headers n).role (newest_body s m n)) at);
+    content = rw (now, at);
     frozen = ap (λ c. frozen_frame (mark_at m.pending n) (header_at m.frozen_headers n) c (below_at s n)) frozen_same;
     apart = λ f here. inr facts.0;
     freed = λ none pending free. absurd (none-some (keeping e) (sym none ∙ now));
   }
 
   pub frozen_state_apart : frozen_state_in_memory (with_objects m m.headers apart_entries) n ≡ Apart
-  frozen_state_apart =
-      ap (λ o. frozen_state_of o (mark_at m.pending n) (mark_at m.touched n)) now ∙ ap (λ p. frozen_state_of (Some (keeping e)) p (mark_at m.touched n)) facts.0
+  frozen_state_apart = rw (now, facts.0)
 
 -- the same by what is seen
 module _ {D : Type 0} (disk : D → Disk) {d : DurableState D} {m : Memory} {left count : ℕ} {order : List ℕ} {most_entries : ℕ} {s : StoreState D}

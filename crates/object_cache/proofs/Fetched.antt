@@ -6,7 +6,7 @@ use Rattle.object_cache.proofs.Names.{cache_of, cached_at, cached_in, with_cache
 use Rattle.object_cache.proofs.Names.{UsesSome, take_all, length_without, in_either, in_front, one_more, used_anew, used_front, without_absent, without_here}
 use Rattle.object_cache.proofs.Names.{without_tail, length-take, Held, None, header_at, held_at, put_at, ReadsStore, below_at, newest, masked, in_staging}
 use Rattle.object_cache.proofs.Names.{put_body, present_body, newest_body, contents_in, GoesOnIn, frozen_seen, set, Some, Cap, Content, new_entry, option_map}
-use Rattle.object_cache.proofs.Names.{same_Some, object_count, Stored, entry_at, mark_at, below_body, content_at, frozen_body, frozen_frame, frozen_at}
+use Rattle.object_cache.proofs.Names.{same_Some, Stored, entry_at, mark_at, below_body, content_at, frozen_at}
 use Rattle.object_cache.proofs.Names.{frozen_states_in}
 use Rattle.std.proofs.Common.{◌≡◌, ◌≢◌, ◌+◌, ◌<◌, ◌≤◌, ◌||◌, ◌∷◌, ◌∙◌, ◌-◌, ◌++◌}
 use Rattle.object_cache.proofs.Marking.{still_set, marked_within}
@@ -41,12 +41,9 @@ front_without : (n : ℕ) (ns : List ℕ) (k m : ℕ) → m ≢ n → is_member 
 front_without n [] k m other is = is
 front_without n (a ∷ rest) zero m other is = absurd (true≢false (sym is))
 front_without n (a ∷ rest) (suc k) m other is = elim (cases_eq n a) [
-  | inl same ↦
-      ap (λ t. is_member (take (suc k) (cond t rest (a ∷ without n rest))) m) (eq-eqb n a same)
-      ∙ front_more rest k m (sym (ap (λ t. t || is_member (take k rest) m) (ne_eqb m a (λ there. other (there ∙ sym same)))) ∙ is)
-  | inr differs ↦
-      ap (λ t. is_member (take (suc k) (cond t rest (a ∷ without n rest))) m) (ne_eqb n a differs)
-      ∙ or_keeps (nat_eq m a) (is_member (take k rest) m) (is_member (take k (without n rest)) m) (front_without n rest k m other) is
+  | inl same ↦ rw (eq-eqb n a same) (front_more rest k m (sym (ap (λ t. t || is_member (take k rest) m) (ne_eqb m a (λ there. other (there ∙ sym same)))) ∙ is))
+  | inr differs ↦ rw (ne_eqb n a differs) (or_keeps (nat_eq m a) (is_member (take k rest) m) (is_member (take k (without n rest)) m)
+      (front_without n rest k m other) is)
 ]
   where
     front_more : (ns : List ℕ) (k m : ℕ) → is_member (take k ns) m ≡ true → is_member (take (suc k) ns) m ≡ true
@@ -170,11 +167,8 @@ front_less : (k n : ℕ) (xs : List ℕ) → take k (without n (take (suc k) xs)
 front_less k n [] = refl
 front_less zero n (m ∷ ms) = refl
 front_less (suc k) n (m ∷ ms) = elim (cases_eq n m) [
-  | inl same ↦
-      ap (take (suc k)) (without_here n m (take (suc k) ms) same)
-      ∙ front_least (suc k) (suc k) ms (omega arith) ∙ sym (ap (take (suc k)) (without_here n m ms same))
-  | inr other ↦
-      ap (take (suc k)) (without_tail n m (take (suc k) ms) other) ∙ ap (λ ys. m ∷ ys) (front_less k n ms) ∙ sym (ap (take (suc k)) (without_tail n m ms other))
+  | inl same ↦ rw (without_here n m (take (suc k) ms) same, without_here n m ms same) (front_least (suc k) (suc k) ms (omega arith))
+  | inr other ↦ rw (without_tail n m (take (suc k) ms) other, front_less k n ms, without_tail n m ms other)
 ]
 
 -- a use keeps the front, whether or not what lies behind it went before
@@ -262,12 +256,9 @@ module _ {D : Type 0} (disk : D → Disk) {d : DurableState D} {m : Memory} {lef
     known_here : n < length m.headers
     known_here = omega (arith, known, ap (λ t. length t.headers) view)
 
-    staging_is : m.staging ≡ None
-    staging_is = ap (λ t. t.staging) view ∙ empty
-
     newest_is : newest_body (stored_of disk d) m n ≡ (newest (stored_of disk d) n).content
     newest_is =
-        ap (λ h. put_body (put_at (stored_of disk d).working n) (in_staging h n (below_at (stored_of disk d) n).content)) staging_is
+        ap (λ h. put_body (put_at (stored_of disk d).working n) (in_staging h n (below_at (stored_of disk d) n).content)) (ap (λ t. t.staging) view ∙ empty)
         ∙ sym (put_or_body (put_at (stored_of disk d).working n) (below_at (stored_of disk d) n))
 
     -- what is read is what it holds, or it is free
@@ -337,8 +328,7 @@ module _ {s : Stored} {m : Memory} {left count : ℕ} (is : IsCache s m left cou
   content_same k = ap (λ x. present_body (entry_at m.entries k) (header_at m.headers k).role (put_body (put_at s.working k) x)) (below_same k)
 
   frozen_stays : (k : ℕ) → frozen_at s then k ≡ frozen_at s m k
-  frozen_stays k = ap (λ x. frozen_frame (mark_at m.pending k) (header_at m.frozen_headers k)
-      (frozen_body (entry_at m.entries k) (mark_at m.touched k) x) (below_at s k)) (below_same k)
+  frozen_stays k = rw (below_same k)
 
   pub taken_alike : Alike s m s (holding_up n c m)
   taken_alike = record { headers = refl; content = content_same; frozen = frozen_stays }
@@ -355,11 +345,8 @@ module _ {D : Type 0} (disk : D → Disk) {d : DurableState D} {m : Memory} {lef
   pending_here : mark_at m.pending n ≡ true
   pending_here = ap (λ t. mark_at t.pending n) view ∙ pending
 
-  pub pending_object : n < object_count (stored_of disk d).saved.geometry
-  pending_object = omega (arith, marked_within m.pending n pending_here, is.pending_marks)
-
   pub pending_known : n < length s.headers
-  pending_known = omega (arith, pending_object, is.headers, ap (λ t. length t.headers) view)
+  pending_known = omega (arith, marked_within m.pending n pending_here, is.pending_marks, is.headers, ap (λ t. length t.headers) view)
 
   module _ (empty : s.staging ≡ None) (new : DurableState D) (reads : ReadsStore disk d new) (c : Content Cap)
       (read : c ≡ (below_at (stored_of disk d) n).content) where

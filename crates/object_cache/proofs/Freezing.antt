@@ -77,16 +77,11 @@ module _ {s : Stored} {m : Memory} {left count : ℕ} (is : IsCache s m left cou
 
   -- what lies below now is the newest there was
   below_now : (n : ℕ) → below_body begun now n ≡ newest_body s m n
-  below_now n =
-      staging_none n (put_or (put_at s.working n) (frame_at s.saved.frames n)).content
-      ∙ put_or_body (put_at s.working n) (frame_at s.saved.frames n)
-      ∙ sym (ap (put_body (put_at s.working n)) (staging_none n (below_at s n).content ∙ ap (λ f. f.content) (below_was n)))
-
-  newest_same : (n : ℕ) → newest_body begun now n ≡ newest_body s m n
-  newest_same n = ap (λ p. put_body p (below_body begun now n)) (alike (length s.working) n Absent) ∙ below_now n
+  below_now n = rw (staging_none n (below_at s n).content, below_was n)
+      (staging_none n (put_or (put_at s.working n) (frame_at s.saved.frames n)).content ∙ put_or_body (put_at s.working n) (frame_at s.saved.frames n))
 
   content_same : (n : ℕ) → content_at begun now n ≡ content_at s m n
-  content_same n = ap (present_body (entry_at m.entries n) (header_at m.headers n).role) (newest_same n)
+  content_same n = rw (alike (length s.working) n Absent, below_now n)
 
   present_same : (n : ℕ) → present_at begun now n ≡ present_at s m n
   present_same n = ap (λ c. record { header = header_at m.headers n; content = c }) (content_same n)
@@ -129,9 +124,7 @@ module _ {s : Stored} {m : Memory} {left count : ℕ} (is : IsCache s m left cou
       (below_at s n)) (is.idle none n) ∙ below_was n)
 
   frozen_now : (n : ℕ) → n < length m.headers → frozen_at begun now n ≡ present_at s m n
-  frozen_now n within =
-      ap (λ t. frozen_frame (mark_at m.dirty n) (header_at fh n) (frozen_body (entry_at m.entries n) t (below_body begun now n)) (below_at begun n))
-      (alike (length m.touched) n false) ∙ frozen_by n within (mark_at m.dirty n) (mark_at m.touched n) refl refl
+  frozen_now n within = rw (alike (length m.touched) n false) (frozen_by n within (mark_at m.dirty n) (mark_at m.touched n) refl refl)
 
   -- the frozen frames are the present ones
   pub begun_frozen : frozen_in begun now ≡ frames_in m.headers (contents_in s m)
@@ -155,14 +148,8 @@ module _ {s : Stored} {m : Memory} {left count : ℕ} (is : IsCache s m left cou
 
   torn_by : (n : ℕ) (b t : Bool) → mark_at m.dirty n ≡ b → mark_at m.touched n ≡ t → put_at s.working n ≡ Broken → b ≡ true
   torn_by n true t dirty touched broken = refl
-  torn_by n false true clean touched broken = absurd (kept_broken (present_at s m n) (sym (is.clean n clean touched) ∙ broken))
-    where
-      kept_broken : (f : Frame) → Kept f ≡ Broken → ⊥
-      kept_broken f x = cc
-  torn_by n false false clean untouched broken = absurd (absent_broken (sym (is.unput n untouched) ∙ broken))
-    where
-      absent_broken : Absent ≡ Broken → ⊥
-      absent_broken x = cc
+  torn_by n false true clean touched broken = let never : Kept (present_at s m n) ≡ Broken = sym (is.clean n clean touched) ∙ broken in absurd cc
+  torn_by n false false clean untouched broken = let never : Absent ≡ Broken = sym (is.unput n untouched) ∙ broken in absurd cc
 
   begun_are : AreFrozen (record { put = s.working; size = count }) m.dirty count
   begun_are = record {

@@ -27,10 +27,7 @@ pub shared_none : (o : FrozenState) (b : Bool) → b ≡ is_shared o → b ≡ f
 shared_none o b is none same = true≢false (sym (is ∙ ap is_shared same) ∙ none)
 
 pub nothing_apart : (o : FrozenState) → o ≡ Nothing → o ≢ Shared
-nothing_apart o none same = nothing_shared (sym none ∙ same)
-  where
-    nothing_shared : Nothing ≡ Shared → ⊥
-    nothing_shared x = cc
+nothing_apart o none same = cc
 
 pub still_uncached : (ss : List Bool) (n k : ℕ) → cached_at ss k ≡ false → cached_at (set ss n false) k ≡ false
 still_uncached ss n k none = elim (cases_eq k n) [

@@ -5,7 +5,7 @@ use Rattle.object_cache.proofs.Names.{length-map-range_with_len, get_or-map-rang
 use Rattle.object_cache.proofs.Names.{AreKeepable, Disk, Put, Absent, Broken, Kept, put_at, put_or, overlaid, kept_count, sum_of, SavedFrames, LeavesEither}
 use Rattle.object_cache.proofs.Names.{LeavesOneOf, home_saved, DurableState, MayCommit, committed, moved, next_saved, whole, on_snapshots, puts, FrozenPuts}
 use Rattle.object_cache.proofs.Names.{Stored, below_at, frozen_put, left_of, stored_of, maps_same, FrozenFrames, entry_at, Memory, mark_at, in_staging}
-use Rattle.object_cache.proofs.Names.{put_body, present_body, content_at, frozen_body, frozen_frame, frozen_at, get_or-map, get_or_default, contents_in}
+use Rattle.object_cache.proofs.Names.{content_at, frozen_body, frozen_frame, frozen_at, get_or-map, get_or_default, contents_in}
 use Rattle.object_cache.proofs.Names.{frozen_in, StoreState, IsCache, snapshots_of, cache_of, frozen_seen, is_kept}
 use Rattle.std.proofs.Common.{◌≡◌, ◌+◌, ◌-◌, ◌≤◌, ◌<◌, ◌||◌, ◌∷◌, ◌∙◌, OnOk, OnErr}
 use Rattle.std.specs.Prelude.{◌==◌}
@@ -111,12 +111,10 @@ module _ {s : Stored} {m : Memory} {count : ℕ} (is : IsCache s m 0 count) (f :
   -- what is frozen is what was put, over what is saved
   pub frozen_overlaid : frozen_in s m ≡ overlaid f.put s.saved.frames
   unfolding frozen_in overlaid
-  frozen_overlaid =
-      ap (λ k. map (frozen_at s m) (range_with_len 0 k)) (is.headers ∙ sym is.frames)
-      ∙ maps_same (frozen_at s m) (λ n. put_or (put_at f.put n) (frame_at s.saved.frames n)) (length s.saved.frames) (λ n below.
-      ap (λ p. frozen_frame p (header_at m.frozen_headers n)
+  frozen_overlaid = rw (is.headers, ← is.frames) (maps_same (frozen_at s m) (λ n. put_or (put_at f.put n) (frame_at s.saved.frames n)) (length s.saved.frames)
+      (λ n below. ap (λ p. frozen_frame p (header_at m.frozen_headers n)
       (frozen_body (entry_at m.entries n) (mark_at m.touched n) (in_staging m.staging n (below_at s n).content)) (below_at s n)) (none_pending n)
-      ∙ ap (λ o. put_or (frozen_put o n) (frame_at s.saved.frames n)) f_is)
+      ∙ ap (λ o. put_or (frozen_put o n) (frame_at s.saved.frames n)) f_is))
 
   module _ (age : ℕ) where
     abbrev after : Stored
@@ -129,9 +127,8 @@ module _ {s : Stored} {m : Memory} {count : ℕ} (is : IsCache s m 0 count) (f :
     below_stays : (n : ℕ) → below_at after n ≡ below_at s n
     unfolding overlaid
     below_stays n = elim (cases_lt n (length s.saved.frames)) [
-      | inl lt ↦
-          get_or-map-range_with_len (λ i. put_or (put_at f.put i) (frame_at s.saved.frames i)) 0 (length s.saved.frames) n n blank_frame lt (omega arith)
-          ∙ sym (ap (λ o. put_or (frozen_put o n) (frame_at s.saved.frames n)) f_is)
+      | inl lt ↦ rw f_is (get_or-map-range_with_len (λ i. put_or (put_at f.put i) (frame_at s.saved.frames i)) 0 (length s.saved.frames) n n blank_frame lt
+          (omega arith))
       | inr past ↦
           get_or_past (overlaid f.put s.saved.frames) n blank_frame (omega (arith, past, length_over))
           ∙ sym (ap (λ o. put_or (frozen_put o n) (frame_at s.saved.frames n)) f_is
@@ -141,12 +138,10 @@ module _ {s : Stored} {m : Memory} {count : ℕ} (is : IsCache s m 0 count) (f :
     ]
 
     content_stays : (n : ℕ) → content_at after m n ≡ content_at s m n
-    content_stays n = ap (λ g. present_body (entry_at m.entries n) (header_at m.headers n).role
-        (put_body (put_at s.working n) (in_staging m.staging n g.content))) (below_stays n)
+    content_stays n = rw (below_stays n)
 
     frozen_stays : (n : ℕ) → frozen_at after m n ≡ frozen_at s m n
-    frozen_stays n = ap (λ g. frozen_frame (mark_at m.pending n) (header_at m.frozen_headers n)
-        (frozen_body (entry_at m.entries n) (mark_at m.touched n) (in_staging m.staging n g.content)) g) (below_stays n)
+    frozen_stays n = rw (below_stays n)
 
     pub saved_alike : Alike s m (on_snapshots (committed puts age f) s) m
     saved_alike = record { headers = refl; content = content_stays; frozen = frozen_stays }
@@ -173,9 +168,6 @@ module _ {D : Type 0} (disk : D → Disk) {d : DurableState D} {m : Memory} {lef
   frames_are : frozen_in (stored_of disk d) m ≡ f.frames
   frames_are = ap (λ g. g.frames) found.2
 
-  the_same : (h : FrozenPuts) → (stored_of disk d).frozen ≡ Some h → found.0 ≡ h
-  the_same h at = same_Some found.0 h (sym found.1 ∙ at)
-
   overlaid_are : (h : FrozenPuts) → (stored_of disk d).frozen ≡ Some h → overlaid h.put (stored_of disk d).saved.frames ≡ f.frames
   overlaid_are h at = sym (frozen_overlaid stands_here h at) ∙ frames_are
 
@@ -199,7 +191,7 @@ module _ {D : Type 0} (disk : D → Disk) {d : DurableState D} {m : Memory} {lef
     next_are : (h : FrozenPuts) → (stored_of disk d).frozen ≡ Some h → next_saved puts age h (stored_of disk d).saved ≡ next_saved whole age f
         (stored_of disk s.durable).saved
     next_are h at =
-        let size = ap (λ g. g.size) (sym (the_same h at)) ∙ ap (λ g. g.size) found.2 in
+        let size = ap (λ g. g.size) (sym (same_Some found.0 h (sym found.1 ∙ at))) ∙ ap (λ g. g.size) found.2 in
         (λ k. record {
           geometry = (stored_of disk d).saved.geometry;
           frames = overlaid_are h at k;

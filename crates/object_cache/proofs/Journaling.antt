@@ -7,7 +7,7 @@ use Rattle.object_cache.proofs.Names.{most, SavedFrames, Holds, LeavesEither, Le
 use Rattle.object_cache.proofs.Names.{DurableState, FrozenPuts, Stored, below_at, ReadsStore, frozen_put, is_sound, left_of, stored_of, maps_same, frame_in}
 use Rattle.object_cache.proofs.Names.{is_page_role, next_journaled, FrozenFrames, page_is, role_is_page, content_is_page, known_page, next_same, Entry}
 use Rattle.object_cache.proofs.Names.{entry_at, entry_body, held_now, Memory, mark_at, masked, in_staging, put_body, newest_body, below_body, present_body}
-use Rattle.object_cache.proofs.Names.{content_at, present_at, frozen_body, frozen_frame, frozen_at, contents_in, frozen_in, StoreState, IsCache, snapshots_of}
+use Rattle.object_cache.proofs.Names.{content_at, present_at, frozen_at, contents_in, frozen_in, StoreState, IsCache, snapshots_of}
 use Rattle.object_cache.proofs.Names.{cache_of, frozen_seen, nat_lt, Refusal, NotPage, Renewed, IsJournalAnswer, is_some, present_of, same_Some, true≢false}
 use Rattle.object_cache.proofs.Names.{newest}
 use Rattle.std.proofs.Common.{◌≡◌, ◌≢◌, ◌⊎◌, ◌<◌, ◌∙◌, OnOk, OnErr}
@@ -62,10 +62,6 @@ module _ {s : Stored} {m : Memory} {left count : ℕ} (is : IsCache s m left cou
     below_here : below_at after n ≡ page
     below_here = below_now n ∙ get_or-set_same s.saved.frames n page blank_frame within
 
-    -- the body that lies below is that of the page now
-    body_here : in_staging m.staging n (below_at after n).content ≡ content_at s m n
-    body_here = staging_none n (below_at after n).content ∙ ap (λ f. f.content) below_here ∙ sym (page_is (content_at s m n) holds)
-
     masked_here : masked (header_at m.headers n).role (content_at s m n) ≡ content_at s m n
     masked_here = ap (λ r. masked r (content_at s m n)) role_is
 
@@ -73,26 +69,19 @@ module _ {s : Stored} {m : Memory} {left count : ℕ} (is : IsCache s m left cou
     fresh p at put bare =
         ap (λ o. present_body o (header_at m.headers n).role (newest_body after m n)) at
         ∙ ap (λ q. masked (header_at m.headers n).role (put_body q (below_body after m n))) put
-        ∙ ap (masked (header_at m.headers n).role) (bare (below_body after m n) ∙ body_here) ∙ masked_here
+        ∙ ap (masked (header_at m.headers n).role) (bare (below_body after m n)
+        ∙ (staging_none n (below_at after n).content ∙ ap (λ f. f.content) below_here ∙ sym (page_is (content_at s m n) holds))) ∙ masked_here
 
     here_by : (o : Option Entry) (p : Put) → entry_at m.entries n ≡ o → put_at s.working n ≡ p → content_at after m n ≡ content_at s m n
-    here_by (Some e) p at put =
-        ap (λ o. present_body o (header_at m.headers n).role (newest_body after m n)) at
-        ∙ sym (ap (λ o. present_body o (header_at m.headers n).role (newest_body s m n)) at)
-    here_by None (Kept f) at put =
-        ap (λ q. present_body (entry_at m.entries n) (header_at m.headers n).role (put_body q (below_body after m n))) put
-        ∙ sym (ap (λ q. present_body (entry_at m.entries n) (header_at m.headers n).role (put_body q (below_body s m n))) put)
+    here_by (Some e) p at put = rw at
+    here_by None (Kept f) at put = rw put
     here_by None Absent at put = fresh Absent at put (λ c. refl)
     here_by None Broken at put = fresh Broken at put (λ c. refl)
 
-    content_here : content_at after m n ≡ content_at s m n
-    content_here = here_by (entry_at m.entries n) (put_at s.working n) refl refl
-
     content_same : (k : ℕ) → content_at after m k ≡ content_at s m k
     content_same k = elim (cases_eq k n) [
-      | inl same ↦ ap (content_at after m) same ∙ content_here ∙ sym (ap (content_at s m) same)
-      | inr other ↦ ap (λ f. present_body (entry_at m.entries k) (header_at m.headers k).role
-          (put_body (put_at s.working k) (in_staging m.staging k f.content))) (below_other k other)
+      | inl same ↦ ap (content_at after m) same ∙ (here_by (entry_at m.entries n) (put_at s.working n) refl refl) ∙ sym (ap (content_at s m) same)
+      | inr other ↦ rw (below_other k other)
     ]
 
     present_same : (k : ℕ) → present_at after m k ≡ present_at s m k
@@ -104,12 +93,10 @@ module _ {s : Stored} {m : Memory} {left count : ℕ} (is : IsCache s m left cou
 
     -- frozen frames are the saved ones
     frozen_was : (k : ℕ) → frozen_at s m k ≡ below_at s k
-    frozen_was k = ap (λ p. frozen_frame p (header_at m.frozen_headers k) (frozen_body (entry_at m.entries k) (mark_at m.touched k) (below_body s m k))
-        (below_at s k)) (is.idle none k)
+    frozen_was k = rw (is.idle none k)
 
     frozen_now : (k : ℕ) → frozen_at after m k ≡ below_at after k
-    frozen_now k = ap (λ p. frozen_frame p (header_at m.frozen_headers k)
-        (frozen_body (entry_at m.entries k) (mark_at m.touched k) (below_body after m k)) (below_at after k)) (is.idle none k)
+    frozen_now k = rw (is.idle none k)
 
     -- of a page that wasn't written since, the frame that is saved was that of the page now
     unwritten_here : n < length m.headers → mark_at m.touched n ≡ false → below_at s n ≡ below_at after n
@@ -126,8 +113,7 @@ module _ {s : Stored} {m : Memory} {left count : ℕ} (is : IsCache s m left cou
         let unwritten : (k : ℕ) → k < length m.headers → mark_at m.touched k ≡ false → present_at after m k ≡ frozen_at after m k =
         λ k inside untouched. present_same k ∙ is.unwritten k inside untouched ∙ frozen_was k
         ∙ elim (cases_eq k n) [
-          | inl same ↦ ap (below_at s) same ∙ unwritten_here (subst (λ i. i < length m.headers) same inside)
-              (subst (λ i. mark_at m.touched i ≡ false) same untouched) ∙ sym (ap (below_at after) same)
+          | inl same ↦ rw same (unwritten_here (subst (λ i. i < length m.headers) same inside) (subst (λ i. mark_at m.touched i ≡ false) same untouched))
           | inr other ↦ sym (below_other k other)
         ] ∙ sym (frozen_now k) in
         let running : (f : FrozenPuts) → s.frozen ≡ Some f → AreFrozen f m.pending left = λ f some. absurd (none-some f (sym none ∙ some)) in
@@ -195,12 +181,8 @@ module _ {D : Type 0} (disk : D → Disk) {d : DurableState D} {m : Memory} {lef
       is_page (held_now m.entries (stored_of disk d) n) ≡ true
   journal_page none page = subst (λ c. is_page c ≡ true) (page_held is none n (role_is_page header.role page)) (content_page page)
 
-  -- the words are those that are seen
-  held_seen : is_page_role header.role ≡ true → content_at st m n ≡ held_at s.contents n
-  held_seen page = sym (content_in st m n (known page)) ∙ ap (λ t. held_at t.contents n) view
-
   words_seen : st.frozen ≡ None → is_page_role header.role ≡ true → words_in (held_now m.entries st n) ≡ words_in (held_at s.contents n)
-  words_seen none page = ap words_in (sym (page_held is none n (role_is_page header.role page)) ∙ held_seen page)
+  words_seen none page = rw (← page_held is none n (role_is_page header.role page), sym (content_in st m n (known page)) ∙ ap (λ t. held_at t.contents n) view)
 
   module _ (new : DurableState D) (age : ℕ) where
     abbrev IsThere : Type 0
@@ -211,9 +193,7 @@ module _ {D : Type 0} (disk : D → Disk) {d : DurableState D} {m : Memory} {lef
 
     -- the store is another by a page with the words of now
     done_is : IsThere → IsDone → stored_of disk new ≡ on_snapshots (journaled age n (words_in (content_at st m n))) st
-    done_is there done =
-        done ∙ ap (λ c. on_snapshots (journaled age n (words_in c)) st)
-        (sym (page_held is (none_of left_of st.frozen there.0) n (role_is_page header.role there.1)))
+    done_is there done = rw (page_held is (none_of left_of st.frozen there.0) n (role_is_page header.role there.1)) done
 
     pub journal_next : {T E : Type 0} (r : Result T E) → OnOk r IsThere → OnOk r IsDone → OnErr r (stored_of disk new ≡ st) →
         IsSeenAs disk new m left count order most_entries (record s { durable = new }) ×

@@ -77,13 +77,9 @@ module _ {s : Stored} {m : Memory} {left count : ℕ} (is : IsCache s m left cou
 
   frozen_stays : (k : ℕ) → frozen_at s (marking ns m) k ≡ frozen_at s m k
   frozen_stays k = elim (marked_or m.touched ns k) [
-    | inl as_it_was ↦ ap (λ t. frozen_frame (mark_at m.pending k) (header_at m.frozen_headers k)
-        (frozen_body (entry_at m.entries k) t (below_body s m k)) (below_at s k)) as_it_was
-    | inr has ↦
-        ap (λ t. frozen_frame (mark_at m.pending k) (header_at m.frozen_headers k) (frozen_body (entry_at m.entries k) t (below_body s m k))
-        (below_at s k)) (touched_here k has)
-        ∙ frozen_marked (entry_at m.entries k) (mark_at m.pending k) (mark_at m.touched k) (header_at m.frozen_headers k) (below_body s m k) (below_at s k)
-        (apart k has)
+    | inl as_it_was ↦ rw as_it_was
+    | inr has ↦ rw (touched_here k has) (frozen_marked (entry_at m.entries k) (mark_at m.pending k) (mark_at m.touched k) (header_at m.frozen_headers k)
+        (below_body s m k) (below_at s k) (apart k has))
   ]
 
   pub marked_alike : Alike s m s (marking ns m)
@@ -94,8 +90,7 @@ module _ {s : Stored} {m : Memory} {left count : ℕ} (is : IsCache s m left cou
   marked_frozen_state = maps_same (frozen_state_in_memory (marking ns m)) (frozen_state_in_memory m) (length m.headers)
       (λ k below. elim (marked_or m.touched ns k) [
         | inl as_it_was ↦ ap (frozen_state_of (entry_at m.entries k) (mark_at m.pending k)) as_it_was
-        | inr has ↦ ap (frozen_state_of (entry_at m.entries k) (mark_at m.pending k)) (touched_here k has) ∙
-            frozen_state_marked (entry_at m.entries k) (mark_at m.pending k) (mark_at m.touched k) (apart k has)
+        | inr has ↦ rw (touched_here k has) (frozen_state_marked (entry_at m.entries k) (mark_at m.pending k) (mark_at m.touched k) (apart k has))
       ])
 
   -- what isn't marked wasn't

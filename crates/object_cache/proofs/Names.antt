@@ -24,10 +24,10 @@ pub use Rattle.device.specs.Moments.{LeavesOnly}
 pub use Rattle.layout.specs.Frame.{content_of, frame_of}
 pub use Rattle.layout.specs.declared.body.Body.{Body}
 pub use Rattle.layout.specs.declared.body.Scratch.{Scratch}
-pub use Rattle.migrator.proofs.Counting.{ok_counts}
+pub use Rattle.migrator.proofs.Publishing.{ok_counts}
 pub use Rattle.migrator.proofs.Kept.{map_set}
 pub use Rattle.migrator.proofs.Moving.{goes_none, goes_trans}
-pub use Rattle.migrator.proofs.Saving.{on_err, on_ok}
+pub use Rattle.migrator.proofs.Publishing.{on_err, on_ok}
 pub use Rattle.migrator.specs.Durable.{DurableState, FrozenPuts, GoesOn, ReadsStore, Stored, below_at, freezing_puts, frozen_put, is_sound, left_of, newest}
 pub use Rattle.migrator.specs.Durable.{on_snapshots, puts, stored_of, with_frozen, with_put, with_working}
 pub use Rattle.migrator.specs.Opened.{OpensDurable}
@@ -51,6 +51,7 @@ pub use Rattle.model.specs.declared.object.Content.{Content}
 pub use Rattle.model.specs.declared.object.Role.{Role}
 pub use Rattle.std.proofs.Common.{Bool, Err, IsSome, List, None, Ok, Option, Result, Some, [], ap, arith, cond, eqb, false, get_or, inl, inr, is_some, length}
 pub use Rattle.std.proofs.Common.{length-set, map, nat_eq, nat_lt, option_map, refl, replicate, rules, set, subst, suc, sym, take, true, true≢false, zero, ℕ}
+pub use Rattle.std.proofs.Common.{⊎_elim}
 pub use Rattle.std.proofs.Math.ListN.{get_or-map}
 pub use Rattle.std.proofs.Math.Seq.{map-set_same}
 pub use Rattle.std.proofs.lemmas.Bool.{cases_eq, cases_lt, eq-eqb, eqb-false, eqb-true, ne_eqb}

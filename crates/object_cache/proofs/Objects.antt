@@ -7,11 +7,18 @@ use Rattle.object_cache.proofs.Names.{frozen_state_of, frozen_state_body, frozen
 use Rattle.object_cache.proofs.Names.{length-set, get_or-map-range_with_len, length-map-range_with_len, get_or-map, get_or-set_same, get_or-set_other, Role}
 use Rattle.object_cache.proofs.Names.{blank_header, held_at, Disk, DurableState, stored_of, with_entry, changing, present_of, masked, AreOrdered, StoreState}
 use Rattle.object_cache.proofs.Names.{IsBounded, IsAnnouncedIn, IsFetchedIn, cache_of, cached_in, cached_at, with_content_in, map-set_same, [], cases_lt}
-use Rattle.object_cache.proofs.Names.{ext_get_or, get_or_append_left, get_or_at, IsWhole, frozen_seen}
+use Rattle.object_cache.proofs.Names.{ext_get_or, get_or_append_left, get_or_at, IsWhole, frozen_seen, ⊎_elim}
 use Rattle.std.proofs.Common.{◌≡◌, ◌≢◌, ◌⊎◌, ◌<◌, ◌∙◌, ◌+◌, ◌∷◌, ◌++◌}
 use Rattle.object_cache.proofs.Outcomes.{IsSeenAs}
 use Rattle.model.specs.declared.object.Role.TheVariants as role
 use Rattle.model.specs.declared.object.Content.TheVariants as content
+
+-- what holds of one number, and of each other one, holds of all
+pub of_each : {P : ℕ → Type 0} (n : ℕ) → P n → ((k : ℕ) → k ≢ n → P k) → (k : ℕ) → P k
+of_each {P} n here other k = elim (cases_eq k n) [
+  | inl same ↦ subst P (sym same) here
+  | inr differs ↦ other k differs
+]
 
 -- ---- the same objects and frozen frames, in another memory over another durable store
 
@@ -32,9 +39,7 @@ module _ {s t : Stored} {m u : Memory} (same : Alike s m t u) where
 
   pub frozen_alike : frozen_in t u ≡ frozen_in s m
   unfolding frozen_in
-  frozen_alike =
-      ap (λ hs. map (frozen_at t u) (range_with_len 0 (length hs))) same.headers
-      ∙ maps_same (frozen_at t u) (frozen_at s m) (length m.headers) (λ k below. same.frozen k)
+  frozen_alike = rw same.headers (maps_same (frozen_at t u) (frozen_at s m) (length m.headers) (λ k below. same.frozen k))
 
   -- what always holds of clean, of untouched and of frozen numbers still does
   module _ {left count : ℕ} (is : IsCache s m left count) where
@@ -87,9 +92,7 @@ module _ (s : Stored) {m : Memory} {hs : List ObjectHeader} {es : List (Option E
   changed = with_objects m hs es
 
   pub content_elsewhere : (k : ℕ) → k ≢ n → content_at s changed k ≡ content_at s m k
-  content_elsewhere k other =
-      ap (λ o. present_body o (header_at hs k).role (newest_body s m k)) (change.entries k other)
-      ∙ ap (λ h. present_body (entry_at m.entries k) h.role (newest_body s m k)) (change.headers k other)
+  content_elsewhere k other = rw (change.entries k other, change.headers k other)
 
   present_elsewhere : (k : ℕ) → k ≢ n → present_at s changed k ≡ present_at s m k
   present_elsewhere k other =
@@ -99,56 +102,33 @@ module _ (s : Stored) {m : Memory} {hs : List ObjectHeader} {es : List (Option E
   -- what all objects hold, by what the changed one does
   pub contents_changed : (c : Content Cap) → n < length m.headers → content_at s changed n ≡ c → contents_in s changed ≡ set (contents_in s m) n c
   unfolding contents_in
-  contents_changed c within here =
-      ap (λ k. map (content_at s changed) (range_with_len 0 k)) change.header_count
-      ∙ map_set (content_at s m) (content_at s changed) (length m.headers) n c within here (λ k below other. content_elsewhere k other)
+  contents_changed c within here = rw change.header_count
+      (map_set (content_at s m) (content_at s changed) (length m.headers) n c within here (λ k below other. content_elsewhere k other))
 
   pub contents_same : content_at s changed n ≡ content_at s m n → contents_in s changed ≡ contents_in s m
   unfolding contents_in
-  contents_same here =
-      ap (λ k. map (content_at s changed) (range_with_len 0 k)) change.header_count
-      ∙ maps_same (content_at s changed) (content_at s m) (length m.headers) (λ k below. elim (cases_eq k n) [
-        | inl same ↦ ap (content_at s changed) same ∙ here ∙ ap (content_at s m) (sym same)
-        | inr other ↦ content_elsewhere k other
-      ])
+  contents_same here = rw change.header_count (maps_same (content_at s changed) (content_at s m) (length m.headers)
+      (λ k below. of_each n here content_elsewhere k))
 
   module _ (touched : mark_at m.touched n ≡ true) where
-    frozen_here : frozen_at s changed n ≡ frozen_at s m n
-    frozen_here =
-        ap (λ c. frozen_frame (mark_at m.pending n) (header_at m.frozen_headers n) c (below_at s n))
-        (ap (λ t. frozen_body (entry_at es n) t (below_body s m n)) touched
-        ∙ by_kept (entry_at es n) (entry_at m.entries n) (below_body s m n) change.kept
-        ∙ ap (λ t. frozen_body (entry_at m.entries n) t (below_body s m n)) (sym touched))
-
     frozen_stays : (k : ℕ) → frozen_at s changed k ≡ frozen_at s m k
-    frozen_stays k = elim (cases_eq k n) [
-      | inl same ↦ ap (frozen_at s changed) same ∙ frozen_here ∙ ap (frozen_at s m) (sym same)
-      | inr other ↦
-          ap (λ o. frozen_frame (mark_at m.pending k) (header_at m.frozen_headers k) (frozen_body o (mark_at m.touched k) (below_body s m k))
-          (below_at s k)) (change.entries k other)
-    ]
+    frozen_stays = of_each n
+        (ap (λ c. frozen_frame (mark_at m.pending n) (header_at m.frozen_headers n) c (below_at s n))
+        (rw touched (by_kept (entry_at es n) (entry_at m.entries n) (below_body s m n) change.kept)))
+        (λ k other. rw (change.entries k other))
 
     pub frozen_same : frozen_in s changed ≡ frozen_in s m
     unfolding frozen_in
-    frozen_same =
-        ap (λ k. map (frozen_at s changed) (range_with_len 0 k)) change.header_count
-        ∙ maps_same (frozen_at s changed) (frozen_at s m) (length m.headers) (λ k below. frozen_stays k)
+    frozen_same = rw change.header_count (maps_same (frozen_at s changed) (frozen_at s m) (length m.headers) (λ k below. frozen_stays k))
 
     frozen_state_stays : (k : ℕ) → frozen_state_in_memory changed k ≡ frozen_state_in_memory m k
-    frozen_state_stays k = elim (cases_eq k n) [
-      | inl same ↦
-          ap (frozen_state_in_memory changed) same
-          ∙ ap (frozen_state_of (entry_at es n) (mark_at m.pending n)) touched
-          ∙ frozen_state_by_kept (entry_at es n) (entry_at m.entries n) (mark_at m.pending n) change.kept
-          ∙ ap (frozen_state_of (entry_at m.entries n) (mark_at m.pending n)) (sym touched) ∙ ap (frozen_state_in_memory m) (sym same)
-      | inr other ↦ ap (λ o. frozen_state_of o (mark_at m.pending k) (mark_at m.touched k)) (change.entries k other)
-    ]
+    frozen_state_stays = of_each n (rw touched (frozen_state_by_kept (entry_at es n) (entry_at m.entries n) (mark_at m.pending n) change.kept))
+        (λ k other. rw (change.entries k other))
 
     pub frozen_state_same : frozen_states_in changed ≡ frozen_states_in m
     unfolding frozen_states_in
-    frozen_state_same =
-        ap (λ k. map (frozen_state_in_memory changed) (range_with_len 0 k)) change.header_count
-        ∙ maps_same (frozen_state_in_memory changed) (frozen_state_in_memory m) (length m.headers) (λ k below. frozen_state_stays k)
+    frozen_state_same = rw change.header_count (maps_same (frozen_state_in_memory changed) (frozen_state_in_memory m) (length m.headers)
+        (λ k below. frozen_state_stays k))
 
   module _ {left count : ℕ} (is : IsCache s m left count) (dirty : mark_at m.dirty n ≡ true) where
     touched_here : mark_at m.touched n ≡ true
@@ -184,30 +164,14 @@ module _ (s : Stored) {m : Memory} {hs : List ObjectHeader} {es : List (Option E
         ∙ is.unwritten k (omega (arith, below, change.header_count)) untouched ∙ sym (frozen_stays touched_here k) in
         let keepable : (f : FrozenPuts) → s.frozen ≡ Some f → AreKeepable s.saved.geometry most (frozen_in s changed) =
         λ f running. subst (AreKeepable s.saved.geometry most) (sym (frozen_same touched_here)) (is.keepable f running) in
-        let apart : (k : ℕ) (e : Entry) → entry_at es k ≡ Some e → (e.kept ≡ None) ⊎ (mark_at m.pending k ≡ true) = λ k e at. elim (cases_eq k n) [
-          | inl same ↦ elim (apart_here e (ap (entry_at es) (sym same) ∙ at)) [
-            | inl none ↦ inl none
-            | inr pending ↦ inr (ap (mark_at m.pending) same ∙ pending)
-          ]
-          | inr other ↦ is.apart k e (sym (change.entries k other) ∙ at)
-        ] in
+        let apart : (k : ℕ) (e : Entry) → entry_at es k ≡ Some e → (e.kept ≡ None) ⊎ (mark_at m.pending k ≡ true) =
+        of_each n apart_here (λ k other. rw (change.entries k other) (is.apart k)) in
         let freed : (k : ℕ) → entry_at es k ≡ None → mark_at m.pending k ≡ true → (header_at m.frozen_headers k).role ≡ role.Free →
-        (is_kept (put_at s.working k) ≡ true) ⊎ ((header_at hs k).role ≡ role.Free) = λ k none pending free. elim (cases_eq k n) [
-          | inl same ↦
-              let none_n = ap (entry_at es) (sym same) ∙ none in
-              elim (is.freed k (ap (entry_at m.entries) same ∙ none_here none_n) pending free) [
-                | inl put ↦ inl put
-                | inr was_free ↦ elim (change.role none_n) [
-                  | inl same_role ↦ inr
-                      (ap (λ i. (header_at hs i).role) same ∙ same_role ∙ ap (λ i. (header_at m.headers i).role) (sym same) ∙ was_free)
-                  | inr free_now ↦ inr (ap (λ i. (header_at hs i).role) same ∙ free_now)
-                ]
-              ]
-          | inr other ↦ elim (is.freed k (sym (change.entries k other) ∙ none) pending free) [
-            | inl put ↦ inl put
-            | inr was_free ↦ inr (ap (λ h. h.role) (change.headers k other) ∙ was_free)
-          ]
-        ] in
+        (is_kept (put_at s.working k) ≡ true) ⊎ ((header_at hs k).role ≡ role.Free) = of_each n
+        (λ none pending free. elim (is.freed n (none_here none) pending free) [
+          | inl put ↦ inl put
+          | inr was_free ↦ inr (⊎_elim (λ same. same ∙ was_free) (λ free_now. free_now) (change.role none))
+        ]) (λ k other. rw (change.entries k other, change.headers k other) (is.freed k)) in
         search (is, change.header_count ∙ is.headers, change.entry_count ∙ is.entries)
 
 -- ---- what is seen of a cache after one object was changed
@@ -277,11 +241,9 @@ edited_body c (Some e) r newest free = refl
 edited_content : (s : Stored) (m : Memory) (n : ℕ) (h : ObjectHeader) (c : Content Cap) → n < length m.headers → n < length m.entries →
     (entry_at m.entries n ≡ None → (h.role ≡ role.Free) × (c ≡ content.Free)) →
     content_at s (with_objects m (set m.headers n h) (with_entry (changing (λ x. c)) n m.entries)) n ≡ c
-edited_content s m n h c within entry_within free =
-    ap (λ o. present_body o (header_at (set m.headers n h) n).role (newest_body s m n))
-    (get_or-set_same m.entries n (option_map (changing (λ x. c)) (entry_at m.entries n)) None entry_within)
-    ∙ ap (λ i. present_body (option_map (changing (λ x. c)) (entry_at m.entries n)) i.role (newest_body s m n))
-    (get_or-set_same m.headers n h blank_header within) ∙ edited_body c (entry_at m.entries n) h.role (newest_body s m n) free
+edited_content s m n h c within entry_within free = rw
+    (get_or-set_same m.entries n (option_map (changing (λ x. c)) (entry_at m.entries n)) None entry_within, get_or-set_same m.headers n h blank_header within)
+    (edited_body c (entry_at m.entries n) h.role (newest_body s m n) free)
 
 body_of : (f : Content Cap → Content Cap) (o : Option Entry) (r : Role) (newest : Content Cap) → IsSome o →
     present_body (option_map (changing f) o) r newest ≡ f (present_body o r newest)
@@ -290,10 +252,8 @@ body_of f (Some e) r newest some = refl
 
 body_content : (s : Stored) (m : Memory) (n : ℕ) (f : Content Cap → Content Cap) → n < length m.entries → IsSome (entry_at m.entries n) →
     content_at s (with_objects m m.headers (with_entry (changing f) n m.entries)) n ≡ f (content_at s m n)
-body_content s m n f within some =
-    ap (λ o. present_body o (header_at m.headers n).role (newest_body s m n))
-    (get_or-set_same m.entries n (option_map (changing f) (entry_at m.entries n)) None within)
-    ∙ body_of f (entry_at m.entries n) (header_at m.headers n).role (newest_body s m n) some
+body_content s m n f within some = rw (get_or-set_same m.entries n (option_map (changing f) (entry_at m.entries n)) None within)
+    (body_of f (entry_at m.entries n) (header_at m.headers n).role (newest_body s m n) some)
 
 pub content_in : (s : Stored) (m : Memory) (n : ℕ) → n < length m.headers → held_at (contents_in s m) n ≡ content_at s m n
 unfolding contents_in

@@ -3,8 +3,8 @@ use Rattle.object_cache.proofs.Names.{inl, inr, ℕ, Bool, false, true≢false, 
 use Rattle.object_cache.proofs.Names.{get_or-map, cases_lt, ext_get_or, get_or_past, length-map, length-replicate, none-some, Frame, ObjectHeader, blank_frame}
 use Rattle.object_cache.proofs.Names.{frame_at, frames_in, header_at, headers, untouched, role_of, object_count, Image, Disk, Only, OnlyReads, Put, Absent}
 use Rattle.object_cache.proofs.Names.{put_at, put_or, SavedFrames, Holds, OpensDurable, DurableState, Stored, below_at, frozen_put, is_sound, stored_of}
-use Rattle.object_cache.proofs.Names.{HaveTheirRoles, OpensStore, Entry, entry_at, Memory, memory_of, mark_at, masked, put_body, newest_body, below_body}
-use Rattle.object_cache.proofs.Names.{present_body, content_at, present_at, frozen_body, frozen_frame, frozen_at, contents_in, frozen_in, StoreState, IsCache}
+use Rattle.object_cache.proofs.Names.{HaveTheirRoles, OpensStore, Entry, entry_at, Memory, memory_of, newest_body}
+use Rattle.object_cache.proofs.Names.{present_body, content_at, present_at, frozen_at, contents_in, frozen_in, StoreState, IsCache}
 use Rattle.object_cache.proofs.Names.{IsJustOpened, IsOpenOver, AreAll, HoldBodies, EntriesState, bodies_of, cache_of, frozen_seen, parts_of, view_of, Some}
 use Rattle.object_cache.proofs.Names.{length-set, length-append, get_or-set_same, get_or-set_other, get_or_append_left, get_or_at, same_Some, Content, Cap}
 use Rattle.object_cache.proofs.Names.{new_entry, with_new, AreTaken, AreInserted, HaveRoom, IsUnkept, TakenState, true, changing, with_body, with_entry}
@@ -23,9 +23,6 @@ held_roles size c saved holds =
       | inl lt ↦ (holds.1.each n (omega (arith, lt, holds.1.count))).0.kept.role
       | inr past ↦ subst (λ f. f.header.role ≡ role_of f.content) (sym (get_or_past holds.0.frames n blank_frame past)) refl
     ])
-
-pub held_count : (size : ℕ) (c : Image) (saved : SavedFrames) → Holds size c saved → length saved.frames ≡ object_count saved.geometry
-held_count size c saved holds = subst (λ t. length t.frames ≡ object_count t.geometry) holds.2 holds.1.count
 
 again : (fs : List Frame) → frames_in (headers fs) (bodies_of fs) ≡ fs
 unfolding frames_in
@@ -57,12 +54,8 @@ module _ (s : Stored) (hs fh : List ObjectHeader) (fh_count : length fh ≡ leng
   content_is n = go (entry_at e.at n) refl
     where
       go : (o : Option Entry) → entry_at e.at n ≡ o → content_at s m n ≡ (frame_at s.saved.frames n).content
-      go None none =
-          ap (λ o. present_body o (header_at hs n).role (newest_body s m n)) none
-          ∙ ap (λ p. masked (header_at hs n).role (put_body p (below_body s m n))) (unput_here n)
-          ∙ ap (λ f. masked (header_at hs n).role f.content) (below_is n)
-          ∙ ap (λ h. masked h.role (frame_at s.saved.frames n).content) (header_is n)
-          ∙ masked_same (frame_at s.saved.frames n).header.role (frame_at s.saved.frames n).content (is.roles n)
+      go None none = rw (none, unput_here n, below_is n, header_is n)
+          (masked_same (frame_at s.saved.frames n).header.role (frame_at s.saved.frames n).content (is.roles n))
       go (Some x) some = ap (λ o. present_body o (header_at hs n).role (newest_body s m n)) some ∙ ap (λ y. y.present) (hold.bodies n x some)
 
   present_is : (n : ℕ) → present_at s m n ≡ frame_at s.saved.frames n
@@ -72,9 +65,7 @@ module _ (s : Stored) (hs fh : List ObjectHeader) (fh_count : length fh ≡ leng
       λ k. record { header = was k; content = body k }
 
   frozen_is : (n : ℕ) → frozen_at s m n ≡ frame_at s.saved.frames n
-  frozen_is n =
-      ap (λ p. frozen_frame p (header_at fh n) (frozen_body (entry_at m.entries n) (mark_at m.touched n) (below_body s m n)) (below_at s n))
-      (alike (length hs) n false) ∙ below_is n
+  frozen_is n = rw (alike (length hs) n false) (below_is n)
 
   open_contents : contents_in s m ≡ bodies_of s.saved.frames
   open_contents = ext_get_or content.Free (contents_in s m) (bodies_of s.saved.frames)
@@ -133,7 +124,7 @@ module _ {D : Type 0} (disk : D → Disk) (device : D) (d : DurableState D) (hs 
   just_opened = record {
     headers_are = took;
     roles = held_roles (disk device).sectors (disk device).seen (stored_of disk d).saved opened.holds;
-    frames = held_count (disk device).sectors (disk device).seen (stored_of disk d).saved opened.holds;
+    frames = subst (λ t. length t.frames ≡ object_count t.geometry) opened.holds.2 opened.holds.1.count;
     working = opened.working;
     idle = opened.frozen;
   }
@@ -153,10 +144,7 @@ module _ {D : Type 0} (disk : D → Disk) (device : D) (d : DurableState D) (hs 
         failures = ap (λ x. (disk x.beneath).failures) over.durable ∙ opened.failures;
       } where
         frames_are : frames_in s.headers s.contents ≡ (stored_of disk s.durable).saved.frames
-        frames_are =
-            ap (λ hs. frames_in hs s.contents) over.headers_are
-            ∙ ap (λ cs. frames_in (headers (stored_of disk d).saved.frames) cs) over.contents
-            ∙ again (stored_of disk d).saved.frames ∙ ap (λ x. (stored_of disk x).saved.frames) (sym over.durable)
+        frames_are = rw (over.headers_are, over.contents, over.durable) (again (stored_of disk d).saved.frames)
 
 -- ---- what is taken of the saved objects when a device is opened, frame by frame
 
@@ -243,9 +231,8 @@ module _ (e : EntriesState) (taken count : ℕ) (room : HaveRoom e taken count) 
       ((n : ℕ) → n < length fs → entry_at e.at n ≡ Some (new_entry (frame_at fs n).content)) →
       (n : ℕ) → n < length (fs ++ f ∷ []) → entry_at (with_body taken c e).at n ≡ Some (new_entry (frame_at (fs ++ f ∷ []) n).content)
   one_body fs f many is before n within = elim (cases_lt n (length fs)) [
-    | inl earlier ↦
-        get_or-set_other e.at taken n body None (λ same. omega (arith, earlier, many, same)) ∙ before n earlier
-        ∙ ap (λ g. Some (new_entry g.content)) (sym (get_or_append_left fs (f ∷ []) blank_frame n earlier))
+    | inl earlier ↦ rw (get_or_append_left fs (f ∷ []) blank_frame n earlier)
+        (get_or-set_other e.at taken n body None (λ same. omega (arith, earlier, many, same)) ∙ before n earlier)
     | inr last ↦
         let same : taken ≡ n = omega (arith, last, within, many, length-append fs (f ∷ [])) in
         subst (λ i. entry_at (with_body taken c e).at i ≡ Some (new_entry (frame_at (fs ++ f ∷ []) i).content)) same

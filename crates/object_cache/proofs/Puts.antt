@@ -1,15 +1,15 @@
 -- The present body of an object in an entry is put, or was to be.
 use Rattle.object_cache.proofs.Names.{None, inl, inr, ℕ, zero, suc, Bool, true, false, true≢false, cond, List, [], length, set, Some, option_map, refl, sym, ap}
-use Rattle.object_cache.proofs.Names.{subst, arith, length-set, cases_eq, get_or-set_same, get_or-set_other, sum_by-cons, none-some, Cap, ObjectHeader, Content}
+use Rattle.object_cache.proofs.Names.{subst, arith, length-set, get_or-set_same, get_or-set_other, sum_by-cons, none-some, Cap, ObjectHeader, Content}
 use Rattle.object_cache.proofs.Names.{header_at, held_at, IsKeepable, touched_count, Disk, Put, Absent, Broken, Kept, put_at, held_slot, sum_of, HasFreeSlot}
-use Rattle.object_cache.proofs.Names.{most, DurableState, Stored, GoesOn, stored_of, with_working, Entry, entry_at, present_of, Memory, mark_at, put_body}
-use Rattle.object_cache.proofs.Names.{present_body, content_at, present_at, newest_body, below_body, contents_in, frozen_in, frozen_states_in, StoreState}
-use Rattle.object_cache.proofs.Names.{IsCache, IsFetchedIn, GoesOnIn, cache_of, is_kept, frozen_seen}
+use Rattle.object_cache.proofs.Names.{most, DurableState, Stored, GoesOn, stored_of, with_working, Entry, entry_at, present_of, Memory, mark_at}
+use Rattle.object_cache.proofs.Names.{content_at, present_at, newest_body, contents_in, frozen_in, frozen_states_in, StoreState}
+use Rattle.object_cache.proofs.Names.{IsCache, IsFetchedIn, GoesOnIn, cache_of, is_kept, frozen_seen, ⊎_elim}
 use Rattle.std.proofs.Common.{◌≡◌, ◌≢◌, ◌⊎◌, ◌<◌, ◌≤◌, ◌∷◌, ◌∙◌}
 use Rattle.model.specs.declared.object.Role.TheVariants as role
 use Rattle.object_cache.proofs.Outcomes.{IsNext, next_as}
 use Rattle.object_cache.proofs.Marking.{one_fewer}
-use Rattle.object_cache.proofs.Objects.{Alike, content_in, contents_alike, entry_found, fetched_known, present_alike, present_is, unwritten_alike}
+use Rattle.object_cache.proofs.Objects.{of_each, Alike, content_in, contents_alike, entry_found, fetched_known, present_alike, present_is, unwritten_alike}
 
 -- ---- slots
 
@@ -38,10 +38,8 @@ held_short : (ps : List Put) (ts : List Bool) (n : ℕ) → length ps ≡ length
     put_at ps n ≡ Absent → sum_of held_slot ps < touched_count ts
 held_short ps ts n count each marked none =
     let less = one_fewer ts n marked in
-    let few = held_touched ps (set ts n false) (count ∙ sym (length-set ts n false)) (λ k unmarked. elim (cases_eq k n) [
-      | inl same ↦ ap (put_at ps) same ∙ none
-      | inr other ↦ each k (sym (get_or-set_other ts n k false false other) ∙ unmarked)
-    ]) in
+    let few = held_touched ps (set ts n false) (count ∙ sym (length-set ts n false))
+    (of_each n (λ unmarked. none) (λ k other. rw (get_or-set_other ts n k false false other) (each k))) in
     omega (arith, less, few)
 
 pub has_free_slot : (room : ℕ) (ps : List Put) (ts : List Bool) (n : ℕ) → length ps ≡ length ts → ((k : ℕ) → mark_at ts k ≡ false → put_at ps k ≡ Absent) →
@@ -50,14 +48,8 @@ has_free_slot room ps ts n count each marked within = go (put_at ps n) refl
   where
     go : (p : Put) → put_at ps n ≡ p → HasFreeSlot room ps n
     go Absent is = let short = held_short ps ts n count each marked is in inr (omega (arith, short, within))
-    go Broken is = inl (λ none. broken_absent (sym is ∙ none))
-      where
-        broken_absent : Broken ≡ Absent → ⊥
-        broken_absent e = cc
-    go (Kept f) is = inl (λ none. kept_absent (sym is ∙ none))
-      where
-        kept_absent : Kept f ≡ Absent → ⊥
-        kept_absent e = cc
+    go Broken is = inl (λ none. cc)
+    go (Kept f) is = inl (λ none. cc)
 
 -- ---- a working frame
 
@@ -72,23 +64,11 @@ module _ {s : Stored} {m : Memory} {left count : ℕ} (is : IsCache s m left cou
   abbrev after : Stored
   after = with_working n p s
 
-  in_puts : n < length s.working
-  in_puts = omega (arith, within, is.headers, is.puts)
-
-  put_here : put_at after.working n ≡ p
-  put_here = get_or-set_same s.working n p Absent in_puts
-
   put_elsewhere : (k : ℕ) → k ≢ n → put_at after.working k ≡ put_at s.working k
   put_elsewhere k other = get_or-set_other s.working n k p Absent other
 
   content_stays : (k : ℕ) → content_at after (with_dirty m ds) k ≡ content_at s m k
-  content_stays k = elim (cases_eq k n) [
-    | inl same ↦
-        ap (content_at after (with_dirty m ds)) same
-        ∙ ap (λ o. present_body o (header_at m.headers n).role (newest_body after m n)) at
-        ∙ sym (ap (λ o. present_body o (header_at m.headers n).role (newest_body s m n)) at) ∙ ap (content_at s m) (sym same)
-    | inr other ↦ ap (λ q. present_body (entry_at m.entries k) (header_at m.headers k).role (put_body q (below_body s m k))) (put_elsewhere k other)
-  ]
+  content_stays = of_each n (rw at) (λ k other. rw (put_elsewhere k other))
 
   pub put_alike : Alike s m (with_working n p s) (with_dirty m ds)
   put_alike = record { headers = refl; content = content_stays; frozen = λ k. refl }
@@ -99,18 +79,12 @@ module _ {s : Stored} {m : Memory} {left count : ℕ} (is : IsCache s m left cou
   pub put_cache : IsCache after (with_dirty m ds) left count
   unfolding frozen_in
   put_cache =
-      let marked : (k : ℕ) → mark_at ds k ≡ true → mark_at m.touched k ≡ true = λ k marked. elim (cases_eq k n) [
-        | inl same ↦ ap (mark_at m.touched) same ∙ is.marked n dirty
-        | inr other ↦ is.marked k (sym (others k other) ∙ marked)
-      ] in
+      let marked : (k : ℕ) → mark_at ds k ≡ true → mark_at m.touched k ≡ true =
+      of_each n (λ marked. is.marked n dirty) (λ k other. rw (others k other) (is.marked k)) in
       let clean : (k : ℕ) → mark_at ds k ≡ false → mark_at m.touched k ≡ true → put_at after.working k ≡ Kept (present_at after (with_dirty m ds) k) =
-      λ k clean touched. elim (cases_eq k n) [
-        | inl same ↦ elim here [
-          | inl still ↦ absurd (true≢false (sym still ∙ ap (mark_at ds) (sym same) ∙ clean))
-          | inr kept ↦ ap (put_at after.working) same ∙ put_here ∙ kept ∙ ap Kept (ap (present_at s m) (sym same) ∙ sym (present_stays k))
-        ]
-        | inr other ↦ put_elsewhere k other ∙ is.clean k (sym (others k other) ∙ clean) touched ∙ ap Kept (sym (present_stays k))
-      ] in
+      of_each n (λ clean touched. ⊎_elim (λ still. absurd (true≢false (sym still ∙ clean)))
+      (λ kept. get_or-set_same s.working n p Absent (omega (arith, within, is.headers, is.puts)) ∙ kept ∙ ap Kept (sym (present_stays n))) here)
+      (λ k other clean touched. put_elsewhere k other ∙ is.clean k (sym (others k other) ∙ clean) touched ∙ ap Kept (sym (present_stays k))) in
       let unput : (k : ℕ) → mark_at m.touched k ≡ false → put_at after.working k ≡ Absent = λ k untouched.
       put_elsewhere k (λ same. true≢false (sym (is.marked n dirty) ∙ ap (mark_at m.touched) (sym same) ∙ untouched)) ∙ is.unput k untouched in
       let freed : (k : ℕ) → entry_at m.entries k ≡ None → mark_at m.pending k ≡ true → (header_at m.frozen_headers k).role ≡ role.Free →

@@ -1,8 +1,8 @@
 -- The frozen frame of an object is put, or was to be.
 use Rattle.object_cache.proofs.Names.{inl, inr, ℕ, Bool, true, false, true≢false, List, length, map, set, Option, Some, None, option_map, refl, sym, ap, subst}
 use Rattle.object_cache.proofs.Names.{arith, length-set, count_by, range_with_len, cases_eq, get_or-set_same, get_or-set_other, none-some, same_Some, Cap}
-use Rattle.object_cache.proofs.Names.{Frame, Content, frame_at, header_at, Put, Absent, Broken, Kept, put_at, put_or, most, FrozenPuts, Stored, below_at}
-use Rattle.object_cache.proofs.Names.{frozen_put, with_frozen, with_put, maps_same, map_set, Entry, Held, entry_at, Memory, Nothing, frozen_state_of}
+use Rattle.object_cache.proofs.Names.{Frame, Content, header_at, Put, Absent, Broken, Kept, put_at, most, FrozenPuts, Stored, below_at}
+use Rattle.object_cache.proofs.Names.{with_frozen, with_put, maps_same, map_set, Entry, Held, entry_at, Memory, Nothing, frozen_state_of}
 use Rattle.object_cache.proofs.Names.{frozen_state_in_memory, frozen_states_in, mark_at, in_staging, put_body, present_body, content_at, below_body}
 use Rattle.object_cache.proofs.Names.{frozen_body, frozen_frame, frozen_at, contents_in, frozen_in, IsCache, AreFrozen, is_kept, frozen_seen, object_count}
 use Rattle.object_cache.proofs.Names.{cond, cases_lt, eq-eqb, ne_eqb, get_or_past, length-map-range_with_len, get_or-map-range_with_len, ObjectHeader, Role}
@@ -13,7 +13,7 @@ use Rattle.std.proofs.Common.{◌≡◌, ◌≢◌, ◌⊎◌, ◌<◌, ◌≤�
 use Rattle.object_cache.proofs.Marking.{one_fewer, marked_within}
 use Rattle.object_cache.proofs.Outcomes.{IsNext, next_as}
 use Rattle.object_cache.proofs.Objects.{Alike, cached_stay, clean_alike, contents_alike, entry_found, fetched_known, frozen_alike, keepable_alike}
-use Rattle.object_cache.proofs.Objects.{unwritten_alike}
+use Rattle.object_cache.proofs.Objects.{unwritten_alike, of_each}
 use Rattle.object_cache.proofs.Puts.{has_free_slot}
 use Rattle.object_cache.proofs.Caching.{nothing_frozen_state, frozen_state_entry}
 use Rattle.model.specs.declared.object.Role.TheVariants as role
@@ -49,9 +49,11 @@ module _ {s : Stored} {m : Memory} {left count : ℕ} (is : IsCache s m left cou
   pending_within within = omega (arith, within, is.headers, is.pending_marks)
 
   pub frozen_below : {f : FrozenPuts} → s.frozen ≡ Some f → n < length m.headers → (g : Frame) → below_at (with_frozen n (Kept g) s) n ≡ g
-  frozen_below {f = f} f_is within g = ap (λ p. put_or p (frame_at s.saved.frames n))
-      (ap (λ o. frozen_put o n) (ap (option_map (with_put n (Kept g))) f_is)
-      ∙ get_or-set_same f.put n (Kept g) Absent (omega (arith, within, is.headers, is.pending_marks, (is.running f f_is).each)))
+  frozen_below {f = f} f_is within g = rw (
+    f_is,
+    get_or-set_same f.put n (Kept g) Absent
+        (omega (arith, within, is.headers, is.pending_marks, (is.running f f_is).each)),
+  )
 
   -- its slot is torn: all is in memory
   pub torn_releases : content_at (with_frozen n Broken s) m n ≡ content_at s m n → frozen_at (with_frozen n Broken s) m n ≡ frozen_at s m n →
@@ -103,25 +105,18 @@ module _ {s : Stored} {m : Memory} {left count : ℕ} (is : IsCache s m left cou
   frozen_now = ap (option_map (with_put n p)) f_is
 
   below_elsewhere : (k : ℕ) → k ≢ n → below_at after k ≡ below_at s k
-  below_elsewhere k other = ap (λ q. put_or q (frame_at s.saved.frames k))
-      (ap (λ o. frozen_put o k) frozen_now ∙ get_or-set_other f.put n k p Absent other ∙
-      sym (ap (λ o. frozen_put o k) f_is))
+  below_elsewhere k other = rw (frozen_now, get_or-set_other f.put n k p Absent other, f_is)
 
   body_elsewhere : (k : ℕ) → k ≢ n → below_body after memory k ≡ below_body s m k
   body_elsewhere k other = ap (λ g. in_staging staging k g.content) (below_elsewhere k other) ∙ rest.others k (below_at s k).content other
 
   content_stays : (k : ℕ) → content_at after memory k ≡ content_at s m k
-  content_stays k = elim (cases_eq k n) [
-    | inl same ↦ ap (content_at after memory) same ∙ rest.content ∙ ap (content_at s m) (sym same)
-    | inr other ↦ λ i. present_body (rest.entries k other i) (header_at m.headers k).role (put_body (put_at s.working k) (body_elsewhere k other i))
-  ]
+  content_stays = of_each n rest.content
+      (λ k other i. present_body (rest.entries k other i) (header_at m.headers k).role (put_body (put_at s.working k) (body_elsewhere k other i)))
 
   frozen_stays : (k : ℕ) → frozen_at after memory k ≡ frozen_at s m k
-  frozen_stays k = elim (cases_eq k n) [
-    | inl same ↦ ap (frozen_at after memory) same ∙ rest.frozen ∙ ap (frozen_at s m) (sym same)
-    | inr other ↦ λ i. frozen_frame (rest.marks k other i) (header_at m.frozen_headers k)
-        (frozen_body (rest.entries k other i) (mark_at m.touched k) (body_elsewhere k other i)) (below_elsewhere k other i)
-  ]
+  frozen_stays = of_each n rest.frozen (λ k other i. frozen_frame (rest.marks k other i) (header_at m.frozen_headers k)
+      (frozen_body (rest.entries k other i) (mark_at m.touched k) (body_elsewhere k other i)) (below_elsewhere k other i))
 
   pub released_alike : Alike s m (with_frozen n p s) (with_pending m ps es staging)
   released_alike = record { headers = refl; content = content_stays; frozen = frozen_stays }
@@ -134,29 +129,25 @@ module _ {s : Stored} {m : Memory} {left count : ℕ} (is : IsCache s m left cou
 
   -- each number that the checkpoint writes is pending or was put, as before
   written_stays : (k : ℕ) → (mark_at ps k || is_kept (put_at (set f.put n p) k)) ≡ (mark_at m.pending k || is_kept (put_at f.put k))
-  written_stays k = elim (cases_eq k n) [
-    | inl same ↦
-        ap (λ i. mark_at ps i || is_kept (put_at (set f.put n p) i)) same
-        ∙ ap (λ q. mark_at ps n || is_kept q) (get_or-set_same f.put n p Absent
-        (omega (arith, within, is.headers, is.pending_marks, (is.running f f_is).each)))
-        ∙ rest.written ∙ sym (ap (λ b. b || is_kept (put_at f.put k)) (ap (mark_at m.pending) same ∙ pending))
-    | inr other ↦ λ i. rest.marks k other i || is_kept (get_or-set_other f.put n k p Absent other i)
-  ]
+  written_stays = of_each n
+      (ap (λ q. mark_at ps n || is_kept q)
+      (get_or-set_same f.put n p Absent (omega (arith, within, is.headers, is.pending_marks, (is.running f f_is).each)))
+      ∙ rest.written ∙ sym (ap (λ b. b || is_kept (put_at f.put n)) pending))
+      (λ k other i. rest.marks k other i || is_kept (get_or-set_other f.put n k p Absent other i))
 
   still_frozen : AreFrozen (with_put n p f) ps left
   still_frozen =
       let was = is.running f f_is in
       record {
         each = length-set f.put n p ∙ was.each ∙ sym rest.mark_count;
-        size =
-            ap (λ i. count_by (λ b. b) (map (λ k. mark_at ps k || is_kept (put_at (set f.put n p) k)) (range_with_len 0 i))) rest.mark_count
-            ∙ ap (count_by (λ b. b)) (maps_same (λ k. mark_at ps k || is_kept (put_at (set f.put n p) k))
-            (λ k. mark_at m.pending k || is_kept (put_at f.put k)) (length m.pending) (λ k below. written_stays k)) ∙ was.size;
-        torn = λ k broken. elim (cases_eq k n) [
-          | inl same ↦ ap (mark_at ps) same ∙ rest.torn (sym (get_or-set_same f.put n p Absent
-              (omega (arith, within, is.headers, is.pending_marks, was.each))) ∙ sym (ap (put_at (set f.put n p)) same) ∙ broken)
-          | inr other ↦ rest.marks k other ∙ was.torn k (sym (get_or-set_other f.put n k p Absent other) ∙ broken)
-        ];
+        size = rw (
+          rest.mark_count,
+          maps_same (λ k. mark_at ps k || is_kept (put_at (set f.put n p) k)) (λ k. mark_at m.pending k || is_kept (put_at f.put k))
+              (length m.pending) (λ k below. written_stays k),
+        ) was.size;
+        torn = of_each n
+            (rw (get_or-set_same f.put n p Absent (omega (arith, within, is.headers, is.pending_marks, was.each))) rest.torn)
+            (λ k other. rw (get_or-set_other f.put n k p Absent other, rest.marks k other) (was.torn k));
         few = omega (arith, was.few, rest.few);
         within = was.within;
       }
@@ -166,25 +157,11 @@ module _ {s : Stored} {m : Memory} {left count : ℕ} (is : IsCache s m left cou
       let idle : after.frozen ≡ None → (k : ℕ) → mark_at ps k ≡ false = λ none. absurd (none-some (with_put n p f) (sym none ∙ frozen_now)) in
       let running : (g : FrozenPuts) → after.frozen ≡ Some g → AreFrozen g ps left =
       λ g g_is. subst (λ h. AreFrozen h ps left) (same_Some (with_put n p f) g (sym frozen_now ∙ g_is)) still_frozen in
-      let apart : (k : ℕ) (e : Entry) → entry_at es k ≡ Some e → (e.kept ≡ None) ⊎ (mark_at ps k ≡ true) = λ k e e_is. elim (cases_eq k n) [
-        | inl same ↦ elim (rest.apart e (ap (entry_at es) (sym same) ∙ e_is)) [
-          | inl none ↦ inl none
-          | inr still ↦ inr (ap (mark_at ps) same ∙ still)
-        ]
-        | inr other ↦ elim (is.apart k e (sym (rest.entries k other) ∙ e_is)) [
-          | inl none ↦ inl none
-          | inr was ↦ inr (rest.marks k other ∙ was)
-        ]
-      ] in
+      let apart : (k : ℕ) (e : Entry) → entry_at es k ≡ Some e → (e.kept ≡ None) ⊎ (mark_at ps k ≡ true) =
+      of_each n rest.apart (λ k other. rw (rest.entries k other, rest.marks k other) (is.apart k)) in
       let freed : (k : ℕ) → entry_at es k ≡ None → mark_at ps k ≡ true → (header_at m.frozen_headers k).role ≡ role.Free →
-      (is_kept (put_at s.working k) ≡ true) ⊎ ((header_at m.headers k).role ≡ role.Free) = λ k none now free. elim (cases_eq k n) [
-        | inl same ↦ elim (rest.freed (ap (entry_at es) (sym same) ∙ none) (ap (mark_at ps) (sym same) ∙ now)
-            (ap (λ i. (header_at m.frozen_headers i).role) (sym same) ∙ free)) [
-              | inl put ↦ inl (ap (λ i. is_kept (put_at s.working i)) same ∙ put)
-              | inr was_free ↦ inr (ap (λ i. (header_at m.headers i).role) same ∙ was_free)
-            ]
-        | inr other ↦ is.freed k (sym (rest.entries k other) ∙ none) (sym (rest.marks k other) ∙ now) free
-      ] in
+      (is_kept (put_at s.working k) ≡ true) ⊎ ((header_at m.headers k).role ≡ role.Free) =
+      of_each n rest.freed (λ k other. rw (rest.entries k other, rest.marks k other) (is.freed k)) in
       search (
         is,
         rest,
@@ -213,9 +190,7 @@ state_put m n es staging within pending_within entries =
 pub released_others : (staging : Option Held) (n k : ℕ) (c : Content Cap) → k ≢ n → in_staging (released n staging) k c ≡ in_staging staging k c
 released_others None n k c other = refl
 released_others (Some h) n k c other = elim (cases_eq h.number n) [
-  | inl same ↦
-      ap (λ b. in_staging (cond b None (Some h)) k c) (eq-eqb h.number n same)
-      ∙ sym (ap (λ b. cond b h.content c) (ne_eqb h.number k (λ is. other (sym is ∙ same))))
+  | inl same ↦ rw (eq-eqb h.number n same, ne_eqb h.number k (λ is. other (sym is ∙ same)))
   | inr differs ↦ ap (λ b. in_staging (cond b None (Some h)) k c) (ne_eqb h.number n differs)
 ]
 
@@ -370,11 +345,7 @@ module _ {s : Stored} {m : Memory} {left count : ℕ} (is : IsCache s m left cou
 
   -- the frozen frame, whatever lies below
   pub frozen_is_own : (t : Stored) → frozen_at t m n ≡ own_frame (header_at m.frozen_headers n) e
-  frozen_is_own t =
-      ap (λ o. frozen_frame (mark_at m.pending n) (header_at m.frozen_headers n) (frozen_body o (mark_at m.touched n) (below_body t m n))
-      (below_at t n)) at
-      ∙ ap (λ p. frozen_frame p (header_at m.frozen_headers n) (apart_body e.kept (mark_at m.touched n) e.present (below_body t m n)) (below_at t n))
-      frozen_state_pending.0 ∙ ap (λ c. frozen_frame true (header_at m.frozen_headers n) c (below_at t n)) (frozen_state_pending.1 (below_body t m n))
+  frozen_is_own t = rw (at, frozen_state_pending.0, frozen_state_pending.1 (below_body t m n))
 
   own_content : (t : Stored) → content_at t m n ≡ e.present
   own_content t = ap (λ o. present_body o (header_at m.headers n).role (newest_body t m n)) at
@@ -472,9 +443,7 @@ module _ {s : Stored} {m : Memory} {left count : ℕ} (is : IsCache s m left cou
   held_within = omega (arith, marked_within m.pending h.number held_pending, is.headers, is.pending_marks)
 
   below_is : (t : Stored) → below_body t m h.number ≡ h.content
-  below_is t =
-      ap (λ o. in_staging o h.number (below_at t h.number).content) staging
-      ∙ ap (λ b. cond b h.content (below_at t h.number).content) (eq-eqb h.number h.number refl)
+  below_is t = rw (staging, eq-eqb h.number h.number refl)
 
   -- an entry has nothing of it
   bare : (e : Entry) → entry_at m.entries h.number ≡ Some e → (mark_at m.touched h.number ≡ true) × (e.kept ≡ None)
@@ -486,9 +455,7 @@ module _ {s : Stored} {m : Memory} {left count : ℕ} (is : IsCache s m left cou
 
   body_is : (t : Stored) (o : Option Entry) → entry_at m.entries h.number ≡ o → frozen_body o (mark_at m.touched h.number) (below_body t m h.number) ≡ h.content
   body_is t None at = below_is t
-  body_is t (Some e) at =
-      ap (λ b. apart_body e.kept b e.present (below_body t m h.number)) (bare e at).0
-      ∙ ap (λ k. apart_body k true e.present (below_body t m h.number)) (bare e at).1 ∙ below_is t
+  body_is t (Some e) at = rw ((bare e at).0, (bare e at).1) (below_is t)
 
   frozen_is_held : (t : Stored) → frozen_at t m h.number ≡ record
       { header = header_at m.frozen_headers h.number; content = masked (header_at m.frozen_headers h.number).role h.content }
@@ -499,11 +466,9 @@ module _ {s : Stored} {m : Memory} {left count : ℕ} (is : IsCache s m left cou
       present_body o (header_at m.headers h.number).role
       (newest_body (with_frozen h.number (Kept g) s) (with_pending m (set m.pending h.number false) m.entries None) h.number) ≡
       present_body o (header_at m.headers h.number).role (newest_body s m h.number)
-  content_put f_is g g_is None at =
-      ap (λ x. masked (header_at m.headers h.number).role (put_body (put_at s.working h.number) x.content))
-      (frozen_below is held_pending f_is held_within g ∙ g_is ∙ frozen_is_held s)
-      ∙ put_under (put_at s.working h.number) (header_at m.frozen_headers h.number).role (header_at m.headers h.number).role h.content
-      (is.freed h.number at held_pending) ∙ sym (ap (λ c. masked (header_at m.headers h.number).role (put_body (put_at s.working h.number) c)) (below_is s))
+  content_put f_is g g_is None at = rw (frozen_below is held_pending f_is held_within g, g_is, frozen_is_held s, below_is s)
+      (put_under (put_at s.working h.number) (header_at m.frozen_headers h.number).role (header_at m.headers h.number).role h.content
+      (is.freed h.number at held_pending))
   content_put f_is g g_is (Some e) at = refl
 
   pub held_releases : {f : FrozenPuts} → s.frozen ≡ Some f → (g : Frame) → g ≡ frozen_at s m h.number →

@@ -27,13 +27,17 @@ module _ {D : Type 0} (disk : D → Disk) where
     few_left = omega (arith, (is.running found.0 found.1).few, left_is, ap (λ t. count_by (λ b. b) t.pending) view)
 
     module _ (fewer : pending_count s ≤ f.left - 1) where
-      few_now : count_by (λ b. b) m.pending ≤ left - 1
-      few_now = omega (arith, fewer, left_is, ap (λ t. count_by (λ b. b) t.pending) view)
-
       fewer_frozen : (h : FrozenPuts) → (stored_of disk d).frozen ≡ Some h → AreFrozen h m.pending (left - 1)
       fewer_frozen h h_is =
           let was = is.running h h_is in
-          record { each = was.each; size = was.size; torn = was.torn; few = few_now; within = omega (arith, was.within) }
+          record {
+            each = was.each;
+            size = was.size;
+            torn = was.torn;
+            few = omega
+                (arith, fewer, left_is, ap (λ t. count_by (λ b. b) t.pending) view);
+            within = omega (arith, was.within);
+          }
 
       pub turned_stands : IsCache (stored_of disk d) m (left - 1) count
       turned_stands = search fewer_frozen

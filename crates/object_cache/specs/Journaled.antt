@@ -1,6 +1,12 @@
--- The present body of a page to be journaled.
+-- The present body of a page to be journaled, and how it is saved.
 use Rattle.object_cache.specs.Names.{ℕ, Bool, Option, Some, None, List, Cap, Content, ObjectHeader, Stored, newest}
-use Rattle.object_cache.specs.Names.{Entry, entry_at, frame_at, is_same_page}
+use Rattle.object_cache.specs.Names.{Entry, entry_at, frame_at, is_same_page, Disk, DurableState, stored_of, is_sound}
+use Rattle.std.specs.Prelude.{◌≡◌, ◌+◌, ◌<◌, ◌≤◌, ◌^◌, Result, IfOk, OnOk, OnErr}
+use Rattle.model.specs.declared.object.Role.TheVariants as role
+use Rattle.device.specs.Calls.{Counts}
+use Rattle.checkpoint.specs.Saved.{LeavesEither, journaled_saved}
+use Rattle.checkpoint.specs.Snapshots.{journaled}
+use Rattle.migrator.specs.Durable.{on_snapshots}
 
 -- the body in its entry or, if it has none, the newest on the device
 abbrev pub entry_body : Option Entry → Content Cap → Content Cap
@@ -13,3 +19,27 @@ is_saved_page s h n = is_same_page h.allocations (frame_at s.saved.frames n)
 
 abbrev pub held_now : List (Option Entry) → Stored → ℕ → Content Cap
 held_now es s n = entry_body (entry_at es n) (newest s n).content
+
+-- a page may be saved anew, at an age, under its saved header: nothing is frozen, and all that is saved is home
+pub record MaySave {D : Type 0} (disk : D → Disk) (s : DurableState D) (header : ObjectHeader) (n age : ℕ) :
+    Type 0 where
+  pub free : (stored_of disk s).frozen ≡ None
+  pub home : (stored_of disk s).saved.entries ≡ 0
+  pub page : (frame_at (stored_of disk s).saved.frames n).header.role ≡ role.Page
+  pub saved : header ≡ (frame_at (stored_of disk s).saved.frames n).header
+  pub sound : is_sound disk s
+  pub later : (stored_of disk s).saved.age < age
+  pub most : age ≤ 2 ^ 62
+
+-- it was saved with these words, or nothing was
+pub record SavesPage {D E : Type 0} (disk : D → Disk) (s t : DurableState D) (n age : ℕ) (words : List ℕ)
+    (result : Result ℕ E) : Type 0 where
+  pub stored : OnOk result (stored_of disk t ≡ on_snapshots (journaled age n words) (stored_of disk s))
+  pub unchanged : OnErr result (stored_of disk t ≡ stored_of disk s)
+  pub plan : t.books.plan ≡ s.books.plan
+  pub generation : IfOk result (λ g. g ≡ (stored_of disk s).saved.generation + 2)
+  pub sound : OnOk result (is_sound disk t)
+  pub size : (disk t.beneath).sectors ≡ (disk s.beneath).sectors
+  pub any_moment : LeavesEither (disk s.beneath) (disk t.beneath) (stored_of disk s).saved
+      (journaled_saved age n words (stored_of disk s).saved)
+  pub cause : Counts (disk s.beneath) (disk t.beneath) result

@@ -12,8 +12,7 @@ use Rattle.std.specs.Prelude.{◌≡◌, ◌⊎◌, ◌<◌, ◌∷◌, ◌||◌
 use Rattle.model.specs.declared.object.Role.TheVariants as role
 use Rattle.object_cache.specs.declared.all_objects.AllObjects.{AllObjects}
 use Rattle.object_cache.specs.Memory.{Held, Memory, FrozenState, Nothing, frozen_state_by, mark_at, present_at}
-use Rattle.object_cache.specs.Memory.{frozen_at, contents_in}
-use Rattle.object_cache.specs.Memory.{frozen_in, frozen_states_in}
+use Rattle.object_cache.specs.Memory.{frozen_at, contents_in, frozen_in, frozen_states_in}
 
 -- ---- its state
 

@@ -6,7 +6,7 @@ use Rattle.recovery.proofs.Names.{objects_in, untouched_count, Snapshots, Frozen
 use Rattle.recovery.proofs.Names.{IsInconsistent, Live, saved_of, IsSoundSaved, IsWhy, Recovers, RefusesToOpen, AreSoundTogether, base_of, frozen_of}
 use Rattle.recovery.proofs.Names.{renewed_since, running}
 use Rattle.std.proofs.Common.{◌≡◌, ◌↔◌, ◌<◌, ◌≤◌, ◌∙◌}
-use Rattle.checkpoint.specs.declared.open_fault.OpenFault.TheVariants as fault
+use Rattle.layout.specs.declared.open_fault.OpenFault.TheVariants as fault
 use Rattle.recovery.proofs.Denoted.{leaves_saved}
 use Rattle.recovery.proofs.Renewed.{allocations_at, base_saved, none_renewed}
 

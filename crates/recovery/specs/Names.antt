@@ -4,7 +4,7 @@ pub use Rattle.checkpoint.specs.Opened.{OnlyReads}
 pub use Rattle.checkpoint.specs.Saved.{Holds, SavedFrames}
 pub use Rattle.checkpoint.specs.Snapshots.{Snapshots}
 pub use Rattle.checkpoint.specs.Store.{FrozenFrames, View}
-pub use Rattle.checkpoint.specs.declared.open_fault.OpenFault.{OpenFault}
+pub use Rattle.layout.specs.declared.open_fault.OpenFault.{OpenFault}
 pub use Rattle.device.specs.Calls.{Only}
 pub use Rattle.device.specs.Disk.{Disk, Image}
 pub use Rattle.device.specs.Moments.{LeavesOnly}

@@ -3,7 +3,7 @@ use Rattle.recovery.specs.Names.{ℕ, opened, Only, Image, Disk, BadImage, IsBad
 use Rattle.recovery.specs.Names.{Holds, Parts, frames_of, View}
 use Rattle.std.specs.Prelude.{◌≡◌, ◌⊎◌, ◌<◌}
 use Rattle.recovery.specs.Consistency.{IsInconsistent}
-use Rattle.checkpoint.specs.declared.open_fault.OpenFault.TheVariants as fault
+use Rattle.layout.specs.declared.open_fault.OpenFault.TheVariants as fault
 use Rattle.recovery.specs.declared.live.Live.{Live}
 use Rattle.recovery.specs.Denotes.{saved_of}
 use Rattle.recovery.specs.Live.{IsUp, disk_at, running}

@@ -10,7 +10,7 @@ mod table;
 
 pub use banks::find_unbanked;
 pub use capabilities::{is_named, names_its_role};
-pub use checking::{check, opening_fault};
+pub use checking::check;
 pub use processes::{Noted, is_annex_for, read_notes};
 pub use reason::Unbanked;
 pub use table::has_role;

@@ -8,7 +8,7 @@ mod recovering;
 
 pub use consistency::{
     Noted, Unbanked, check, find_unbanked, has_role, is_annex_for, is_named, names_its_role,
-    opening_fault, read_notes,
+    read_notes,
 };
 pub use live::Live;
 pub use recovering::{recover, recover_in};

@@ -6,8 +6,8 @@ ghost use Rattle.space_bank.specs.Banks.{AreCounted};
 ghost use Rattle.recovery.specs.Consistency.{IsInconsistent};
 ghost use Rattle.recovery.specs.Recovered.{Recovers, RefusesToOpen};
 
+use crate::check;
 use crate::live::Live;
-use crate::{check, opening_fault};
 use capability::Frames;
 use checkpoint::{ObjectStore, OpenFault, OpenRefused};
 use device::Device;
@@ -32,10 +32,7 @@ fn examine<F: Frames>(alloc: Global, store: &mut F, age: u64) -> Result<Banks, O
         ↔ ((F.parts store.old).failures < (F.parts store.new).failures) }
 {
     check(alloc, store, age)?;
-    match Banks::count(alloc, store) {
-        Ok(banks) => Ok(banks),
-        Err(fault) => Err(opening_fault(fault)),
-    }
+    Ok(Banks::count(alloc, store)?)
 }
 
 /// Opens the device at the saved part that its sectors denote, and writes nothing to it.

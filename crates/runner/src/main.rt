@@ -449,6 +449,32 @@ fn explain(
     }
 }
 
+// The sizes that the words name, as those of an image.
+fn sizes_of(sizes: &command_line::Sizes) -> Sizes {
+    Sizes {
+        nodes: sizes.nodes,
+        pages: sizes.pages,
+        log: sizes.log,
+    }
+}
+
+// Runs a script with a cache of this capacity, or with all objects in memory, and gives the status.
+fn run_with(
+    rt: &HostRuntime,
+    image: &str,
+    script: &Script<'_>,
+    cache: Option<u64>,
+    mode: Mode,
+    stop_after: Option<u64>,
+    writer: &mut StandardOutput,
+    errors: &mut StandardError,
+) -> Result<u8, Fault> {
+    match capacity_of(cache) {
+        Ok(cache) => run(rt, image, script, cache, mode, stop_after, writer, errors),
+        Err(status) => Ok(status),
+    }
+}
+
 // Does a job, and gives the status.
 fn serve(
     rt: &HostRuntime,
@@ -465,36 +491,20 @@ fn serve(
             trace,
             strict,
             stop_after,
-        } => match capacity_of(*cache) {
-            Ok(cache) => {
-                let mode = mode_of(*trace, *strict);
-                run(rt, image, script, cache, mode, *stop_after, writer, errors)
-            }
-            Err(status) => Ok(status),
-        },
-        Job::Shell { image, cache } => match capacity_of(*cache) {
-            Ok(cache) => {
-                let lines = Script::Input;
-                run(rt, image, &lines, cache, Mode::Shell, None, writer, errors)
-            }
-            Err(status) => Ok(status),
-        },
+        } => {
+            let mode = mode_of(*trace, *strict);
+            run_with(rt, image, script, *cache, mode, *stop_after, writer, errors)
+        }
+        Job::Shell { image, cache } => {
+            let lines = Script::Input;
+            run_with(rt, image, &lines, *cache, Mode::Shell, None, writer, errors)
+        }
         Job::Check { image } => check(rt, image, writer, errors),
         Job::Upgrade { old, new } => upgrade(rt, old, new, writer, errors),
-        Job::Describe { image, sizes } => {
-            let sizes = Sizes {
-                nodes: sizes.nodes,
-                pages: sizes.pages,
-                log: sizes.log,
-            };
-            describe(rt, image, sizes, writer, errors)
-        }
+        Job::Describe { image, sizes } => describe(rt, image, sizes_of(sizes), writer, errors),
         Job::Draw { image, from, to } => {
-            let focus = Focus {
-                from: *from,
-                to: *to,
-            };
-            draw(rt, image, focus, writer, errors)
+            let (from, to) = (*from, *to);
+            draw(rt, image, Focus { from, to }, writer, errors)
         }
         Job::Explain { file } => explain(rt, file, writer, errors),
         Job::Info { image } => info(rt, image, writer, errors),

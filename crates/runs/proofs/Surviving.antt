@@ -4,7 +4,7 @@ use Rattle.runs.proofs.Names.{candidates, opened, Turn, IsRun, second, Image, Di
 use Rattle.runs.proofs.Names.{Power, Denotes, DenotesOne, RefusesToOpen, IsNoReason, Opens, Stands, disk_of, denotes_one, denoted_not_bad, AreTurnsOf, IsLeftIn}
 use Rattle.runs.proofs.Names.{CrashesAreSurvived, IsOpenedAt, MaySave}
 use Rattle.std.proofs.Common.{◌∷◌}
-use Rattle.checkpoint.specs.declared.open_fault.OpenFault.TheVariants as fault
+use Rattle.layout.specs.declared.open_fault.OpenFault.TheVariants as fault
 use Rattle.kernel.specs.Power as power
 
 -- what denotes one of several denotes this one

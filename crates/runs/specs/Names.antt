@@ -1,7 +1,7 @@
 -- The names of other crates that the definitions here cite.
 pub use Rattle.capability.specs.Parts.{Parts}
 pub use Rattle.checkpoint.specs.Store.{View}
-pub use Rattle.checkpoint.specs.declared.open_fault.OpenFault.{OpenFault}
+pub use Rattle.layout.specs.declared.open_fault.OpenFault.{OpenFault}
 pub use Rattle.device.specs.Disk.{Disk, Image}
 pub use Rattle.device.specs.Moments.{LeavesOnly}
 pub use Rattle.kernel.specs.Opening.{IsNoReason, Opens}

@@ -6,7 +6,7 @@ use Rattle.script.proofs.Names.{digits_value-take-le, first_end, first_word}
 use Rattle.std.proofs.Common.{◌≡◌, ◌≢◌, ◌<◌, ◌≤◌, ◌^◌, ◌+◌, ◌-◌, ◌*◌, ◌∙◌}
 use Rattle.script.proofs.FirstWords.{word_reads}
 
-own : IsNumeralModel (AllDigits 10) (digits_value 10)
+pub own : IsNumeralModel (AllDigits 10) (digits_value 10)
 own = numerals_by_value (AllDigits 10) tells_digits
 
 pub decimal_is_digits : (word : List ℕ) (n : ℕ) → n < 2 ^ 64 → word ≡ decimal n → AllDigits 10 word × (digits_value 10 word ≡ n)

@@ -1,10 +1,10 @@
--- A number of one to three digits at a place of a text, with a space behind it or at the end.
-use Rattle.script.proofs.Names.{ℕ, List, [], Some, length, get_or, take, drop, decimal, refl, sym, ap, subst, arith, IsInRange, AllDigits, digits_value}
-use Rattle.script.proofs.Names.{nat_tests, get_or-take, get_or-drop, take_all, length-drop, drop-drop, length-take-le, position_or_len_is, digit_at, first_end}
-use Rattle.script.proofs.Names.{first_word, number_at, words_of}
+-- A number at a place of a text, with a space behind it or at the end.
+use Rattle.script.proofs.Names.{ℕ, List, [], Option, None, Some, IfSome, length, get_or, take, drop, decimal, refl, sym, ap, subst, arith, IsInRange, AllDigits}
+use Rattle.script.proofs.Names.{digits_value, nat_tests, get_or-take, get_or-drop, take_all, length-drop, drop-drop, length-take-le, position_or_len_is}
+use Rattle.script.proofs.Names.{digit_at, first_end, first_word, number_at, words_of, digits_value_short}
 use Rattle.std.proofs.Common.{◌≡◌, ◌<◌, ◌≤◌, ◌^◌, ◌+◌, ◌*◌, ◌-◌, ◌==◌, ◌∙◌}
 use Rattle.script.proofs.Commands.{number_gives}
-use Rattle.script.proofs.Numbers.{digits_are_decimal, value_more}
+use Rattle.script.proofs.Numbers.{digits_are_decimal, own, value_more}
 use Rattle.script.proofs.Split.{word_alone, word_and_more}
 
 -- a text that begins with a number of digits, up to a space or the end
@@ -48,7 +48,7 @@ digits_alone text size n begins whole =
     (begins.5, word_is text size n begins ends) tt
 
 -- the value of the first digits behind a place
-abbrev Values : List ℕ → ℕ → ℕ → ℕ → Type 0
+abbrev pub Values : List ℕ → ℕ → ℕ → ℕ → Type 0
 Values text at size n = AllDigits 10 (take size (drop at text)) × (n ≡ digits_value 10 (take size (drop at text)))
 
 abbrev IsDigit : List ℕ → ℕ → ℕ → Type 0
@@ -75,6 +75,13 @@ values_three : (text : List ℕ) (at one two three : ℕ) → at + 2 < length te
     → Values text at 3 ((one * 10 + two) * 10 + three)
 values_three text at one two three within first second third =
     digit_more text at 2 (one * 10 + two) three within (values_two text at one two (omega (arith, within)) first second) third
+
+-- the same, by where they end
+pub values_up_to_three : (text : List ℕ) (at one two three : ℕ) → at + 2 < length text → IsDigit text at one → IsDigit text (at + 1) two →
+    IsDigit text (at + 2) three → Values text at (at + 3 - at) ((one * 10 + two) * 10 + three)
+values_up_to_three text at one two three within first second third =
+    let same : 3 ≡ at + 3 - at = omega arith in
+    subst (λ (size : ℕ). Values text at size ((one * 10 + two) * 10 + three)) same (values_three text at one two three within first second third)
 
 begins_behind : (text : List ℕ) (at size n : ℕ) → at + size ≤ length text → 0 < size → Values text at size n → (get_or text at 0 ≡ 48 → size ≡ 1) → n < 2 ^ 64
     → Begins (drop at text) size n
@@ -120,32 +127,50 @@ three_digits text at one two three n within first some second third space is =
     (values_three text at one two three (omega (arith, within)) first second third)
     (λ zero. absurd (some zero)) (omega (arith, first, second, third))))
 
--- a number of any length
-pub any_digits : (text rest : List ℕ) (at size n : ℕ) → rest ≡ drop at text → size ≡ first_end rest → at + size < length text → n < 2 ^ 64 →
-    first_word rest ≡ decimal n → number_at (words_of (drop at text)) ≡ Some (n, words_of (drop (at + size + 1) text))
-any_digits text rest at size n same ends within small is =
-    let long = ap length same ∙ length-drop at text in
-    let behind : drop (size + 1) rest ≡ drop (at + size + 1) text =
-    ap (drop (size + 1)) same ∙ drop-drop (size + 1) at text ∙ ap (λ (k : ℕ). drop k text) (omega arith) in
-    let left : take (length rest - (size + 1)) (drop (size + 1) rest) ≡ drop (at + size + 1) text =
-    take_all (length rest - (size + 1)) (drop (size + 1) rest) (omega (arith, length-drop (size + 1) rest)) ∙ behind in
-    subst (λ (r : List ℕ). number_at (words_of r) ≡ Some (n, words_of (drop (at + size + 1) text))) same
-    (subst (λ (r : List ℕ). number_at (words_of rest) ≡ Some (n, words_of r)) left
-    (number_gives (Some n) (first_word rest) (words_of rest) (words_of (take (length rest - (size + 1)) (drop (size + 1) rest)))
-    (word_and_more rest size ends (omega (arith, within, long))) (small, is) tt))
+-- the value of few digits
+pub value_below : (text : List ℕ) (at size most n : ℕ) → at + size ≤ length text → size ≤ most → Values text at size n → n < 10 ^ most
+value_below text at size most n within few values =
+    let long : length (take size (drop at text)) ≡ size = length-take-le size (drop at text) (omega (arith, within, length-drop at text)) in
+    rw values.1 (digits_value_short own (take size (drop at text)) most values.0 (omega (arith, long, few)))
 
-pub any_alone : (text rest : List ℕ) (at size n : ℕ) → rest ≡ drop at text → size ≡ first_end rest → length text ≤ at + size → n < 2 ^ 64 →
-    first_word rest ≡ decimal n → number_at (words_of (drop at text)) ≡ Some (n, [])
-any_alone text rest at size n same ends past small is =
-    subst (λ (r : List ℕ). number_at (words_of r) ≡ Some (n, [])) same
-    (number_gives (Some n) (first_word rest) (words_of rest) [] (word_alone rest size ends (omega (arith, past, ap length same, length-drop at text)))
-    (small, is) tt)
+-- another digit at a place
+pub place_more : (text : List ℕ) (at place value digit : ℕ) → at < place → place < length text → Values text at (place - at) value →
+    IsDigit text place digit → Values text at (place + 1 - at) (value * 10 + digit)
+place_more text at place value digit begun within so_far is =
+    let here : place ≡ at + (place - at) = omega (arith, begun) in
+    subst (λ (size : ℕ). Values text at size (value * 10 + digit)) (omega (arith, begun))
+    (digit_more text at (place - at) value digit (omega (arith, begun, within)) so_far (subst (λ (k : ℕ). IsDigit text k digit) here is))
+
+-- digits up to a space
+pub digits_read : (text : List ℕ) (at place n : ℕ) → at < place → place < length text → place ≤ at + 19 → get_or text place 0 ≡ 32 →
+    (get_or text at 0 ≡ 48 → ⊥) → Values text at (place - at) n
+    → number_at (words_of (drop at text)) ≡ Some (n, words_of (drop (place + 1) text))
+digits_read text at place n begun within few space some values =
+    let here : place ≡ at + (place - at) = omega (arith, begun) in
+    let below : n < 10 ^ 19 = value_below text at (place - at) 19 n (omega (arith, begun, within)) (omega (arith, few)) values in
+    number_read text at (place - at) (place + 1) n (omega (arith, begun)) (omega (arith, begun, within)) (ap (λ (k : ℕ). get_or text k 0) (sym here) ∙ space)
+    (begins_behind text at (place - at) n (omega (arith, begun, within)) (omega (arith, begun)) values (λ zero. absurd (some zero)) (omega (arith, below)))
+
+-- digits up to the end
+pub digits_last : (text : List ℕ) (at place n : ℕ) → at < place → place ≡ length text → place ≤ at + 19 → (get_or text at 0 ≡ 48 → ⊥) →
+    Values text at (place - at) n → number_at (words_of (drop at text)) ≡ Some (n, [])
+digits_last text at place n begun whole few some values =
+    let below : n < 10 ^ 19 = value_below text at (place - at) 19 n (omega (arith, begun, whole)) (omega (arith, few)) values in
+    digits_alone (drop at text) (place - at) n
+    (begins_behind text at (place - at) n (omega (arith, begun, whole)) (omega (arith, begun)) values (λ zero. absurd (some zero)) (omega (arith, below)))
+    (omega (arith, begun, whole, length-drop at text))
 
 pub last_one : (text : List ℕ) (at n : ℕ) → length text ≡ at + 1 → IsDigit text at n → number_at (words_of (drop at text)) ≡ Some (n, [])
 last_one text at n whole first =
     digits_alone (drop at text) 1 n
     (begins_behind text at 1 n (omega (arith, whole)) (omega arith) (values_one text at n (omega (arith, whole)) first) (λ _. refl) (omega (arith, first)))
     (omega (arith, whole, length-drop at text))
+
+-- the same, where a digit was looked for
+pub last_one_found : (text : List ℕ) (at : ℕ) (r : Option ℕ) → length text ≡ at + 1 → IfSome r (λ n. IsDigit text at n)
+    → IfSome r (λ n. number_at (words_of (drop at text)) ≡ Some (n, []))
+last_one_found text at None whole found = tt
+last_one_found text at (Some n) whole found = last_one text at n whole found
 
 pub last_two : (text : List ℕ) (at one two n : ℕ) → length text ≡ at + 2 → IsDigit text at one → (get_or text at 0 ≡ 48 → ⊥) → IsDigit text (at + 1) two →
     n ≡ one * 10 + two

@@ -14,6 +14,7 @@ mod output;
 mod parse;
 mod print;
 mod short;
+mod short_line;
 mod shown;
 mod words;
 

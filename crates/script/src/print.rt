@@ -7,6 +7,7 @@ ghost use Rattle.script.specs.Writing.{Writes};
 use crate::fault::RunFault;
 use crate::line_text::LineText;
 use crate::output::Output;
+use crate::short_line::ShortLine;
 use crate::shown::print_object;
 use model::{Answer, Description, Refusal, Unjournaled};
 
@@ -77,12 +78,12 @@ fn place_line(generation: u64, age: u64) -> LineText
 // Writes a line that has a word and a number.
 #[inline(never)]
 fn print_numbered<W: Output>(word: &[u8], number: u64, writer: &mut W) -> Result<(), RunFault>
-    requires { length word.now ≤ 298 }
+    requires { length word.now ≤ 38 }
     ensures { Writes (W.written writer.old) (W.written writer.new) result
         (line_of (spaced (word.now ∷ decimal number ∷ []))) }
 {
-    let mut line = LineText::empty();
-    line.begin(word);
+    let mut line = ShortLine::empty();
+    line.push(word);
     line.number(number);
     line.print(writer)
 }
@@ -93,8 +94,8 @@ fn print_place<W: Output>(generation: u64, age: u64, writer: &mut W) -> Result<(
     ensures { Writes (W.written writer.old) (W.written writer.new) result
         (line_of (spaced (codes "at" ∷ decimal generation ∷ decimal age ∷ []))) }
 {
-    let mut line = LineText::empty();
-    line.begin(b"at");
+    let mut line = ShortLine::empty();
+    line.push(b"at");
     line.number(generation);
     line.number(age);
     line.print(writer)

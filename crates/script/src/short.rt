@@ -1,11 +1,12 @@
 // Invocations, each number read at a place of the line. After `None` the line may still say one.
-ghost use Rattle.std.specs.Prelude.{◌≡◌, ◌+◌, ◌<◌, ◌≤◌, [], Some, IfSome, length, drop};
+ghost use Rattle.std.specs.Prelude.{◌≡◌, ◌≢◌, ◌+◌, ◌-◌, ◌<◌, ◌≤◌, [], Some, IfSome, length, drop, take, slice_index_or};
+ghost use Rattle.std.specs.Int.{IsInRange};
+ghost use Rattle.std.specs.Str.Parse.{AllDigits, digits_value};
 ghost use Rattle.model.specs.declared.command.Command.{Command};
 ghost use Rattle.model.specs.Text.{Fits, command_words};
 ghost use Rattle.script.specs.Reading.{words_of, number_at, register_at, registers_at};
 
 use crate::keyword::{four_at, operation_in};
-use crate::number::number_in_front;
 use crate::words::register_of;
 use model::{Invocation, Register};
 
@@ -14,6 +15,13 @@ const VOID_BEGIN: u64 = 0x2030_2030;
 
 const VOID_END: u64 = 0x3020_3020;
 
+// The bytes of the digits, and of a space, as words: a digit's value is a word too.
+const FIRST_DIGIT: u64 = 48;
+
+const LAST_DIGIT: u64 = 57;
+
+const SPACE: u64 = 32;
+
 /// A number of a text, and where the word after it begins.
 #[derive(Clone, Copy)]
 pub struct Short {
@@ -21,23 +29,66 @@ pub struct Short {
     pub next: usize,
 }
 
-// The number at a place, if a space follows it.
-#[inline(never)]
-fn long_before(text: &[u8], at: usize, behind: usize) -> Option<Short>
-    requires room { at + behind < length text.now }
-    requires more { 2 ≤ behind }
-    ensures reads { IfSome result (λ s. number_at (words_of (drop at text.now))
-        ≡ Some (s.number, words_of (drop s.next text.now))) }
-    ensures room { IfSome result (λ s. s.next + behind < length text.now + 2) }
+// The value of the digit at a place, if one is there.
+#[inline(always)]
+fn digit_at(text: &[u8], at: usize) -> Option<u64>
+    requires { at < length text.now }
+    ensures { IfSome result (λ digit. IsInRange 48 57 (slice_index_or text.now at 0)
+        × (digit ≡ slice_index_or text.now at 0 - 48)) }
 {
-    let front = number_in_front(&text[at..])?;
-    if front.size >= text.len() - at - behind + 1 {
+    let byte = u64::from(text[at]);
+    if byte < FIRST_DIGIT || LAST_DIGIT < byte {
         return None;
     }
-    Some(Short {
-        number: front.number,
-        next: at + front.size + 1,
-    })
+    Some(byte - FIRST_DIGIT)
+}
+
+// Where the digits at a place end at the latest, if they are at most 19: fewer than those of 2^64.
+#[inline(always)]
+fn digits_end(text: &[u8], at: usize) -> usize
+    requires { at < length text.now }
+    ensures within { result ≤ length text.now }
+    ensures few { result ≤ at + 19 }
+{
+    if text.len() - at > 19 {
+        at + 19
+    } else {
+        text.len()
+    }
+}
+
+// The number at a place whose first digits, up to `from`, are those of `number`, if it has at most 19
+// and a space follows it. Else `next` is beyond the text.
+#[inline(never)]
+fn digits_before(text: &[u8], at: usize, from: usize, number: u64) -> Short
+    requires begun { (at < from) × (from ≤ length text.now) × (from ≤ at + 19) }
+    requires digits { AllDigits 10 (take (from - at) (drop at text.now)) }
+    requires value { number ≡ digits_value 10 (take (from - at) (drop at text.now)) }
+    requires some { slice_index_or text.now at 0 ≢ 48 }
+    ensures { result.next ≤ length text.now → number_at (words_of (drop at text.now))
+        ≡ Some (result.number, words_of (drop result.next text.now)) }
+{
+    let mut number = number;
+    for place in from..digits_end(text, at) {
+        let byte = u64::from(text[place]);
+        if byte < FIRST_DIGIT || LAST_DIGIT < byte {
+            if byte == SPACE {
+                return Short {
+                    number,
+                    next: place + 1,
+                };
+            }
+            return Short {
+                number,
+                next: text.len() + 1,
+            };
+        }
+        number = number * 10 + (byte - FIRST_DIGIT);
+    }
+    Short {
+        number,
+        next: text.len() + 1,
+    }
 }
 
 // The number at a place, if it has two or more digits and a space follows it.
@@ -49,31 +100,36 @@ fn longer_before(text: &[u8], at: usize, behind: usize) -> Option<Short>
         ≡ Some (s.number, words_of (drop s.next text.now))) }
     ensures room { IfSome result (λ s. s.next + behind < length text.now + 2) }
 {
-    let (first, second) = (text[at], text[at + 1]);
-    if first < b'1' || b'9' < first || !second.is_ascii_digit() {
+    let first = digit_at(text, at)?;
+    let second = digit_at(text, at + 1)?;
+    if first == 0 {
         return None;
     }
-    let number = u64::from(first - b'0') * 10 + u64::from(second - b'0');
-    let third = text[at + 2];
-    if third == b' ' {
+    let two = first * 10 + second;
+    if text[at + 2] == b' ' {
         if text.len() <= at + 1 + behind {
             return None;
         }
         return Some(Short {
-            number,
+            number: two,
             next: at + 3,
         });
     }
     if text.len() <= at + 2 + behind {
         return None;
     }
-    if !third.is_ascii_digit() || text[at + 3] != b' ' {
-        return long_before(text, at, behind);
+    let number = two * 10 + digit_at(text, at + 2)?;
+    if text[at + 3] == b' ' {
+        return Some(Short {
+            number,
+            next: at + 4,
+        });
     }
-    Some(Short {
-        number: number * 10 + u64::from(third - b'0'),
-        next: at + 4,
-    })
+    let short = digits_before(text, at, at + 3, number);
+    if short.next > text.len() - behind + 1 {
+        return None;
+    }
+    Some(short)
 }
 
 /// The number at a place, if a space follows it. At least `behind` bytes follow its first byte, and
@@ -89,12 +145,8 @@ pub fn number_before(text: &[u8], at: usize, behind: usize) -> Option<Short>
     if text[at + 1] != b' ' {
         return longer_before(text, at, behind);
     }
-    let digit = text[at];
-    if !digit.is_ascii_digit() {
-        return None;
-    }
     Some(Short {
-        number: u64::from(digit - b'0'),
+        number: digit_at(text, at)?,
         next: at + 2,
     })
 }
@@ -122,17 +174,28 @@ fn register_before(text: &[u8], at: usize, behind: usize) -> Option<ShortRegiste
     })
 }
 
-// The number at a place, if it is the last word.
+// The number at a place whose first digits, up to `from`, are those of `number`, if it has at most 19
+// and is the last word.
 #[inline(never)]
-fn last_long(text: &[u8], at: usize) -> Option<u64>
-    requires { at < length text.now }
+fn last_digits(text: &[u8], at: usize, from: usize, number: u64) -> Option<u64>
+    requires begun { (at < from) × (from ≤ length text.now) }
+    requires digits { AllDigits 10 (take (from - at) (drop at text.now)) }
+    requires value { number ≡ digits_value 10 (take (from - at) (drop at text.now)) }
+    requires some { slice_index_or text.now at 0 ≢ 48 }
     ensures { IfSome result (λ n. number_at (words_of (drop at text.now)) ≡ Some (n, [])) }
 {
-    let front = number_in_front(&text[at..])?;
-    if front.size < text.len() - at {
+    if text.len() - at > 19 {
         return None;
     }
-    Some(front.number)
+    let mut number = number;
+    for place in from..text.len() {
+        let byte = u64::from(text[place]);
+        if byte < FIRST_DIGIT || LAST_DIGIT < byte {
+            return None;
+        }
+        number = number * 10 + (byte - FIRST_DIGIT);
+    }
+    Some(number)
 }
 
 // The number at a place, if it has two or more digits and is the last word.
@@ -141,20 +204,20 @@ fn last_longer(text: &[u8], at: usize) -> Option<u64>
     requires { at + 1 < length text.now }
     ensures { IfSome result (λ n. number_at (words_of (drop at text.now)) ≡ Some (n, [])) }
 {
-    let first = text[at];
-    let second = text[at + 1];
-    if first < b'1' || b'9' < first || !second.is_ascii_digit() {
+    let first = digit_at(text, at)?;
+    let second = digit_at(text, at + 1)?;
+    if first == 0 {
         return None;
     }
-    let number = u64::from(first - b'0') * 10 + u64::from(second - b'0');
+    let two = first * 10 + second;
     if text.len() == at + 2 {
+        return Some(two);
+    }
+    let number = two * 10 + digit_at(text, at + 2)?;
+    if text.len() == at + 3 {
         return Some(number);
     }
-    let third = text[at + 2];
-    if text.len() != at + 3 || !third.is_ascii_digit() {
-        return last_long(text, at);
-    }
-    Some(number * 10 + u64::from(third - b'0'))
+    last_digits(text, at, at + 3, number)
 }
 
 /// The number at a place, if it is the last word.
@@ -166,11 +229,7 @@ pub fn last_number(text: &[u8], at: usize) -> Option<u64>
     if text.len() != at + 1 {
         return last_longer(text, at);
     }
-    let digit = text[at];
-    if !digit.is_ascii_digit() {
-        return None;
-    }
-    Some(u64::from(digit - b'0'))
+    digit_at(text, at)
 }
 
 // The register at a place, if it is the last word.

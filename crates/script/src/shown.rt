@@ -1,7 +1,7 @@
 // The text of an object.
 ghost use Rattle.std.specs.Prelude.{◌≡◌, ◌<◌, ◌≤◌, [], ◌∷◌, ◌++◌, map, length, codes, decimal};
 ghost use Rattle.model.specs.Text.{spaced, headed, capability_text, state_text, word_line, word_lines, capability_line};
-ghost use Rattle.model.specs.Text.{capability_lines, registers_of, object_text};
+ghost use Rattle.model.specs.Text.{capability_lines, line_of, registers_of, object_text};
 ghost use Rattle.script.specs.Writing.{Writes};
 
 use crate::fault::RunFault;
@@ -132,6 +132,22 @@ fn print_capabilities<W: Output>(
     Ok(())
 }
 
+// Writes a line, and then the lines of the capabilities that aren't void.
+fn print_holder<W: Output>(
+    line: &mut LineText,
+    name: &[u8],
+    capabilities: &[Capability],
+    writer: &mut W,
+) -> Result<(), RunFault>
+    requires line { length line.old < 320 }
+    requires name { length name.now ≤ 8 }
+    ensures { Writes (W.written writer.old) (W.written writer.new) result
+        (line_of line.old ++ capability_lines name.now capabilities.now) }
+{
+    line.print(writer)?;
+    print_capabilities(line, name, capabilities, writer)
+}
+
 // The registers, or none where there are none.
 fn held_by(registers: &Option<Slots<Capability>>) -> &[Capability]
     ensures { result.now ≡ registers_of registers.now }
@@ -154,7 +170,6 @@ pub fn print_object<W: Output>(
     ensures { Writes (W.written writer.old) (W.written writer.new) result
         (object_text number object.now registers.now used) }
 {
-    let owner = object.owner;
     let mut line = LineText::empty();
     match &object.content {
         Content::Free => {
@@ -163,27 +178,24 @@ pub fn print_object<W: Output>(
             line.print(writer)
         }
         Content::Page(words) => {
-            begin_heading(&mut line, b"page", number, owner);
+            begin_heading(&mut line, b"page", number, object.owner);
             line.print(writer)?;
             print_words(&mut line, words.as_slice(), writer)
         }
         Content::Node(slots) => {
-            begin_heading(&mut line, b"node", number, owner);
-            line.print(writer)?;
-            print_capabilities(&mut line, b"slot", slots.as_slice(), writer)
+            begin_heading(&mut line, b"node", number, object.owner);
+            print_holder(&mut line, b"slot", slots.as_slice(), writer)
         }
         Content::Root(root) => {
-            begin_process(&mut line, number, owner, root);
-            line.print(writer)?;
-            print_capabilities(&mut line, b"register", held_by(registers), writer)
+            begin_process(&mut line, number, object.owner, root);
+            print_holder(&mut line, b"register", held_by(registers), writer)
         }
         Content::Annex(slots) => {
-            begin_heading(&mut line, b"annex", number, owner);
-            line.print(writer)?;
-            print_capabilities(&mut line, b"register", slots.as_slice(), writer)
+            begin_heading(&mut line, b"annex", number, object.owner);
+            print_holder(&mut line, b"register", slots.as_slice(), writer)
         }
         Content::Bank { limit } => {
-            begin_bank(&mut line, number, owner, *limit, used);
+            begin_bank(&mut line, number, object.owner, *limit, used);
             line.print(writer)
         }
     }

@@ -1,7 +1,7 @@
 -- The names that the proofs here cite: of other crates, and of the definitions of this one.
 pub use Rattle.capability.specs.Parts.{Parts}
 pub use Rattle.checkpoint.specs.Store.{View}
-pub use Rattle.checkpoint.specs.declared.open_fault.OpenFault.{OpenFault}
+pub use Rattle.layout.specs.declared.open_fault.OpenFault.{OpenFault}
 pub use Rattle.core.proofs.alloc.Calls.{Goes-blank, handle_tells, token, α}
 pub use Rattle.device.specs.Calls.{Agrees, image_of, sectors_of}
 pub use Rattle.device.specs.Disk.{Image}

@@ -2,7 +2,7 @@
 use Rattle.vezhnake.proofs.Names.{ℕ, Bool, true, false, List, length, Result, Ok, Err, sym, subst, arith, Agrees, image_of, sectors_of, fresh, OpenFault}
 use Rattle.vezhnake.proofs.Names.{RefusesToOpen, HostKernel, Status, HostDevice, IsFresh, host_disk, OpensFrom, OpensKernel, status_by}
 use Rattle.std.proofs.Common.{◌≡◌, ◌/◌, ◌%◌, ◌≤◌}
-use Rattle.checkpoint.specs.declared.open_fault.OpenFault.TheVariants as fault
+use Rattle.layout.specs.declared.open_fault.OpenFault.TheVariants as fault
 use Rattle.vezhnake.specs.declared.host_kernel.HostKernel.TheVariants as store
 use Rattle.vezhnake.specs.declared.status.Status.TheVariants as status
 

@@ -1,7 +1,7 @@
 -- What the calls of the library do to a session, and what they copy out.
 use Rattle.std.specs.Prelude.{◌≡◌, ◌≢◌, ◌⊎◌, ℕ, ◌<◌, ◌≤◌, ◌%◌, ◌++◌, Bool, true, false, List, [], length, drop, Option}
 use Rattle.std.specs.Prelude.{None, Some, Result, Ok, Err}
-use Rattle.checkpoint.specs.declared.open_fault.OpenFault.TheVariants as fault
+use Rattle.layout.specs.declared.open_fault.OpenFault.TheVariants as fault
 use Rattle.recovery.specs.Recovered.{IsBad, IsWhy}
 use Rattle.kernel.specs.Opening.{Opens}
 use Rattle.object_cache.specs.StoreState as objects

@@ -2,8 +2,8 @@
 use Rattle.std.specs.Prelude.{ℕ}
 use Rattle.layout.specs.declared.bad_image.BadImage.{BadImage}
 use Rattle.layout.specs.declared.bad_image.BadImage.TheVariants as bad
-use Rattle.checkpoint.specs.declared.open_fault.OpenFault.{OpenFault}
-use Rattle.checkpoint.specs.declared.open_fault.OpenFault.TheVariants as fault
+use Rattle.layout.specs.declared.open_fault.OpenFault.{OpenFault}
+use Rattle.layout.specs.declared.open_fault.OpenFault.TheVariants as fault
 use Rattle.vezhnake.specs.declared.status.Status.{Status}
 use Rattle.vezhnake.specs.declared.status.Status.TheVariants as status
 

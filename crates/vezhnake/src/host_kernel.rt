@@ -5,11 +5,10 @@ ghost use Rattle.runs.specs.Reader.{read_from};
 ghost use Rattle.vezhnake.specs.Hosting.{IsFresh, RunsText};
 ghost use Rattle.vezhnake.specs.Sessions.{IsCapacity, OpensFrom, OpensKernel, RunsKernel, calls_in, kept_from};
 ghost use Rattle.vezhnake.specs.HostCalls.{encoded};
-ghost use Rattle.vezhnake.specs.Statuses.{status_by};
 
 use crate::recorder::Recorder;
 use crate::status::Status;
-use checkpoint::{ObjectStore, OpenFault};
+use checkpoint::ObjectStore;
 use device::{MAX_SECTORS, SECTOR_SIZE};
 use devices::{CopiedFile, SectorCopy};
 use kernel::Kernel;
@@ -44,24 +43,13 @@ fn device_over(alloc: Global, image: &[u8]) -> Result<HostDevice, AllocError>
     Ok(CopiedFile::new(copy, recorder))
 }
 
-// The status for the reason that no kernel was opened.
-fn status_of(fault: OpenFault) -> Status
-    ensures { result ≡ status_by fault }
-{
-    match fault {
-        OpenFault::Failed => Status::Failed,
-        OpenFault::NoMemory => Status::NoMemory,
-        OpenFault::Bad(reason) => Status::Bad(reason),
-    }
-}
-
 // Opens a kernel with all objects in memory.
 fn open_plain(alloc: Global, device: HostDevice) -> Result<HostKernel, Status>
     ensures { OpensFrom device true result }
 {
     match Kernel::<HostDevice, PlainStore<HostDevice>>::open(alloc, device, ()) {
         Ok(kernel) => Ok(HostKernel::Plain(kernel)),
-        Err(refused) => Err(status_of(refused.fault)),
+        Err(refused) => Err(Status::from(refused.fault)),
     }
 }
 
@@ -71,7 +59,7 @@ fn open_bounded(alloc: Global, device: HostDevice, capacity: Capacity) -> Result
 {
     match Kernel::<HostDevice, BoundedCache<HostDevice>>::open(alloc, device, capacity) {
         Ok(kernel) => Ok(HostKernel::Bounded(kernel)),
-        Err(refused) => Err(status_of(refused.fault)),
+        Err(refused) => Err(Status::from(refused.fault)),
     }
 }
 

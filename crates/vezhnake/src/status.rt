@@ -2,6 +2,7 @@
 ghost use Rattle.std.specs.Prelude.{◌≡◌};
 ghost use Rattle.vezhnake.specs.Statuses.{reason_number};
 
+use checkpoint::OpenFault;
 use layout::BadImage;
 
 /// What a call of the library returns. C gets its number.
@@ -54,6 +55,20 @@ impl Status {
             Status::SmallBuffer => 16,
             Status::CallsLost => 17,
             Status::Failed => 18,
+        }
+    }
+}
+
+impl From<OpenFault> for Status {
+    ghost use Rattle.vezhnake.specs.Statuses.{status_by};
+
+    ghost from_gives = { λ fault s. s ≡ status_by fault };
+
+    fn from(fault: OpenFault) -> Status {
+        match fault {
+            OpenFault::Failed => Status::Failed,
+            OpenFault::NoMemory => Status::NoMemory,
+            OpenFault::Bad(reason) => Status::Bad(reason),
         }
     }
 }

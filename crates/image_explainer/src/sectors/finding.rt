@@ -1,5 +1,6 @@
 // What is wrong with the sectors of an image: reasons 1 to 7, in a copy of all of them.
-ghost use Rattle.std.specs.Prelude.{◌≡◌, ◌+◌, ◌*◌, ◌<◌, ◌≤◌, ℕ, length, IfErr, IfOk, OnOk};
+ghost use Rattle.std.specs.Prelude.{◌≡◌, ◌+◌, ◌*◌, ◌<◌, ◌≤◌, ℕ, ⊤, length};
+ghost use Rattle.std.specs.ControlFlow.{MatchControlFlow};
 ghost use Rattle.device.specs.Disk.{Image};
 ghost use Rattle.layout.specs.Frames.{IsObject};
 ghost use Rattle.layout.specs.Directory.{IsDirectory};
@@ -23,16 +24,17 @@ use layout::{
     unpack_node,
 };
 use model::Geometry;
+use std::ops::ControlFlow;
 
-// Reads the superblock, or finds why there is none.
-fn find_superblock(bytes: &[u8], size: u64) -> Result<Superblock, SectorFault>
+// Goes on with the superblock, or breaks with why there is none.
+fn find_superblock(bytes: &[u8], size: u64) -> ControlFlow<SectorFault, Superblock>
     requires { length bytes.now ≡ 512 * size }
-    ensures found { (image : Image) → IsCopy image bytes.now → IfOk result (λ s. HasPlan image size s) }
-    ensures refused { (image : Image) → IsCopy image bytes.now → IfErr result (IsFault size image) }
-    ensures fits { IfOk result (λ s. IsPlan s × (s.total ≤ size)) }
+    ensures found { (image : Image) → IsCopy image bytes.now
+        → MatchControlFlow result (HasPlan image size) (IsFault size image) }
+    ensures fits { MatchControlFlow result (λ s. IsPlan s × (s.total ≤ size)) (λ _. ⊤) }
 {
     if size < 5 {
-        return Err(SectorFault::Small {
+        return ControlFlow::Break(SectorFault::Small {
             sectors: size,
             needed: 5,
         });
@@ -40,7 +42,7 @@ fn find_superblock(bytes: &[u8], size: u64) -> Result<Superblock, SectorFault>
     let sector = sectors(bytes, 0, 1);
     let needed = total_in(sector);
     if size < needed {
-        return Err(SectorFault::Small {
+        return ControlFlow::Break(SectorFault::Small {
             sectors: size,
             needed,
         });
@@ -48,19 +50,17 @@ fn find_superblock(bytes: &[u8], size: u64) -> Result<Superblock, SectorFault>
     superblock_in(sector)
 }
 
-// Reads the committed header, or finds why there is none.
+// Goes on with the committed header, or breaks with why there is none.
 fn find_header(
     bytes: &[u8],
     size: u64,
     superblock: &Superblock,
-) -> Result<CheckpointHeader, SectorFault>
+) -> ControlFlow<SectorFault, CheckpointHeader>
     requires size { length bytes.now ≡ 512 * size }
     requires least { 5 ≤ size }
     ensures found { (image : Image) → IsCopy image bytes.now → HasPlan image size superblock.now
-        → IfOk result (HasHeader image superblock.now) }
-    ensures refused { (image : Image) → IsCopy image bytes.now → HasPlan image size superblock.now
-        → IfErr result (IsFault size image) }
-    ensures fits { IfOk result (IsHeader superblock.now.geometry.log) }
+        → MatchControlFlow result (HasHeader image superblock.now) (IsFault size image) }
+    ensures fits { MatchControlFlow result (IsHeader superblock.now.geometry.log) (λ _. ⊤) }
 {
     choose(
         sectors(bytes, 1, 1),
@@ -71,25 +71,24 @@ fn find_header(
     )
 }
 
-// Reads the directory of the committed header into as many entries as that says, or finds what is
-// wrong with it.
+// Reads the directory of the committed header into as many entries as that says. Breaks with what
+// is wrong with it.
 fn find_directory(
     bytes: &[u8],
     size: u64,
     superblock: &Superblock,
     header: CheckpointHeader,
     entries: &mut [Entry],
-) -> Result<(), SectorFault>
+) -> ControlFlow<SectorFault>
     requires size { length bytes.now ≡ 512 * size }
     requires inside { superblock.now.total ≤ size }
     requires length { length entries.old ≡ header.entries }
     requires few { header.entries ≤ superblock.now.geometry.log }
     ensures found { (image : Image) → IsCopy image bytes.now → HasPlan image size superblock.now
         → HasHeader image superblock.now header
-        → OnOk result (HasDirectory image superblock.now header entries.new) }
-    ensures refused { (image : Image) → IsCopy image bytes.now → HasPlan image size superblock.now
-        → HasHeader image superblock.now header → IfErr result (IsFault size image) }
-    ensures fits { OnOk result (IsDirectory superblock.now.geometry entries.new) }
+        → MatchControlFlow result (λ _. HasDirectory image superblock.now header entries.new)
+        (IsFault size image) }
+    ensures fits { MatchControlFlow result (λ _. IsDirectory superblock.now.geometry entries.new) (λ _. ⊤) }
 {
     let geometry = superblock.geometry();
     let sector = Log::new(superblock).slot_sector(header.generation, geometry.log - 1) + 9;
@@ -99,8 +98,8 @@ fn find_directory(
         entries,
     );
     match find_entry(geometry, entries) {
-        Some(part) => Err(SectorFault::Directory { sector, part }),
-        None => Ok(()),
+        Some(part) => ControlFlow::Break(SectorFault::Directory { sector, part }),
+        None => ControlFlow::Continue(()),
     }
 }
 
@@ -131,7 +130,7 @@ fn find_at(
     }
 }
 
-// What is wrong with the saved frame of an object, if anything is.
+// Breaks with what is wrong with the saved frame of an object, if anything is.
 fn find_frame(
     bytes: &[u8],
     size: u64,
@@ -140,23 +139,23 @@ fn find_frame(
     entries: &[Entry],
     number: u64,
     scratch: &mut Scratch,
-) -> Result<(), SectorFault>
+) -> ControlFlow<SectorFault>
     requires size { length bytes.now ≡ 512 * size }
     requires inside { superblock.now.total ≤ size }
     requires directory { IsDirectory superblock.now.geometry entries.now }
     requires object { IsObject superblock.now.geometry number }
-    ensures whole { (image : Image) → IsCopy image bytes.now
-        → OnOk result (IsWholeFrame image superblock.now header entries.now number) }
-    ensures refused { (image : Image) → IsCopy image bytes.now → HasPlan image size superblock.now
+    ensures { (image : Image) → IsCopy image bytes.now → HasPlan image size superblock.now
         → HasHeader image superblock.now header → HasDirectory image superblock.now header entries.now
-        → IfErr result (IsFault size image) }
+        → MatchControlFlow result
+        (λ _. IsWholeFrame image superblock.now header entries.now number)
+        (IsFault size image) }
 {
     let sector = frame_sector(superblock, header, entries, number);
     let geometry = superblock.geometry();
     let shape = superblock.shape(number);
     match find_at(bytes, sector, shape, geometry, number, header.age, scratch) {
-        None => Ok(()),
-        Some(part) => Err(SectorFault::Frame {
+        None => ControlFlow::Continue(()),
+        Some(part) => ControlFlow::Break(SectorFault::Frame {
             number,
             is_page: number >= geometry.nodes,
             part,
@@ -164,7 +163,7 @@ fn find_frame(
     }
 }
 
-// What is wrong with the first frame that can't be kept, if one can't.
+// Breaks with what is wrong with the first frame that can't be kept, if one can't.
 fn find_frames(
     bytes: &[u8],
     size: u64,
@@ -172,36 +171,36 @@ fn find_frames(
     header: CheckpointHeader,
     entries: &[Entry],
     scratch: &mut Scratch,
-) -> Result<(), SectorFault>
+) -> ControlFlow<SectorFault>
     requires size { length bytes.now ≡ 512 * size }
     requires inside { superblock.now.total ≤ size }
     requires directory { IsDirectory superblock.now.geometry entries.now }
-    ensures whole { (image : Image) → IsCopy image bytes.now
-        → OnOk result ((n : ℕ) → IsObject superblock.now.geometry n
-        → IsWholeFrame image superblock.now header entries.now n) }
-    ensures refused { (image : Image) → IsCopy image bytes.now → HasPlan image size superblock.now
+    ensures { (image : Image) → IsCopy image bytes.now → HasPlan image size superblock.now
         → HasHeader image superblock.now header → HasDirectory image superblock.now header entries.now
-        → IfErr result (IsFault size image) }
+        → MatchControlFlow result
+        (λ _. (n : ℕ) → IsObject superblock.now.geometry n
+        → IsWholeFrame image superblock.now header entries.now n)
+        (IsFault size image) }
 {
     let geometry = superblock.geometry();
     for number in 0..geometry.nodes + geometry.pages {
         find_frame(bytes, size, superblock, header, entries, number, scratch)?;
     }
-    Ok(())
+    ControlFlow::Continue(())
 }
 
-/// What is wrong with the sectors of the image that `bytes` is a copy of: the least of the reasons
-/// 1 to 7 that holds. The entries are memory for as many as a directory may have.
+/// Breaks with what is wrong with the sectors of the image that `bytes` is a copy of: the least of
+/// the reasons 1 to 7 that holds. The entries are memory for as many as a directory may have.
 pub fn find_in_sectors(
     bytes: &[u8],
     size: u64,
     entries: &mut [Entry],
     scratch: &mut Scratch,
-) -> Result<(), SectorFault>
+) -> ControlFlow<SectorFault>
     requires size { length bytes.now ≡ 512 * size }
     requires entries { length entries.old ≡ 4096 }
-    ensures whole { (image : Image) → IsCopy image bytes.now → OnOk result (IsWhole size image) }
-    ensures refused { (image : Image) → IsCopy image bytes.now → IfErr result (IsFault size image) }
+    ensures { (image : Image) → IsCopy image bytes.now
+        → MatchControlFlow result (λ _. IsWhole size image) (IsFault size image) }
 {
     let superblock = find_superblock(bytes, size)?;
     let header = find_header(bytes, size, &superblock)?;

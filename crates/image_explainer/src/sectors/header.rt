@@ -1,5 +1,6 @@
 // Why no header is committed, or the committed one is none.
-ghost use Rattle.std.specs.Prelude.{◌≡◌, ◌↔◌, ◌<◌, true, false, length, IfErr, IfNone, IfOk, IfSome, Some};
+ghost use Rattle.std.specs.Prelude.{◌≡◌, ◌↔◌, ◌<◌, true, false, length, IfNone, IfSome, Some};
+ghost use Rattle.std.specs.ControlFlow.{MatchControlFlow};
 ghost use Rattle.layout.specs.declared.header.CheckpointHeader.{CheckpointHeader};
 ghost use Rattle.layout.specs.Header.{IsHeader, header_bytes};
 ghost use Rattle.layout.specs.Image.{does_count};
@@ -10,6 +11,7 @@ use crate::sectors::fault::{HeaderPart, NotCounted, SectorFault};
 use crate::sectors::reading::number_at;
 use layout::{CheckpointHeader, Gate, decode_gate, decode_header, sequence_in};
 use model::MAX_AGE;
+use std::ops::ControlFlow;
 
 // Why a header in a slot doesn't count, if it doesn't.
 fn why_not(header: &[u8], gate: &[u8], slot: u64) -> Option<NotCounted>
@@ -58,43 +60,43 @@ fn header_part(bytes: &[u8], log: u64) -> HeaderPart
     }
 }
 
-// Reads the header in a sector.
-fn header_at(sector: u64, bytes: &[u8], log: u64) -> Result<CheckpointHeader, SectorFault>
+// Goes on with the header in a sector, or breaks with what is wrong with it.
+fn header_at(sector: u64, bytes: &[u8], log: u64) -> ControlFlow<SectorFault, CheckpointHeader>
     requires { length bytes.now ≡ 512 }
-    ensures found { IfOk result (λ h. IsHeader log h × (bytes.now ≡ header_bytes h)) }
-    ensures refused { IfErr result (RefusesHeader sector log bytes.now) }
+    ensures { MatchControlFlow result (λ h. IsHeader log h × (bytes.now ≡ header_bytes h))
+        (RefusesHeader sector log bytes.now) }
 {
     match decode_header(bytes, log) {
-        Ok(header) => Ok(header),
-        Err(_) => Err(SectorFault::Header {
+        Ok(header) => ControlFlow::Continue(header),
+        Err(_) => ControlFlow::Break(SectorFault::Header {
             sector,
             part: header_part(bytes, log),
         }),
     }
 }
 
-/// Returns the committed one of two headers, each with its gate, or why there is none. A half of
-/// the log has `log` slots.
+/// Goes on with the committed one of two headers, each with its gate, or breaks with why there is
+/// none. A half of the log has `log` slots.
 pub(crate) fn choose(
     first: &[u8],
     first_gate: &[u8],
     second: &[u8],
     second_gate: &[u8],
     log: u64,
-) -> Result<CheckpointHeader, SectorFault>
+) -> ControlFlow<SectorFault, CheckpointHeader>
     requires first { length first.now ≡ 512 }
     requires first_gate { length first_gate.now ≡ 512 }
     requires second { length second.now ≡ 512 }
     requires second_gate { length second_gate.now ≡ 512 }
-    ensures found { IfOk result (HasHeaderIn log first.now first_gate.now second.now second_gate.now) }
-    ensures refused { IfErr result
+    ensures { MatchControlFlow result
+        (HasHeaderIn log first.now first_gate.now second.now second_gate.now)
         (HasNoneIn log first.now first_gate.now second.now second_gate.now) }
 {
     match (
         why_not(first, first_gate, 0),
         why_not(second, second_gate, 1),
     ) {
-        (Some(one), Some(other)) => Err(SectorFault::NoHeader(one, other)),
+        (Some(one), Some(other)) => ControlFlow::Break(SectorFault::NoHeader(one, other)),
         (None, Some(_)) => header_at(1, first, log),
         (Some(_), None) => header_at(3, second, log),
         (None, None) => {

@@ -1,5 +1,6 @@
 // Why sector 0 is no superblock.
-ghost use Rattle.std.specs.Prelude.{◌≡◌, ◌↔◌, drop, length, take, IfErr, IfOk, IsTrue};
+ghost use Rattle.std.specs.Prelude.{◌≡◌, ◌↔◌, drop, length, take, IsTrue};
+ghost use Rattle.std.specs.ControlFlow.{MatchControlFlow};
 ghost use Rattle.layout.specs.declared.version.Version.{Version};
 ghost use Rattle.layout.specs.Bytes.{half_number};
 ghost use Rattle.layout.specs.Superblock.{HasMark, IsPlan, Plan, superblock_bytes, version_number};
@@ -10,6 +11,7 @@ use crate::sectors::fault::{GeometryPart, SectorFault, SuperblockPart};
 use crate::sectors::reading::number_at;
 use device::MAX_SECTORS;
 use layout::{BadImage, Superblock, decode_superblock};
+use std::ops::ControlFlow;
 
 // Whether a superblock's sector has a version that there is.
 #[tactic(auto, unfolding(layout::specs::Bytes::half_number))]
@@ -59,16 +61,17 @@ fn geometry_part(bytes: &[u8]) -> GeometryPart
     }
 }
 
-/// Returns the superblock in a sector, or why it is none.
-pub(crate) fn superblock_in(bytes: &[u8]) -> Result<Superblock, SectorFault>
+/// Goes on with the superblock in a sector, or breaks with why it is none.
+pub(crate) fn superblock_in(bytes: &[u8]) -> ControlFlow<SectorFault, Superblock>
     requires { length bytes.now ≡ 512 }
-    ensures found { IfOk result (λ s. bytes.now ≡ superblock_bytes s) }
-    ensures fits { IfOk result (λ s. IsPlan s) }
-    ensures refused { IfErr result (BreaksSector bytes.now) }
+    ensures { MatchControlFlow result (λ s. IsPlan s × (bytes.now ≡ superblock_bytes s))
+        (BreaksSector bytes.now) }
 {
     match decode_superblock(bytes) {
-        Ok(superblock) => Ok(superblock),
-        Err(BadImage::NotASuperblock) => Err(SectorFault::Superblock(mark_part(bytes))),
-        Err(_) => Err(SectorFault::Geometry(geometry_part(bytes))),
+        Ok(superblock) => ControlFlow::Continue(superblock),
+        Err(BadImage::NotASuperblock) => {
+            ControlFlow::Break(SectorFault::Superblock(mark_part(bytes)))
+        }
+        Err(_) => ControlFlow::Break(SectorFault::Geometry(geometry_part(bytes))),
     }
 }

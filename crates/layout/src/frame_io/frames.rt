@@ -8,13 +8,13 @@ ghost use Rattle.layout.specs.Image.{sectors_from, shaped_at};
 ghost use Rattle.layout.specs.Shape.{IsShapeFor, shape_length};
 ghost use Rattle.layout.specs.Calls.{ReadsOnly, WritesAt};
 ghost use Rattle.layout.specs.Clusters.{HasZerosBeside, IsAlone};
-ghost use Rattle.layout.specs.Fault.{CountsFailed};
+ghost use Rattle.layout.specs.Fault.{CountsOpen};
 ghost use Rattle.layout.specs.Frames.{IsHeaderAt, IsObject, IsRefused};
 ghost use Rattle.model.specs.Frame.{content_behind};
 
 use crate::frame_io::clusters::blank_behind;
-use crate::frame_io::fault::Unreadable;
 use crate::frame_io::sectors::{read_sectors, write_sectors};
+use crate::open_fault::OpenFault;
 use crate::{
     Body, CLUSTER_BYTES, NODE_FRAME_BYTES, PAGE_FRAME_BYTES, Scratch, Shape, decode_frame,
     encode_frame, encode_page, header_in, pack_node, unpack_node,
@@ -33,7 +33,7 @@ fn read_node_frame<D: Device>(
     number: u64,
     age: u64,
     scratch: &mut Scratch,
-) -> Result<(ObjectHeader, Body), Unreadable>
+) -> Result<(ObjectHeader, Body), OpenFault>
     requires node { number < geometry.nodes }
     requires inside { at + 2 ≤ (D.disk device.old).sectors }
     ensures found { IfOk result (λ read. IsFrameOf geometry age number
@@ -41,7 +41,7 @@ fn read_node_frame<D: Device>(
     ensures refused { IfErr result (λ e. IsRefused geometry age number
         (sectors_from (D.disk device.new).seen at 2) e) }
     ensures reads { ReadsOnly (D.disk device.old) (D.disk device.new) }
-    ensures cause { CountsFailed (D.disk device.old) (D.disk device.new) result }
+    ensures cause { CountsOpen (D.disk device.old) (D.disk device.new) result }
 {
     let mut node = [0; NODE_FRAME_BYTES];
     read_sectors(device, at, 2, &mut node)?;
@@ -81,7 +81,7 @@ fn read_packed_frame<D: Device>(
     number: u64,
     age: u64,
     scratch: &mut Scratch,
-) -> Result<(ObjectHeader, Body), Unreadable>
+) -> Result<(ObjectHeader, Body), OpenFault>
     requires node { number < geometry.nodes }
     requires rank { rank < 5 }
     requires inside { at + 8 ≤ (D.disk device.old).sectors }
@@ -90,7 +90,7 @@ fn read_packed_frame<D: Device>(
     ensures refused { IfErr result (λ e. IsRefused geometry age number
         (shaped_at (D.disk device.new).seen at (shape.Packed rank)) e) }
     ensures reads { ReadsOnly (D.disk device.old) (D.disk device.new) }
-    ensures cause { CountsFailed (D.disk device.old) (D.disk device.new) result }
+    ensures cause { CountsOpen (D.disk device.old) (D.disk device.new) result }
 {
     let mut node = [0; NODE_FRAME_BYTES];
     read_packed(device, at, rank, &mut node)?;
@@ -106,7 +106,7 @@ fn read_page_frame<D: Device>(
     number: u64,
     age: u64,
     scratch: &mut Scratch,
-) -> Result<(ObjectHeader, Body), Unreadable>
+) -> Result<(ObjectHeader, Body), OpenFault>
     requires page { geometry.nodes ≤ number }
     requires object { IsObject geometry number }
     requires inside { at + 9 ≤ (D.disk device.old).sectors }
@@ -115,7 +115,7 @@ fn read_page_frame<D: Device>(
     ensures refused { IfErr result (λ e. IsRefused geometry age number
         (sectors_from (D.disk device.new).seen at 9) e) }
     ensures reads { ReadsOnly (D.disk device.old) (D.disk device.new) }
-    ensures cause { CountsFailed (D.disk device.old) (D.disk device.new) result }
+    ensures cause { CountsOpen (D.disk device.old) (D.disk device.new) result }
 {
     let mut page = [0; PAGE_FRAME_BYTES];
     read_sectors(device, at, 9, &mut page)?;
@@ -137,7 +137,7 @@ pub fn read_frame<D: Device>(
     number: u64,
     age: u64,
     scratch: &mut Scratch,
-) -> Result<(ObjectHeader, Body), Unreadable>
+) -> Result<(ObjectHeader, Body), OpenFault>
     requires object { IsObject geometry number }
     requires shape { IsShapeFor geometry number shape }
     requires inside { at + shape_length shape ≤ (D.disk device.old).sectors }
@@ -146,7 +146,7 @@ pub fn read_frame<D: Device>(
     ensures refused { IfErr result (λ e. IsRefused geometry age number
         (shaped_at (D.disk device.new).seen at shape) e) }
     ensures reads { ReadsOnly (D.disk device.old) (D.disk device.new) }
-    ensures cause { CountsFailed (D.disk device.old) (D.disk device.new) result }
+    ensures cause { CountsOpen (D.disk device.old) (D.disk device.new) result }
 {
     match shape {
         Shape::Node => read_node_frame(device, at, geometry, number, age, scratch),

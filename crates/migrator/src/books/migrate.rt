@@ -11,11 +11,15 @@ use crate::copy::copy_home;
 use crate::directory::Directory;
 use crate::turn::is_first;
 use device::{Device, Failed};
-use layout::CheckpointHeader;
+use layout::{CheckpointHeader, PAGE_FRAME_BYTES};
 
 impl Books {
     // Copies the next saved frame home, where it didn't go there with the one before it.
-    fn move_next<D: Device>(&mut self, device: &mut D) -> Result<(), Failed>
+    fn move_next<D: Device>(
+        &mut self,
+        device: &mut D,
+        buffer: &mut [u8; PAGE_FRAME_BYTES],
+    ) -> Result<(), Failed>
         requires stands { IsDurable (D.disk device.old) self.old }
         requires some { self.old.moved < self.old.header.entries }
         ensures stands { IsDurable (D.disk device.new) self.new }
@@ -31,7 +35,7 @@ impl Books {
             self.moved += 1;
             return Ok(());
         }
-        copy_home(device, &self.plan, generation, entries, entry)?;
+        copy_home(device, &self.plan, generation, entries, entry, buffer)?;
         self.moved += 1;
         Ok(())
     }
@@ -63,8 +67,9 @@ impl Books {
         ensures none { count ≡ 0 → (self.new ≡ self.old) × (device.new ≡ device.old) }
         ensures cause { Counts (D.disk device.old) (D.disk device.new) result }
     {
+        let mut buffer = [0; PAGE_FRAME_BYTES];
         for _ in 0..count {
-            self.move_next(device)?;
+            self.move_next(device, &mut buffer)?;
         }
         Ok(())
     }

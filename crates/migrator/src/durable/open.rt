@@ -7,7 +7,8 @@ ghost use Rattle.layout.specs.Superblock.{Plan};
 ghost use Rattle.layout.specs.Calls.{ReadsOnly};
 ghost use Rattle.migrator.specs.Durable.{stored_of};
 ghost use Rattle.migrator.specs.Opened.{OpensDurable};
-ghost use Rattle.checkpoint.specs.Opened.{IsBadFor, CountsOpen, OnlyReads, Refuses};
+ghost use Rattle.layout.specs.Fault.{CountsOpen};
+ghost use Rattle.checkpoint.specs.Opened.{IsBadFor, OnlyReads, Refuses};
 ghost use Rattle.migrator.specs.Reserve.{IsReadInto, IsReserve, first_books};
 
 use crate::books::Books;

@@ -1,6 +1,5 @@
 // Saving the present words of one page without a checkpoint.
-ghost use Rattle.std.specs.Prelude.{◌≡◌, ◌⊎◌, ◌+◌, ◌<◌, ◌≤◌, ◌^◌, None, length, nat_lt, option_map, true, IfOk, OnOk};
-ghost use Rattle.model.specs.declared.object.Role.TheVariants as role;
+ghost use Rattle.std.specs.Prelude.{◌≡◌, ◌⊎◌, ◌<◌, ◌≤◌, ◌^◌, None, length, nat_lt, option_map, true, IfOk, OnOk};
 ghost use Rattle.std.specs.Prelude.{OnErr, IsErrOf, Err, is_some, IfErr, IfSome};
 ghost use Rattle.model.specs.Frame.{frame_at, header_at, content_behind};
 ghost use Rattle.model.specs.Keepable.{AreKeepable};
@@ -8,14 +7,14 @@ ghost use Rattle.model.specs.Object.{is_page, words_in};
 ghost use Rattle.model.specs.Sound.{object_count};
 ghost use Rattle.device.specs.Calls.{Counts};
 ghost use Rattle.capability.specs.Parts.{frames_of};
-ghost use Rattle.checkpoint.specs.Saved.{LeavesEither, LeavesOneOf, journaled_saved, LeavesSaved};
+ghost use Rattle.checkpoint.specs.Saved.{LeavesOneOf, LeavesSaved};
 ghost use Rattle.checkpoint.specs.Snapshots.{journaled, left_in};
 ghost use Rattle.checkpoint.specs.Store.{whole};
 ghost use Rattle.migrator.specs.Durable.{on_snapshots, stored_of, is_sound, left_of, newest, ReadsStore};
 ghost use Rattle.checkpoint.specs.Refused.{IsJournalAnswer, IsTurnedAway, IsJournalCheck};
 ghost use Rattle.checkpoint.specs.Journal.{is_page_now, is_page_role, is_same_page, is_still_saved, next_journaled};
 ghost use Rattle.checkpoint.specs.Journal.{words_now};
-ghost use Rattle.object_cache.specs.Journaled.{held_now, is_saved_page};
+ghost use Rattle.object_cache.specs.Journaled.{MaySave, SavesPage, held_now, is_saved_page};
 ghost use Rattle.object_cache.specs.StoreState.{parts_of, view_of};
 ghost use Rattle.layout.specs.Frames.{IsObject};
 
@@ -113,27 +112,9 @@ fn save_content<D: Device>(
     age: u64,
 ) -> Result<u64, Failed>
     requires page { is_page (content_behind content) ≡ true }
-    requires free { (stored_of D.disk durable.old).frozen ≡ None }
-    requires home { (stored_of D.disk durable.old).saved.entries ≡ 0 }
-    requires saved { (frame_at (stored_of D.disk durable.old).saved.frames number).header.role
-        ≡ role.Page }
-    requires header { header ≡ (frame_at (stored_of D.disk durable.old).saved.frames number).header }
-    requires sound { is_sound D.disk durable.old }
-    requires later { (stored_of D.disk durable.old).saved.age < age }
-    requires most { age ≤ 2 ^ 62 }
-    ensures journaled { OnOk result (stored_of D.disk durable.new
-        ≡ on_snapshots (journaled age number (words_in (content_behind content.entry)))
-        (stored_of D.disk durable.old)) }
-    ensures unchanged { OnErr result (stored_of D.disk durable.new ≡ stored_of D.disk durable.old) }
-    ensures plan { durable.new.books.plan ≡ durable.old.books.plan }
-    ensures generation { IfOk result (λ generation. generation
-        ≡ (stored_of D.disk durable.old).saved.generation + 2) }
-    ensures sound { OnOk result (is_sound D.disk durable.new) }
-    ensures size { (D.disk durable.new.beneath).sectors ≡ (D.disk durable.old.beneath).sectors }
-    ensures any_moment { LeavesEither (D.disk durable.old.beneath) (D.disk durable.new.beneath)
-        (stored_of D.disk durable.old).saved
-        (journaled_saved age number (words_in (content_behind content.entry)) (stored_of D.disk durable.old).saved) }
-    ensures cause { Counts (D.disk durable.old.beneath) (D.disk durable.new.beneath) result }
+    requires may { MaySave D.disk durable.old header number age }
+    ensures { SavesPage D.disk durable.old durable.new number age
+        (words_in (content_behind content.entry)) result }
 {
     let ContentRef::Page(words) = content else {
         unreachable!()
@@ -151,27 +132,9 @@ fn save_read<D: Device>(
 ) -> Result<u64, Failed>
     requires object { number < object_count durable.old.books.plan.geometry }
     requires page { is_page (newest (stored_of D.disk durable.old) number).content ≡ true }
-    requires free { (stored_of D.disk durable.old).frozen ≡ None }
-    requires home { (stored_of D.disk durable.old).saved.entries ≡ 0 }
-    requires saved { (frame_at (stored_of D.disk durable.old).saved.frames number).header.role
-        ≡ role.Page }
-    requires header { header ≡ (frame_at (stored_of D.disk durable.old).saved.frames number).header }
-    requires sound { is_sound D.disk durable.old }
-    requires later { (stored_of D.disk durable.old).saved.age < age }
-    requires most { age ≤ 2 ^ 62 }
-    ensures journaled { OnOk result (stored_of D.disk durable.new ≡ on_snapshots (journaled age number
-        (words_in (newest (stored_of D.disk durable.old) number).content)) (stored_of D.disk durable.old)) }
-    ensures unchanged { OnErr result (stored_of D.disk durable.new ≡ stored_of D.disk durable.old) }
-    ensures plan { durable.new.books.plan ≡ durable.old.books.plan }
-    ensures generation { IfOk result (λ generation. generation
-        ≡ (stored_of D.disk durable.old).saved.generation + 2) }
-    ensures sound { OnOk result (is_sound D.disk durable.new) }
-    ensures size { (D.disk durable.new.beneath).sectors ≡ (D.disk durable.old.beneath).sectors }
-    ensures any_moment { LeavesEither (D.disk durable.old.beneath) (D.disk durable.new.beneath)
-        (stored_of D.disk durable.old).saved (journaled_saved age number
-        (words_in (newest (stored_of D.disk durable.old) number).content)
-        (stored_of D.disk durable.old).saved) }
-    ensures cause { Counts (D.disk durable.old.beneath) (D.disk durable.new.beneath) result }
+    requires may { MaySave D.disk durable.old header number age }
+    ensures { SavesPage D.disk durable.old durable.new number age
+        (words_in (newest (stored_of D.disk durable.old) number).content) result }
 {
     match durable.fetch(number, scratch) {
         Ok(_) => durable.save_page(number, header, scratch.words.as_array(), age),
@@ -191,28 +154,9 @@ fn save_present<D: Device>(
     requires known { number < length entries.now.at }
     requires object { number < object_count durable.old.books.plan.geometry }
     requires page { is_page (held_now entries.now.at (stored_of D.disk durable.old) number) ≡ true }
-    requires free { (stored_of D.disk durable.old).frozen ≡ None }
-    requires home { (stored_of D.disk durable.old).saved.entries ≡ 0 }
-    requires saved { (frame_at (stored_of D.disk durable.old).saved.frames number).header.role
-        ≡ role.Page }
-    requires header { header ≡ (frame_at (stored_of D.disk durable.old).saved.frames number).header }
-    requires sound { is_sound D.disk durable.old }
-    requires later { (stored_of D.disk durable.old).saved.age < age }
-    requires most { age ≤ 2 ^ 62 }
-    ensures journaled { OnOk result (stored_of D.disk durable.new ≡ on_snapshots (journaled age number
-        (words_in (held_now entries.now.at (stored_of D.disk durable.old) number)))
-        (stored_of D.disk durable.old)) }
-    ensures unchanged { OnErr result (stored_of D.disk durable.new ≡ stored_of D.disk durable.old) }
-    ensures plan { durable.new.books.plan ≡ durable.old.books.plan }
-    ensures generation { IfOk result (λ generation. generation
-        ≡ (stored_of D.disk durable.old).saved.generation + 2) }
-    ensures sound { OnOk result (is_sound D.disk durable.new) }
-    ensures size { (D.disk durable.new.beneath).sectors ≡ (D.disk durable.old.beneath).sectors }
-    ensures any_moment { LeavesEither (D.disk durable.old.beneath) (D.disk durable.new.beneath)
-        (stored_of D.disk durable.old).saved (journaled_saved age number
-        (words_in (held_now entries.now.at (stored_of D.disk durable.old) number))
-        (stored_of D.disk durable.old).saved) }
-    ensures cause { Counts (D.disk durable.old.beneath) (D.disk durable.new.beneath) result }
+    requires may { MaySave D.disk durable.old header number age }
+    ensures { SavesPage D.disk durable.old durable.new number age
+        (words_in (held_now entries.now.at (stored_of D.disk durable.old) number)) result }
 {
     if entries.holds(number) {
         return save_content(durable, entries.present(number), header, number, age);

@@ -32,18 +32,6 @@ fn reason<F: Frames>(alloc: Global, store: &mut F) -> Result<Option<BadImage>, R
     }
 }
 
-/// The fault of opening a device whose objects can't be read: want of memory, unless the device
-/// failed.
-pub fn opening_fault(why: Refusal) -> OpenFault
-    ensures failed { (result ≡ OpenFault.Failed) ↔ (why ≡ Refusal.Fault) }
-    ensures no_reason { (why : BadImage) → result ≡ OpenFault.Bad why → ⊥ }
-{
-    match why {
-        Refusal::Fault => OpenFault::Failed,
-        _ => OpenFault::NoMemory,
-    }
-}
-
 /// Checks frames that can be kept at an age: whether they stand for a sound world (EROS: the
 /// consistency check of a checkpoint).
 ///
@@ -66,9 +54,8 @@ pub fn check<F: Frames>(alloc: Global, store: &mut F, age: u64) -> Result<(), Op
     ensures cause { IsErrOf result OpenFault.Failed
         ↔ ((F.parts store.old).failures < (F.parts store.new).failures) }
 {
-    match reason(alloc, store) {
-        Ok(None) => Ok(()),
-        Ok(Some(why)) => Err(OpenFault::Bad(why)),
-        Err(fault) => Err(opening_fault(fault)),
+    match reason(alloc, store)? {
+        None => Ok(()),
+        Some(why) => Err(OpenFault::Bad(why)),
     }
 }

@@ -1,11 +1,7 @@
 use Rattle.cache_entries.proofs.Names.{ℕ, true≢false, arith, length, length-map, keys_of, sym, refl, subst, non_zero_usize_get, IsFilled}
-use Rattle.std.proofs.Common.{◌≡◌, ◌<◌, ◌∙◌}
+use Rattle.std.proofs.Common.{◌≡◌, ◌<◌}
 use Rattle.cache_entries.proofs.Orders.{filled_more, new_keys, not_yet}
 use Rattle.cache_entries.proofs.places.all_places.Goals as goal
-
-pub loop-place-init : goal.loop-place-init
-loop-place-init c =
-    rw c.in_ok-order.ensures (record { filled = record { once = tt; all = refl; known = λ p is. absurd (true≢false (sym is)) }; most = refl })
 
 pub loop-place-preserved : goal.loop-place-preserved
 loop-place-preserved c =
@@ -16,9 +12,3 @@ loop-place-preserved c =
     (arith, i.most, c.loop-place-test.true, c.get-place-end.ensures.value, i.filled.all, length-map l.entries (λ (e : ℕ × Unit {0}). e.0)) in
     rw c.in-Ok.ensures.entries (rw (new_keys k l (not_yet (keys_of l.entries) k i.filled.known) short)
     (record { filled = filled_more (keys_of l.entries) k i.filled; most = i.most }))
-
-pub returns : goal.returns
-returns c =
-    let end : c.loop-place.place ≡ non_zero_usize_get c.args.most = omega
-    (arith, c.loop-place-test.false, c.loop-place.auto.place-end, c.get-place-end.ensures.value) in
-    subst (IsFilled (keys_of c.loop-place.order.entries)) end c.loop-place.invariant.filled

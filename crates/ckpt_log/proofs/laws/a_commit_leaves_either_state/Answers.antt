@@ -1,4 +1,4 @@
-use Rattle.ckpt_log.proofs.Denoted.{frames_behind, old_denoted, new_denoted}
+use Rattle.ckpt_log.proofs.SavedStates.{frames_behind, old_denoted, new_denoted}
 use Rattle.ckpt_log.proofs.laws.a_commit_leaves_either_state.Goals as goal
 
 pub returns : goal.returns

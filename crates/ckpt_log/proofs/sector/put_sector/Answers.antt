@@ -1,10 +1,10 @@
-use Rattle.std.proofs.Common.{sym}
-use Rattle.ckpt_log.proofs.Sectors.{sector_is, one_sector, seen_has, on_ok}
+use Rattle.ckpt_log.proofs.Names.{sym, on_ok_weaker}
+use Rattle.ckpt_log.proofs.Sectors.{sector_is, one_sector, seen_has}
 use Rattle.ckpt_log.proofs.sector.put_sector.Goals as goal
 
 pub returns-clause-written : goal.returns-clause-written
 returns-clause-written g c =
-    on_ok c.write_durably.result (λ holds. sym (sector_is (g.D.Device.disk c.write_durably.new.device).seen c.requires.one holds.whole))
+    on_ok_weaker c.write_durably.result (λ holds. sym (sector_is (g.D.Device.disk c.write_durably.new.device).seen c.requires.one holds.whole))
     c.write_durably.ensures.written
 
 pub returns-clause-any_moment : goal.returns-clause-any_moment

@@ -20,8 +20,8 @@ write_saved-requires-clause-count g c =
     let count : c.saved-checkpoint.result.entries ≡ s.header.entries = search rules in
     ap length entries ∙ directory_count c.requires.encoded.0 c.requires.encoded.1 s c.requires.encoded.2 ∙ sym count
 
-pub returns-in-Ok-clause-crash : goal.returns-in-Ok-clause-crash
-returns-in-Ok-clause-crash g c x left =
+pub returns-in-Ok : goal.returns-in-Ok
+returns-in-Ok g c =
     let s = saved_state (seen_of g.D.Device.disk c.args.saved.now) c.args.saved.now.books in
     let laid : c.lay_out_again-superblock.result ≡ laid_again Two s.plan = search rules in
     let entries : c.args.entries.now ≡ numbered 0 s.directory = c.requires.entries in
@@ -29,11 +29,24 @@ returns-in-Ok-clause-crash g c x left =
     let count : c.saved-checkpoint.result.entries ≡ s.header.entries = search rules in
     let age : c.saved-checkpoint.result.age ≡ s.header.age = search rules in
     let frames : frames_in c.args.headers.now c.args.contents.now ≡ s.frames = c.requires.frames in
-    subst (λ (state : SavedState). Encodes x (g.E.Device.disk c.write_saved.new.device).sectors state)
-    (same_state s _ _ _ _ _ _ laid generation count age entries frames) (c.in-Ok.ensures.crash x left)
+    let same = same_state s _ _ _ _ _ _ laid generation count age entries frames in
+    record {
+      total = search rules;
+      encodes = subst (Encodes (g.E.Device.disk c.write_saved.new.device).seen (g.E.Device.disk c.write_saved.new.device).sectors) same c.in-Ok.ensures.denotes;
+      crash = λ x left. subst (Encodes x (g.E.Device.disk c.write_saved.new.device).sectors) same (c.in-Ok.ensures.crash x left);
+      elsewhere = search rules;
+      small = search rules;
+      opened = search rules;
+      untouched = search rules;
+      any_moment = subst (λ (saved : SavedFrames). LeavesOnly (g.E.Device.disk c.args.new.now) (g.E.Device.disk c.write_saved.new.device)
+          (λ x. IsLeftWriting (g.E.Device.disk c.args.new.now) saved x)) (ap kept_of same) c.write_saved.ensures.any_moment;
+      size = search rules;
+      later = search rules;
+      cause = search rules;
+    }
 
-pub returns-in-Ok-clause-any_moment : goal.returns-in-Ok-clause-any_moment
-returns-in-Ok-clause-any_moment g c =
+pub returns-in-Err : goal.returns-in-Err
+returns-in-Err g c =
     let s = saved_state (seen_of g.D.Device.disk c.args.saved.now) c.args.saved.now.books in
     let laid : c.lay_out_again-superblock.result ≡ laid_again Two s.plan = search rules in
     let entries : c.args.entries.now ≡ numbered 0 s.directory = c.requires.entries in
@@ -41,19 +54,18 @@ returns-in-Ok-clause-any_moment g c =
     let count : c.saved-checkpoint.result.entries ≡ s.header.entries = search rules in
     let age : c.saved-checkpoint.result.age ≡ s.header.age = search rules in
     let frames : frames_in c.args.headers.now c.args.contents.now ≡ s.frames = c.requires.frames in
-    subst (λ (saved : SavedFrames). LeavesOnly (g.E.Device.disk c.args.new.now) (g.E.Device.disk c.write_saved.new.device)
-    (λ x. IsLeftWriting (g.E.Device.disk c.args.new.now) saved x))
-    (ap kept_of (same_state s _ _ _ _ _ _ laid generation count age entries frames)) c.write_saved.ensures.any_moment
-
-pub returns-in-Err-clause-any_moment : goal.returns-in-Err-clause-any_moment
-returns-in-Err-clause-any_moment g c =
-    let s = saved_state (seen_of g.D.Device.disk c.args.saved.now) c.args.saved.now.books in
-    let laid : c.lay_out_again-superblock.result ≡ laid_again Two s.plan = search rules in
-    let entries : c.args.entries.now ≡ numbered 0 s.directory = c.requires.entries in
-    let generation : c.saved-checkpoint.result.generation ≡ s.header.generation = search rules in
-    let count : c.saved-checkpoint.result.entries ≡ s.header.entries = search rules in
-    let age : c.saved-checkpoint.result.age ≡ s.header.age = search rules in
-    let frames : frames_in c.args.headers.now c.args.contents.now ≡ s.frames = c.requires.frames in
-    subst (λ (saved : SavedFrames). LeavesOnly (g.E.Device.disk c.args.new.now) (g.E.Device.disk c.write_saved.new.device)
-    (λ x. IsLeftWriting (g.E.Device.disk c.args.new.now) saved x))
-    (ap kept_of (same_state s _ _ _ _ _ _ laid generation count age entries frames)) c.write_saved.ensures.any_moment
+    record {
+      total = search rules;
+      encodes = search rules;
+      crash = search rules;
+      elsewhere = search rules;
+      small = search rules;
+      opened = search rules;
+      untouched = search rules;
+      any_moment = subst (λ (saved : SavedFrames). LeavesOnly (g.E.Device.disk c.args.new.now) (g.E.Device.disk c.write_saved.new.device)
+          (λ x. IsLeftWriting (g.E.Device.disk c.args.new.now) saved x))
+          (ap kept_of (same_state s _ _ _ _ _ _ laid generation count age entries frames)) c.write_saved.ensures.any_moment;
+      size = search rules;
+      later = search rules;
+      cause = search rules;
+    }

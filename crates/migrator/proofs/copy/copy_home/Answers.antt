@@ -38,8 +38,6 @@ returns-in-Packed g c =
     record {
       copied = on_ok_weaker c.copy_cluster.result (λ copied n is same. copied n is (same ∙ sym start.home)) c.copy_cluster.ensures.copied;
       zeros = zeros_there c.copy_cluster.result c.args.plan.now c.args.entry.object new.seen packed start.home c.copy_cluster.ensures.zeros;
-      touches = subst (λ (n : ℕ). Touches (home_place c.args.plan.now c.args.entry.object) n (g.D.Device.disk c.args.device.now) new)
-          (ap shape_length (sym packed))
-          (subst (λ (at : ℕ). Touches at 8 (g.D.Device.disk c.args.device.now) new) start.home c.copy_cluster.ensures.touches);
+      touches = rw (← ap shape_length (sym packed), ← start.home) c.copy_cluster.ensures.touches;
       cause = c.copy_cluster.ensures.cause;
     }

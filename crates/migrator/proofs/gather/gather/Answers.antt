@@ -1,7 +1,7 @@
 use Rattle.migrator.proofs.Names.{subst, arith, rules, Image, agrees_is, frame_in, Plan, IsPlan, HaveHome}
 use Rattle.std.proofs.Common.{◌≡◌, ◌∙◌, ◌+◌}
 use Rattle.migrator.proofs.Gathering.{frame_end, one_more, rank_there, all_in}
-use Rattle.migrator.proofs.Reading.{reads_more}
+use Rattle.migrator.proofs.Opening.{reads_more}
 use Rattle.migrator.proofs.gather.gather.Goals as goal
 
 pub read_node-requires-clause-shape : goal.read_node-requires-clause-shape

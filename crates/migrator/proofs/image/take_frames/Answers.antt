@@ -1,6 +1,6 @@
 use Rattle.migrator.proofs.Names.{refl, arith, [], ap, subst, rules, err_from_is_err_and, Geometry, Image, agrees_is, IsSpelt, frame_read, IsBadAt}
 use Rattle.std.proofs.Common.{◌≡◌, ◌∙◌, ◌+◌, ◌<◌, ◌++◌, ◌∷◌}
-use Rattle.migrator.proofs.Reading.{reads_more, reads_none, frames_until, length-until, frames_more, frames_all, spelt_more}
+use Rattle.migrator.proofs.Opening.{reads_more, reads_none, frames_until, length-until, frames_more, frames_all, spelt_more}
 use Rattle.migrator.proofs.image.take_frames.Goals as goal
 
 pub loop-number-preserved : goal.loop-number-preserved

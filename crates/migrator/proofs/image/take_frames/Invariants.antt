@@ -1,6 +1,6 @@
 use Rattle.migrator.proofs.Names.{ℕ, IsSpelt, ReadsOnly, count_of}
 use Rattle.std.proofs.Common.{◌≡◌, ◌<◌, ◌≤◌}
-use Rattle.migrator.proofs.Reading.{frames_until}
+use Rattle.migrator.proofs.Opening.{frames_until}
 use Rattle.migrator.proofs.image.take_frames.Given as goal
 
 abbrev pub invariant-loop-number : goal.invariant-loop-number

@@ -1,5 +1,5 @@
 use Rattle.migrator.proofs.Names.{frame_in}
-use Rattle.migrator.proofs.Reading.{read_is, only_failed, failure_counts}
+use Rattle.migrator.proofs.Opening.{read_is, only_failed, failure_counts}
 use Rattle.migrator.proofs.read.read_again.Goals as goal
 
 pub returns-in-Ok-clause-found : goal.returns-in-Ok-clause-found

@@ -1,5 +1,5 @@
 use Rattle.std.proofs.lemmas.Result.{IfOk-weaker}
-use Rattle.migrator.proofs.Reading.{own_header, packed_header}
+use Rattle.migrator.proofs.Opening.{own_header, packed_header}
 use Rattle.migrator.proofs.read.read_header_of.Goals as goal
 
 pub returns-in_default-clause-found : goal.returns-in_default-clause-found

@@ -1,5 +1,5 @@
 use Rattle.migrator.proofs.Names.{slot_bytes}
-use Rattle.migrator.proofs.Reading.{read_is, only_failed, failure_counts}
+use Rattle.migrator.proofs.Opening.{read_is, only_failed, failure_counts}
 use Rattle.migrator.proofs.read.read_put.Goals as goal
 
 pub returns-in-Ok-clause-found : goal.returns-in-Ok-clause-found

@@ -1,15 +1,23 @@
 use Rattle.std.proofs.Common.{arith}
-use Rattle.script.proofs.ShortNumbers.{last_two, last_three}
+use Rattle.script.proofs.ShortNumbers.{last_two, last_three, values_up_to_three}
 use Rattle.script.proofs.short.last_longer.Goals as goal
 
 pub returns-then-text-at : goal.returns-then-text-at
 returns-then-text-at c =
-    last_two c.args.text.now c.args.at c.from.result c.from-2.result _ c.if-text-at.true
-    ((omega (arith, c.if-first-lt49.false), omega (arith, c.if-first-gt57.false)), c.from.ensures)
-    (λ zero. omega (arith, zero, c.if-first-lt49.false)) (c.if-not-is_ascii_digit.ensures.cases, c.from-2.ensures) (omega arith)
+    last_two c.args.text.now c.args.at c.in_ok-first.first c.in_ok-second.second _ c.if-text-at.true
+    c.in_ok-first.ensures (λ zero. omega (arith, zero, c.if-first-eq0.false, c.in_ok-first.ensures)) c.in_ok-second.ensures (omega arith)
 
-pub returns : goal.returns
-returns c =
-    last_three c.args.text.now c.args.at c.from.result c.from-2.result c.from-3.result _ (omega (arith, c.if-text-at-2.false))
-    ((omega (arith, c.if-first-lt49.false), omega (arith, c.if-first-gt57.false)), c.from.ensures) (λ zero. omega (arith, zero, c.if-first-lt49.false))
-    (c.if-not-is_ascii_digit.ensures.cases, c.from-2.ensures) (c.if-not-is_ascii_digit-2.ensures.cases, c.from-3.ensures) (omega arith)
+pub returns-then-text-at-2 : goal.returns-then-text-at-2
+returns-then-text-at-2 c =
+    last_three c.args.text.now c.args.at c.in_ok-first.first c.in_ok-second.second _ _ c.if-text-at-2.true
+    c.in_ok-first.ensures (λ zero. omega (arith, zero, c.if-first-eq0.false, c.in_ok-first.ensures)) c.in_ok-second.ensures c.in_ok-number.ensures (omega arith)
+
+pub last_digits-requires-clause-digits : goal.last_digits-requires-clause-digits
+last_digits-requires-clause-digits c =
+    (values_up_to_three c.args.text.now c.args.at c.in_ok-first.first c.in_ok-second.second _ (omega (arith, c.requires, c.if-text-at.false))
+    c.in_ok-first.ensures c.in_ok-second.ensures c.in_ok-number.ensures).0
+
+pub last_digits-requires-clause-value : goal.last_digits-requires-clause-value
+last_digits-requires-clause-value c =
+    (values_up_to_three c.args.text.now c.args.at c.in_ok-first.first c.in_ok-second.second _ (omega (arith, c.requires, c.if-text-at.false))
+    c.in_ok-first.ensures c.in_ok-second.ensures c.in_ok-number.ensures).1

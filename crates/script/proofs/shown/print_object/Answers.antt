@@ -12,46 +12,25 @@ returns-in_err-print-in-Page g c =
     rw (p.1, p.2) (line_fails _ _ _ _ _ (word_lines c.in-Page.words) _ c.begin_heading.ensures.text (object_page _ _ _ _ c.in-Page.words c.in-Page.is)
     c.in_err-print-in-Page.ensures)
 
-pub returns-in_err-print-in-Node : goal.returns-in_err-print-in-Node
-returns-in_err-print-in-Node g c =
-    let p = err_from_is_err_and c.from_residual-in_err-print-in-Node.result c.from_residual-in_err-print-in-Node.ensures.1 in
-    rw (p.1, p.2) (line_fails _ _ _ _ _ (capability_lines (codes "slot") c.in-Node.slots) _ c.begin_heading-in-Node.ensures.text
-    (object_node _ _ _ _ c.in-Node.slots c.in-Node.is) c.in_err-print-in-Node.ensures)
-
-pub returns-in_err-print-in-Root : goal.returns-in_err-print-in-Root
-returns-in_err-print-in-Root g c =
-    let p = err_from_is_err_and c.from_residual-in_err-print-in-Root.result c.from_residual-in_err-print-in-Root.ensures.1 in
-    rw (p.1, p.2) (line_fails _ _ _ _ _ (capability_lines (codes "register") (registers_of c.args.registers.now)) _ c.begin_process.ensures.text
-    (object_root _ _ _ _ c.in-Root.root c.in-Root.is) c.in_err-print-in-Root.ensures)
-
-pub returns-in_err-print-in-Annex : goal.returns-in_err-print-in-Annex
-returns-in_err-print-in-Annex g c =
-    let p = err_from_is_err_and c.from_residual-in_err-print-in-Annex.result c.from_residual-in_err-print-in-Annex.ensures.1 in
-    rw (p.1, p.2) (line_fails _ _ _ _ _ (capability_lines (codes "register") c.in-Annex.slots) _ c.begin_heading-in-Annex.ensures.text
-    (object_annex _ _ _ _ c.in-Annex.slots c.in-Annex.is) c.in_err-print-in-Annex.ensures)
-
 pub returns-in_ok-print-in-Page : goal.returns-in_ok-print-in-Page
 returns-in_ok-print-in-Page g c =
     line_and _ _ _ _ _ _ (word_lines c.in-Page.words) _ c.begin_heading.ensures.text (object_page _ _ _ _ c.in-Page.words c.in-Page.is)
     c.in_ok-print-in-Page.ensures (rw c.as_slice.ensures.value at c.print_words.ensures)
 
-pub returns-in_ok-print-in-Node : goal.returns-in_ok-print-in-Node
-returns-in_ok-print-in-Node g c =
-    line_and _ _ _ _ _ _ (capability_lines (codes "slot") c.in-Node.slots) _ c.begin_heading-in-Node.ensures.text
-    (object_node _ _ _ _ c.in-Node.slots c.in-Node.is)
-    c.in_ok-print-in-Node.ensures (rw c.as_slice-in-Node.ensures.value at c.print_capabilities.ensures)
-
-pub returns-in_ok-print-in-Root : goal.returns-in_ok-print-in-Root
-returns-in_ok-print-in-Root g c =
-    line_and _ _ _ _ _ _ (capability_lines (codes "register") (registers_of c.args.registers.now)) _ c.begin_process.ensures.text
-    (object_root _ _ _ _ c.in-Root.root c.in-Root.is)
-    c.in_ok-print-in-Root.ensures (rw c.held_by.ensures at c.print_capabilities-in-Root.ensures)
-
-pub returns-in_ok-print-in-Annex : goal.returns-in_ok-print-in-Annex
-returns-in_ok-print-in-Annex g c =
-    line_and _ _ _ _ _ _ (capability_lines (codes "register") c.in-Annex.slots) _ c.begin_heading-in-Annex.ensures.text
-    (object_annex _ _ _ _ c.in-Annex.slots c.in-Annex.is)
-    c.in_ok-print-in-Annex.ensures (rw c.as_slice-in-Annex.ensures.value at c.print_capabilities-in-Annex.ensures)
-
 pub returns-in-Bank : goal.returns-in-Bank
 returns-in-Bank g c = writes_same _ _ _ _ _ (rw c.begin_bank.ensures.text (sym (object_bank _ _ _ _ c.in-Bank.limit c.in-Bank.is))) c.print-in-Bank.ensures
+
+pub returns-in-Node : goal.returns-in-Node
+returns-in-Node g c =
+    writes_same _ _ _ _ _ (rw (c.begin_heading-in-Node.ensures.text, c.as_slice-in-Node.ensures.value) (sym (object_node _ _ _ _ c.in-Node.slots c.in-Node.is)))
+    c.print_holder.ensures
+
+pub returns-in-Root : goal.returns-in-Root
+returns-in-Root g c =
+    writes_same _ _ _ _ _ (rw (c.begin_process.ensures.text, c.held_by.ensures) (sym (object_root _ _ _ _ c.in-Root.root c.in-Root.is)))
+    c.print_holder-in-Root.ensures
+
+pub returns-in-Annex : goal.returns-in-Annex
+returns-in-Annex g c =
+    writes_same _ _ _ _ _ (rw (c.begin_heading-in-Annex.ensures.text, c.as_slice-in-Annex.ensures.value)
+    (sym (object_annex _ _ _ _ c.in-Annex.slots c.in-Annex.is))) c.print_holder-in-Annex.ensures

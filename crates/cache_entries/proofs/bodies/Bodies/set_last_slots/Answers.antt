@@ -9,13 +9,6 @@ index-requires c = omega (arith, kind_within c.self.invariant c.self.view_is c.r
 pub item_mut-requires : goal.item_mut-requires
 item_mut-requires c = slots_there c.self.invariant c.self.view_is c.requires c.index.ensures (sym c.has_slots.ensures ∙ c.if-has_slots.true)
 
-pub invariant_of-self : goal.invariant_of-self
-invariant_of-self c =
-    let s = c.item_mut.result.now in
-    rw c.put_last.ensures (slots_put c.self.invariant c.self.view_is c.requires c.index.ensures (sym c.has_slots.ensures ∙ c.if-has_slots.true) s
-    (slots_from s 28 c.args.held) c.item_mut.ensures.value (λ x. with_slots_in x 28 c.args.held)
-    (slots_in (item_at c.self.inside.pages c.args.place) s 28 c.args.held)).are
-
 pub returns-then-has_slots : goal.returns-then-has_slots
 returns-then-has_slots c =
     let s = c.item_mut.result.now in

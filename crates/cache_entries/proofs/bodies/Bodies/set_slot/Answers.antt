@@ -9,13 +9,6 @@ index-requires c = omega (arith, kind_within c.self.invariant c.self.view_is c.r
 pub item_mut-slots-requires : goal.item_mut-slots-requires
 item_mut-slots-requires c = slots_there c.self.invariant c.self.view_is c.requires.place c.index.ensures (sym c.has_slots.ensures ∙ c.if-has_slots.true)
 
-pub invariant_of-self : goal.invariant_of-self
-invariant_of-self c =
-    let s = c.item_mut-slots.result.now in
-    (slots_put c.self.invariant c.self.view_is c.requires.place c.index.ensures (sym c.has_slots.ensures ∙ c.if-has_slots.true) s
-    (set s c.args.slot c.args.held) c.item_mut-slots.ensures.value (λ x. with_slot_in x c.args.slot c.args.held)
-    (slot_in c.args.slot c.args.held (item_at c.self.inside.pages c.args.place) s)).are
-
 pub returns-then-has_slots : goal.returns-then-has_slots
 returns-then-has_slots c =
     let s = c.item_mut-slots.result.now in

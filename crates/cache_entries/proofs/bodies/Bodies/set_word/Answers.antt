@@ -9,11 +9,6 @@ index-requires c = omega (arith, kind_within c.self.invariant c.self.view_is c.r
 pub item_mut-requires : goal.item_mut-requires
 item_mut-requires c = words_there c.self.invariant c.self.view_is c.requires.place c.index.ensures (sym c.is_page.ensures ∙ c.if-is_page.true)
 
-pub invariant_of-self : goal.invariant_of-self
-invariant_of-self c =
-    rw c.set.ensures (word_put c.self.invariant c.self.view_is c.requires.place c.index.ensures c.args.index c.args.word
-    (sym c.is_page.ensures ∙ c.if-is_page.true) c.item_mut.result.now c.item_mut.ensures.value).are
-
 pub returns-then-is_page : goal.returns-then-is_page
 returns-then-is_page c =
     rw c.set.ensures (word_put c.self.invariant c.self.view_is c.requires.place c.index.ensures c.args.index c.args.word

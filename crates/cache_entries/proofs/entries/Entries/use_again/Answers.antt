@@ -10,12 +10,6 @@ returns-clause-held c =
     λ all n has. sym (some_is c.self.inside.order c.self.invariant c.self.view_is n) ∙ sym (c.spread.ensures.listed n) ∙ c.use_again.ensures.listed n
     (ap (λ (ks : List ℕ). is_member ks n) (take_all c.use_again.ensures.count ns (c.use_again.ensures.whole all)) ∙ contains_member ns n has)
 
-pub returns-clause-prefix : goal.returns-clause-prefix
-returns-clause-prefix c =
-    let k = c.use_again.ensures.count in
-    let used = ap (λ (o : OrderState). o.numbers) c.use_again.ensures.used in
-    (k, used ∙ ap (λ (t : EntriesState). used_in_turn (take k c.args.numbers.now) t.order) c.self.view_is)
-
 pub returns-clause-ordered : goal.returns-clause-ordered
 returns-clause-ordered c =
     let i = c.self.inside in

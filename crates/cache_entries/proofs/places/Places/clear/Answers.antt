@@ -18,8 +18,5 @@ cleared c =
     (c.fill.ensures.items (λ y is. is) ∙ ap (λ (k : ℕ). replicate k c.len-most.result) (i.places.ok.0 ∙ count)
     ∙ ap (replicate (length c.args.self.now.places)) len))
 
-pub invariant_of-self : goal.invariant_of-self
-invariant_of-self c = (cleared c).are
-
 pub returns : goal.returns
 returns c = (cleared c).view

@@ -4,9 +4,6 @@ use Rattle.cache_entries.proofs.Recent.{listed_member}
 use Rattle.cache_entries.proofs.Spreads.{least_number, spread_is}
 use Rattle.cache_entries.proofs.places.Places.least.Goals as goal
 
-pub last_place-place-requires : goal.last_place-place-requires
-last_place-place-requires c = omega (arith, c.self.invariant.some, c.self.invariant.filled.all)
-
 pub index-requires : goal.index-requires
 index-requires c =
     let keys = keys_of c.self.inside.order.entries in

@@ -4,10 +4,6 @@ use Rattle.cache_entries.proofs.Orders.{demoted_keys}
 use Rattle.cache_entries.proofs.Spreads.{count_some, known_place, listed, place_known, removed, some_place}
 use Rattle.cache_entries.proofs.places.Places.remove.Goals as goal
 
-pub index-requires : goal.index-requires
-index-requires c =
-    omega (arith, place_known c.self.invariant c.args.number (some_place c.self.invariant c.self.view_is c.args.number c.requires), c.self.inside.places.ok.0)
-
 pub overflow_sub-self : goal.overflow_sub-self
 overflow_sub-self c = count_some c.self.invariant c.args.number (some_place c.self.invariant c.self.view_is c.args.number c.requires)
 

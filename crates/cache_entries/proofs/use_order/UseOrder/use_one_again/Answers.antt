@@ -1,4 +1,4 @@
-use Rattle.cache_entries.proofs.Names.{ℕ, List, sym, ap, arith, is_member, OrderState, used_last}
+use Rattle.cache_entries.proofs.Names.{sym, ap, arith, is_member, OrderState, used_last}
 use Rattle.std.proofs.Common.{◌∙◌}
 use Rattle.cache_entries.proofs.Recent.{listed_member}
 use Rattle.cache_entries.proofs.Turns.{member_in_turn, used_again_at}

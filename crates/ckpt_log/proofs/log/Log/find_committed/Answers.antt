@@ -1,6 +1,6 @@
 use Rattle.ckpt_log.proofs.Names.{arith, length-take-le, err_from_is_err_and, agrees_is}
 use Rattle.std.proofs.Common.{◌∙◌}
-use Rattle.ckpt_log.proofs.Refusals.{bad_directory, has_committed}
+use Rattle.ckpt_log.proofs.Directories.{bad_directory, has_committed}
 use Rattle.ckpt_log.proofs.log.Log.find_committed.Goals as goal
 
 pub returns-in_err-read_directory-clause-refused : goal.returns-in_err-read_directory-clause-refused

@@ -1,7 +1,6 @@
-use Rattle.ckpt_log.proofs.Names.{sym, subst, Image, agrees_is, elsewhere_on, elsewhere_same, header_sector, HasNew, Precedes}
+use Rattle.ckpt_log.proofs.Names.{sym, subst, Image, agrees_is, elsewhere_on, elsewhere_same, header_sector, HasNew, Precedes, on_ok_weaker}
 use Rattle.ckpt_log.proofs.Commits.{either_elsewhere, either_on, new_on, precedes_on}
 use Rattle.ckpt_log.proofs.Runs.{sync_run, commit_run, sync_order, commit_order, preparing_run, publishing_order, publishing_run}
-use Rattle.ckpt_log.proofs.Sectors.{on_ok}
 use Rattle.ckpt_log.proofs.log.Log.publish.Goals as goal
 
 pub returns-in_err-sync-clause-any_moment : goal.returns-in_err-sync-clause-any_moment
@@ -34,7 +33,7 @@ returns-clause-committed g c =
     let mid = (g.D.Device.disk c.sync.new.self).seen in
     let new = (g.D.Device.disk c.open_gate.new.device).seen in
     let same = agrees_is mid (g.D.Device.disk c.args.device.now).seen c.sync.ensures.seen in
-    on_ok c.open_gate.result (λ has. subst (λ (image : Image). HasNew c.args.header image new) same
+    on_ok_weaker c.open_gate.result (λ has. subst (λ (image : Image). HasNew c.args.header image new) same
     (new_on c.prepare.ensures.keeps has)) c.open_gate.ensures.committed
 
 pub returns-clause-elsewhere : goal.returns-clause-elsewhere

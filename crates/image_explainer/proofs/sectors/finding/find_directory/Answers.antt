@@ -19,8 +19,8 @@ sectors-requires c =
       );
     }
 
-pub returns-in-Some-clause-refused : goal.returns-in-Some-clause-refused
-returns-in-Some-clause-refused c = λ image copy plan header.
+pub returns-in-Some-clause-found : goal.returns-in-Some-clause-found
+returns-in-Some-clause-found c = λ image copy plan header.
     let p : Plan = c.args.superblock.now in
     let at : c.slot_sector-sector.result ≡ slot_sector p c.args.header.generation (p.geometry.log - 1) =
     c.slot_sector-sector.ensures.value

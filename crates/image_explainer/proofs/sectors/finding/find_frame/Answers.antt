@@ -3,8 +3,8 @@ use Rattle.image_explainer.specs.declared.sectors.fault.SectorFault.TheVariants 
 use Rattle.image_explainer.proofs.Frames.{frame_fault}
 use Rattle.image_explainer.proofs.sectors.finding.find_frame.Goals as goal
 
-pub returns-in-Some-clause-refused : goal.returns-in-Some-clause-refused
-returns-in-Some-clause-refused c = λ image copy plan header directory.
+pub returns-in-Some : goal.returns-in-Some
+returns-in-Some c = λ image copy plan header directory.
     let p : Plan = c.args.superblock.now in
     let n = c.args.number in
     let part = c.in-Some.part in

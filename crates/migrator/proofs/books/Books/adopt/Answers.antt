@@ -1,14 +1,14 @@
 use Rattle.migrator.proofs.Names.{counted_ok, counts_on}
 use Rattle.std.proofs.Common.{◌∙◌}
-use Rattle.migrator.proofs.Adopting.{adopted_publishes, left_publishes}
-use Rattle.migrator.proofs.Saving.{commits_one, either_first, either_run, only_both, only_directory, precedes_next, saved_next}
+use Rattle.migrator.proofs.Publishing.{adopted_publishes, left_publishes, commits_one, either_before, either_run, only_both, only_directory, precedes_next}
+use Rattle.migrator.proofs.Publishing.{saved_next}
 use Rattle.migrator.proofs.books.Books.adopt.Goals as goal
 
 pub returns-in_err-write_directory-clause-publishes : goal.returns-in_err-write_directory-clause-publishes
 returns-in_err-write_directory-clause-publishes g c =
     let may = c.requires in
     let writes = rw (c.new-log.ensures, c.as_slice.ensures, may.kept.count) at c.write_directory.ensures.writes in
-    left_publishes may writes.size (only_directory may writes) (either_first may writes) c.from_residual.ensures.0 c.in_err-write_directory.ensures.cause
+    left_publishes may writes.size (only_directory may writes) (either_before may writes) c.from_residual.ensures.0 c.in_err-write_directory.ensures.cause
 
 pub publish-requires-clause-one : goal.publish-requires-clause-one
 publish-requires-clause-one g c =

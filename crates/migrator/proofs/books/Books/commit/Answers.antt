@@ -1,10 +1,8 @@
 use Rattle.migrator.proofs.Names.{counted_ok}
 use Rattle.std.proofs.Common.{◌∙◌}
-use Rattle.migrator.proofs.Buffered.{entry_of}
-use Rattle.migrator.proofs.Commits.{commit_stored, may_commit_now, mid_stays}
+use Rattle.migrator.proofs.Completing.{entry_of, complete_at, keeps_at}
+use Rattle.migrator.proofs.Publishing.{commit_stored, may_commit_now, mid_stays, publishes_after, publishes_none}
 use Rattle.migrator.proofs.Committing.{frozen_fits}
-use Rattle.migrator.proofs.Completing.{complete_at, keeps_at}
-use Rattle.migrator.proofs.Publishing.{publishes_after, publishes_none}
 use Rattle.migrator.proofs.books.Books.commit.Goals as goal
 
 pub complete-requires-clause-directory : goal.complete-requires-clause-directory

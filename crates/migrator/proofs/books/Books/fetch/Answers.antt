@@ -1,7 +1,7 @@
 use Rattle.migrator.proofs.Names.{IfOk-weaker, ℕ, List, ap, sym, subst, IsFrameOf, frame_from, most, seen_by}
 use Rattle.std.proofs.Common.{◌∙◌}
-use Rattle.migrator.proofs.Buffered.{working_again}
-use Rattle.migrator.proofs.Reading.{newest_by, whole_low}
+use Rattle.migrator.proofs.Completing.{working_again}
+use Rattle.migrator.proofs.Opening.{newest_by, whole_low}
 use Rattle.migrator.proofs.books.Books.fetch.Goals as goal
 
 pub read_put-requires-clause-slot : goal.read_put-requires-clause-slot

@@ -1,6 +1,6 @@
 use Rattle.migrator.proofs.Names.{IfOk-weaker, sym}
 use Rattle.std.proofs.Common.{◌∙◌}
-use Rattle.migrator.proofs.Reading.{below_by}
+use Rattle.migrator.proofs.Opening.{below_by}
 use Rattle.migrator.proofs.books.Books.fetch_below.Goals as goal
 
 pub returns-in-Whole-clause-found : goal.returns-in-Whole-clause-found

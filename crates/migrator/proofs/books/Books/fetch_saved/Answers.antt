@@ -1,6 +1,6 @@
 use Rattle.migrator.proofs.Names.{IfOk-weaker, sym, read_at, seen_by}
 use Rattle.std.proofs.Common.{◌∙◌}
-use Rattle.migrator.proofs.Buffered.{read_raw, spelt_raw}
+use Rattle.migrator.proofs.Completing.{read_raw, spelt_raw}
 use Rattle.migrator.proofs.books.Books.fetch_saved.Goals as goal
 
 pub read_again-requires-clause-spelt : goal.read_again-requires-clause-spelt

@@ -1,4 +1,4 @@
-use Rattle.migrator.proofs.Finishing.{finished_stored, may_finish}
+use Rattle.migrator.proofs.Moving.{finished_stored, may_finish}
 use Rattle.migrator.proofs.Publishing.{publishes_as}
 use Rattle.migrator.proofs.books.Books.finish.Goals as goal
 

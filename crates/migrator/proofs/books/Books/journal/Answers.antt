@@ -1,6 +1,6 @@
 use Rattle.migrator.proofs.Names.{ap, subst, sym, counted_ok, frame_at, MayJournal, Stored, journaled, on_snapshots}
 use Rattle.std.proofs.Common.{◌∙◌}
-use Rattle.migrator.proofs.Reading.{read_stays}
+use Rattle.migrator.proofs.Opening.{read_stays}
 use Rattle.migrator.proofs.Journaling.{page_known}
 use Rattle.migrator.proofs.Publishing.{publishes_after, publishes_none}
 use Rattle.migrator.proofs.books.Books.journal.Goals as goal

@@ -1,6 +1,6 @@
 use Rattle.migrator.proofs.Names.{refl, subst, counted_ok, Books}
 use Rattle.std.proofs.Common.{◌≡◌, ◌⊎◌, ◌∙◌, ◌<◌}
-use Rattle.migrator.proofs.Moves.{all_number, left_number, migrates_all, migrates_left, migrates_part}
+use Rattle.migrator.proofs.Moving.{all_number, left_number, migrates_all, migrates_left, migrates_part}
 use Rattle.migrator.proofs.books.Books.migrate.Goals as goal
 
 pub returns-in_err-move_some-clause-migrates : goal.returns-in_err-move_some-clause-migrates

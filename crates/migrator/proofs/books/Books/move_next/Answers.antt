@@ -1,7 +1,6 @@
 use Rattle.migrator.proofs.Names.{arith, own_slot}
-use Rattle.migrator.proofs.Moving.{copied_durable, copied_moved, passed_durable, uncopied_durable, uncopied_moved}
-use Rattle.migrator.proofs.Moves.{moved_on}
-use Rattle.migrator.proofs.Saving.{on_err}
+use Rattle.migrator.proofs.Moving.{copied_durable, copied_moved, passed_durable, uncopied_durable, uncopied_moved, moved_on}
+use Rattle.migrator.proofs.Publishing.{on_err}
 use Rattle.migrator.proofs.books.Books.move_next.Goals as goal
 
 pub returns-then-not-is_first-clause-stands : goal.returns-then-not-is_first-clause-stands

@@ -1,7 +1,7 @@
 use Rattle.migrator.proofs.Names.{refl, arith, rules, counted_ok}
 use Rattle.std.proofs.Common.{◌<◌, ◌+◌, ◌∙◌}
-use Rattle.migrator.proofs.Moves.{moved_more, moved_none, next_low}
-use Rattle.migrator.proofs.Saving.{on_err}
+use Rattle.migrator.proofs.Moving.{moved_more, moved_none, next_low}
+use Rattle.migrator.proofs.Publishing.{on_err}
 use Rattle.migrator.proofs.books.Books.move_some.Goals as goal
 
 pub loop-init : goal.loop-init

@@ -1,7 +1,7 @@
 use Rattle.migrator.proofs.Names.{IfOk-weaker, ℕ, List, refl, ap, sym, subst, IsFrameOf, frame_from, most}
 use Rattle.std.proofs.Common.{◌∙◌}
-use Rattle.migrator.proofs.Buffered.{frozen_raw, own_frame, own_spelt}
-use Rattle.migrator.proofs.Reading.{whole_low}
+use Rattle.migrator.proofs.Completing.{frozen_raw, own_frame, own_spelt}
+use Rattle.migrator.proofs.Opening.{whole_low}
 use Rattle.migrator.proofs.books.Books.read_frozen.Goals as goal
 
 pub slot_sector-sector-requires : goal.slot_sector-sector-requires

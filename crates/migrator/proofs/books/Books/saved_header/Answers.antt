@@ -1,6 +1,6 @@
 use Rattle.migrator.proofs.Names.{IfOk-weaker, ap, Image, agrees_is, home_place, bytes_at}
 use Rattle.std.proofs.Common.{◌∙◌}
-use Rattle.migrator.proofs.Buffered.{home_raw}
+use Rattle.migrator.proofs.Completing.{home_raw}
 use Rattle.migrator.proofs.Journaling.{header_read}
 use Rattle.migrator.proofs.books.Books.saved_header.Goals as goal
 

@@ -1,10 +1,9 @@
 use Rattle.migrator.proofs.Names.{on_ok_weaker, Some, Option, refl, sym, ap, subst, arith, Image, agrees_is, slot_sector, entry_at, shape_of, own_of, KeepsOne}
 use Rattle.migrator.proofs.Names.{Unwritten, counted_ok, counts_on, mended}
 use Rattle.std.proofs.Common.{◌∙◌, ◌-◌}
-use Rattle.migrator.proofs.Mended.{touches_on}
-use Rattle.migrator.proofs.Spared.{reads_touch}
+use Rattle.migrator.proofs.PlacesApart.{touches_on, reads_touch}
 use Rattle.migrator.proofs.Tables.{rewritten}
-use Rattle.migrator.proofs.Counting.{ok_counts}
+use Rattle.migrator.proofs.Publishing.{ok_counts}
 use Rattle.migrator.proofs.Completing.{either_of, kept_one, one_complete, own_complete, keeps_one_none, later_complete, zeros_written}
 use Rattle.migrator.proofs.cluster_buffer.ClusterBuffer.complete_one.Goals as goal
 
@@ -17,8 +16,7 @@ returns-in_default g c =
       none = c.requires.none;
       complete = own_complete c.args.generation c.args.index c.shape.ensures.plan c.requires.directory c.requires.within disk.seen own;
       zeros = λ first rank is. absurd (c.in_default.not-Packed rank (c.shape.ensures.value ∙ is));
-      keeps = subst (λ (o : Option Unwritten). KeepsOne c.args.plan.now c.args.generation c.args.entries.now c.args.index disk disk o) (sym c.requires.none)
-          (keeps_one_none (g.met.D.Device.only_now c.args.device.now));
+      keeps = rw c.requires.none (keeps_one_none (g.met.D.Device.only_now c.args.device.now));
       cause = ok_counts refl;
     }
 
@@ -30,8 +28,7 @@ returns-then-not-is_first g c =
       none = c.requires.none;
       complete = later_complete c.args.generation c.args.index c.shape.ensures.plan c.requires.directory c.requires.within disk.seen follows;
       zeros = λ first. absurd (first (c.args.index - 1) (omega (arith, follows.0)) follows.1);
-      keeps = subst (λ (o : Option Unwritten). KeepsOne c.args.plan.now c.args.generation c.args.entries.now c.args.index disk disk o) (sym c.requires.none)
-          (keeps_one_none (g.met.D.Device.only_now c.args.device.now));
+      keeps = rw c.requires.none (keeps_one_none (g.met.D.Device.only_now c.args.device.now));
       cause = ok_counts refl;
     }
 

@@ -1,6 +1,6 @@
 use Rattle.migrator.proofs.Names.{ap, sym, Packed, shape_bytes}
 use Rattle.std.proofs.Common.{◌∙◌}
-use Rattle.migrator.proofs.Mended.{unwritten_bytes, buffer_read}
+use Rattle.migrator.proofs.PlacesApart.{unwritten_bytes, buffer_read}
 use Rattle.migrator.proofs.cluster_buffer.ClusterBuffer.read.Goals as goal
 
 pub returns : goal.returns

@@ -8,13 +8,11 @@ use Rattle.migrator.proofs.durable.Durable.commit.Goals as goal
 -- what is left of the checkpoint on its way
 left_is : {disk : Disk} {b : Books} (size : ℕ) {whole : ℕ} → IsDurable disk b → whole ≡ whole_count b.frozen →
     size - whole ≡ left_of (frozen_of (seen_by disk.seen b) b size)
-left_is {disk} {b} size stands whole =
-    ap (λ (n : ℕ). size - n) (whole ∙ sym (kept_whole (seen_by disk.seen b) b.plan (frozen_generation b) b.frozen stands.kept.frozen.count))
+left_is {disk} {b} size stands whole = rw (whole, ← kept_whole (seen_by disk.seen b) b.plan (frozen_generation b) b.frozen stands.kept.frozen.count)
 
 reported : {disk : Disk} {b : Books} {size whole : ℕ} → IsDurable disk b → b.size ≡ Some size → whole ≡ whole_count b.frozen →
     option_map left_of (stored_on disk b).frozen ≡ Some (size - whole)
-reported {disk} {b} {size} stands is whole =
-    ap (λ o. option_map left_of (option_map (frozen_of (seen_by disk.seen b) b) o)) is ∙ ap Some (sym (left_is size stands whole))
+reported {disk} {b} {size} stands is whole = rw (is, left_is size stands whole)
 
 pub overflow_sub-left : goal.overflow_sub-left
 overflow_sub-left g c =

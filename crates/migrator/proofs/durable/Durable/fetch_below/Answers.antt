@@ -1,4 +1,4 @@
-use Rattle.migrator.proofs.Reading.{read_stays, reads_store}
+use Rattle.migrator.proofs.Opening.{read_stays, reads_store}
 use Rattle.migrator.proofs.durable.Durable.fetch_below.Goals as goal
 
 pub invariant_of-self : goal.invariant_of-self

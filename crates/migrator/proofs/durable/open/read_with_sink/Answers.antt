@@ -1,4 +1,4 @@
-use Rattle.migrator.proofs.Reading.{reads_none}
+use Rattle.migrator.proofs.Opening.{reads_none}
 use Rattle.migrator.proofs.durable.open.read_with_sink.Goals as goal
 
 pub returns-in-Err-clause-reads : goal.returns-in-Err-clause-reads

@@ -12,9 +12,8 @@ returns-then-use_now-clause-continues g c =
     (goes_on_same g.D.Device.disk g.met.D.Device.only_now s))
 
 pub returns-then-use_now-clause-order : goal.returns-then-use_now-clause-order
-returns-then-use_now-clause-order g c =
-    ap (λ t. t.order) (c.use_now.ensures.used c.if-use_now.true)
-    ∙ used_order c.args.self.now c.args.number c.use_now.ensures.bounded (c.use_now.ensures.fetched c.if-use_now.true)
+returns-then-use_now-clause-order g c = rw (c.use_now.ensures.used c.if-use_now.true)
+    (used_order c.args.self.now c.args.number c.use_now.ensures.bounded (c.use_now.ensures.fetched c.if-use_now.true))
 
 pub returns-clause-recent : goal.returns-clause-recent
 returns-clause-recent g c =

@@ -1,0 +1,59 @@
+// Why a device isn't opened.
+use crate::BadImage;
+use device::Failed;
+use model::Refusal;
+use thiserror::Error;
+
+/// Why a device isn't opened, or something that it holds isn't read.
+#[derive(Clone, Copy, PartialEq, Eq, Debug, Error)]
+pub enum OpenFault {
+    /// The device failed.
+    #[error("the device failed")]
+    Failed,
+    /// Memory ran out.
+    #[error("no memory")]
+    NoMemory,
+    /// What the device holds is no image.
+    #[error("{0}")]
+    Bad(BadImage),
+}
+
+impl From<Failed> for OpenFault {
+    ghost use Rattle.std.specs.Prelude.{◌≡◌};
+    ghost use Rattle.layout.specs.declared.open_fault.OpenFault.TheVariants.{Failed};
+
+    ghost from_gives = { λ _ e. e ≡ Failed };
+
+    fn from(_failed: Failed) -> OpenFault {
+        OpenFault::Failed
+    }
+}
+
+impl From<BadImage> for OpenFault {
+    ghost use Rattle.std.specs.Prelude.{◌≡◌};
+    ghost use Rattle.layout.specs.declared.open_fault.OpenFault.TheVariants.{Bad};
+
+    ghost from_gives = { λ reason e. e ≡ Bad reason };
+
+    fn from(reason: BadImage) -> OpenFault {
+        OpenFault::Bad(reason)
+    }
+}
+
+// Where objects are read to open a device, they are refused only by a failure or for want of memory.
+impl From<Refusal> for OpenFault {
+    ghost use Rattle.std.specs.Prelude.{◌≡◌, ◌↔◌};
+    ghost use Rattle.layout.specs.declared.bad_image.BadImage.{BadImage};
+    ghost use Rattle.layout.specs.declared.open_fault.OpenFault.TheVariants.{Failed, Bad};
+    ghost use Rattle.model.specs.declared.answer.Refusal.TheVariants as refusal;
+
+    ghost from_gives = { λ why e. ((e ≡ Failed) ↔ (why ≡ refusal.Fault))
+        × ((reason : BadImage) → e ≡ Bad reason → ⊥) };
+
+    fn from(why: Refusal) -> OpenFault {
+        match why {
+            Refusal::Fault => OpenFault::Failed,
+            _ => OpenFault::NoMemory,
+        }
+    }
+}
