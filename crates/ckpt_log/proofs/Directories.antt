@@ -1,11 +1,9 @@
 -- Directories: without entries, read back, refused.
-use Rattle.ckpt_log.proofs.Names.{ℕ, List, [], length, take, drop, replicate, refl, ap, subst, arith, drop-replicate, take-replicate, Image, Entry}
-use Rattle.ckpt_log.proofs.Names.{directory_bytes, IsDirectory, Plan, directory_in, directory_length, sectors_from, sym, Frame, IsFrameOf, frame_bytes}
-use Rattle.ckpt_log.proofs.Names.{Geometry, one_directory, directory_fits, one_frame, OpenFault, Failed, NoMemory, Bad, IsRefused, IsBadDirectory}
-use Rattle.ckpt_log.proofs.Names.{SlotsAreReadBack}
-use Rattle.ckpt_log.proofs.Names.{DirectoriesAreReadBack, take-append_seam, BadImage, CheckpointHeader, HasHeader, HasDirectory, HasCommitted, HasNoCommitted}
-use Rattle.std.proofs.Common.{◌≡◌, ◌+◌, ◌-◌, ◌*◌, ◌/◌, ◌≤◌, ◌∷◌, ◌∙◌, ◌++◌}
-use Rattle.layout.specs.declared.open_fault.OpenFault.TheVariants as fault
+use Rattle.ckpt_log.proofs.Names.{nat_tests, ℕ, List, [], length, take, drop, replicate, refl, arith, drop-replicate, take-replicate, Image, Entry}
+use Rattle.ckpt_log.proofs.Names.{directory_bytes, IsDirectory, Plan, directory_in, directory_length, sectors_from, Frame, IsFrameOf, frame_bytes, Geometry}
+use Rattle.ckpt_log.proofs.Names.{one_directory, directory_fits, one_frame, OpenFault, Failed, NoMemory, Bad, IsRefused, IsBadDirectory, SlotsAreReadBack}
+use Rattle.ckpt_log.proofs.Names.{DirectoriesAreReadBack, take-append_seam, CheckpointHeader, HasHeader, HasCommitted, HasNoCommitted}
+use Rattle.std.proofs.Common.{◌≡◌, ◌+◌, ◌-◌, ◌*◌, ◌/◌, ◌≤◌, ◌∷◌, ◌++◌}
 
 -- it is spelt by no bytes
 pub no_entries : (p : Plan) (generation : ℕ) (image : Image) (es : List Entry) → length es ≡ 0 →
@@ -34,26 +32,16 @@ none_behind image at none = rw none (nothing_behind image at)
 pub zeros_behind : (image : Image) (at n : ℕ) {most : ℕ} {run zeros : List ℕ} → 512 * directory_length n ≤ most → zeros ≡ replicate most 0
     → sectors_from image at ((n + 32 - 1) / 32) ≡ run → drop (16 * n) run ≡ drop (16 * n) (take (512 * ((n + 32 - 1) / 32)) zeros) →
     drop (16 * n) (sectors_from image at (directory_length n)) ≡ replicate (512 * directory_length n - 16 * n) 0
-zeros_behind image at n {most} room blank written rest =
-    let same : (n + 32 - 1) / 32 ≡ directory_length n = omega arith in
-    subst (λ (k : ℕ). drop (16 * n) (sectors_from image at k) ≡ replicate (512 * k - 16 * n) 0) same
-    (ap (drop (16 * n)) written ∙ rest ∙ ap (λ (zs : List ℕ). drop (16 * n) (take (512 * ((n + 32 - 1) / 32)) zs)) blank
-    ∙ ap (drop (16 * n)) (take-replicate (512 * ((n + 32 - 1) / 32)) most 0 (omega (arith, room, same)))
-    ∙ drop-replicate (16 * n) (512 * ((n + 32 - 1) / 32)) 0)
+zeros_behind image at n {most} {run} {zeros} room blank written rest = grind (arith, nat_tests, take-replicate, drop-replicate)
 
 -- ---- what was written is read
 
 slot_not_refused : {g : Geometry} {age object : ℕ} {f : Frame} (e : OpenFault) → IsFrameOf g age object (frame_bytes g object f) f →
     IsRefused g age object (frame_bytes g object f) e → e ≡ Failed
-slot_not_refused Failed is bad = refl
-slot_not_refused NoMemory is bad = absurd bad
-slot_not_refused {f} (Bad reason) is bad = absurd (bad.1 f is)
+slot_not_refused {g} {age} {object} {f} e is bad = grind (arith, nat_tests)
 
 pub slots_read_back : SlotsAreReadBack
-slots_read_back g age object f is = (
-  λ read found. one_frame g age object (frame_bytes g object f) read f found is,
-  λ e bad. slot_not_refused e is bad,
-)
+slots_read_back = search (arith, one_frame, slot_not_refused)
 
 directory_not_refused : {g : Geometry} {es : List Entry} (e : OpenFault) → IsDirectory g es → IsBadDirectory g (directory_bytes es) e → e ≡ Failed
 directory_not_refused Failed is bad = refl
@@ -61,29 +49,15 @@ directory_not_refused NoMemory is bad = absurd bad
 directory_not_refused {es} (Bad reason) is bad = absurd (bad.1 es is refl)
 
 pub directories_read_back : DirectoriesAreReadBack
-directories_read_back g es is = (
-  λ read found same. one_directory read es (directory_fits g read found) (directory_fits g es is) (sym same),
-  λ e bad. directory_not_refused e is bad,
-)
+directories_read_back = grind (arith, nat_tests, one_directory, directory_fits, directory_not_refused)
 
 -- ---- the committed header with its directory, and why there is none
 
 pub bad_directory : {image seen : Image} {p : Plan} {h : CheckpointHeader} {n : ℕ} (e : OpenFault) → seen ≡ image → n ≡ h.entries → HasHeader image p h →
     IsBadDirectory p.geometry (directory_in seen p h.generation n) e → HasNoCommitted image p e
-bad_directory fault.Failed same all has bad = tt
-bad_directory fault.NoMemory same all has bad = absurd bad
-bad_directory {image} {p} {h} {n} (fault.Bad reason) same all has bad = subst (λ (r : BadImage). HasNoCommitted image p (fault.Bad r)) (sym bad.0)
-    (h, has, λ es is count spelt. bad.1 es is (ap (λ (i : Image). directory_in i p h.generation n) same ∙ ap (directory_in image p h.generation) all ∙ spelt))
+bad_directory {image} {seen} {p} {h} {n} e same all has bad = grind (arith, nat_tests)
 
 pub has_committed : {image seen : Image} {p : Plan} {h : CheckpointHeader} {n : ℕ} {named : List Entry} (rest : List Entry) → seen ≡ image →
     n ≡ h.entries → length named ≡ n →
     HasHeader image p h → IsDirectory p.geometry named → directory_in seen p h.generation n ≡ directory_bytes named → HasCommitted image p h (named ++ rest)
-has_committed {image} {p} {h} {n} {named} rest same all size has is spelt =
-    let front : take h.entries (named ++ rest) ≡ named = ap (λ (m : ℕ). take m (named ++ rest)) (sym all ∙ sym size) ∙ take-append_seam named rest in (
-      has,
-      subst (λ (es : List Entry). HasDirectory image p h es) (sym front) (record {
-        count = size ∙ all;
-        fits = is;
-        spelt = sym (ap (directory_in image p h.generation) all) ∙ sym (ap (λ (i : Image). directory_in i p h.generation n) same) ∙ spelt;
-      }),
-    )
+has_committed {image} {seen} {p} {h} {n} {named} rest same all size has is spelt = grind (arith, nat_tests, take-append_seam)

@@ -1,6 +1,6 @@
 -- The names that the proofs here cite: of other crates, and of the definitions of this one.
 pub use Rattle.device.proofs.Images.{agrees_is, elsewhere_on, elsewhere_same}
-pub use Rattle.device.proofs.Moments.{CountsNow, OnlyNow, ends, in_one_call, leaves_on, leaves_weaker}
+pub use Rattle.device.proofs.Moments.{CountsNow, OnlyNow, ends, leaves_on, leaves_weaker}
 pub use Rattle.device.specs.Calls.{Agrees, AreSectors, Elsewhere, Narrows, sectors_of}
 pub use Rattle.device.specs.Disk.{Disk, Image}
 pub use Rattle.device.specs.Moments.{Elapses, LeavesOnly, Peeks}
@@ -19,30 +19,29 @@ pub use Rattle.layout.specs.Gate.{gate_bytes, is_open}
 pub use Rattle.layout.specs.Header.{IsHeader}
 unfoldable pub use Rattle.layout.specs.Header.{header_bytes}
 pub use Rattle.layout.specs.Homes.{place_length, shape_of}
-pub use Rattle.layout.specs.Image.{Encodes, HasDirectory, HasHeader, HasNoHeader, SavedState, committed_bytes, committed_of, committed_slot, directory_in}
-pub use Rattle.layout.specs.Image.{directory_length, directory_sector, does_count, frame_sector, frame_slot_in, half_sector, option_at, sector_or, sequence_in}
-pub use Rattle.layout.specs.Image.{slot_sector}
+pub use Rattle.layout.specs.Image.{Encodes, HasHeader, HasNoHeader, SavedState, committed_bytes, committed_of, committed_slot, directory_in, directory_length}
+pub use Rattle.layout.specs.Image.{directory_sector, does_count, frame_sector, frame_slot_in, half_sector, option_at, sector_or, sequence_in, slot_sector}
 unfoldable pub use Rattle.layout.specs.Image.{sectors_from}
 pub use Rattle.layout.specs.Superblock.{IsPlan, Plan}
-pub use Rattle.layout.specs.declared.bad_image.BadImage.{BadImage}
 pub use Rattle.layout.specs.declared.directory.Entry.{Entry}
-pub use Rattle.layout.specs.declared.open_fault.OpenFault.{OpenFault}
-pub use Rattle.layout.specs.declared.open_fault.OpenFault.TheVariants.{Bad, Failed, NoMemory}
 pub use Rattle.layout.specs.declared.gate.Gate.TheVariants.{Closed, Open}
 pub use Rattle.layout.specs.declared.header.CheckpointHeader.{CheckpointHeader}
+pub use Rattle.layout.specs.declared.open_fault.OpenFault.{OpenFault}
+pub use Rattle.layout.specs.declared.open_fault.OpenFault.TheVariants.{Bad, Failed, NoMemory}
 pub use Rattle.model.specs.Frame.{frame_at}
 pub use Rattle.model.specs.declared.frame.Frame.{Frame}
 pub use Rattle.model.specs.declared.geometry.Geometry.{Geometry}
-pub use Rattle.std.proofs.Common.{Bool, Err, List, None, Ok, Option, Result, Some, [], ap, append-nil, arith, drop, false, inl, inr, length, length-take-le}
-pub use Rattle.std.proofs.Common.{refl, replicate, rules, subst, suc, sym, take, true, zero, ℕ, ⊎_elim}
+pub use Rattle.std.proofs.Common.{Bool, List, Option, Some, [], ap, append-nil, arith, drop, false, inl, length, length-take-le, refl, replicate, rules, subst}
+pub use Rattle.std.proofs.Common.{suc, sym, take, true, zero, ℕ}
 pub use Rattle.std.proofs.Math.Seq.{take-append_seam}
-pub use Rattle.std.proofs.lemmas.Bool.{and_from, and_parts, cases_eq, cases_lt, eq-eqb, eqb-true, le-ltb, lt-ltb}
+pub use Rattle.std.proofs.lemmas.Bool.{and_from, and_parts, eq-eqb, eqb-true}
+pub use Rattle.std.proofs.lemmas.Bool.Decides.{nat_tests}
 pub use Rattle.std.proofs.lemmas.List.{drop-replicate, take-replicate, take_all}
 pub use Rattle.std.proofs.lemmas.Nat.{from_le_bytes-to_le_bytes_8}
 pub use Rattle.std.proofs.lemmas.Result.{err_from_is_err_and, on_ok_weaker}
 pub use Rattle.std.specs.Int.{from_le_bytes, w64}
-pub use Rattle.std.specs.Prelude.{OnOk, codes, cond}
-pub use Rattle.ckpt_log.specs.Closing.{AreClosed, IsLesser, KeepsOrHasNone, SparesRest, WasKeptOrHasNone}
+pub use Rattle.std.specs.Prelude.{codes, cond}
+pub use Rattle.ckpt_log.specs.Closing.{AreClosed, IsLesser, KeepsOrHasNone, WasKeptOrHasNone}
 pub use Rattle.ckpt_log.specs.Commit.{CommitsOne, HasNew, IsInOrder, IsInOrderAfter, IsOld, IsOldOrNew, KeepsHeader, Precedes, closed_gate, gate_sector}
 pub use Rattle.ckpt_log.specs.Commit.{header_sector}
 pub use Rattle.ckpt_log.specs.CommitLaws.{FramesAreBehind, HomesAreBehind, IsReady, NewIsDenoted, OldIsDenoted}
@@ -55,4 +54,3 @@ pub use Rattle.ckpt_log.specs.Places.{SlotsSpareDirectories}
 pub use Rattle.ckpt_log.specs.SavedSectors.{SameDirectory, SameFrames, SameFrom, SameHeader, SameSaved}
 pub use Rattle.ckpt_log.specs.Slot.{DirectoriesAreReadBack, IsBadDirectory, SlotsAreReadBack}
 pub use Rattle.ckpt_log.specs.declared.header_slot.HeaderSlot.{HeaderSlot}
-pub use Rattle.ckpt_log.specs.declared.header_slot.HeaderSlot.TheVariants.{First, Second}

@@ -1,9 +1,9 @@
 -- Where slots and directories lie.
-use Rattle.ckpt_log.proofs.Names.{inl, inr, arith, cases_lt, shape_of, half_within, half_apart, few_sectors, SlotsAreInside, FramesAreInSlots}
-use Rattle.ckpt_log.proofs.Names.{DirectoriesAreInside, HalvesAreWithin, HalvesAreApart, SlotsAreApart, SlotsSpareDirectories, ℕ, List, take, ap, Plan, IsPlan}
-use Rattle.ckpt_log.proofs.Names.{place_length, frame_sector, half_sector, slot_sector, directory_sector, directory_length, same_sectors, same_shaped}
-use Rattle.ckpt_log.proofs.Names.{SequencesAreReported, NextFollows, HeadersSpareSectors, HeadersSpareFrames, HeadersSpareSlots, HeadersSpareDirectories}
-use Rattle.std.proofs.Common.{◌+◌, ◌*◌, ◌≤◌}
+use Rattle.ckpt_log.proofs.Names.{nat_tests, inl, arith, shape_of, half_within, half_apart, few_sectors, SlotsAreInside, FramesAreInSlots, DirectoriesAreInside}
+use Rattle.ckpt_log.proofs.Names.{HalvesAreWithin, HalvesAreApart, SlotsAreApart, SlotsSpareDirectories, ℕ, Plan, IsPlan, place_length, frame_sector}
+use Rattle.ckpt_log.proofs.Names.{half_sector, slot_sector, directory_sector, directory_length, same_sectors, same_shaped, SequencesAreReported, NextFollows}
+use Rattle.ckpt_log.proofs.Names.{HeadersSpareSectors, HeadersSpareFrames, HeadersSpareSlots, HeadersSpareDirectories}
+use Rattle.std.proofs.Common.{◌+◌, ◌≤◌}
 use Rattle.ckpt_log.proofs.Commits.{sequence_of, next_fits, precedes}
 
 pub slots_inside : SlotsAreInside
@@ -16,10 +16,7 @@ pub directories_inside : DirectoriesAreInside
 directories_inside p generation n le = record { starts = omega arith; ends = omega arith }
 
 pub slots_apart : SlotsAreApart
-slots_apart p generation a b differ = elim (cases_lt a b) [
-  | inl lt ↦ inl (omega arith)
-  | inr le ↦ inr (omega (arith, differ))
-]
+slots_apart = grind (arith, nat_tests)
 
 pub slots_spare_directories : SlotsSpareDirectories
 slots_spare_directories p generation slot n lt = inl (omega arith)
@@ -44,23 +41,15 @@ pub spare_sectors : HeadersSpareSectors
 spare_sectors old new h at n behind e = (e.before 0 (omega arith), λ i lt. e.after (at + i) (omega (arith, behind)))
 
 pub spare_frames : HeadersSpareFrames
-spare_frames old new h p generation es object behind e =
-    same_shaped (frame_sector p generation es object) (shape_of p object) old new
-    (spare_sectors old new h (frame_sector p generation es object) (place_length p object) behind e).1
+spare_frames = grind (arith, nat_tests, same_shaped, spare_sectors)
 
 pub half_behind : (p : Plan) (generation : ℕ) → IsPlan p → 5 ≤ half_sector p generation
 half_behind p generation fits = (half_within p generation fits).0
 
 pub spare_slots : HeadersSpareSlots
-spare_slots old new h p generation slot object fits e =
-    let behind = half_behind p generation fits in
-    same_shaped (slot_sector p generation slot) (shape_of p object) old new
-    (spare_sectors old new h (slot_sector p generation slot) (place_length p object) (omega (arith, behind)) e).1
+spare_slots = grind (arith, nat_tests, half_behind, same_shaped, spare_sectors)
 
 pub spare_directories : HeadersSpareDirectories
-spare_directories old new h p generation n fits e =
-    let behind = half_behind p generation fits in
-    ap (λ (b : List ℕ). take (16 * n) b) (same_sectors (directory_sector p generation) (directory_length n) old new
-    (spare_sectors old new h (directory_sector p generation) (directory_length n) (omega (arith, behind)) e).1)
+spare_directories = grind (arith, nat_tests, half_behind, same_sectors, spare_sectors)
 
 pub ruleset header_laws = (sequences_reported, next_follows, spare_sectors, spare_frames, spare_slots, spare_directories)

@@ -1,9 +1,9 @@
 -- What a crash leaves in the course of a commit.
-use Rattle.ckpt_log.proofs.Names.{ℕ, false, inl, inr, refl, subst, CheckpointHeader, is_open, header_bytes, Image, Disk, Agrees, Elsewhere, Narrows, Elapses}
-use Rattle.ckpt_log.proofs.Names.{LeavesOnly, agrees_is, elsewhere_same, OnlyNow, in_one_call, leaves_weaker, leaves_on, header_sector, gate_sector, IsInOrder}
-use Rattle.ckpt_log.proofs.Names.{IsInOrderAfter, CommitsOne, Precedes, KeepsHeader, HasNew, IsOldOrNew, IsOld}
+use Rattle.ckpt_log.proofs.Names.{arith, nat_tests, ℕ, false, subst, CheckpointHeader, is_open, header_bytes, Image, Disk, Agrees, Elsewhere, Narrows, Elapses}
+use Rattle.ckpt_log.proofs.Names.{LeavesOnly, agrees_is, OnlyNow, leaves_weaker, leaves_on, header_sector, gate_sector, IsInOrder, IsInOrderAfter, CommitsOne}
+use Rattle.ckpt_log.proofs.Names.{Precedes, KeepsHeader, HasNew, IsOldOrNew, IsOld}
 use Rattle.std.proofs.Common.{◌≡◌, ◌<◌, ◌^◌, ◌⊎◌}
-use Rattle.ckpt_log.proofs.Commits.{closing_keeps, either_on, header_keeps, opening, precedes_on, keeps_on}
+use Rattle.ckpt_log.proofs.Commits.{closing_keeps, header_keeps, opening, precedes_on, keeps_on}
 
 -- what a crash leaves while a gate is closed where it is open
 abbrev pub IsClosing : ℕ → Image → Image → Type 0
@@ -27,40 +27,29 @@ header_run {h} {at} {image} {mid_image} {old} {mid} {new} place next kept closed
 -- the gate is opened
 pub opening_run : {h : CheckpointHeader} {at : ℕ} {image : Image} {old new : Disk} → at ≡ gate_sector h → h.sequence < 2 ^ 64 → Precedes image h →
     image (header_sector h) ≡ header_bytes h → LeavesOnly old new (λ c. Elsewhere at 1 image c) → LeavesOnly old new (λ c. IsOldOrNew h image c)
-opening_run {h} {at} {image} {old} {new} place fits next written run =
-    leaves_weaker {old = old} {new = new} {P = λ c. Elsewhere at 1 image c} (λ c. IsOldOrNew h image c)
-    (λ c is. opening fits next written (subst (λ (i : ℕ). Elsewhere i 1 image c) place is)) run
+opening_run {h} {at} {image} {old} {new} place fits next written run = grind (arith, nat_tests, leaves_weaker, opening)
 
 -- a header is written under a closed gate, and then its gate is opened
 pub preparing_run : {h : CheckpointHeader} {image : Image} {old new : Disk} → LeavesOnly old new (λ c. KeepsHeader h image c) →
     LeavesOnly old new (λ c. IsOldOrNew h image c)
-preparing_run {h} {image} {old} {new} run = leaves_weaker {old = old} {new = new} {P = λ c. KeepsHeader h image c} (λ c. IsOldOrNew h image c)
-    (λ c kept. inl kept) run
+preparing_run {h} {image} {old} {new} run = grind (arith, nat_tests)
 
 pub publishing_run : {h : CheckpointHeader} {image mid_image : Image} {old mid new : Disk} → KeepsHeader h image mid_image
     → LeavesOnly old mid (λ c. KeepsHeader h image c) → LeavesOnly mid new (λ c. IsOldOrNew h mid_image c) → LeavesOnly old new (λ c. IsOldOrNew h image c)
-publishing_run {h} {image} {mid_image} {old} {mid} {new} kept first second =
-    leaves_on {old = old} {mid = mid} {new = new} {P = λ c. IsOldOrNew h image c} (preparing_run {old = old} {new = mid} first)
-    (leaves_weaker {old = mid} {new = new} {P = λ c. IsOldOrNew h mid_image c} (λ c. IsOldOrNew h image c) (λ c is. either_on kept is) second)
+publishing_run {h} {image} {mid_image} {old} {mid} {new} kept first second = grind (arith, nat_tests)
 
 -- ---- from a disk whose writes aren't durable
 
 abbrev pub IsOldOrCommitted : CheckpointHeader → Disk → Image → Type 0
 IsOldOrCommitted h disk c = IsOld h disk c ⊎ HasNew h disk.seen c
 
-still_old : {h : CheckpointHeader} {disk : Disk} {c : Image} → CommitsOne disk → disk.may_leave c → IsOld h disk c
-still_old {h} {c} one left = record { could_be = (c, left, elsewhere_same (header_sector h) 2 c c (λ i. refl)); committed = one c left }
-
 was_seen : {h : CheckpointHeader} {disk : Disk} {c : Image} → disk.may_leave disk.seen → IsOldOrNew h disk.seen c → IsOldOrCommitted h disk c
-was_seen {disk} left (inl kept) = inl (record { could_be = (disk.seen, left, kept.elsewhere); committed = kept.committed })
-was_seen left (inr next) = inr next
+was_seen {h} {disk} {c} left h1 = grind (arith, nat_tests)
 
 -- a sync that may fail
 pub sync_run : {h : CheckpointHeader} {old new : Disk} → CommitsOne old → OnlyNow old → Elapses old new → Narrows old new →
     LeavesOnly old new (λ c. IsOldOrCommitted h old c)
-sync_run {h} {old} {new} one only_now time narrows =
-    in_one_call {old = old} {new = new} (λ c. IsOldOrCommitted h old c) only_now time (λ c left. inl (still_old one left))
-    (λ c left. inl (still_old one (narrows c left)))
+sync_run {h} {old} {new} one only_now time narrows = grind (arith, nat_tests)
 
 -- the commit after a sync
 pub commit_run : {h : CheckpointHeader} {old mid new : Disk} → old.may_leave old.seen → Agrees mid.seen old.seen
@@ -74,20 +63,14 @@ commit_run {h} {old} {mid} {new} left same first second =
 -- ---- the order of the writes of a slot
 
 pub sync_order : (h : CheckpointHeader) {old new : Disk} → OnlyNow old → Elapses old new → Narrows old new → LeavesOnly old new (λ c. IsInOrderAfter h old c)
-sync_order h {old} {new} only_now time narrows =
-    in_one_call {old = old} {new = new} (λ c. IsInOrderAfter h old c) only_now time (λ c left. (c, left, inl refl)) (λ c left. (c, narrows c left, inl refl))
+sync_order h {old} {new} only_now time narrows = grind (arith, nat_tests)
 
 pub commit_order : (h : CheckpointHeader) {old mid new : Disk} → old.may_leave old.seen → Agrees mid.seen old.seen
     → LeavesOnly old mid (λ c. IsInOrderAfter h old c) → LeavesOnly mid new (λ c. IsInOrder h mid.seen c) → LeavesOnly old new (λ c. IsInOrderAfter h old c)
-commit_order h {old} {mid} {new} left same first second =
-    leaves_on {old = old} {mid = mid} {new = new} {P = λ c. IsInOrderAfter h old c} first
-    (leaves_weaker {old = mid} {new = new} {P = λ c. IsInOrder h mid.seen c} (λ c. IsInOrderAfter h old c)
-    (λ c is. (old.seen, left, subst (λ (image : Image). IsInOrder h image c) (agrees_is mid.seen old.seen same) is)) second)
+commit_order h {old} {mid} {new} left same first second = grind (arith, nat_tests)
 
 -- the header stands while its gate is opened
 pub publishing_order : (h : CheckpointHeader) (image : Image) {old mid new : Disk} → LeavesOnly old mid (λ c. IsInOrder h image c) →
     LeavesOnly mid new (λ c. c (header_sector h) ≡ header_bytes h)
     → LeavesOnly old new (λ c. IsInOrder h image c)
-publishing_order h image {old} {mid} {new} first second =
-    leaves_on {old = old} {mid = mid} {new = new} {P = λ c. IsInOrder h image c} first
-    (leaves_weaker {old = mid} {new = new} {P = λ c. c (header_sector h) ≡ header_bytes h} (λ c. IsInOrder h image c) (λ c is. inr (inr is)) second)
+publishing_order h image {old} {mid} {new} first second = grind (arith, nat_tests)

@@ -1,6 +1,6 @@
 -- One sector of a device.
-use Rattle.ckpt_log.proofs.Names.{ℕ, List, [], length, take, drop, refl, sym, ap, arith, append-nil, take_all, Image, Disk, Agrees}
-use Rattle.ckpt_log.proofs.Names.{AreSectors, sectors_of, sectors_from, LeavesOnly, CountsNow, ends}
+use Rattle.ckpt_log.proofs.Names.{ℕ, List, [], length, take, drop, refl, sym, ap, arith, append-nil, take_all, Image, Disk, Agrees, AreSectors, sectors_of}
+use Rattle.ckpt_log.proofs.Names.{sectors_from, LeavesOnly, CountsNow, ends}
 use Rattle.std.proofs.Common.{◌≡◌, ◌+◌, ◌*◌, ◌/◌, ◌++◌, ◌∙◌}
 
 pub one_sector : (bytes : List ℕ) → length bytes ≡ 512 → sectors_of bytes ≡ 1

@@ -1,6 +1,4 @@
 mod Names
-mod Tests
 pub mod Places
 pub mod Shared
-mod Runs
 pub mod FrameSlots

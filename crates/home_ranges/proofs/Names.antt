@@ -6,12 +6,12 @@ pub use Rattle.layout.proofs.SlotsOf.{found_slot}
 pub use Rattle.layout.specs.Directory.{entry_at}
 pub use Rattle.layout.specs.Frames.{IsObject}
 pub use Rattle.layout.specs.Half.{half_of}
-pub use Rattle.layout.specs.Homes.{home_place, node_offset, place_by, place_in, place_length, range_with, rank_in, shape_of}
+pub use Rattle.layout.specs.Homes.{home_place, place_by, place_in, place_length, range_with, rank_in, shape_of}
 pub use Rattle.layout.specs.Image.{frame_slot_in, or_beside, slot_beside, slot_in}
 unfoldable pub use Rattle.layout.specs.Image.{sectors_from}
 pub use Rattle.layout.specs.Shape.{node_shape, shape_bytes, shape_length}
 pub use Rattle.layout.specs.Superblock.{Cover, IsApart, IsInside, IsOfOneKind, IsPlan, IsWithin, Plan, extent_at, extents, half_extent, half_start}
-pub use Rattle.layout.specs.Superblock.{nodes_length, range_extent}
+pub use Rattle.layout.specs.Superblock.{range_extent}
 pub use Rattle.layout.specs.declared.directory.Entry.{Entry}
 pub use Rattle.layout.specs.declared.extent.Extent.{Extent}
 pub use Rattle.layout.specs.declared.extent.HomeRange.{HomeRange}
@@ -22,8 +22,8 @@ pub use Rattle.layout.specs.declared.shape.Shape.TheVariants.{Node, Packed, Page
 pub use Rattle.layout.specs.declared.version.Version.{Version}
 pub use Rattle.layout.specs.declared.version.Version.TheVariants.{One, Two}
 pub use Rattle.model.specs.declared.geometry.Geometry.{Geometry}
-pub use Rattle.std.proofs.Common.{Bool, Err, List, None, Ok, Option, Result, Some, [], ap, arith, false, get_or, inl, inr, length, map, min, nat_le, nat_lt}
-pub use Rattle.std.proofs.Common.{refl, subst, suc, sym, true, zero, ℕ, ⊎_elim}
+pub use Rattle.std.proofs.Common.{Bool, List, None, Option, Result, Some, [], ap, arith, false, get_or, inl, inr, length, min, nat_lt, refl, subst, suc, sym}
+pub use Rattle.std.proofs.Common.{true, zero, ℕ, ⊎_elim}
 pub use Rattle.std.proofs.lemmas.Bool.{cases_eq, cases_lt, eq-eqb, ne_eqb}
 pub use Rattle.std.proofs.lemmas.Bool.Decides.{nat_tests}
 pub use Rattle.std.proofs.lemmas.List.{get_or-map, get_or_append_left, length-map}

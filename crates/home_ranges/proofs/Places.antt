@@ -1,14 +1,13 @@
 -- Places of numbers in ranges that cover them.
-use Rattle.home_ranges.proofs.Names.{ℕ, zero, suc, refl, Option, Some, None, List, [], length, get_or, map, sym, ap, subst, inl, inr, arith, Result, Ok, Err}
-use Rattle.home_ranges.proofs.Names.{true, false, nat_lt, min, OnOk, ⊤, cases_lt, length-map, get_or_append_left, get_or-map, nat_tests, Geometry, Image}
-use Rattle.home_ranges.proofs.Names.{Extent, HomeRange, Half, First, Second, Shape, Node, Packed, Page, Version, One, Two, half_of, range_with, node_offset}
-use Rattle.home_ranges.proofs.Names.{place_in, place_by, home_place, rank_in, shape_of, place_length, sectors_from, node_shape, shape_bytes, shape_length, Plan}
-use Rattle.home_ranges.proofs.Names.{IsPlan, Cover, IsOfOneKind, IsWithin, IsApart, IsInside, extent_at, extents, nodes_length, range_extent, half_extent}
-use Rattle.home_ranges.proofs.Names.{half_start, itself, apart_inside, apart_turned, many, half_at, IsObject, EndsInZeros, HaveHome, HoldsHome, home_extent}
-use Rattle.home_ranges.proofs.Names.{PlacesAreWithin, PlacesAreApart, NumbersAreApart, PlacesSpareLog, same_Some}
+use Rattle.home_ranges.proofs.Names.{ℕ, zero, suc, refl, Option, Some, None, List, [], length, get_or, sym, ap, subst, inl, inr, arith, Result, true, false}
+use Rattle.home_ranges.proofs.Names.{nat_lt, min, OnOk, ⊤, cases_lt, length-map, get_or_append_left, get_or-map, nat_tests, Geometry, Image, Extent, HomeRange}
+use Rattle.home_ranges.proofs.Names.{Half, First, Second, Shape, Node, Packed, Page, Version, One, Two, half_of, range_with, place_in, place_by, home_place}
+use Rattle.home_ranges.proofs.Names.{rank_in, shape_of, place_length, sectors_from, node_shape, shape_bytes, shape_length, Plan, IsPlan, Cover, IsOfOneKind}
+use Rattle.home_ranges.proofs.Names.{IsWithin, IsApart, IsInside, extent_at, extents, range_extent, half_extent, half_start, itself, apart_inside, apart_turned}
+use Rattle.home_ranges.proofs.Names.{many, half_at, IsObject, EndsInZeros, HaveHome, HoldsHome, home_extent, PlacesAreWithin, PlacesAreApart, NumbersAreApart}
+use Rattle.home_ranges.proofs.Names.{PlacesSpareLog, same_Some}
 use Rattle.std.proofs.Common.{◌≡◌, ◌⊎◌, ◌+◌, ◌-◌, ◌*◌, ◌/◌, ◌%◌, ◌<◌, ◌≤◌, ◌∷◌, ◌∙◌}
 use Rattle.std.specs.Prelude.{if◌then◌else◌}
-use Rattle.home_ranges.proofs.Tests.{if_false, if_true, in_false, in_true}
 
 abbrev pub range_at : List HomeRange → ℕ → HomeRange
 range_at rs i = get_or rs i (record { first = 0; count = 0; sector = 0 })
@@ -41,7 +40,7 @@ find_in g n {number} (r ∷ rs) c low high = elim (cases_lt number (n + r.count)
         record {
           within = omega arith;
           has = record { low = low; high = high; kind = c.0.2 };
-          found = if_true (range_with rs number) (in_true r.first (r.first + r.count) low high);
+          found = grind (arith, nat_tests);
         },
       )
   | inr le ↦
@@ -51,7 +50,7 @@ find_in g n {number} (r ∷ rs) c low high = elim (cases_lt number (n + r.count)
         record {
           within = omega (arith, rest.1.within);
           has = rest.1.has;
-          found = if_false (Some r) (in_false r.first (r.first + r.count) past) ∙ rest.1.found;
+          found = let behind : range_with (r ∷ rs) number ≡ range_with rs number = grind (arith, nat_tests) in behind ∙ rest.1.found;
         },
       )
 ]
@@ -72,70 +71,22 @@ extent_of sector length = record { sector = sector; length = length }
 abbrev extent_in : Version → Geometry → HomeRange → ℕ → Extent
 extent_in v g r number = extent_of (place_in v g r number) (shape_length (shape_in v g r number))
 
--- those of the i-th node lie among those of `count` nodes
-node_inside : (v : Version) (i rank count : ℕ) → i < count → node_offset v i + shape_length (node_shape v rank) ≤ nodes_length v count
-node_inside One i rank count lt = omega (arith, lt)
-node_inside Two i rank count lt = omega (arith, lt)
-
 -- its numbers are all of one kind
 pub node_in : {g : Geometry} {r : HomeRange} {a : ℕ} → Has g r a → r.first + r.count ≤ g.nodes → nat_lt a g.nodes ≡ true
 node_in {g} {r} {a} has nodes = lt_true a g.nodes (omega (arith, nodes, has.high))
 
-pub page_in : {g : Geometry} {r : HomeRange} {a : ℕ} → Has g r a → g.nodes ≤ r.first → nat_lt a g.nodes ≡ false
-page_in {g} {r} {a} has pages = lt_false a g.nodes (omega (arith, pages, has.low))
-
-inside_range : (v : Version) {g : Geometry} {r : HomeRange} {number : ℕ} → Has g r number → IsInside (extent_in v g r number) (range_extent v g r)
-inside_range v {g} {r} {number} has = elim has.kind [
-  | inl nodes ↦
-      let first_lt : nat_lt r.first g.nodes ≡ true = lt_true r.first g.nodes (omega (arith, nodes, has.low, has.high)) in
-      let inside = node_inside v (number - r.first) ((number - r.first) % 5) r.count (omega (arith, has.low, has.high)) in
-      record { starts = rw (node_in has nodes) (omega arith); ends = rw (node_in has nodes, first_lt) (omega (arith, inside)) }
-  | inr pages ↦
-      let first_ge : nat_lt r.first g.nodes ≡ false = lt_false r.first g.nodes (omega (arith, pages)) in
-      record { starts = rw (page_in has pages) (omega arith); ends = rw (page_in has pages, first_ge) (omega (arith, has.low, has.high)) }
-]
-
--- of two nodes of a range one begins behind the other, or where it does
-node_apart : (v : Version) (i j a b : ℕ) → (node_offset v i ≡ node_offset v j → ⊥) → (node_offset v i + shape_length (node_shape v a) ≤ node_offset v j) ⊎
-    (node_offset v j + shape_length (node_shape v b) ≤ node_offset v i)
-node_apart One i j a b differ = elim (cases_lt i j) [
-  | inl lt ↦ inl (omega (arith, lt))
-  | inr le ↦ inr (omega (arith, le, differ))
-]
-node_apart Two i j a b differ = elim (cases_lt (i / 5) (j / 5)) [
-  | inl lt ↦ inl (omega (arith, lt))
-  | inr le ↦ inr (omega (arith, le, differ))
-]
-
 apart_in_one : (v : Version) {g : Geometry} {r : HomeRange} {a b : ℕ} → Has g r a → Has g r b → (place_in v g r a ≡ place_in v g r b → ⊥) →
     IsApart (extent_in v g r a) (extent_in v g r b)
-apart_in_one v {g} {r} {a} {b} has_a has_b = elim has_a.kind [
-  | inl nodes ↦ rw (node_in has_a nodes, node_in has_b nodes) (λ differ. elim
-      (node_apart v (a - r.first) (b - r.first) ((a - r.first) % 5) ((b - r.first) % 5) (λ same. differ (ap (λ (offset : ℕ). r.sector + offset) same))) [
-        | inl before ↦ inl (omega (arith, before))
-        | inr behind ↦ inr (omega (arith, behind))
-      ])
-  | inr pages ↦ rw (page_in has_a pages, page_in has_b pages) (λ differ. elim (cases_lt a b) [
-    | inl lt ↦ inl (omega (arith, lt, has_a.low))
-    | inr le ↦ inr (omega (arith, le, differ, has_b.low))
-  ])
-]
+apart_in_one v {g} {r} {a} {b} has_a has_b differ = grind (arith, nat_tests)
 
 -- by version 1 two numbers of a range that have one place are one
 same_number : {v : Version} {g : Geometry} {r : HomeRange} {a b : ℕ} → v ≡ One → Has g r a → Has g r b → place_in v g r a ≡ place_in v g r b → a ≡ b
-same_number {g} {a} {b} first has_a has_b = elim has_a.kind [
-  | inl nodes ↦ rw (first, node_in has_a nodes, node_in has_b nodes) (λ same. omega (arith, same, has_a.low, has_b.low))
-  | inr pages ↦ rw (page_in has_a pages, page_in has_b pages) (λ same. omega (arith, same, has_a.low, has_b.low))
-]
+same_number {v} {g} {r} {a} {b} first has_a has_b same = grind (arith, nat_tests)
 
 -- ---- ranges and log halves as extents
 
 ranges_extent : (p : Plan) {i : ℕ} → i < length p.ranges → extent_at (extents p) i ≡ range_extent p.version p.geometry (range_at p.ranges i)
-ranges_extent p {i} lt =
-    let size : length (map (range_extent p.version p.geometry) p.ranges) ≡ length p.ranges = length-map p.ranges (range_extent p.version p.geometry) in
-    get_or_append_left (map (range_extent p.version p.geometry) p.ranges) (half_extent p.geometry p.half_0 ∷ half_extent p.geometry p.half_1 ∷ [])
-    (record { sector = 0; length = 0 }) i (omega arith)
-    ∙ get_or-map (range_extent p.version p.geometry) p.ranges i (record { first = 0; count = 0; sector = 0 }) (record { sector = 0; length = 0 }) lt
+ranges_extent p {i} lt = grind (arith, nat_tests, length-map, get_or_append_left, get_or-map)
 
 range_within : {p : Plan} {i : ℕ} → IsPlan p → i < length p.ranges → IsWithin p.total (range_extent p.version p.geometry (range_at p.ranges i))
 range_within {p} {i} fits lt = subst (IsWithin p.total) (ranges_extent p lt) (fits.within i (record { sector = 0; length = 0 }) (omega (arith, many p)))
@@ -148,13 +99,6 @@ ranges_apart {p} {i} {j} fits lt within =
     subst (λ (e : Extent). IsApart e (range_extent p.version p.geometry (range_at p.ranges j))) (ranges_extent p in_i)
     (subst (IsApart (extent_at (extents p) i)) (ranges_extent p within) apart)
 
-range_spares_half : {p : Plan} {i : ℕ} (k : ℕ) → IsPlan p → i < length p.ranges → k < 2 → IsApart (range_extent p.version p.geometry (range_at p.ranges i))
-    (extent_at (half_extent p.geometry p.half_0 ∷ half_extent p.geometry p.half_1 ∷ []) k)
-range_spares_half {p} {i} k fits lt few =
-    let apart = fits.apart i (length p.ranges + k) (omega arith) (omega (arith, many p)) in
-    subst (λ (e : Extent). IsApart e (extent_at (half_extent p.geometry p.half_0 ∷ half_extent p.geometry p.half_1 ∷ []) k)) (ranges_extent p lt)
-    (subst (IsApart (extent_at (extents p) i)) (half_at p k) apart)
-
 -- ---- the laws
 
 -- the place of a number is that in its range,
@@ -164,14 +108,11 @@ place_is p {number} at = ap (λ (r : Option HomeRange). place_by p.version p.geo
 
 -- and so are its sectors
 home_is : (p : Plan) {number i : ℕ} → IsFound p.geometry p.ranges number i → home_extent p number ≡ extent_in p.version p.geometry (range_at p.ranges i) number
-home_is p {number} at =
-    ap (λ (r : Option HomeRange). extent_of (place_by p.version p.geometry r number)
-    (shape_length (if nat_lt number p.geometry.nodes then node_shape p.version (rank_in r number) else Page))) at.found
+home_is p {number} {i} at = grind (arith, nat_tests)
 
 home_inside : (p : Plan) {number i : ℕ} → IsFound p.geometry p.ranges number i →
     IsInside (home_extent p number) (range_extent p.version p.geometry (range_at p.ranges i))
-home_inside p {number} {i} at = subst (λ (e : Extent). IsInside e (range_extent p.version p.geometry (range_at p.ranges i))) (sym (home_is p at))
-    (inside_range p.version at.has)
+home_inside p {number} {i} at = grind (arith, nat_tests)
 
 pub places_within : PlacesAreWithin
 places_within p a fits is =
@@ -205,29 +146,27 @@ either_range {p} {a} {b} fits is_a is_b =
 apart_by : {p : Plan} {a b : ℕ} → IsPlan p → IsObject p.geometry a → IsObject p.geometry b
     → ((i : ℕ) → IsFound p.geometry p.ranges a i → IsFound p.geometry p.ranges b i → IsApart (extent_in p.version p.geometry (range_at p.ranges i) a)
     (extent_in p.version p.geometry (range_at p.ranges i) b)) → IsApart (home_extent p a) (home_extent p b)
-apart_by {p} {a} {b} fits is_a is_b in_one = elim (either_range fits is_a is_b) [
-  | inl apart ↦ apart
-  | inr at ↦ subst (IsApart (home_extent p a)) (sym (home_is p at.2))
-      (subst (λ (e : Extent). IsApart e (extent_in p.version p.geometry (range_at p.ranges at.0) b)) (sym (home_is p at.1)) (in_one at.0 at.1 at.2))
-]
+apart_by {p} {a} {b} fits is_a is_b in_one = grind (arith, nat_tests, either_range, home_is)
 
 pub places_apart : PlacesAreApart
-places_apart p a b fits is_a is_b differ = apart_by fits is_a is_b (λ i at_a at_b.
-    apart_in_one p.version at_a.has at_b.has (λ same. differ (place_is p at_a ∙ same ∙ sym (place_is p at_b))))
+places_apart = grind (arith, nat_tests, apart_by, apart_in_one, place_is)
 
 pub numbers_apart : NumbersAreApart
-numbers_apart p a b fits first is_a is_b differ = apart_by fits is_a is_b (λ i at_a at_b. apart_in_one p.version at_a.has at_b.has
-    (λ same. differ (same_number first at_a.has at_b.has same)))
+numbers_apart = grind (arith, nat_tests, apart_by, apart_in_one, same_number)
+
+spares_at : {p : Plan} {a : ℕ} (k : ℕ) → IsPlan p → IsObject p.geometry a → k < 2 →
+    IsApart (home_extent p a) (extent_at (half_extent p.geometry p.half_0 ∷ half_extent p.geometry p.half_1 ∷ []) k)
+spares_at {p} {a} k fits is few =
+    let at = found a fits is in
+    let range : Extent = range_extent p.version p.geometry (range_at p.ranges at.0) in
+    let half : Extent = extent_at (half_extent p.geometry p.half_0 ∷ half_extent p.geometry p.half_1 ∷ []) k in
+    let apart = fits.apart at.0 (length p.ranges + k) (omega (arith, at.1.within)) (omega (arith, many p)) in
+    apart_inside (home_extent p a) half range half (home_inside p at.1) (itself half)
+    (subst (IsApart range) (half_at p k) (subst (λ (e : Extent). IsApart e (extent_at (extents p) (length p.ranges + k))) (ranges_extent p at.1.within) apart))
 
 spares_half : {p : Plan} {a : ℕ} (h : Half) → IsPlan p → IsObject p.geometry a → IsApart (home_extent p a) (half_extent p.geometry (half_start p h))
-spares_half {p} {a} First fits is =
-    let at = found a fits is in
-    apart_inside (home_extent p a) (half_extent p.geometry p.half_0) (range_extent p.version p.geometry (range_at p.ranges at.0))
-    (half_extent p.geometry p.half_0) (home_inside p at.1) (itself (half_extent p.geometry p.half_0)) (range_spares_half 0 fits at.1.within (omega arith))
-spares_half {p} {a} Second fits is =
-    let at = found a fits is in
-    apart_inside (home_extent p a) (half_extent p.geometry p.half_1) (range_extent p.version p.geometry (range_at p.ranges at.0))
-    (half_extent p.geometry p.half_1) (home_inside p at.1) (itself (half_extent p.geometry p.half_1)) (range_spares_half 1 fits at.1.within (omega arith))
+spares_half First fits is = spares_at 0 fits is (omega arith)
+spares_half Second fits is = spares_at 1 fits is (omega arith)
 
 pub places_spare_log : PlacesSpareLog
 places_spare_log p a generation fits is = spares_half (half_of generation) fits is
@@ -246,7 +185,7 @@ found_too n i [] c lt has = absurd (omega (arith, lt))
 found_too n zero {number} (r ∷ rs) c lt has = record {
   within = lt;
   has = has;
-  found = if_true (range_with rs number) (in_true r.first (r.first + r.count) has.low has.high);
+  found = grind (arith, nat_tests, has.low, has.high);
 }
 found_too {g} n (suc i) {number} (r ∷ rs) c lt has =
     let rest = found_too (n + r.count) i rs c.1 (omega (arith, lt)) has in
@@ -254,17 +193,15 @@ found_too {g} n (suc i) {number} (r ∷ rs) c lt has =
     let past : r.first + r.count ≤ number = omega (arith, c.0.0, later, has.low) in record {
       within = lt;
       has = has;
-      found = if_false (Some r) (in_false r.first (r.first + r.count) past) ∙ rest.found;
+      found = let behind : range_with (r ∷ rs) number ≡ range_with rs number = grind (arith, nat_tests) in behind ∙ rest.found;
     }
 
 some_sectors : (s : Shape) → 1 ≤ shape_length s
-some_sectors Node = omega arith
-some_sectors other = omega arith
+some_sectors s = grind (arith, nat_tests)
 
 -- two extents that begin in one sector aren't apart
 never_apart : {d e : Extent} → d.sector ≡ e.sector → 1 ≤ d.length → 1 ≤ e.length → IsApart d e → ⊥
-never_apart same some_d some_e (inl before) = omega (arith, same, some_d, before)
-never_apart same some_d some_e (inr behind) = omega (arith, same, some_e, behind)
+never_apart {d} {e} same some_d some_e apart = grind (arith, nat_tests)
 
 -- a range that has both of two numbers
 pub record HasBoth (p : Plan) (a b : ℕ) (i : ℕ) : Type 0 where
@@ -273,46 +210,24 @@ pub record HasBoth (p : Plan) (a b : ℕ) (i : ℕ) : Type 0 where
   pub place : place_in p.version p.geometry (range_at p.ranges i) a ≡ place_in p.version p.geometry (range_at p.ranges i) b
 
 pub one_range : {p : Plan} {a b : ℕ} → IsPlan p → IsObject p.geometry a → IsObject p.geometry b → home_place p a ≡ home_place p b → (i : ℕ) × HasBoth p a b i
-one_range {p} {a} {b} fits is_a is_b same = elim (either_range fits is_a is_b) [
-  | inl apart ↦ absurd (never_apart same (some_sectors (shape_of p a)) (some_sectors (shape_of p b)) apart)
-  | inr at ↦ (at.0, record { one = at.1; other = at.2; place = sym (place_is p at.1) ∙ same ∙ place_is p at.2 })
-]
+one_range {p} {a} {b} fits is_a is_b same = grind (arith, nat_tests, either_range, never_apart, some_sectors, place_is)
 
 -- the shape of a number is that in its range
 pub shape_is : (p : Plan) {number i : ℕ} → IsFound p.geometry p.ranges number i → shape_of p number ≡ shape_in p.version p.geometry (range_at p.ranges i) number
 shape_is p {number} at = ap (λ (r : Option HomeRange). if nat_lt number p.geometry.nodes then node_shape p.version (rank_in r number) else Page) at.found
 
-node_lengths : (v : Version) (a b : ℕ) → shape_length (node_shape v a) ≡ shape_length (node_shape v b)
-node_lengths One a b = refl
-node_lengths Two a b = refl
-
 lengths_in : (v : Version) {g : Geometry} {r : HomeRange} {a b : ℕ} → Has g r a → Has g r b → shape_length (shape_in v g r a) ≡ shape_length (shape_in v g r b)
-lengths_in v {g} {r} {a} {b} has_a has_b = elim has_a.kind [
-  | inl nodes ↦ rw (node_in has_a nodes, node_in has_b nodes) (node_lengths v ((a - r.first) % 5) ((b - r.first) % 5))
-  | inr pages ↦ rw (page_in has_a pages, page_in has_b pages) refl
-]
+lengths_in v {g} {r} {a} {b} has_a has_b = grind (arith, nat_tests)
 
 -- what has one home has as many sectors
 pub one_length : (p : Plan) (a b : ℕ) → IsPlan p → IsObject p.geometry a → IsObject p.geometry b → home_place p a ≡ home_place p b →
     place_length p a ≡ place_length p b
-one_length p a b fits is_a is_b same =
-    let there = one_range fits is_a is_b same in
-    let at = there.1 in
-    ap shape_length (shape_is p at.one) ∙ lengths_in p.version at.one.has at.other.has ∙ ap shape_length (sym (shape_is p at.other))
+one_length p a b fits is_a is_b same = grind (arith, nat_tests, one_range, shape_is, lengths_in)
 
 -- so the bytes of a home are the frames of all that have it
 pub home_held : {p : Plan} {number at n : ℕ} {s : Shape} {bytes : List ℕ} (image : Image) → IsPlan p → IsObject p.geometry number → at ≡ home_place p number →
     s ≡ shape_of p number → n ≡ shape_length s → sectors_from image at n ≡ bytes → HoldsHome p number bytes image
-home_held {p} {number} {at} {n} image fits is place shape length held a is_a same =
-    let length_is : place_length p a ≡ n = one_length p a number fits is_a is same ∙ ap shape_length (sym shape) ∙ sym length in
-    ap (λ (k : ℕ). shape_bytes (shape_of p a) (sectors_from image k (place_length p a))) (same ∙ sym place)
-    ∙ ap (λ (k : ℕ). shape_bytes (shape_of p a) (sectors_from image at k)) length_is ∙ ap (shape_bytes (shape_of p a)) held
-
-pub written_home : {T E : Type 0} (result : Result T E) {p : Plan} {number at n : ℕ} {s : Shape} (bytes : List ℕ) (image : Image) → IsPlan p →
-    IsObject p.geometry number → at ≡ home_place p number → s ≡ shape_of p number
-    → n ≡ shape_length s → OnOk result (sectors_from image at n ≡ bytes) → OnOk result (HoldsHome p number bytes image)
-written_home (Ok value) {p} {number} {at} {n} {s} bytes image fits is place shape length held = home_held image fits is place shape length held
-written_home (Err error) bytes image fits is place shape length held = tt
+home_held {p} {number} {at} {n} {s} {bytes} image fits is place shape size held = grind (arith, nat_tests, one_length)
 
 -- ---- the range that was found
 
@@ -321,7 +236,7 @@ pub record IsRangeOf (p : Plan) (number : ℕ) (r : HomeRange) : Type 0 where
   pub sector : r.sector ≤ 131072
   pub place : home_place p number ≡ place_in p.version p.geometry r number
 
-range_of : {p : Plan} {number : ℕ} {r : HomeRange} → IsPlan p → IsObject p.geometry number → Some r ≡ range_with p.ranges number → IsRangeOf p number r
+pub range_of : {p : Plan} {number : ℕ} {r : HomeRange} → IsPlan p → IsObject p.geometry number → Some r ≡ range_with p.ranges number → IsRangeOf p number r
 range_of {p} {number} {r} fits is reported =
     let at = found number fits is in
     let same : r ≡ range_at p.ranges at.0 = same_Some _ _ (reported ∙ at.1.found) in
@@ -330,16 +245,8 @@ range_of {p} {number} {r} fits is reported =
       place = ap (λ (q : Option HomeRange). place_by p.version p.geometry q number) (sym reported);
     }
 
--- the plan is written in two ways, `p` and `q`
-pub range_reported : {p q : Plan} {number : ℕ} {r : HomeRange} → p ≡ q → IsPlan p → IsObject q.geometry number → Some r ≡ range_with p.ranges number →
-    IsRangeOf q number r
-range_reported {p} {number} {r} e fits is reported =
-    subst (λ (x : Plan). IsObject x.geometry number → IsRangeOf x number r) e (λ is_p. range_of fits is_p reported) is
-
-pub no_range_reported : {p q : Plan} {number : ℕ} → p ≡ q → IsPlan p → IsObject q.geometry number → None ≡ range_with p.ranges number → ⊥
-no_range_reported {p} {number} e fits is reported =
-    subst (λ (x : Plan). IsObject x.geometry number → ⊥) e
-    (λ is_p. let at = found number fits is_p in let never : None ≡ Some (range_at p.ranges at.0) = reported ∙ at.1.found in cc) is
+pub no_range : {p : Plan} {number : ℕ} → IsPlan p → IsObject p.geometry number → None ≡ range_with p.ranges number → ⊥
+no_range {p} {number} fits is reported = let at = found number fits is in let never : None ≡ Some (range_at p.ranges at.0) = reported ∙ at.1.found in cc
 
 -- a place of a number, behind the headers and before the end
 pub record IsPlace (p : Plan) (number place : ℕ) : Type 0 where
@@ -347,17 +254,9 @@ pub record IsPlace (p : Plan) (number place : ℕ) : Type 0 where
   pub behind : 5 ≤ place
   pub inside : place + place_length p number ≤ p.total
 
-place_lies : {p : Plan} {number place : ℕ} → IsPlan p → IsObject p.geometry number → place ≡ home_place p number → IsPlace p number place
-place_lies {p} {number} fits is same =
-    let within = places_within p number fits is in
-    record { value = same; behind = omega (arith, within.0, same); inside = omega (arith, within.1, same) }
-
-pub place_reported : {p q : Plan} {v : Version} {g : Geometry} {number place : ℕ} {r : HomeRange} → v ≡ p.version → g ≡ p.geometry → p ≡ q → IsPlan p →
-    IsObject q.geometry number → Some r ≡ range_with p.ranges number → place ≡ place_in v g r number → IsPlace q number place
-place_reported {p} {g} {number} {place} {r} version geometry e fits is reported made =
-    subst (λ (x : Plan). IsObject x.geometry number → IsPlace x number place) e (λ is_p. place_lies fits is_p
-    (made ∙ ap (λ (w : Version). place_in w g r number) version ∙ ap (λ (h : Geometry). place_in p.version h r number) geometry ∙
-    sym (range_of fits is_p reported).place)) is
+pub place_lies : {p : Plan} {number place : ℕ} {r : HomeRange} → IsPlan p → IsObject p.geometry number → Some r ≡ range_with p.ranges number →
+    place ≡ place_in p.version p.geometry r number → IsPlace p number place
+place_lies {p} {number} {place} {r} fits is reported made = grind (arith, nat_tests, places_within, range_of)
 
 -- ---- who has a home
 
@@ -373,23 +272,9 @@ pub record IsRanked (v : Version) (g : Geometry) (r : HomeRange) (number rank : 
   pub nodes : r.first + r.count ≤ g.nodes
   pub value : rank ≡ (number - r.first) % 5
 
-abbrev rank_or_0 : Shape → ℕ
-rank_or_0 Node = 0
-rank_or_0 (Packed rank) = rank
-rank_or_0 Page = 0
-
-ranked_node : (v : Version) {rank i : ℕ} → node_shape v i ≡ Packed rank → (v ≡ Two) × (rank ≡ i)
-ranked_node One {rank} e = let never : Node ≡ Packed rank = e in cc
-ranked_node Two e = (refl, sym (ap rank_or_0 e))
-
 pub ranked_in : {v : Version} {g : Geometry} {r : HomeRange} {number rank : ℕ} → Has g r number → shape_in v g r number ≡ Packed rank →
     IsRanked v g r number rank
-ranked_in {v} {g} {r} {number} {rank} has e = elim has.kind [
-  | inl nodes ↦
-      let is = ranked_node v (rw (node_in has nodes) at e) in
-      record { second = is.0; nodes = nodes; value = is.1 }
-  | inr pages ↦ absurd (let never : Page ≡ Packed rank = rw (page_in has pages) at e in cc)
-]
+ranked_in {v} {g} {r} {number} {rank} has e = grind (arith, nat_tests)
 
 -- the place of a rank's cluster
 cluster_place : {v : Version} {g : Geometry} {r : HomeRange} {number rank : ℕ} → Has g r number → IsRanked v g r number rank →
@@ -407,43 +292,21 @@ ranked_shape has is = rw (is.second, node_in has is.nodes) (ap (λ (k : ℕ). Pa
 -- in a range, what has the home of a number
 pub one_cluster : {v : Version} {g : Geometry} {r : HomeRange} {a number rank : ℕ} → Has g r a → Has g r number → IsRanked v g r number rank →
     place_in v g r a ≡ place_in v g r number → (a - r.first) / 5 ≡ (number - r.first) / 5
-one_cluster {v} {g} {r} {a} {number} {rank} has_a has is same =
-    let place_a = cluster_place has_a (same_ranked is) in
-    let place = cluster_place has is in
-    omega (arith, place_a, place, same)
+one_cluster {v} {g} {r} {a} {number} {rank} has_a has is same = grind (arith, nat_tests)
 
 alone_in : (v : Version) {g : Geometry} {r : HomeRange} {a number : ℕ} → Has g r a → Has g r number → IsOwn (shape_in v g r number) →
     place_in v g r a ≡ place_in v g r number → a ≡ number
-alone_in One {g} {r} {a} {number} has_a has = λ own same. same_number refl has_a has same
-alone_in Two {g} {a} {number} has_a has = elim has.kind [
-  | inl nodes ↦ rw (node_in has nodes) (λ own same. absurd own)
-  | inr pages ↦ rw (page_in has_a pages, page_in has pages) (λ own same. omega (arith, same, has_a.low, has.low))
-]
+alone_in v {g} {r} {a} {number} has_a has own same = grind (arith, nat_tests)
 
 -- no other number has the home of a frame in sectors of its own
 pub alone : (p : Plan) (a number : ℕ) → IsPlan p → IsObject p.geometry a → IsObject p.geometry number → IsOwn (shape_of p number) →
     home_place p a ≡ home_place p number → a ≡ number
-alone p a number fits is_a is own same =
-    let there = one_range fits is_a is same in
-    let at = there.1 in
-    alone_in p.version at.one.has at.other.has (subst IsOwn (shape_is p at.other) own) at.place
+alone p a number fits is_a is own same = grind (arith, nat_tests, one_range, alone_in, shape_is)
 
 -- what has the home of the first of a cluster lies there by its rank
 pub ranked : (p : Plan) (a number : ℕ) → IsPlan p → IsObject p.geometry a → IsObject p.geometry number → shape_of p number ≡ Packed 0 →
     home_place p a ≡ home_place p number → (number ≤ a) × (a < number + 5) × (shape_of p a ≡ Packed (a - number)) × (a < p.geometry.nodes)
-ranked p a number fits is_a is shape same =
-    let there = one_range fits is_a is same in
-    let at = there.1 in
-    let r : HomeRange = range_at p.ranges there.0 in
-    let first = ranked_in at.other.has (sym (shape_is p at.other) ∙ shape) in
-    let one = one_cluster at.one.has at.other.has first at.place in
-    let low : number ≤ a = omega (arith, one, first.value, at.one.has.low, at.other.has.low) in
-    let rank : a - number ≡ (a - r.first) % 5 = omega (arith, one, first.value, at.one.has.low, at.other.has.low) in (
-      low,
-      omega (arith, one, first.value, at.one.has.low, at.other.has.low),
-      shape_is p at.one ∙ ranked_shape at.one.has (record { second = first.second; nodes = first.nodes; value = rank }),
-      omega (arith, first.nodes, at.one.has.high),
-    )
+ranked p a number fits is_a is shape same = grind (arith, nat_tests, one_range, ranked_in, shape_is, one_cluster, ranked_shape)
 
 -- ---- the numbers of a cluster
 
@@ -454,10 +317,7 @@ module _ (p : Plan) (number rank i : ℕ) (fits : IsPlan p) (at : IsFound p.geom
 
   -- another of its range and its five has its home
   pub beside : {a : ℕ} → r.first ≤ a → a < r.first + r.count → (a - r.first) / 5 ≡ (number - r.first) / 5 → home_place p a ≡ home_place p number
-  beside {a} low high one =
-      let has : Has p.geometry r a = record { low = low; high = high; kind = at.has.kind } in
-      let there = found_too 0 i p.ranges fits.cover at.within has in
-      place_is p there ∙ cluster_place has (same_ranked is) ∙ ap (λ (k : ℕ). r.sector + 8 * k) one ∙ sym (cluster_place at.has is) ∙ sym (place_is p at)
+  beside {a} low high one = grind (arith, nat_tests, found_too, place_is, cluster_place, same_ranked)
 
 -- a number of a cluster but the first of it has the home of the number before
 pub one_before : (p : Plan) (number rank : ℕ) → IsPlan p → IsObject p.geometry number → shape_of p number ≡ Packed rank → 1 ≤ rank →
@@ -474,15 +334,11 @@ one_before p number rank fits is shape some =
 
 module _ {p : Plan} {number : ℕ} (fits : IsPlan p) (is : IsObject p.geometry number) where
   -- a frame in sectors of its own shares them with none
-  itself_alone : IsOwn (shape_of p number) → HaveHome p number 1
-  itself_alone own = record {
-    object = λ k lt. omega (arith, lt, is);
-    same = λ k lt. let here : number + k ≡ number = omega (arith, lt) in ap (home_place p) here;
-    all = λ a is_a low same. let one : a ≡ number = alone p a number fits is_a is own same in omega (arith, one);
-  }
+  pub itself_alone : IsOwn (shape_of p number) → HaveHome p number 1
+  itself_alone own = grind (arith, nat_tests, alone)
 
   -- a node of a cluster shares it with those behind it, up to the fifth or to the end of the range
-  cluster_shared : {r : HomeRange} {rank n : ℕ} → Some r ≡ range_with p.ranges number → shape_of p number ≡ Packed rank →
+  pub cluster_shared : {r : HomeRange} {rank n : ℕ} → Some r ≡ range_with p.ranges number → shape_of p number ≡ Packed rank →
       n ≡ min (r.count - (number - r.first)) (5 - rank) → HaveHome p number n
   cluster_shared {r} {rank} {n} reported shape count =
       let there = found number fits is in
@@ -504,15 +360,6 @@ module _ {p : Plan} {number : ℕ} (fits : IsPlan p) (is : IsObject p.geometry n
             omega (arith, few, five, here.value, low, a_has.low, a_has.high, at.has.low);
       }
 
--- the plan is written in two ways
-pub own_reported : {p q : Plan} {number : ℕ} {s : Shape} → p ≡ q → IsPlan p → IsObject q.geometry number → IsOwn s → s ≡ shape_of q number → HaveHome q number 1
-own_reported {number} e fits is own reported = itself_alone (subst IsPlan e fits) is (subst IsOwn reported own)
-
-pub cluster_reported : {p q : Plan} {number rank n : ℕ} {r : HomeRange} → p ≡ q → IsPlan p → IsObject q.geometry number → Some r ≡ range_with p.ranges number →
-    Packed rank ≡ shape_of q number → n ≡ min (r.count - (number - r.first)) (5 - rank) → HaveHome q number n
-cluster_reported {number} {rank} {n} {r} e fits is reported shape count = cluster_shared (subst IsPlan e fits) is
-    (reported ∙ ap (λ (x : Plan). range_with x.ranges number) e) (sym shape) count
-
 -- the frames of all that have the home of the first node stay where those in the places of these do
 pub cluster_stays : {p : Plan} {first n : ℕ} (old new : List ℕ) → IsPlan p → IsObject p.geometry first → shape_of p first ≡ Packed 0 → HaveHome p first n
     → ((rank : ℕ) → rank < n → shape_bytes (Packed rank) new ≡ shape_bytes (Packed rank) old)
@@ -523,23 +370,16 @@ cluster_stays {p} {first} old new fits is shape have stays a is_a same =
     ap (λ (s : Shape). shape_bytes s new) at.2 ∙ stays (a - first) (omega (arith, few, at.0)) ∙ ap (λ (s : Shape). shape_bytes s old) (sym at.2)
 
 -- what was written to a home, said in two ways
-pub written_bytes : {T E : Type 0} (result : Result T E) (p : Plan) (number : ℕ) {at n : ℕ} {s : Shape} (bytes : List ℕ) (image : Image) →
-    at ≡ home_place p number → s ≡ shape_of p number → n ≡ shape_length s
-    → OnOk result (sectors_from image at n ≡ bytes) → OnOk result (sectors_from image (home_place p number) (place_length p number) ≡ bytes)
-written_bytes (Ok done) p number {at} bytes image place shape size written =
-    ap (λ (k : ℕ). sectors_from image k (place_length p number)) (sym place) ∙ ap (λ (k : ℕ). sectors_from image at k) (ap shape_length (sym shape) ∙ sym size)
-    ∙ written
-written_bytes (Err error) p number bytes image place shape size written = tt
+pub bytes_home : (p : Plan) (number : ℕ) {at n : ℕ} {s : Shape} {bytes : List ℕ} (image : Image) → at ≡ home_place p number → s ≡ shape_of p number →
+    n ≡ shape_length s → sectors_from image at n ≡ bytes → sectors_from image (home_place p number) (place_length p number) ≡ bytes
+bytes_home p number {at} {n} {s} {bytes} image place shape size written = grind (arith, nat_tests)
 
 -- the zeros of a cluster stand where it was written
 pub zeros_in : {T E : Type 0} (result : Result T E) (p : Plan) (first : ℕ) (there bytes : List ℕ) → OnOk result (there ≡ bytes) → EndsInZeros p first bytes →
     OnOk result (EndsInZeros p first there)
-zeros_in (Ok done) p first there bytes written zeros = subst (EndsInZeros p first) (sym written) zeros
-zeros_in (Err error) p first there bytes written zeros = tt
+zeros_in {T} {E} result p first there bytes written zeros = grind (arith, nat_tests)
 
 pub zeros_home : {T E : Type 0} (result : Result T E) (p : Plan) (first : ℕ) (new : Image) (bytes : List ℕ) → shape_of p first ≡ Packed 0 →
     OnOk result (sectors_from new (home_place p first) (place_length p first) ≡ bytes)
     → EndsInZeros p first bytes → OnOk result (EndsInZeros p first (sectors_from new (home_place p first) 8))
-zeros_home (Ok done) p first new bytes shape written zeros =
-    subst (EndsInZeros p first) (sym written ∙ ap (λ (s : Shape). sectors_from new (home_place p first) (shape_length s)) shape) zeros
-zeros_home (Err error) p first new bytes shape written zeros = tt
+zeros_home {T} {E} result p first new bytes shape written zeros = grind (arith, nat_tests)

@@ -1,35 +1,20 @@
 -- Homes that several numbers share.
-use Rattle.home_ranges.proofs.Names.{ℕ, Bool, nat_lt, refl, sym, ap, inl, inr, arith, Geometry, HomeRange, Shape, Node, Packed, Page, Version, One, Two}
-use Rattle.home_ranges.proofs.Names.{node_offset, place_in, home_place, shape_of, node_shape, Plan, IsPlan, IsObject}
-use Rattle.std.proofs.Common.{◌≡◌, ◌+◌, ◌-◌, ◌%◌, ◌<◌, ◌≤◌, ◌∙◌}
+use Rattle.home_ranges.proofs.Names.{nat_tests, ℕ, nat_lt, sym, arith, Geometry, HomeRange, Shape, Packed, Page, Version, Two, place_in, home_place, shape_of}
+use Rattle.home_ranges.proofs.Names.{node_shape, Plan, IsPlan, IsObject}
+use Rattle.std.proofs.Common.{◌≡◌, ◌-◌, ◌%◌, ◌<◌, ◌≤◌, ◌∙◌}
 use Rattle.std.specs.Prelude.{if◌then◌else◌}
-use Rattle.home_ranges.proofs.Places.{range_at, Has, found, found_too, node_in, page_in, place_is, shape_is, lt_true, one_range, IsOwn, ranked_in, one_cluster}
+use Rattle.home_ranges.proofs.Places.{range_at, Has, found, found_too, place_is, shape_is, one_range, IsOwn, ranked_in, one_cluster}
 use Rattle.home_ranges.proofs.Places.{beside}
 
 -- ---- what lies between two numbers that share a home has it too
 
-offset_between : (v : Version) {i j : ℕ} (k : ℕ) → i ≤ j → j ≤ k → node_offset v k ≡ node_offset v i → node_offset v j ≡ node_offset v i
-offset_between One k low high same = omega (arith, low, high, same)
-offset_between Two k low high same = omega (arith, low, high, same)
-
 place_between : (v : Version) {g : Geometry} {r : HomeRange} {a b n : ℕ} → Has g r a → Has g r b → Has g r n → n ≤ b → b ≤ a →
     place_in v g r a ≡ place_in v g r n → place_in v g r b ≡ place_in v g r n
-place_between v {g} {r} {a} {b} {n} has_a has_b has_n low high = elim has_a.kind [
-  | inl nodes ↦ rw (node_in has_a nodes, node_in has_b nodes, node_in has_n nodes) (λ same. ap (λ (offset : ℕ). r.sector + offset)
-      (offset_between v (a - r.first) (omega (arith, low)) (omega (arith, high)) (omega (arith, same))))
-  | inr pages ↦ rw (page_in has_a pages, page_in has_b pages, page_in has_n pages) (λ same. omega (arith, same, low, high, has_a.low, has_n.low))
-]
+place_between v {g} {r} {a} {b} {n} has_a has_b has_n low high same = grind (arith, nat_tests)
 
 pub home_between : {p : Plan} {a b n : ℕ} → IsPlan p → IsObject p.geometry a → IsObject p.geometry n → n ≤ b → b ≤ a → home_place p a ≡ home_place p n →
     home_place p b ≡ home_place p n
-home_between {p} {a} {b} {n} fits is_a is_n low high same =
-    let there = one_range fits is_a is_n same in
-    let both = there.1 in
-    let r : HomeRange = range_at p.ranges there.0 in
-    let has_b : Has p.geometry r b =
-    record { low = omega (arith, both.other.has.low, low); high = omega (arith, both.one.has.high, high); kind = both.one.has.kind } in
-    place_is p (found_too 0 there.0 p.ranges fits.cover both.one.within has_b) ∙ place_between p.version both.one.has has_b both.other.has low high both.place
-    ∙ sym (place_is p both.other)
+home_between {p} {a} {b} {n} fits is_a is_n low high same = grind (arith, nat_tests, one_range, place_is, found_too, place_between)
 
 -- ---- where a cluster begins
 
@@ -43,9 +28,7 @@ pub record Begins (p : Plan) (n rank : ℕ) : Type 0 where
 first_shape : (p : Plan) {first : ℕ} (r : HomeRange) → p.version ≡ Two →
     shape_of p first ≡ (if nat_lt first p.geometry.nodes then node_shape p.version ((first - r.first) % 5) else Page) → first < p.geometry.nodes →
     (first - r.first) % 5 ≡ 0 → shape_of p first ≡ Packed 0
-first_shape p {first} r two is node rank =
-    is ∙ ap (λ (test : Bool). if test then node_shape p.version ((first - r.first) % 5) else Page) (lt_true first p.geometry.nodes node)
-    ∙ ap (λ (v : Version). node_shape v ((first - r.first) % 5)) two ∙ ap (λ (k : ℕ). Packed k) rank
+first_shape p {first} r two is node rank = grind (arith, nat_tests)
 
 pub begins : (p : Plan) (n rank : ℕ) → IsPlan p → IsObject p.geometry n → shape_of p n ≡ Packed rank → Begins p n rank
 begins p n rank fits is shape =
@@ -73,6 +56,4 @@ begins p n rank fits is shape =
 
 -- what isn't packed has such
 pub own_of : (s : Shape) → ((rank : ℕ) → s ≡ Packed rank → ⊥) → IsOwn s
-own_of Node other = tt
-own_of (Packed rank) other = other rank refl
-own_of Page other = tt
+own_of s other = grind (arith, nat_tests)

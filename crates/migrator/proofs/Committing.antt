@@ -1,14 +1,13 @@
 -- The frozen frames become the saved ones.
-use Rattle.migrator.proofs.Names.{ℕ, Bool, true, false, cond, Option, Some, None, List, length, refl, sym, ap, subst, inr, arith, replicate, length-replicate}
-use Rattle.migrator.proofs.Names.{Frame, frame_at, IsKeepable, AreKeepable, Image, Disk, Entry, Extent, CheckpointHeader, IsDirectory, entry_at, IsFrameOf}
-use Rattle.migrator.proofs.Names.{frame_from, IsHeader, frame_in, frame_slot_in, slot_in, slot_beside, half_sector, count_of, frame_read, frames_read, IsSpelt}
-use Rattle.migrator.proofs.Names.{AreSpelt, Plan, IsApart, IsInside, half_extent, itself, apart_inside, half_within, length_read, read_at, spelt_same, spelt_at}
-use Rattle.migrator.proofs.Names.{beside_frame_slot, places_within, header_sector, slot_extent, place_extent, directory_extent, frames_behind, frames_in_slots}
-use Rattle.migrator.proofs.Names.{directories_inside, slots_spare_directories, Place, Nowhere, Torn, Whole, place_at, slot_of, taken_count, whole_count}
-use Rattle.migrator.proofs.Names.{has_slot, entries_of, Put, Absent, put_at, put_or, overlaid, slot_bytes, put_of, puts_in, ArePut, most, Books, IsDurable}
-use Rattle.migrator.proofs.Names.{frozen_generation, working_generation, committed, generation_after, Stored, saved_state, frozen_of, stored_in, IsRunning}
-use Rattle.migrator.proofs.Names.{IsKept, next_header, puts, on_snapshots, AreComplete, MayAdopt, SavesOnly, SparesKept, adopted, SparesFrames, Spares}
-use Rattle.migrator.proofs.Names.{maps_same, IsSoundOn}
+use Rattle.migrator.proofs.Names.{nat_tests, IsPlan, ℕ, Bool, cond, Option, Some, None, List, length, refl, sym, ap, subst, arith, replicate, length-replicate}
+use Rattle.migrator.proofs.Names.{Frame, frame_at, IsKeepable, AreKeepable, Image, Disk, Entry, Extent, CheckpointHeader, IsDirectory, IsFrameOf}
+use Rattle.migrator.proofs.Names.{frame_from, IsHeader, frame_in, frame_slot_in, half_sector, count_of, frame_read, frames_read, IsSpelt}
+use Rattle.migrator.proofs.Names.{AreSpelt, Plan, IsApart, IsInside, half_extent, half_within, length_read, read_at, spelt_same, spelt_at, beside_frame_slot}
+use Rattle.migrator.proofs.Names.{places_within, header_sector, place_extent, directory_extent, frames_behind, directories_inside, Place, Nowhere, Whole}
+use Rattle.migrator.proofs.Names.{place_at, slot_of, taken_count, whole_count, entries_of, Put, put_at, put_or, overlaid, slot_bytes, puts_in}
+use Rattle.migrator.proofs.Names.{ArePut, most, Books, IsDurable, frozen_generation, working_generation, committed, generation_after, Stored, saved_state}
+use Rattle.migrator.proofs.Names.{frozen_of, stored_in, IsRunning, IsKept, next_header, puts, on_snapshots, AreComplete, MayAdopt, SavesOnly, SparesKept}
+use Rattle.migrator.proofs.Names.{adopted, SparesFrames, Spares, maps_same, IsSoundOn}
 use Rattle.std.proofs.Common.{◌≡◌, ◌+◌, ◌-◌, ◌^◌, ◌<◌, ◌≤◌, ◌∙◌}
 use Rattle.std.specs.Prelude.{◌==◌}
 use Rattle.migrator.proofs.Tables.{all_whole, whole_taken, entries_directory, length_entries, slot_entries, blank_at, blank_table, tally-blank}
@@ -25,14 +24,7 @@ header_extent h = record { sector = header_sector h; length = 2 }
 
 -- all that is kept lies behind the headers
 pub headers_spare : {size : ℕ} {image : Image} {b : Books} (h : CheckpointHeader) → IsKept size image b → SparesKept b (header_extent h)
-headers_spare {b} h kept = record {
-  frames = λ n lt. let behind = frames_behind b.plan b.header.generation b.directory n kept.plan (homes_behind kept.plan n lt) in inr (omega (arith, behind));
-  homes = λ i lt.
-      let behind = places_within b.plan (entry_at b.directory i).object kept.plan
-      (kept.directory.each i (record { object = 0; slot = 0 }) (omega (arith, lt, kept.few, kept.count))).object in inr (omega (arith, behind.0));
-  frozen = λ n s lt is. let behind = half_within b.plan (frozen_generation b) kept.plan in inr (omega (arith, behind.0));
-  working = λ n s lt is. let behind = half_within b.plan (working_generation b) kept.plan in inr (omega (arith, behind.0));
-}
+headers_spare {size} {image} {b} h kept = grind (arith, nat_tests, frames_behind, homes_behind, places_within, half_within)
 
 module _ {size : ℕ} {b : Books} {next : CheckpointHeader} {old new : Image} (kept : IsKept size old b) (only : SavesOnly b.plan next old new)
     (spares : SparesKept b (directory_extent b.plan next.generation next.entries)) where
@@ -52,19 +44,19 @@ module _ {size : ℕ} {b : Books} {next : CheckpointHeader} {old new : Image} (k
 
 pub slots_apart_directory : (p : Plan) (generation : ℕ) {s : ℕ} (m n : ℕ) → s < p.geometry.log → m ≤ p.geometry.log →
     IsApart (place_extent p generation s n) (directory_extent p generation m)
-slots_apart_directory p generation {s} m n lt le =
-    apart_inside (place_extent p generation s n) (directory_extent p generation m) (slot_extent p generation s) (directory_extent p generation m)
-    (frames_in_slots p generation s n) (itself (directory_extent p generation m)) (slots_spare_directories p generation s m lt)
+slots_apart_directory p generation {s} m n lt le = grind (arith, nat_tests)
 
-pub directory_inside : (p : Plan) (generation m : ℕ) → m ≤ p.geometry.log →
-    IsInside (directory_extent p generation m) (half_extent p.geometry (half_sector p generation))
-directory_inside p generation m le = directories_inside p generation m le
+-- the frames that a directory names lie apart from it
+pub directory_spares : {p : Plan} (generation m : ℕ) {es : List Entry} → IsPlan p → IsDirectory p.geometry es → m ≤ p.geometry.log →
+    SparesFrames p generation es (directory_extent p generation m)
+directory_spares {p} generation m {es} fits is few n lt =
+    frame_apart p generation es n (directory_extent p generation m) (λ s slot. slots_apart_directory p generation m n (frame_slot_fits p n is slot) few)
+    (λ _. home_apart generation fits lt (directories_inside p generation m few))
 
 -- ---- the header that is committed next
 
 pub one_more : (t : Bool) → cond t 1 0 ≤ 1
-one_more true = omega arith
-one_more false = omega arith
+one_more t = grind (arith, nat_tests)
 
 pub next_fits : {room age : ℕ} (b : Books) → IsHeader room b.header → b.header.age < age → age ≤ 2 ^ 62 → taken_count b.frozen ≤ room → room ≤ 4096 →
     IsHeader room (next_header age b)
@@ -113,40 +105,16 @@ module _ {size : ℕ} {image : Image} {b : Books} (k : ℕ) (kept : IsKept size 
     -- where an object has no place it has the frame that lies at home, as before
     home_frame : {n : ℕ} → n < count_of b.plan → slot_of (place_at b.frozen n) ≡ None → frame_in image b.plan (b.header.generation + 1) (entries_of b.frozen) n
         ≡ frame_in image b.plan b.header.generation b.directory n
-    home_frame {n} lt none = by (slot_beside b.plan (entries_of b.frozen) n) refl where
-      no_slot : slot_in (entries_of b.frozen) n ≡ None
-      no_slot = slot_entries b.frozen n ∙ none
-
-      by : (o : Option ℕ) → slot_beside b.plan (entries_of b.frozen) n ≡ o → frame_in image b.plan (b.header.generation + 1) (entries_of b.frozen) n ≡ frame_in
-          image b.plan b.header.generation b.directory n
-      by None is =
-          at_home image b.plan (b.header.generation + 1) (entries_of b.frozen) n (beside_frame_slot b.plan (entries_of b.frozen) n no_slot ∙ is)
-          ∙ sym (at_home image b.plan b.header.generation b.directory n (none_saved n))
-      by (Some s) is =
-          in_frame_slot image b.plan (b.header.generation + 1) (entries_of b.frozen) n (beside_frame_slot b.plan (entries_of b.frozen) n no_slot ∙ is) ∙
-          complete n s lt no_slot is ∙ sym (at_home image b.plan b.header.generation b.directory n (none_saved n))
+    home_frame {n} lt none = grind (arith, nat_tests, slot_entries, at_home, beside_frame_slot, none_saved, in_frame_slot)
 
     frame_next : (n : ℕ) → n < count_of b.plan → frame_read image b.plan (b.header.generation + 1) (entries_of b.frozen) n ≡ put_or (put_at frozen_puts n)
         (frame_at saved_frames n)
-    frame_next n lt = by (slot_of (place_at b.frozen n)) refl where
-      by : (o : Option ℕ) → slot_of (place_at b.frozen n) ≡ o → frame_read image b.plan (b.header.generation + 1) (entries_of b.frozen) n ≡ put_or
-          (put_at frozen_puts n) (frame_at saved_frames n)
-      by None is =
-          ap (frame_from b.plan.geometry n) (home_frame lt is) ∙ sym (read_at image b.plan b.header.generation b.directory n lt)
-          ∙ sym (ap (λ (x : Put). put_or x (frame_at saved_frames n))
-          (put_is image b.plan (frozen_generation b) b.frozen lt ∙ none_put (place_at b.frozen n) is)) where
-            none_put : (q : Place) → slot_of q ≡ None → put_of image b.plan (frozen_generation b) n q ≡ Absent
-            none_put Nowhere e = refl
-            none_put (Torn s) e = absurd cc
-            none_put (Whole s) e = absurd cc
-      by (Some s) is = rw (slot_frame_in n is, put_is image b.plan (frozen_generation b) b.frozen lt, whole_at lt is)
+    frame_next n lt = grind (arith, nat_tests, home_frame, read_at, put_is, slot_frame_in, whole_at)
 
     -- the frames that are saved next are the saved ones with the frozen ones in their place
     pub frames_next : frames_read image b.plan (b.header.generation + 1) (entries_of b.frozen) ≡ overlaid frozen_puts saved_frames
     unfolding frames_read overlaid
-    frames_next = rw (length_read image b.plan b.header.generation b.directory)
-        (maps_same (frame_read image b.plan (b.header.generation + 1) (entries_of b.frozen)) (λ n. put_or (put_at frozen_puts n) (frame_at saved_frames n))
-        (count_of b.plan) frame_next)
+    frames_next = search (arith, length_read, maps_same, frame_next)
 
     module _ {age : ℕ} (keepable : AreKeepable b.plan.geometry age (overlaid frozen_puts saved_frames)) where
       keepable_at : {n : ℕ} → n < count_of b.plan → IsKeepable b.plan.geometry age n (frame_read image b.plan (b.header.generation + 1) (entries_of b.frozen) n)
@@ -187,15 +155,10 @@ module _ (disk : Disk) {b : Books} (k : ℕ) (kept : IsKept disk.sectors disk.se
   directory_next = fs_fit k kept running stable
 
   inside_half : IsInside extent (half_extent b.plan.geometry (half_sector b.plan (frozen_generation b)))
-  inside_half = directory_inside b.plan (frozen_generation b) (taken_count b.frozen) kept.frozen.few
+  inside_half = directories_inside b.plan (frozen_generation b) (taken_count b.frozen) kept.frozen.few
 
   spares_now : Spares b.plan b.header b.directory extent
   spares_now = spares_other b.header (frozen_generation b) kept.plan kept.directory kept.header.entries (other_parity b.header.generation) inside_half
-
-  spares_then : SparesFrames b.plan (frozen_generation b) es extent
-  spares_then n lt =
-      frame_apart b.plan (frozen_generation b) es n extent (λ s is. slots_apart_directory b.plan (frozen_generation b) (taken_count b.frozen) n
-      (frame_slot_fits b.plan n directory_next is) kept.frozen.few) (λ _. home_apart (frozen_generation b) kept.plan lt inside_half)
 
   generation_is : working_generation b ≡ frozen_generation b + 1
   generation_is = ap (generation_after b.header.generation) running
@@ -217,12 +180,7 @@ module _ (disk : Disk) {b : Books} (k : ℕ) (kept : IsKept disk.sectors disk.se
   none n = blank_at (length b.frozen) n
 
   no_place : ArePut disk.seen b.plan (frozen_generation b + 1) blank
-  no_place = record {
-    count = length-replicate {A = Place} (length b.frozen) Nowhere ∙ kept.frozen.count;
-    few = let taken : taken_count blank ≡ 0 = tally-blank has_slot (length b.frozen) refl in omega (arith, taken);
-    table = blank_table (length b.frozen);
-    spelt = λ n s lt is. absurd (let never : Nowhere ≡ Whole s = sym (none n) ∙ is in cc);
-  }
+  no_place = grind (arith, nat_tests, length-replicate, tally-blank, blank_table, none)
 
   committed_kept : IsKept disk.sectors disk.seen after
   committed_kept = record {
@@ -242,7 +200,7 @@ module _ (disk : Disk) {b : Books} (k : ℕ) (kept : IsKept disk.sectors disk.se
 
   committed_spares : SparesKept after extent
   committed_spares = record {
-    frames = spares_then;
+    frames = directory_spares (frozen_generation b) (taken_count b.frozen) kept.plan directory_next kept.frozen.few;
     homes = λ i lt. absurd (omega (arith, lt));
     frozen = none_spares b.plan (frozen_generation b + 1) blank extent none;
     working = half_spares (frozen_generation b + 1) (frozen_generation b) kept.plan

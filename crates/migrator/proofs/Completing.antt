@@ -1,19 +1,19 @@
 -- Clusters: those completed before a commit, and one that the device failed to write.
-use Rattle.migrator.proofs.Names.{ℕ, Option, Some, None, List, refl, sym, ap, subst, arith, Image, Disk, IsTorn, AreKeepable, Entry, Extent, CheckpointHeader}
-use Rattle.migrator.proofs.Names.{entry_at, half_sector, count_of, IsInside, half_extent, found_slot, own_slot, Whole, place_at, slot_of, entries_of}
-use Rattle.migrator.proofs.Names.{AreComplete, Keeps, Unwritten, mended, IfUnwritten, Put, slot_bytes, puts_in, Books, frozen_generation, working_generation}
-use Rattle.migrator.proofs.Names.{FrozenPuts, Stored, stored_in, frozen_of, next_saved, next_header, saved_state, IsKept, LeavesState, MayHaveUnwritten, Holds}
-use Rattle.migrator.proofs.Names.{LeavesSaved, kept_of, Spares, puts, Touches, SparesPuts, Result, Ok, Err, [], length, inl, inr, cases_eq, cases_lt, OnOk}
-use Rattle.migrator.proofs.Names.{OnErr, Elsewhere, image_of, sectors_of, elsewhere_on, OnlyNow, started, Shape, Packed, IsDirectory, home_place, shape_of}
-use Rattle.migrator.proofs.Names.{bytes_at, sectors_from, shaped_at, slot_in, slot_sector, shape_bytes, Plan, IsPlan, IsApart, apart_inside, whole_sectors}
-use Rattle.migrator.proofs.Names.{IsObject, IsOwn, alone, ranked, begins, place_extent, slot_extent, frames_in_slots, halves_within, slots_apart, IsFilled}
-use Rattle.migrator.proofs.Names.{IsComplete, KeepsOne, EndsInZeros, HasZerosAt, IsGathered, IsUnwritten, set, frame_in, frame_from, IsSpelt, frame_read}
-use Rattle.migrator.proofs.Names.{IsFrameOf, spelt_same, Place, slot_for, most, IsSpeltIn, Frame, slot_frame, HasUnwritten}
+use Rattle.migrator.proofs.Names.{nat_tests, IsDurable, seen_by, stored_on, frame_at, read_at, place_length, ℕ, Option, Some, None, List, refl, sym, ap, subst}
+use Rattle.migrator.proofs.Names.{arith, Image, Disk, IsTorn, AreKeepable, Entry, Extent, CheckpointHeader, entry_at, half_sector, count_of, IsInside}
+use Rattle.migrator.proofs.Names.{half_extent, found_slot, own_slot, Whole, place_at, slot_of, entries_of, AreComplete, Keeps, Unwritten, mended, IfUnwritten}
+use Rattle.migrator.proofs.Names.{Put, slot_bytes, puts_in, Books, frozen_generation, working_generation, stored_in, frozen_of, next_saved, next_header}
+use Rattle.migrator.proofs.Names.{saved_state, IsKept, LeavesState, MayHaveUnwritten, Holds, LeavesSaved, kept_of, Spares, puts, Touches, SparesPuts, Result}
+use Rattle.migrator.proofs.Names.{[], length, inl, inr, cases_eq, OnOk, OnErr, Elsewhere, image_of, sectors_of, elsewhere_on, OnlyNow, Shape, Packed}
+use Rattle.migrator.proofs.Names.{IsDirectory, home_place, shape_of, bytes_at, sectors_from, shaped_at, slot_in, slot_sector, shape_bytes, Plan, IsPlan}
+use Rattle.migrator.proofs.Names.{IsApart, apart_inside, whole_sectors, IsObject, IsOwn, alone, ranked, begins, place_extent, frames_in_slots}
+use Rattle.migrator.proofs.Names.{halves_within, slots_apart, IsFilled, IsComplete, KeepsOne, HasZerosAt, IsGathered, set, frame_in, frame_from, IsSpelt}
+use Rattle.migrator.proofs.Names.{frame_read, spelt_same, Place, slot_for, IsSpeltIn, Frame, slot_frame, HasUnwritten}
 use Rattle.std.proofs.Common.{◌≡◌, ◌*◌, ◌<◌, ◌∙◌, ◌⊎◌, ◌+◌, ◌-◌, ◌≤◌}
 use Rattle.migrator.proofs.Committing.{frozen_fits}
 use Rattle.migrator.proofs.Kept.{GoesOnSeen, goes_spared, puts_same, are_put_same, puts_stay, are_put_on, stored_same, home_stays, readable_stays}
 use Rattle.migrator.proofs.PlacesApart.{mended_disk, leaves_mended, leaves_raw, unmended, mended_here, mended_elsewhere, elsewhere_within, touches_within}
-use Rattle.migrator.proofs.PlacesApart.{touches_on, spares_other, home_apart, found_first, state_stays, bytes_stay, apart_bytes, apart_frame, other_half}
+use Rattle.migrator.proofs.PlacesApart.{touches_on, spares_other, home_apart, found_first, state_stays, bytes_stay, apart_bytes, other_half}
 use Rattle.migrator.proofs.Putting.{other_parity, half_spares, homes_spare, later_half}
 use Rattle.migrator.proofs.Tables.{slot_entries, set_here, set_there, slot_kept}
 
@@ -76,8 +76,9 @@ module _ {old new : Disk} {b : Books} {was now : Option Unwritten} {k : ℕ} (ke
   touches : Touches extent.sector extent.length (mended_disk old was) (mended_disk new now)
   touches = search (keeps.touches, leaves_mended was now (IsTorn extent.sector extent.length old) keeps.touches.any_moment)
 
-  pub goes_after : GoesOnSeen (mended_disk old was) (mended_disk new now) b b
-  goes_after = goes_spared refl refl refl spares touches
+  pub goes_after : {c : Books} → c.plan ≡ b.plan → c.header ≡ b.header → c.directory ≡ b.directory →
+      GoesOnSeen (mended_disk old was) (mended_disk new now) b c
+  goes_after plan header directory = goes_spared plan header directory spares touches
 
   pub has_after : MayHaveUnwritten b now
   has_after = by now keeps.unwritten where
@@ -104,7 +105,7 @@ pub record IsCompleted (old : Disk) (image : Image) (b : Books) (k : ℕ) (mid :
 pub ready : {old mid : Disk} {b : Books} {was now : Option Unwritten} {k : ℕ} → IsKept old.sectors (mended old.seen was) b → b.size ≡ Some k →
     Keeps b.plan (frozen_generation b) (entries_of b.frozen) old was mid now → now ≡ None → IsCompleted old (mended old.seen was) b k mid
 ready {old} {mid} {b} {was} {now} {k} kept running keeps none =
-    let goes = goes_after kept running keeps in
+    let goes = goes_after kept running keeps {c = b} refl refl refl in
     let image : mended mid.seen now ≡ mid.seen = unmended none in
     record {
       kept = subst (λ (i : Image). IsKept mid.sectors i b) image (mid_kept kept running keeps);
@@ -119,23 +120,17 @@ ready {old} {mid} {b} {was} {now} {k} kept running keeps none =
 
 pub keeps_at : (b : Books) {old mid : Disk} {was now : Option Unwritten} {h : CheckpointHeader} {es : List Entry} {age : ℕ} → h ≡ next_header age b →
     es ≡ entries_of b.frozen → Keeps b.plan h.generation es old was mid now → Keeps b.plan (frozen_generation b) (entries_of b.frozen) old was mid now
-keeps_at b {old} {mid} {was} {now} {es = es} header entries keeps =
-    subst (λ (fs : List Entry). Keeps b.plan (frozen_generation b) fs old was mid now) entries
-    (subst (λ (x : CheckpointHeader). Keeps b.plan x.generation es old was mid now) header keeps)
+keeps_at b {old} {mid} {was} {now} {h} {es} {age} header entries keeps = grind (arith, nat_tests)
 
 pub complete_at : (b : Books) (image : Image) {h : CheckpointHeader} {es : List Entry} {age : ℕ} → h ≡ next_header age b → es ≡ entries_of b.frozen →
     AreComplete image b.plan h.generation es → AreComplete image b.plan (frozen_generation b) (entries_of b.frozen)
-complete_at b image {es = es} header entries complete =
-    subst (λ (fs : List Entry). AreComplete image b.plan (frozen_generation b) fs) entries
-    (subst (λ (x : CheckpointHeader). AreComplete image b.plan x.generation es) header complete)
+complete_at b image {h} {es} {age} header entries complete = grind (arith, nat_tests)
 
 -- what is to be saved may be
 pub keepable_at : {age : ℕ} {old : Disk} {image : Image} {b : Books} {k : ℕ} {mid : Disk} → IsCompleted old image b k mid →
     AreKeepable b.plan.geometry age (next_saved puts age (frozen_of image b k) (stored_in image b).saved).frames
     → AreKeepable b.plan.geometry age (next_saved puts age (frozen_of mid.seen b k) (stored_in mid.seen b).saved).frames
-keepable_at {age} {image} {b} {k} {mid} is keepable =
-    subst (λ (s : Stored). AreKeepable b.plan.geometry age (next_saved puts age (frozen_of mid.seen b k) s.saved).frames) (sym is.stored)
-    (subst (λ (f : FrozenPuts). AreKeepable b.plan.geometry age (next_saved puts age f (stored_in image b).saved).frames) (sym is.frozen) keepable)
+keepable_at {age} {old} {image} {b} {k} {mid} is keepable = grind (arith, nat_tests)
 
 -- ---- a cluster is put together
 
@@ -164,10 +159,7 @@ pub filled_on : {image : Image} {p : Plan} {generation : ℕ} (first : ℕ) {e :
     IsObject p.geometry e.object
     → ((n : ℕ) → IsObject p.geometry n → home_place p n ≡ home_place p first → shape_bytes (shape_of p n) new ≡ shape_bytes (shape_of p n) old) →
     IsFilled image p generation e old → IsFilled image p generation e new
-filled_on first {e} home is stays was = record {
-  own = stays e.object is (sym home) ∙ was.own;
-  others = λ n is_n same differ. stays n is_n (same ∙ sym home) ∙ was.others n is_n same differ;
-}
+filled_on {image} {p} {generation} first {e} {old} {new} home is stays was = grind (arith, nat_tests)
 
 half_of_slot : (p : Plan) (generation : ℕ) {slot : ℕ} → slot < p.geometry.log → IsInside (record { sector = slot_sector p generation slot; length = 8 })
     (half_extent p.geometry (half_sector p generation))
@@ -185,9 +177,7 @@ cluster_read image u size =
 -- the zeros of a cluster stand in the slot that it was written into
 pub zeros_written : {p : Plan} (n : ℕ) (old new : Image) (u : Unwritten) {now : Option Unwritten} → length u.bytes ≡ 4096 →
     mended new now ≡ mended old (Some u) → now ≡ None → HasZerosAt p n u.bytes → HasZerosAt p n (sectors_from new u.sector 8)
-zeros_written {p} n old new u size seen none zeros rank shape =
-    let there : new ≡ mended old (Some u) = ap (mended new) (sym none) ∙ seen in
-    subst (EndsInZeros p (n - rank)) (sym (ap (λ (image : Image). sectors_from image u.sector 8) there ∙ cluster_read old u size)) (zeros rank shape)
+zeros_written {p} n old new u {now} size seen none zeros = grind (arith, nat_tests, cluster_read)
 
 pub packed_read : (image : Image) (u : Unwritten) (p : Plan) (n : ℕ) {rank : ℕ} → length u.bytes ≡ 4096 → shape_of p n ≡ Packed rank →
     bytes_at (mended image (Some u)) u.sector p n ≡ shape_bytes (shape_of p n) u.bytes
@@ -203,8 +193,7 @@ module _ {p : Plan} (generation : ℕ) {es : List Entry} (i : ℕ) (fits : IsPla
 
   -- an entry whose frame is not packed has a home of its own
   pub own_complete : (image : Image) → IsOwn (shape_of p e.object) → IsComplete image p generation es i
-  own_complete image own first n is_n same none = absurd
-      (other_object n none (alone p n e.object fits is_n (is.each i (record { object = 0; slot = 0 }) within).object own same))
+  own_complete image own = grind (arith, nat_tests, other_object, alone)
 
   -- and one that follows another completes nothing
   pub later_complete : (image : Image) → (0 < i) × (home_place p (entry_at es (i - 1)).object ≡ home_place p e.object) → IsComplete image p generation es i
@@ -219,18 +208,7 @@ module _ {p : Plan} (generation : ℕ) {es : List Entry} (i : ℕ) (fits : IsPla
 
   -- lie apart from the other slots
   others_apart : {j : ℕ} (n : ℕ) → j < length es → (j ≡ i → ⊥) → IsApart (place_extent p generation (entry_at es j).slot n) sectors
-  others_apart {j} n lt other =
-      apart_inside (place_extent p generation (entry_at es j).slot n) sectors (slot_extent p generation (entry_at es j).slot) (slot_extent p generation e.slot)
-      (frames_in_slots p generation (entry_at es j).slot n) (record { starts = omega arith; ends = omega arith })
-      (slots_apart p generation (entry_at es j).slot e.slot differ) where
-        differ : (entry_at es j).slot ≡ e.slot → ⊥
-        differ same = elim (cases_eq j i) [
-          | inl one ↦ other one
-          | inr differs ↦ elim (cases_lt j i) [
-            | inl less ↦ is.apart j i less within same
-            | inr le ↦ is.apart i j (omega (arith, le, differs)) lt (sym same)
-          ]
-        ]
+  others_apart {j} n lt other = grind (arith, nat_tests)
 
   module _ {image new : Image} (change : Elsewhere (slot_sector p generation e.slot) 8 image new) where
     -- what the other slots and the homes have stays
@@ -243,8 +221,7 @@ module _ {p : Plan} (generation : ℕ) {es : List Entry} (i : ℕ) (fits : IsPla
 
     -- so do the clusters that are complete
     pub complete_stays : {j : ℕ} → j < i → IsComplete image p generation es j → IsComplete new p generation es j
-    complete_stays {j} less was first n is_n same none =
-        slot_stays n (omega (arith, less, within)) (λ e. omega (arith, less, e)) ∙ was first n is_n same none ∙ sym (homes_stay is_n)
+    complete_stays {j} less was = grind (arith, nat_tests, slot_stays, homes_stay)
 
 -- ---- the outcome for one entry's cluster
 
@@ -265,11 +242,7 @@ module _ {p : Plan} (generation : ℕ) {es : List Entry} (i : ℕ) {rank : ℕ} 
     change = subst (Elsewhere u.sector 8 old.seen) (sym seen) (mended_elsewhere u)
 
     now_fits : {o : Option Unwritten} → (o ≡ None) ⊎ (o ≡ Some u) → IfUnwritten p generation es o
-    now_fits which = elim which [
-      | inl none ↦ subst (IfUnwritten p generation es) (sym none) tt
-      | inr some ↦ subst (IfUnwritten p generation es) (sym some)
-          (record { size = size; index = i; within = within; sector_is = refl; rank = rank; shape = shape })
-    ]
+    now_fits {o} which = grind (arith, nat_tests)
 
     pub kept_one : KeepsOne p generation es i old new now
     kept_one =
@@ -293,20 +266,10 @@ module _ {p : Plan} (generation : ℕ) {es : List Entry} (i : ℕ) {rank : ℕ} 
 
 -- the device isn't called
 pub touches_none : {at n : ℕ} {disk : Disk} → OnlyNow disk → Touches at n disk disk
-touches_none {at} {n} {disk} only_now = record {
-  size = refl;
-  elsewhere = record { before = λ i lt. refl; after = λ i le. refl };
-  crash = λ c left. (c, left, record { before = λ i lt. refl; after = λ i le. refl });
-  any_moment = started disk (IsTorn at n disk) only_now (λ c left. (c, left, record { before = λ i lt. refl; after = λ i le. refl }));
-}
+touches_none {at} {n} {disk} only_now = grind (arith, nat_tests)
 
 pub keeps_one_none : {p : Plan} {generation : ℕ} {es : List Entry} {i : ℕ} {disk : Disk} → OnlyNow disk → KeepsOne p generation es i disk disk None
-keeps_one_none {p} {generation} {es} {i} {disk} only_now = record {
-  touches = touches_none only_now;
-  elsewhere = record { before = λ i lt. refl; after = λ i le. refl };
-  own = refl;
-  unwritten = tt;
-}
+keeps_one_none {p} {generation} {es} {i} {disk} only_now = grind (arith, nat_tests)
 
 slots_hold : (p : Plan) (generation : ℕ) {slot : ℕ} → slot < p.geometry.log → IsInside (record { sector = slot_sector p generation slot; length = 8 })
     (record { sector = half_sector p generation; length = 9 * p.geometry.log })
@@ -314,18 +277,12 @@ slots_hold p generation low = record { starts = omega arith; ends = omega (arith
 
 -- after a write nothing is unwritten, or the same as before
 pub either_of : {T E : Type 0} {o p : Option Unwritten} (result : Result T E) → OnOk result (p ≡ None) → OnErr result (p ≡ o) → (p ≡ None) ⊎ (p ≡ o)
-either_of (Ok x) none same = inl none
-either_of (Err e) none same = inr same
+either_of {T} {E} {o} {p} result none same = grind (arith, nat_tests)
 
 -- a cluster that the device failed to write lies on it
 pub unwritten_inside : {p : Plan} (generation : ℕ) {es : List Entry} {o : Option Unwritten} {u : Unwritten} → IsPlan p → IsDirectory p.geometry es →
     IfUnwritten p generation es o → o ≡ Some u → u.sector + 8 ≤ p.total
-unwritten_inside {p} generation {es} {u} fits is has some =
-    let entry : IsUnwritten p generation es u = subst (IfUnwritten p generation es) some has in
-    let low = (is.each entry.index (record { object = 0; slot = 0 }) entry.within).slot in
-    let inside = half_of_slot p generation low in
-    let half = halves_within p generation fits in
-    omega (arith, inside.ends, half.1, entry.sector_is)
+unwritten_inside {p} generation {es} {o} {u} fits is has some = grind (arith, nat_tests, object, inside, half_of_slot, halves_within)
 
 -- a cluster that the device failed to write before is written
 pub keeps_written : {p : Plan} {generation : ℕ} {es : List Entry} {old new : Disk} {was now : Option Unwritten} → OnlyNow old → IsDirectory p.geometry es →
@@ -377,8 +334,7 @@ all_complete image p generation es each n s is_n none beside =
 
 -- no checkpoint is on its way
 pub none_idle : (b : Books) (o : Option Unwritten) → MayHaveUnwritten b o → b.size ≡ None → o ≡ None
-none_idle b None has idle = refl
-none_idle b (Some u) has idle = let never : None ≡ Some has.count = sym idle ∙ has.running in absurd cc
+none_idle b o has idle = grind (arith, nat_tests)
 
 -- then no books have any
 pub without : (b : Books) {o : Option Unwritten} → o ≡ None → MayHaveUnwritten b o
@@ -389,22 +345,11 @@ without b none = subst (MayHaveUnwritten b) (sym none) tt
 -- a place with the slot of the one before
 held_torn : (b : Books) (o : Option Unwritten) {n : ℕ} (q : Place) → n < length b.frozen → slot_of q ≡ Some (slot_for b.frozen n) → MayHaveUnwritten b o →
     MayHaveUnwritten (record b { frozen = set b.frozen n q }) o
-held_torn b None q lt is has = tt
-held_torn b (Some u) {n} q lt is has =
-    let place : slot_of (place_at (set b.frozen n q) has.object) ≡ Some has.slot = elim (cases_eq has.object n) [
-      | inl same ↦
-          ap (λ (m : ℕ). slot_of (place_at (set b.frozen n q) m)) same ∙ ap slot_of (set_here b.frozen lt) ∙ is
-          ∙ ap (λ (k : ℕ). Some k) (slot_kept b.frozen n (ap (λ (m : ℕ). slot_of (place_at b.frozen m)) (sym same) ∙ has.place))
-      | inr other ↦ ap slot_of (set_there b.frozen q other) ∙ has.place
-    ] in
-    search (has, place)
+held_torn b o {n} q lt is has = grind (arith, nat_tests, object, set_here, slot_kept, set_there)
 
 pub held_after : (b : Books) {o p : Option Unwritten} {n : ℕ} (q : Place) → n < length b.frozen → slot_of q ≡ Some (slot_for b.frozen n) →
     MayHaveUnwritten b o → (p ≡ None) ⊎ (p ≡ o) → MayHaveUnwritten (record b { frozen = set b.frozen n q; unwritten = p }) p
-held_after b {o} {p} {n} q lt is has either = elim either [
-  | inl none ↦ without (record b { frozen = set b.frozen n q; unwritten = p }) none
-  | inr same ↦ subst (MayHaveUnwritten (record b { frozen = set b.frozen n q })) (sym same) (held_torn b o q lt is has)
-]
+held_after b {o} {p} {n} q lt is has either = grind (arith, nat_tests, without, held_torn)
 
 -- the slot is that of an entry
 pub entry_of : (b : Books) (o : Option Unwritten) → MayHaveUnwritten b o → IfUnwritten b.plan (frozen_generation b) (entries_of b.frozen) o
@@ -415,127 +360,81 @@ entry_of b (Some u) has =
 
 -- a packed frame is that of a node, and of one of five
 is_packed : {p : Plan} {n rank : ℕ} → IsPlan p → n < count_of p → shape_of p n ≡ Packed rank → (n < p.geometry.nodes) × (rank < 5)
-is_packed {p} {n} {rank} fits lt shape =
-    let start = begins p n rank fits lt shape in
-    let at = ranked p n (n - rank) fits lt (omega (arith, lt)) start.first (sym start.home) in
-    (at.3, omega (arith, at.1, start.below))
+is_packed {p} {n} {rank} fits lt shape = grind (arith, nat_tests)
 
 -- ---- what a read of the device itself gives
 
 abbrev cluster_extent : Unwritten → Extent
 cluster_extent u = record { sector = u.sector; length = 8 }
 
-module _ (size : ℕ) (image : Image) (b : Books) where
-  cluster_inside : {u : Unwritten} → IsKept size (mended image (Some u)) b → HasUnwritten b u →
-      IsInside (cluster_extent u) (half_extent b.plan.geometry (half_sector b.plan (frozen_generation b)))
-  cluster_inside {u} kept has =
-      let fits = frozen_fits kept in
-      let entry : IsUnwritten b.plan (frozen_generation b) (entries_of b.frozen) u = entry_of b (Some u) has in
-      let low = (fits.each entry.index (record { object = 0; slot = 0 }) entry.within).slot in
-      record { starts = omega (arith, entry.sector_is); ends = omega (arith, entry.sector_is, low) }
+module _ {disk : Disk} {b : Books} (is : IsDurable disk b) where
+  abbrev half : Extent
+  half = half_extent b.plan.geometry (half_sector b.plan (frozen_generation b))
+
+  has_some : {u : Unwritten} → b.unwritten ≡ Some u → HasUnwritten b u
+  has_some some = subst (MayHaveUnwritten b) some is.unwritten
+
+  cluster_inside : {u : Unwritten} → b.unwritten ≡ Some u → IsInside (cluster_extent u) half
+  cluster_inside {u} some = grind (arith, nat_tests)
+
+  -- sectors apart from the unwritten cluster, also after a write
+  raw : (new : Image) {at : ℕ} (n : ℕ) →
+      ((u : Unwritten) → b.unwritten ≡ Some u → IsApart (record { sector = at; length = place_length b.plan n }) (cluster_extent u))
+      → bytes_at (mended new b.unwritten) at b.plan n ≡ bytes_at new at b.plan n
+  raw new {at} n apart = grind (arith, nat_tests, apart_bytes)
 
   -- the saved frames
-  pub saved_raw : (o : Option Unwritten) → IsKept size (mended image o) b → MayHaveUnwritten b o → {n : ℕ} → n < count_of b.plan
-      → frame_in (mended image o) b.plan b.header.generation b.directory n ≡ frame_in image b.plan b.header.generation b.directory n
-  saved_raw None kept has lt = refl
-  saved_raw (Some u) kept has {n} lt =
-      apart_frame image u b.plan b.header.generation b.directory
-      (spares_other b.header (frozen_generation b) kept.plan kept.directory kept.header.entries (other_parity b.header.generation)
-      (cluster_inside kept has)).frames lt
+  saved_raw : {n : ℕ} → n < count_of b.plan
+      → frame_in (seen_by disk.seen b) b.plan b.header.generation b.directory n ≡ frame_in disk.seen b.plan b.header.generation b.directory n
+  saved_raw {n} lt = raw disk.seen n (λ u some. (spares_other b.header (frozen_generation b) is.kept.plan is.kept.directory is.kept.header.entries
+      (other_parity b.header.generation) (cluster_inside some)).frames n lt)
 
-  pub spelt_raw : (o : Option Unwritten) → IsKept size (mended image o) b → MayHaveUnwritten b o → {n : ℕ} → n < count_of b.plan →
-      IsSpelt image b.plan b.header.age b.header.generation b.directory n
-  spelt_raw o kept has {n} lt = spelt_same image (mended image o) b.plan b.header.age b.header.generation b.header.generation b.directory b.directory n
-      (sym (saved_raw o kept has lt)) (kept.saved n lt)
+  pub spelt_raw : {n : ℕ} → n < count_of b.plan → IsSpelt disk.seen b.plan b.header.age b.header.generation b.directory n
+  spelt_raw {n} lt = grind (arith, nat_tests, spelt_same, saved_raw)
 
-  pub read_raw : (o : Option Unwritten) → IsKept size (mended image o) b → MayHaveUnwritten b o → {n : ℕ} → n < count_of b.plan
-      → frame_read image b.plan b.header.generation b.directory n ≡ frame_read (mended image o) b.plan b.header.generation b.directory n
-  read_raw o kept has {n} lt = ap (λ (bytes : List ℕ). frame_from b.plan.geometry n bytes) (sym (saved_raw o kept has lt))
+  pub read_raw : {n : ℕ} → n < count_of b.plan → frame_read disk.seen b.plan b.header.generation b.directory n ≡ frame_at (stored_on disk b).saved.frames n
+  read_raw {n} lt = ap (frame_from b.plan.geometry n) (sym (saved_raw lt)) ∙ sym (read_at (seen_by disk.seen b) b.plan b.header.generation b.directory n lt)
 
   -- homes
-  pub home_raw : (o : Option Unwritten) → IsKept size (mended image o) b → MayHaveUnwritten b o → b.header.entries ≡ 0 → {n : ℕ} → n < count_of b.plan
-      → bytes_at image (home_place b.plan n) b.plan n ≡ bytes_at (mended image o) (home_place b.plan n) b.plan n
-  home_raw None kept has home lt = refl
-  home_raw (Some u) kept has home {n} lt = sym (apart_bytes image u b.plan n (home_apart (frozen_generation b) kept.plan lt (cluster_inside kept has)))
+  pub home_raw : {n : ℕ} → n < count_of b.plan →
+      bytes_at disk.seen (home_place b.plan n) b.plan n ≡ bytes_at (seen_by disk.seen b) (home_place b.plan n) b.plan n
+  home_raw {n} lt = sym (raw disk.seen n (λ u some. home_apart (frozen_generation b) is.kept.plan lt (cluster_inside some)))
 
   -- what lies in the half of the frames that were put since, also after a write
-  pub working_again : (new : Image) (o : Option Unwritten) → IsKept size (mended image o) b → MayHaveUnwritten b o → {s : ℕ} (n : ℕ) → s < b.plan.geometry.log
-      → slot_bytes (mended new o) b.plan (working_generation b) s n ≡ slot_bytes new b.plan (working_generation b) s n
-  working_again new None kept has n low = refl
-  working_again new (Some u) kept has {s} n low =
-      apart_bytes new u b.plan n (other_half (working_generation b) (frozen_generation b) n kept.plan (later_half b has.running) low (cluster_inside kept has))
+  pub working_again : (new : Image) {s : ℕ} (n : ℕ) → s < b.plan.geometry.log
+      → slot_bytes (mended new b.unwritten) b.plan (working_generation b) s n ≡ slot_bytes new b.plan (working_generation b) s n
+  working_again new n low = raw new n (λ u some. other_half (working_generation b) (frozen_generation b) n is.kept.plan (later_half b (has_some some).running)
+      low (cluster_inside some))
 
   -- and in another slot of the frozen frames
-  pub frozen_raw : (o : Option Unwritten) → IsKept size (mended image o) b → MayHaveUnwritten b o → {s : ℕ} (n : ℕ) → s < b.plan.geometry.log
-      → ((u : Unwritten) → o ≡ Some u → u.sector ≡ slot_sector b.plan (frozen_generation b) s → ⊥) →
-      slot_bytes (mended image o) b.plan (frozen_generation b) s n ≡ slot_bytes image b.plan (frozen_generation b) s n
-  frozen_raw None kept has n low other = refl
-  frozen_raw (Some u) kept has {s} n low other =
-      let t : ℕ = has.slot in
-      let differ : s ≡ t → ⊥ = λ same. other u refl (has.sector_is ∙ ap (slot_sector b.plan (frozen_generation b)) (sym same)) in
-      apart_bytes image u b.plan n (apart_inside (place_extent b.plan (frozen_generation b) s n) (cluster_extent u) (slot_extent b.plan (frozen_generation b) s)
-      (slot_extent b.plan (frozen_generation b) t)
-      (frames_in_slots b.plan (frozen_generation b) s n) (record { starts = omega (arith, has.sector_is); ends = omega (arith, has.sector_is) })
-      (slots_apart b.plan (frozen_generation b) s t differ))
+  pub frozen_raw : (s n : ℕ) → ((u : Unwritten) → b.unwritten ≡ Some u → u.sector ≡ slot_sector b.plan (frozen_generation b) s → ⊥)
+      → slot_bytes (seen_by disk.seen b) b.plan (frozen_generation b) s n ≡ slot_bytes disk.seen b.plan (frozen_generation b) s n
+  frozen_raw s n other = search (arith, raw, has_some, apart_inside, frames_in_slots, slots_apart)
 
-  -- ---- and what its buffer gives
+  -- ---- and what its buffer gives, where the place of a frozen frame is that slot
 
-  module _ {u : Unwritten} (kept : IsKept size (mended image (Some u)) b) (has : HasUnwritten b u) (n : ℕ) {s : ℕ} (at : place_at b.frozen n ≡ Whole s)
-      (here : u.sector ≡ slot_sector b.plan (frozen_generation b) s) where
+  module _ (n : ℕ) {s sector : ℕ} (at : place_at b.frozen n ≡ Whole s) (here : sector ≡ slot_sector b.plan (frozen_generation b) s)
+      (own : (u : Unwritten) × (b.unwritten ≡ Some u) × (u.sector ≡ sector)) where
+    has : HasUnwritten b own.0
+    has = has_some own.1
+
     -- the frame is that of the object whose slot is unwritten
     one : has.object ≡ n
     one =
-        let same_slot : has.slot ≡ s = omega (arith, has.sector_is, here) in
-        elim (cases_eq has.object n) [
-          | inl same ↦ same
-          | inr other ↦ absurd (other (kept.frozen.table.apart has.object n s (has.place ∙ ap (λ (k : ℕ). Some k) same_slot) (ap slot_of at)))
-        ]
+        let same : has.slot ≡ s = omega (arith, has.sector_is, here, own.2) in
+        is.kept.frozen.table.apart has.object n s (has.place ∙ ap (λ (k : ℕ). Some k) same) (ap slot_of at)
 
-    pub own_shape : shape_of b.plan n ≡ Packed has.rank
+    own_shape : shape_of b.plan n ≡ Packed has.rank
     own_shape = ap (shape_of b.plan) (sym one) ∙ has.shape
 
-    pub own_bytes : slot_bytes (mended image (Some u)) b.plan (frozen_generation b) s n ≡ shape_bytes (Packed has.rank) u.bytes
-    own_bytes =
-        ap (λ (at : ℕ). bytes_at (mended image (Some u)) at b.plan n) (sym here) ∙ packed_read image u b.plan n has.size own_shape
-        ∙ ap (λ (shape : Shape). shape_bytes shape u.bytes) own_shape
+    own_bytes : slot_bytes (seen_by disk.seen b) b.plan (frozen_generation b) s n ≡ shape_bytes (shape_of b.plan n) own.0.bytes
+    own_bytes = grind (arith, nat_tests, packed_read, has, own_shape)
 
-  -- ---- by the place of a frozen frame
+    -- the buffer spells it
+    pub own_spelt : n < count_of b.plan → (u : Unwritten) × (b.unwritten ≡ Some u) × IsSpeltIn u (shape_of b.plan n) b.plan.geometry n
+    own_spelt lt = grind (arith, nat_tests, is_packed, own_shape, own_bytes, has)
 
-  -- the buffer spells it where it is that slot's
-  pub own_spelt : {o : Option Unwritten} → IsKept size (mended image o) b → MayHaveUnwritten b o → {n s : ℕ} → n < count_of b.plan →
-      place_at b.frozen n ≡ Whole s → {sector : ℕ} → sector ≡ slot_sector b.plan (frozen_generation b) s
-      → (u : Unwritten) × (o ≡ Some u) × (u.sector ≡ sector) → (u : Unwritten) × (o ≡ Some u) × IsSpeltIn u (shape_of b.plan n) b.plan.geometry n
-  own_spelt kept has {n} {s} lt at here is =
-      subst (λ (x : Option Unwritten). (u : Unwritten) × (x ≡ Some u) × IsSpeltIn u (shape_of b.plan n) b.plan.geometry n) (sym is.1)
-      (by is.0 (subst (λ (x : Option Unwritten). IsKept size (mended image x) b) is.1 kept) (subst (MayHaveUnwritten b) is.1 has) (is.2 ∙ here)) where
-        by : (u : Unwritten) → IsKept size (mended image (Some u)) b → HasUnwritten b u → u.sector ≡ slot_sector b.plan (frozen_generation b) s →
-            (v : Unwritten) × (Some u ≡ Some v) × IsSpeltIn v (shape_of b.plan n) b.plan.geometry n
-        by u kept has here =
-            let bytes = own_bytes kept has n at here in (
-              u,
-              refl,
-              record {
-                rank = has.rank;
-                low = (is_packed kept.plan lt (own_shape kept has n at here)).1;
-                packed = own_shape kept has n at here;
-                node = (is_packed kept.plan lt (own_shape kept has n at here)).0;
-                spelt = subst (λ (xs : List ℕ). IsFrameOf b.plan.geometry most n xs (frame_from b.plan.geometry n xs)) bytes (kept.frozen.spelt n s lt at);
-              },
-            )
-
-  -- and gives it
-  pub own_frame : {o : Option Unwritten} → IsKept size (mended image o) b → MayHaveUnwritten b o → (n : ℕ) {s : ℕ} {read : Frame} →
-      place_at b.frozen n ≡ Whole s → {sector : ℕ} → sector ≡ slot_sector b.plan (frozen_generation b) s
-      → (u : Unwritten) × (o ≡ Some u) × (u.sector ≡ sector) →
-      ((u : Unwritten) → o ≡ Some u → read ≡ frame_from b.plan.geometry n (shape_bytes (shape_of b.plan n) u.bytes))
-      → read ≡ slot_frame (mended image o) b.plan (frozen_generation b) s n
-  own_frame kept has n {s} at here is reported =
-      reported is.0 is.1
-      ∙ subst (λ (x : Option Unwritten). frame_from b.plan.geometry n (shape_bytes (shape_of b.plan n) is.0.bytes) ≡ slot_frame (mended image x) b.plan
-      (frozen_generation b) s n) (sym is.1)
-      (by is.0 (subst (λ (x : Option Unwritten). IsKept size (mended image x) b) is.1 kept) (subst (MayHaveUnwritten b) is.1 has) (is.2 ∙ here)) where
-        by : (u : Unwritten) → IsKept size (mended image (Some u)) b → HasUnwritten b u → u.sector ≡ slot_sector b.plan (frozen_generation b) s
-            → frame_from b.plan.geometry n (shape_bytes (shape_of b.plan n) u.bytes) ≡ slot_frame (mended image (Some u)) b.plan (frozen_generation b) s n
-        by u kept has here =
-            ap (frame_from b.plan.geometry n)
-            (ap (λ (shape : Shape). shape_bytes shape u.bytes) (own_shape kept has n at here) ∙ sym (own_bytes kept has n at here))
+    -- and gives it
+    pub own_frame : {read : Frame} → ((u : Unwritten) → b.unwritten ≡ Some u → read ≡ frame_from b.plan.geometry n (shape_bytes (shape_of b.plan n) u.bytes))
+        → read ≡ slot_frame (seen_by disk.seen b) b.plan (frozen_generation b) s n
+    own_frame reported = reported own.0 own.1 ∙ ap (frame_from b.plan.geometry n) (sym own_bytes)

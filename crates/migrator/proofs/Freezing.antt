@@ -1,10 +1,10 @@
 -- What was put is frozen.
-use Rattle.migrator.proofs.Names.{ℕ, Some, None, List, length, sym, ap, subst, arith, replicate, range_with_len, same_lists, length-replicate, get_or-replicate}
-use Rattle.migrator.proofs.Names.{length-map-range_with_len, get_or-map-range_with_len, Image, count_of, Plan, Place, Nowhere, Whole, place_at, Put, Absent}
-use Rattle.migrator.proofs.Names.{held_slot, sum_of, put_of, puts_in, ArePut, Books, frozen_generation, working_generation, generation_after, Stored, stored_in}
-use Rattle.migrator.proofs.Names.{IsRunning, IsKept, freezing_puts}
-use Rattle.std.specs.Prelude.{map}
-use Rattle.std.proofs.Common.{◌≡◌, ◌+◌, ◌<◌, ◌≤◌, ◌∙◌}
+use Rattle.migrator.proofs.Names.{nat_tests, ℕ, Some, None, List, length, ap, arith, replicate, same_lists, length-replicate, get_or-replicate}
+use Rattle.migrator.proofs.Names.{length-map-range_with_len, get_or-map-range_with_len, Image, count_of, Plan, Place, Nowhere, place_at, Put, Absent, held_slot}
+use Rattle.migrator.proofs.Names.{sum_of, put_of, puts_in, ArePut, Books, frozen_generation, working_generation, generation_after, Stored, stored_in, IsKept}
+use Rattle.migrator.proofs.Names.{freezing_puts}
+use Rattle.std.proofs.Common.{◌≡◌, ◌≤◌}
+use Rattle.migrator.proofs.Kept.{nowhere_frozen}
 use Rattle.migrator.proofs.Putting.{held_taken}
 
 pub length_puts : (image : Image) (p : Plan) (generation : ℕ) (ps : List Place) → length (puts_in image p generation ps) ≡ count_of p
@@ -16,21 +16,10 @@ pub puts_blank : (image : Image) (p : Plan) (generation : ℕ) {m : ℕ} (ps : L
     puts_in image p generation ps ≡ replicate m Absent
 unfolding puts_in
 puts_blank image p generation {m} ps none size =
-    let f : ℕ → Put = λ n. put_of image p generation n (place_at ps n) in
-    same_lists (map f (range_with_len 0 (count_of p))) (replicate m Absent)
-    (length-map-range_with_len f 0 (count_of p) ∙ sym size ∙ sym (length-replicate {A = Put} m Absent))
-    (λ n d lt.
-    let few : n < count_of p = omega (arith, lt, length-map-range_with_len f 0 (count_of p)) in
-    get_or-map-range_with_len f 0 (count_of p) n n d few (omega arith) ∙ ap (put_of image p generation n) (none n) ∙
-    sym (get_or-replicate m n Absent d (omega (arith, few, size))))
+    grind (arith, nat_tests, same_lists, length-map-range_with_len, length-replicate, get_or-map-range_with_len, get_or-replicate)
 
 pub blank_put : {image : Image} {p : Plan} {a b : ℕ} {ps : List Place} → ArePut image p a ps → ((n : ℕ) → place_at ps n ≡ Nowhere) → ArePut image p b ps
-blank_put are none = record {
-  count = are.count;
-  few = are.few;
-  table = are.table;
-  spelt = λ n s lt is. absurd (let never : Nowhere ≡ Whole s = sym (none n) ∙ is in cc);
-}
+blank_put {image} {p} {a} {b} {ps} are none = grind (arith, nat_tests)
 
 abbrev pub frozen_books : Books → ℕ → Books
 frozen_books b k = record b { frozen = b.working; size = Some k; working = b.frozen }
@@ -39,26 +28,12 @@ module _ (size : ℕ) (image : Image) (b : Books) (k : ℕ) (none : b.size ≡ N
   generation : working_generation b ≡ frozen_generation b
   generation = ap (generation_after b.header.generation) none
 
-  blank : (n : ℕ) → place_at b.frozen n ≡ Nowhere
-  blank = subst (IsRunning b) none kept.running
-
   pub freeze_kept : b.header.entries ≡ 0 → sum_of held_slot (puts_in image b.plan (working_generation b) b.working) ≤ k → k ≤ b.plan.geometry.log →
       IsKept size image (frozen_books b k)
-  freeze_kept home enough few =
-      let held = held_taken image b.plan (working_generation b) b.working kept.working.count in
-      let running : IsRunning (frozen_books b k) (Some k) = (home, omega (arith, enough, held), few) in
-      search (
-        kept,
-        subst (λ (g : ℕ). ArePut image b.plan g b.working) generation kept.working,
-        blank_put {b = working_generation (frozen_books b k)} kept.frozen blank,
-      )
+  freeze_kept home enough few = grind (arith, nat_tests, held_taken, generation, blank_put, nowhere_frozen)
 
   abbrev stored_of : List Put → List Put → Stored
   stored_of working put = record (stored_in image b) { working = working; frozen = Some (record { put = put; size = k }) }
 
   pub freeze_stored : stored_in image (frozen_books b k) ≡ freezing_puts k (stored_in image b)
-  freeze_stored = rw (
-    puts_blank image b.plan (b.header.generation + 1 + 1) b.frozen blank
-        (length_puts image b.plan (working_generation b) b.working),
-    generation,
-  )
+  freeze_stored = grind (arith, nat_tests, puts_blank, generation, nowhere_frozen, length_puts)

@@ -1,11 +1,11 @@
 -- The saved frames of a cluster's nodes are put together.
-use Rattle.migrator.proofs.Names.{ℕ, Option, Some, Result, Ok, Err, List, length, take, drop, sym, ap, subst, inl, inr, arith, OnOk, cases_lt, drop_at, Image}
-use Rattle.migrator.proofs.Names.{Disk, Entry, Shape, Packed, zeros, home_place, place_length, shape_of, frame_in, frame_sector, frame_slot_in, sector_or}
-use Rattle.migrator.proofs.Names.{sectors_from, shaped_at, slot_in, slot_sector, bytes_at, shape_bytes, shape_length, Plan, IsPlan, length-zeros, ReadsOnly}
-use Rattle.migrator.proofs.Names.{WritesAt, IsObject, EndsInZeros, HaveHome, HoldsHome, IsOwn, alone, ranked, HasZerosAt, IsGathered, IsCopied, Touches}
+use Rattle.migrator.proofs.Names.{nat_tests, ℕ, Option, Some, Result, List, length, take, drop, sym, ap, subst, arith, OnOk, drop_at, Image, Disk, Entry, Shape}
+use Rattle.migrator.proofs.Names.{Packed, zeros, home_place, place_length, shape_of, frame_in, frame_slot_in, sector_or, sectors_from, shaped_at}
+use Rattle.migrator.proofs.Names.{slot_in, slot_sector, bytes_at, shape_bytes, Plan, IsPlan, length-zeros, ReadsOnly, WritesAt, IsObject, EndsInZeros, HaveHome}
+use Rattle.migrator.proofs.Names.{HoldsHome, IsOwn, alone, ranked, HasZerosAt, IsGathered, IsCopied, Touches}
 use Rattle.std.proofs.Common.{◌≡◌, ◌+◌, ◌-◌, ◌*◌, ◌<◌, ◌++◌, ◌∙◌}
 use Rattle.std.proofs.lemmas.List.{length-append}
-use Rattle.migrator.proofs.PlacesApart.{reads_then, in_slot}
+use Rattle.migrator.proofs.PlacesApart.{in_slot}
 
 -- ---- one node
 
@@ -13,10 +13,7 @@ use Rattle.migrator.proofs.PlacesApart.{reads_then, in_slot}
 pub frame_slot_bytes : (image : Image) (p : Plan) (generation : ℕ) (es : List Entry) (n : ℕ) {rank at : ℕ} {o : Option ℕ} {node : List ℕ} →
     shape_of p n ≡ Packed rank → o ≡ frame_slot_in p es n → at ≡ sector_or o (slot_sector p generation) (home_place p n)
     → shaped_at image at (Packed rank) ≡ node → node ≡ frame_in image p generation es n
-frame_slot_bytes image p generation es n {rank} shape frame_slot place read =
-    sym read ∙ ap (λ (sector : ℕ). shaped_at image sector (Packed rank))
-    (place ∙ ap (λ (q : Option ℕ). sector_or q (slot_sector p generation) (home_place p n)) frame_slot)
-    ∙ ap (shaped_at image (sector_or (frame_slot_in p es n) (slot_sector p generation) (home_place p n))) (sym shape)
+frame_slot_bytes image p generation es n {rank} {at} {o} {node} shape frame_slot place read = grind (arith, nat_tests)
 
 -- 1024 bytes of a packed frame end in zeros
 pub packed_end : (bytes : List ℕ) {node : List ℕ} {s : Shape} {rank : ℕ} → s ≡ Packed rank → node ≡ shape_bytes s bytes → length node ≡ 1024 →
@@ -28,8 +25,7 @@ packed_end bytes {node} {rank} shape is size =
 
 pub frame_end : (image : Image) (p : Plan) (generation : ℕ) (es : List Entry) (n : ℕ) {rank : ℕ} {node : List ℕ} → shape_of p n ≡ Packed rank →
     node ≡ frame_in image p generation es n → length node ≡ 1024 → drop 800 node ≡ zeros 224
-frame_end image p generation es n {rank} {node} shape is size = packed_end (sectors_from image (frame_sector p generation es n) (place_length p n)) shape is
-    size
+frame_end image p generation es n {rank} {node} shape is size = search (arith, packed_end)
 
 -- ---- node by node
 
@@ -41,11 +37,7 @@ pub one_more : (image : Image) (p : Plan) (generation : ℕ) (es : List Entry) (
     AreIn image p generation es number n old → shape_bytes (Packed n) new ≡ frame_in image p generation es (number + n)
     → ((other : ℕ) → other < 5 → (other ≡ n → ⊥) → shape_bytes (Packed other) new ≡ shape_bytes (Packed other) old) →
     AreIn image p generation es number (n + 1) new
-one_more image p generation es number {n} old new few so_far here others k below = elim (cases_lt k n) [
-  | inl lt ↦ others k (omega (arith, lt, few)) (λ e. omega (arith, lt, e)) ∙ so_far k lt
-  | inr le ↦ let last : n ≡ k = omega (arith, below, le) in subst (λ (m : ℕ). shape_bytes (Packed m) new ≡ frame_in image p generation es (number + m)) last
-      here
-]
+one_more image p generation es number {n} old new few so_far here others = grind (arith, nat_tests)
 
 -- a number that has the home of the first has its rank there
 pub rank_there : {p : Plan} {number n k : ℕ} → IsPlan p → IsObject p.geometry number → shape_of p number ≡ Packed 0 → HaveHome p number n → k < n →
@@ -70,26 +62,19 @@ all_in image {p} generation es {number} cluster fits is first have so_far a is_a
 own_copied : (old new : Image) {p : Plan} (generation : ℕ) (es : List Entry) {number slot : ℕ} → IsPlan p → IsObject p.geometry number →
     IsOwn (shape_of p number) → slot_in es number ≡ Some slot
     → bytes_at new (home_place p number) p number ≡ bytes_at old (slot_sector p generation slot) p number → IsCopied old new p generation es number
-own_copied old new {p} generation es {number} {slot} fits is own has copied n is_n same =
-    let one : number ≡ n = sym (alone p n number fits is_n is own same) in
-    subst (λ (m : ℕ). bytes_at new (home_place p m) p m ≡ frame_in old p generation es m) one (copied ∙ sym (in_slot old p generation es number has))
+own_copied old new {p} generation es {number} {slot} fits is own has copied = grind (arith, nat_tests, alone, in_slot)
 
 -- the home is written in two ways, `p` and `q`
 pub copied_own : (old new : Image) {p : Plan} (generation : ℕ) (es : List Entry) {number slot from to : ℕ} {s : Shape} → IsPlan p → IsObject p.geometry number →
     IsOwn s → s ≡ shape_of p number → slot_in es number ≡ Some slot
     → from ≡ slot_sector p generation slot → to ≡ home_place p number → shaped_at new to s ≡ shaped_at old from s → IsCopied old new p generation es number
-copied_own old new {p} generation es {number} {slot} {s} fits is own shape has from_is to_is copied =
-    own_copied old new generation es fits is (subst IsOwn shape own) has
-    (ap (shaped_at new (home_place p number)) (sym shape) ∙ ap (λ (at : ℕ). shaped_at new at s) (sym to_is) ∙ copied ∙
-    ap (λ (at : ℕ). shaped_at old at s) from_is ∙ ap (shaped_at old (slot_sector p generation slot)) shape)
+copied_own old new {p} generation es {number} {slot} {from} {to} {s} fits is own shape has from_is to_is copied = grind (arith, nat_tests, own_copied)
 
 -- ---- what a write after reads does
 
 pub cluster_touched : {old mid new : Disk} {p q : Plan} (first : ℕ) → q ≡ p → shape_of p first ≡ Packed 0 → ReadsOnly old mid →
     WritesAt (home_place q first) (place_length q first) mid new → Touches (home_place p first) 8 old new
-cluster_touched {old} {mid} {new} {p} first same shape reads writes =
-    let there = subst (λ (x : Plan). WritesAt (home_place x first) (place_length x first) mid new) same writes in
-    reads_then reads (subst (λ (n : ℕ). WritesAt (home_place p first) n mid new) (ap shape_length shape) there)
+cluster_touched {old} {mid} {new} {p} {q} first same shape reads writes = grind (arith, nat_tests)
 
 -- ---- the zeros of a cluster
 
@@ -102,21 +87,17 @@ zeros_at {p} n {rank} bytes shape zeros other is = subst (λ (r : ℕ). EndsInZe
 -- a number whose home is its own lies in no cluster
 pub no_cluster : {T E : Type 0} (result : Result T E) (p : Plan) (n : ℕ) {s : Shape} (bytes : List ℕ) → IsOwn s → s ≡ shape_of p n →
     OnOk result (HasZerosAt p n bytes)
-no_cluster (Ok done) p n bytes own shape = λ rank is. absurd (subst IsOwn (shape ∙ is) own)
-no_cluster (Err error) p n bytes own shape = tt
+no_cluster {T} {E} result p n {s} bytes own shape = grind (arith, nat_tests)
 
 -- what was gathered is copied, though the rest of the cluster was made zeros
 pub copied_blank : {T E : Type 0} (result : Result T E) (old new : Image) (p : Plan) (generation : ℕ) (es : List Entry) (first : ℕ) (gathered blank : List ℕ) →
     IsGathered old p generation es first gathered
     → ((n : ℕ) → IsObject p.geometry n → home_place p n ≡ home_place p first → shape_bytes (shape_of p n) blank ≡ shape_bytes (shape_of p n) gathered)
     → OnOk result (HoldsHome p first blank new) → OnOk result (IsCopied old new p generation es first)
-copied_blank (Ok done) old new p generation es first gathered blank are stays held = λ n is same. held n is same ∙ stays n is same ∙ are n is same
-copied_blank (Err error) old new p generation es first gathered blank are stays held = tt
+copied_blank {T} {E} result old new p generation es first gathered blank are stays held = grind (arith, nat_tests)
 
 -- the home of the first of a cluster is that of each
 pub zeros_there : {T E : Type 0} (result : Result T E) (p : Plan) (n : ℕ) {rank : ℕ} (new : Image) → shape_of p n ≡ Packed rank →
     home_place p (n - rank) ≡ home_place p n
     → OnOk result (EndsInZeros p (n - rank) (sectors_from new (home_place p (n - rank)) 8)) → OnOk result (HasZerosAt p n (sectors_from new (home_place p n) 8))
-zeros_there (Ok done) p n {rank} new shape home zeros = zeros_at n (sectors_from new (home_place p n) 8) shape
-    (subst (λ (at : ℕ). EndsInZeros p (n - rank) (sectors_from new at 8)) home zeros)
-zeros_there (Err error) p n new shape home zeros = tt
+zeros_there {T} {E} result p n {rank} new shape home zeros = grind (arith, nat_tests)

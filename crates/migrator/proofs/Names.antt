@@ -1,11 +1,9 @@
 -- The names that the proofs here cite: of other crates, and of the definitions of this one.
 pub use Rattle.checkpoint.proofs.Lists.{maps_same}
 pub use Rattle.checkpoint.specs.Opened.{IsBadFor, OnlyReads}
-pub use Rattle.checkpoint.specs.Saved.{Holds, LeavesEither, LeavesSaved, SavedFrames, home_saved, kept_of, most, with_words}
-pub use Rattle.checkpoint.specs.Snapshots.{MayCommit, all_moved, committed, journaled, moved_saved, next_saved, replaced}
-pub use Rattle.layout.specs.declared.open_fault.OpenFault.{OpenFault}
+pub use Rattle.checkpoint.specs.Saved.{Holds, LeavesEither, LeavesSaved, SavedFrames, kept_of, most, with_words}
+pub use Rattle.checkpoint.specs.Snapshots.{MayCommit, Snapshots, all_moved, committed, journaled, next_saved, replaced}
 pub use Rattle.ckpt_log.proofs.Places.{directories_inside, frames_in_slots, halves_apart, halves_within, next_follows, slots_apart, slots_inside}
-pub use Rattle.ckpt_log.proofs.Places.{slots_spare_directories}
 pub use Rattle.ckpt_log.proofs.SavedStates.{frames_behind, new_denoted, old_denoted, same_saved}
 pub use Rattle.ckpt_log.specs.Commit.{CommitsOne, HasNew, IsOld, Precedes, header_sector}
 pub use Rattle.ckpt_log.specs.CommitLaws.{HomesAreBehind, IsReady}
@@ -13,7 +11,7 @@ pub use Rattle.ckpt_log.specs.Places.{directory_extent, place_extent, slot_exten
 pub use Rattle.ckpt_log.specs.SavedSectors.{SameFrom, SameWhereRead}
 pub use Rattle.collections.specs.Marks.{HasNoneMarked, IsNextMarked, is_marked}
 pub use Rattle.device.proofs.Images.{agrees_is, elsewhere_on, elsewhere_same}
-pub use Rattle.device.proofs.Moments.{OnlyNow, counted_ok, counts_on, leaves_on, leaves_weaker, peeks_started, started}
+pub use Rattle.device.proofs.Moments.{OnlyNow, counted_ok, counts_on, leaves_on, leaves_weaker}
 pub use Rattle.device.specs.Calls.{Agrees, Counts, Elsewhere, IsTorn, Only, image_of, sectors_of}
 pub use Rattle.device.specs.Disk.{Disk, Image}
 pub use Rattle.device.specs.Moments.{Elapses, LeavesOnly}
@@ -28,8 +26,8 @@ pub use Rattle.layout.proofs.FrameReaders.{header_is}
 pub use Rattle.layout.proofs.Halves.{apart_inside, apart_turned, half_within, itself, within_inside}
 pub use Rattle.layout.proofs.Images.{one_frame}
 pub use Rattle.layout.proofs.Sectors.{whole_sectors}
-pub use Rattle.layout.proofs.Shapes.{page_bytes, same_shaped}
-pub use Rattle.layout.proofs.SlotsOf.{found_slot, no_slot, own_slot, rising_to, slot_behind, slot_here, two_objects}
+pub use Rattle.layout.proofs.Shapes.{same_shaped}
+pub use Rattle.layout.proofs.SlotsOf.{found_slot, no_slot, own_slot, rising_to, slot_behind, two_objects}
 pub use Rattle.layout.proofs.Spelling.{bytes_spelt, denotes, length_read, read_at, read_same, spelt_at, spelt_read, spelt_same}
 pub use Rattle.layout.proofs.Totals.{total_reported}
 unfoldable pub use Rattle.layout.specs.Bytes.{zeros}
@@ -38,13 +36,12 @@ pub use Rattle.layout.specs.Directory.{AreRising, IsDirectory, IsEntry, entry_at
 unfoldable pub use Rattle.layout.specs.Directory.{directory_bytes}
 pub use Rattle.layout.specs.Fault.{CountsOpen}
 pub use Rattle.layout.specs.Frame.{IsFrameOf, frame_bytes, frame_length, frame_of}
-unfoldable pub use Rattle.layout.specs.Frame.{node_frame_bytes, page_frame_bytes}
+unfoldable pub use Rattle.layout.specs.Frame.{page_frame_bytes}
 unfoldable pub use Rattle.layout.specs.FrameReader.{frame_from, header_from}
 pub use Rattle.layout.specs.Frames.{IsHeaderAt, IsObject, IsRefused}
-pub use Rattle.layout.specs.Half.{half_of}
 pub use Rattle.layout.specs.Header.{IsHeader}
 pub use Rattle.layout.specs.Homes.{home_place, place_length, range_with, rank_in, shape_of}
-pub use Rattle.layout.specs.Image.{Encodes, HasDirectory, HasHeader, HasPlan, IsBadBy, IsTooSmall, SavedState, bytes_at, directory_in, directory_length}
+pub use Rattle.layout.specs.Image.{Encodes, HasDirectory, HasHeader, HasPlan, IsTooSmall, SavedState, bytes_at, directory_in, directory_length}
 pub use Rattle.layout.specs.Image.{directory_sector, frame_in, frame_sector, frame_slot_in, half_sector, sector_or, shaped_at, slot_beside, slot_in}
 pub use Rattle.layout.specs.Image.{slot_sector, total_in}
 unfoldable pub use Rattle.layout.specs.Image.{sectors_from}
@@ -56,30 +53,23 @@ unfoldable pub use Rattle.layout.specs.Superblock.{superblock_bytes}
 pub use Rattle.layout.specs.declared.bad_image.BadImage.{BadImage}
 pub use Rattle.layout.specs.declared.directory.Entry.{Entry}
 pub use Rattle.layout.specs.declared.extent.Extent.{Extent}
-pub use Rattle.layout.specs.declared.half.Half.{Half}
 pub use Rattle.layout.specs.declared.half.Half.TheVariants.{First, Second}
 pub use Rattle.layout.specs.declared.header.CheckpointHeader.{CheckpointHeader}
+pub use Rattle.layout.specs.declared.open_fault.OpenFault.{OpenFault}
 pub use Rattle.layout.specs.declared.shape.Shape.{Shape}
 pub use Rattle.layout.specs.declared.shape.Shape.TheVariants.{Node, Packed, Page}
 pub use Rattle.model.specs.Frame.{blank_frame, content_behind, frame_at}
-pub use Rattle.model.specs.Keepable.{AreKeepable, AreKeptSlots, AreKeptWords, Follows, IsCount, IsKeepable, IsKeptCap, MayBeKept}
-pub use Rattle.model.specs.Object.{role_of}
-pub use Rattle.model.specs.Sound.{IsOfKind}
-pub use Rattle.model.specs.declared.capability.Cap.{Cap}
-pub use Rattle.model.specs.declared.capability.Capability.{Capability}
-pub use Rattle.model.specs.declared.capability.Capability.TheVariants.{Bank, Process, Resume, Space, Start}
+pub use Rattle.model.specs.Keepable.{AreKeepable, AreKeptWords, IsKeepable}
 pub use Rattle.model.specs.declared.frame.Frame.{Frame}
 pub use Rattle.model.specs.declared.frame.ObjectHeader.{ObjectHeader}
 pub use Rattle.model.specs.declared.geometry.Geometry.{Geometry}
-pub use Rattle.model.specs.declared.object.Content.{Content}
 pub use Rattle.std.proofs.Common.{Bool, Err, List, None, Ok, Option, Result, Some, [], ap, append-nil, arith, cond, drop, false, get_or, inl, inr, length}
 pub use Rattle.std.proofs.Common.{length-append, map, nat_eq, nat_le, nat_lt, not, refl, rules, set, subst, suc, sym, take, true, zero, ℕ, ⊎_elim}
 pub use Rattle.std.proofs.Math.ListN.{get_or-map}
-pub use Rattle.std.proofs.lemmas.Bool.{cases_eq, cases_lt, eq-eqb, le-ltb, ne_eqb}
+pub use Rattle.std.proofs.lemmas.Bool.{cases_eq, cases_lt, eq-eqb}
 pub use Rattle.std.proofs.lemmas.Bool.Decides.{nat_tests}
 pub use Rattle.std.proofs.lemmas.List.{drop_all, drop_at, get_or-replicate, get_or-set_other, get_or-set_same, get_or_default, get_or_past, length-map}
 pub use Rattle.std.proofs.lemmas.List.{length-replicate, length-set, map-set, nil_from_length, same_lists, take_all}
-pub use Rattle.std.proofs.lemmas.List.Elements.{All-weaker}
 pub use Rattle.std.proofs.lemmas.List.FromFn.{get_or-map-range_with_len, length-map-range_with_len, map-range_with_len_more}
 pub use Rattle.std.proofs.lemmas.Option.{same_Some}
 pub use Rattle.std.proofs.lemmas.Result.{IfErr-weaker, IfOk-weaker, err_from_is_err_and, on_err_weaker, on_ok_weaker}
@@ -91,10 +81,10 @@ pub use Rattle.migrator.specs.Durable.{DurableState, FrozenPuts, GoesOnDisk, Has
 pub use Rattle.migrator.specs.Durable.{IsSoundOn, LeavesState, MayHaveUnwritten, MayJournal, MayPut, Migrates, MovedBy, Publishes, PutsFrame, ReadsStore, Stays}
 pub use Rattle.migrator.specs.Durable.{Stored, Stores, below_at, first_bytes, first_frame, freezing_puts, frozen_generation, frozen_of, frozen_put}
 pub use Rattle.migrator.specs.Durable.{generation_after, home_header, is_sound, left_of, newest, next_header, on_snapshots, puts, replaced_header, saved_state}
-pub use Rattle.migrator.specs.Durable.{seen_by, snapshots_in, stored_in, stored_of, stored_on, with_frozen, with_put, with_working, working_generation}
+pub use Rattle.migrator.specs.Durable.{seen_by, stored_in, stored_of, stored_on, with_frozen, with_put, with_working, working_generation}
 pub use Rattle.migrator.specs.Gathered.{HasZerosAt, IsCopied, IsFirst, IsGathered}
 pub use Rattle.migrator.specs.Headers.{IsHeaderOf}
-pub use Rattle.migrator.specs.Mended.{IfUnwritten, IsSpeltIn, IsUnwritten, Unwritten, mended, unwritten_of}
+pub use Rattle.migrator.specs.Mended.{IfUnwritten, IsSpeltIn, Unwritten, mended, unwritten_of}
 pub use Rattle.migrator.specs.Opened.{HasNoPlan, IsBadAt, IsRead, IsUnplanned, OpensDurable}
 pub use Rattle.migrator.specs.Put.{Absent, ArePut, Broken, HasFreeSlot, Kept, Put, held_slot, kept_count, kept_frame, put_at, put_of, put_or, slot_bytes}
 pub use Rattle.migrator.specs.Put.{slot_frame}

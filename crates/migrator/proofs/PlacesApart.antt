@@ -179,8 +179,7 @@ extent_of sector length = record { sector = sector; length = length }
 apart_by : (o : Option ℕ) (p : Plan) (generation : ℕ) (es : List Entry) (n : ℕ) (e : Extent) → frame_slot_in p es n ≡ o →
     ((s : ℕ) → frame_slot_in p es n ≡ Some s → IsApart (place_extent p generation s n) e)
     → (frame_slot_in p es n ≡ None → IsApart (home_extent p n) e) → IsApart (frame_extent p generation es n) e
-apart_by None p generation es n e is slot home = rw is (home is)
-apart_by (Some s) p generation es n e is slot home = rw is (slot s is)
+apart_by o p generation es n e is slot home = grind (arith, nat_tests)
 
 -- the frame of an object lies apart where both of its places do
 pub frame_apart : (p : Plan) (generation : ℕ) (es : List Entry) (n : ℕ) (e : Extent) →
@@ -307,19 +306,6 @@ reads_touch {at} {n} {old} {new} reads = record {
   any_moment = leaves_weaker {old = old} {new = new} {P = old.may_leave} (λ c. IsTorn at n old c) (whole at n old) reads.any_moment;
 }
 
-torn_on : (at n : ℕ) {old mid : Disk} → ReadsOnly old mid → (c : Image) → IsTorn at n mid c → IsTorn at n old c
-torn_on at n reads c torn = (torn.0, reads.crash torn.0 torn.1, torn.2)
-
--- nor does a write after a read touch others
-pub reads_then : {at n : ℕ} {old mid new : Disk} → ReadsOnly old mid → WritesAt at n mid new → Touches at n old new
-reads_then {at} {n} {old} {mid} {new} reads writes = record {
-  size = writes.size ∙ reads.size;
-  elsewhere = elsewhere_on at n old.seen mid.seen new.seen (elsewhere_same at n old.seen mid.seen reads.seen) writes.elsewhere;
-  crash = λ c left. torn_on at n reads c (writes.crash c left);
-  any_moment = leaves_on {old = old} {mid = mid} {new = new} {P = λ c. IsTorn at n old c} (reads_touch reads).any_moment
-      (leaves_weaker {old = mid} {new = new} {P = λ c. IsTorn at n mid c} (λ c. IsTorn at n old c) (torn_on at n reads) writes.any_moment);
-}
-
 module _ {old new : Disk} {p : Plan} {h : CheckpointHeader} {es : List Entry} {e : Extent} (spares : Spares p h es e)
     (writes : Touches e.sector e.length old new) where
   pub state_spared : state_in new.seen p h es ≡ state_in old.seen p h es
@@ -359,8 +345,7 @@ mended_elsewhere {image} u = record { before = λ i lt. mended_before image u lt
 -- ---- what the buffer spells
 
 pub unwritten_bytes : (sector : Option ℕ) {bytes : List ℕ} {u : Unwritten} → unwritten_of sector bytes ≡ Some u → u.bytes ≡ bytes
-unwritten_bytes None is = absurd cc
-unwritten_bytes (Some at) {bytes} {u} is = let same : record { sector = at; bytes = bytes } ≡ u = cc in ap (λ (v : Unwritten). v.bytes) (sym same)
+unwritten_bytes sector {bytes} {u} is = grind (arith, nat_tests)
 
 same_unwritten : {u v : Unwritten} → Some u ≡ Some v → u ≡ v
 same_unwritten e = cc
@@ -379,8 +364,7 @@ buffer_read {g} {n} {u} {shape} {read} some packed has is found =
 
 pub elsewhere_within : {at n : ℕ} {e : Extent} {old new : Image} → IsInside (record { sector = at; length = n }) e → Elsewhere at n old new →
     Elsewhere e.sector e.length old new
-elsewhere_within inside change =
-    record { before = λ i lt. change.before i (omega (arith, lt, inside.starts)); after = λ i le. change.after i (omega (arith, le, inside.ends)) }
+elsewhere_within {at} {n} {e} {old} {new} inside change = grind (arith, nat_tests)
 
 torn_within : (at n : ℕ) {e : Extent} (disk : Disk) (c : Image) → IsInside (record { sector = at; length = n }) e → IsTorn at n disk c →
     IsTorn e.sector e.length disk c
@@ -460,8 +444,3 @@ pub apart_bytes : (image : Image) (u : Unwritten) {at : ℕ} (p : Plan) (n : ℕ
     IsApart (record { sector = at; length = place_length p n }) (record { sector = u.sector; length = 8 }) →
     bytes_at (mended image (Some u)) at p n ≡ bytes_at image at p n
 apart_bytes image u {at} p n apart = bytes_stay p n apart (mended_elsewhere u)
-
-pub apart_frame : (image : Image) (u : Unwritten) (p : Plan) (generation : ℕ) (es : List Entry) →
-    SparesFrames p generation es (record { sector = u.sector; length = 8 }) → {n : ℕ} → n < count_of p
-    → frame_in (mended image (Some u)) p generation es n ≡ frame_in image p generation es n
-apart_frame image u p generation es spares {n} lt = frame_stays p generation es (record { sector = u.sector; length = 8 }) spares (mended_elsewhere u) n lt

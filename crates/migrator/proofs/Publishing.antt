@@ -1,21 +1,21 @@
 -- A directory is written, and a header is published over it.
-use Rattle.migrator.proofs.Names.{is_err, ap, IsDurable, IsKept, Books, MayAdopt, Option, Unwritten, mended, saved_state, stored_in, stored_on, ℕ, Result, Ok}
-use Rattle.migrator.proofs.Names.{Err, List, refl, sym, subst, inl, inr, ⊎_elim, OnOk, OnErr, Image, Disk, Elsewhere, Only, LeavesOnly, agrees_is}
-use Rattle.migrator.proofs.Names.{leaves_weaker, leaves_on, Entry, CheckpointHeader, directory_bytes, IsFrameOf, Encodes, SavedState, frame_in, directory_in}
-use Rattle.migrator.proofs.Names.{directory_sector, directory_length, state_in, Plan, length_read, read_at, spelt_same, WritesAt, header_sector, CommitsOne}
-use Rattle.migrator.proofs.Names.{Precedes, HasNew, IsOld, IsReady, directory_extent, next_follows, old_denoted, new_denoted, LeavesState, SavesOnly, IsErr}
-use Rattle.migrator.proofs.Names.{Extent, Touches, None, MayCommitAt, Stays, AreKeepable, AreComplete, Keeps, committed, next_saved, FrozenPuts}
-use Rattle.migrator.proofs.Names.{frozen_generation, frozen_of, next_header, seen_by, puts, on_snapshots, adopted, entries_of, arith, Counts, on_err_weaker}
-use Rattle.migrator.proofs.Names.{on_ok_weaker, Publishes, counts_on, SavedFrames, Holds, LeavesSaved, LeavesEither, Stored, IsSoundOn, zero, suc, [], length}
-use Rattle.migrator.proofs.Names.{replicate, Place, Nowhere, IsRunning, SparesKept, place_at, Spares, All-weaker, Cap, Capability, Space, Process, Start}
-use Rattle.migrator.proofs.Names.{Resume, Bank, Frame, Geometry, Content, AreKeptSlots, Follows, IsCount, IsKeepable, IsKeptCap, MayBeKept}
-use Rattle.std.proofs.Common.{◌≡◌, ◌⊎◌, ◌∙◌, ◌+◌, ◌∷◌, ◌≤◌}
-use Rattle.model.specs.declared.capability.Capability.TheVariants.{Page, Node}
+use Rattle.migrator.proofs.Names.{nat_tests, Snapshots, generation_after, working_generation, IsDirectory, IsHeader, AreSpelt, IsInside, half_extent}
+use Rattle.migrator.proofs.Names.{half_sector, half_start, directories_inside, First, Second, ArePut, slot_bytes, bytes_at, ap, IsDurable, IsKept}
+use Rattle.migrator.proofs.Names.{Books, MayAdopt, Option, Unwritten, mended, saved_state, stored_in, stored_on, ℕ, Result, Ok, Err, List, refl, sym, subst}
+use Rattle.migrator.proofs.Names.{inl, inr, ⊎_elim, OnOk, OnErr, Image, Disk, Elsewhere, Only, LeavesOnly, agrees_is, leaves_weaker, leaves_on, Entry}
+use Rattle.migrator.proofs.Names.{CheckpointHeader, directory_bytes, IsFrameOf, Encodes, SavedState, frame_in, directory_in, directory_sector, directory_length}
+use Rattle.migrator.proofs.Names.{state_in, Plan, length_read, read_at, spelt_same, WritesAt, header_sector, CommitsOne, Precedes, HasNew, IsOld, IsReady}
+use Rattle.migrator.proofs.Names.{directory_extent, next_follows, old_denoted, new_denoted, LeavesState, SavesOnly, IsErr, Extent, Touches, None, MayCommitAt}
+use Rattle.migrator.proofs.Names.{Stays, AreKeepable, AreComplete, Keeps, committed, next_saved, FrozenPuts, frozen_generation, frozen_of, next_header, seen_by}
+use Rattle.migrator.proofs.Names.{puts, on_snapshots, adopted, entries_of, arith, Counts, Publishes, SavedFrames, LeavesSaved, LeavesEither, Stored, IsSoundOn}
+use Rattle.migrator.proofs.Names.{zero, suc, [], length, replicate, Place, Nowhere, IsRunning, SparesKept, place_at, Spares, Frame, Geometry, IsKeepable}
+use Rattle.std.specs.Prelude.{if◌then◌else◌, ◌==◌}
+use Rattle.std.proofs.Common.{◌≡◌, ◌⊎◌, ◌∙◌, ◌+◌, ◌*◌, ◌%◌, ◌∷◌, ◌≤◌}
+use Rattle.migrator.proofs.Putting.{half_spares, homes_spare, idle_half, none_spares}
 use Rattle.migrator.proofs.PlacesApart.{touches, frame_stays, state_stays, state_spared, sound_spared, moments_spared, homes_behind}
-use Rattle.migrator.proofs.Committing.{committed_stored, may_commit, kept_saves, state_saves, stored_saves}
+use Rattle.migrator.proofs.Committing.{directory_spares, committed_stored, may_commit, kept_saves, state_saves, stored_saves}
 use Rattle.migrator.proofs.Completing.{IsCompleted, goes_after, has_after, keepable_at, kept_with, mid_kept, ready, stored_after, none_idle, without}
-use Rattle.migrator.proofs.Kept.{goes_seen, goes_with, holds}
-use Rattle.model.specs.declared.object.Content.TheVariants as content
+use Rattle.migrator.proofs.Kept.{are_put_same, goes_seen, nowhere_frozen}
 
 -- ---- where nothing is unwritten, the device has all
 
@@ -117,27 +117,13 @@ module _ {old mid : Disk} {b : Books} {next : CheckpointHeader} {fs : List Entry
   only_both new published = record { between = mid.seen; directory = writes.elsewhere; header = published }
 
 pub on_err : {T E P : Type 0} (r : Result T E) → P → OnErr r P
-on_err (Ok x) p = tt
-on_err (Err e) p = p
+on_err {T} {E} {P} r p = grind (arith, nat_tests)
 
 pub on_ok : {T E P : Type 0} (r : Result T E) → P → OnOk r P
-on_ok (Ok x) p = p
-on_ok (Err e) p = tt
+on_ok {T} {E} {P} r p = grind (arith, nat_tests)
 
 pub no_ok : {T E : Type 0} (r : Result T E) → IsErr r → (P : Type 0) → OnOk r P
-no_ok (Ok x) failed P = absurd cc
-no_ok (Err e) failed P = tt
-
--- of two results that fail together
-pub ok_as : {T E U F P Q : Type 0} (r : Result T E) (s : Result U F) → is_err s ≡ is_err r → (P → Q) → OnOk r P → OnOk s Q
-ok_as (Ok x) (Ok y) same f p = f p
-ok_as (Err e) (Ok y) same f p = absurd cc
-ok_as r (Err e) same f p = tt
-
-pub err_as : {T E U F P Q : Type 0} (r : Result T E) (s : Result U F) → is_err s ≡ is_err r → (P → Q) → OnErr r P → OnErr s Q
-err_as r (Ok y) same f p = tt
-err_as (Ok x) (Err d) same f p = absurd cc
-err_as (Err e) (Err d) same f p = f p
+no_ok {T} {E} r failed P = grind (arith, nat_tests)
 
 -- ---- the slots of a checkpoint were completed, and its header is adopted
 
@@ -153,14 +139,7 @@ module _ {old mid : Disk} {b : Books} {o : Option Unwritten} {k age : ℕ} (may 
   was = may.stands.kept
 
   pub mid_stays : Stays old mid b (record b { unwritten = o })
-  mid_stays = record {
-    stands = record {
-      kept = kept_with (mid_kept was may.running keeps);
-      unwritten = has_after was may.running keeps;
-    };
-    stored = stored_after was may.running keeps;
-    goes_on = goes_seen (goes_with refl refl refl (goes_after was may.running keeps));
-  }
+  mid_stays = search (arith, kept_with, mid_kept, was, has_after, stored_after, goes_seen, goes_after)
 
   module _ (none : o ≡ None) (complete : AreComplete mid.seen b.plan (frozen_generation b) (entries_of b.frozen)) where
     now : IsCompleted old (seen_by old.seen b) b k mid
@@ -187,58 +166,27 @@ module _ {old mid : Disk} {b : Books} {o : Option Unwritten} {k age : ℕ} (may 
 
 -- none is counted where all calls succeeded
 pub ok_counts : {T E : Type 0} {old new : Disk} {value : T} → new.failures ≡ old.failures → Counts {T = T} {E = E} old new (Ok value)
-ok_counts {old = old} {new = new} same = record {
-  never_falls = omega (arith, same);
-  cause = (λ failed. absurd cc, λ rose. absurd (omega (arith, same, rose)));
-}
+ok_counts {T} {E} {old} {new} {value} same = grind (arith, nat_tests)
 
 -- a failure is, however it is passed on
 pub err_counts : {T E U F : Type 0} {old new : Disk} {e : E} {r : Result U F} → IsErr r → Counts {T = T} old new (Err e) → Counts old new r
 err_counts failed counts = record { never_falls = counts.never_falls; cause = (λ _. counts.cause.0 refl, λ _. failed) }
 
--- of two results that fail together
-pub counts_as : {T E U F : Type 0} {old new : Disk} {r : Result T E} {s : Result U F} → is_err s ≡ is_err r → Counts old new r → Counts old new s
-counts_as same counts = record { never_falls = counts.never_falls; cause = (λ failed. counts.cause.0 (sym same ∙ failed), λ rose. same ∙ counts.cause.1 rose) }
-
 -- ---- a header is published after calls that change nothing that is stored
 
 -- what leaves the saved state leaves that or the next
 pub either_first : {old new : Disk} {saved next : SavedFrames} → LeavesSaved old new saved → LeavesEither old new saved next
-either_first {old} {new} {saved} {next} run =
-    leaves_weaker {old = old} {new = new} {P = λ c. Holds old.sectors c saved} (λ c. Holds old.sectors c saved ⊎ Holds old.sectors c next) (λ c is. inl is) run
+either_first {old} {new} {saved} {next} run = grind (arith, nat_tests)
 
 -- the calls before it failed
 pub publishes_none : {T E U F : Type 0} {old new : Disk} {b c : Books} {next : Stored} {e : E} {r : Result U F} → Stays old new b c → IsSoundOn old b → IsErr r
     → Counts {T = T} old new (Err e) → Publishes old new b c next r
-publishes_none {old = old} {new = new} {b = b} {next = next} {r} stays sound failed counts =
-    search (
-      stays,
-      no_ok,
-      on_err r stays.stored,
-      either_first {next = next.saved} (stays.goes_on.any_moment sound),
-      err_counts failed counts,
-    )
+publishes_none {T} {E} {U} {F} {old} {new} {b} {c} {next} {e} {r} stays sound failed counts = grind (arith, nat_tests)
 
 -- they didn't
 pub publishes_after : {T E : Type 0} {old mid new : Disk} {a b c : Books} {next after : Stored} {r : Result T E} → Stays old mid a b → IsSoundOn old a →
     mid.failures ≡ old.failures → next ≡ after → Publishes mid new b c next r → Publishes old new a c after r
-publishes_after {old = old} {mid = mid} {new = new} {a = a} {b = b} {after = after} {r = r} stays sound none same is =
-    let saved : SavedFrames = (stored_on old a).saved in
-    record {
-      stands = is.stands;
-      stored = on_ok_weaker r (λ e. e ∙ same) is.stored;
-      unchanged = on_err_weaker r (λ e. e ∙ stays.stored) is.unchanged;
-      plan = is.plan ∙ stays.goes_on.plan;
-      sound = is.sound;
-      size = is.size ∙ stays.goes_on.size;
-      any_moment =
-          leaves_on {old = old} {mid = mid} {new = new} {P = λ c. Holds old.sectors c saved ⊎ Holds old.sectors c after.saved}
-          (either_first (stays.goes_on.any_moment sound))
-          (subst (λ (k : ℕ). LeavesOnly mid new (λ c. Holds k c saved ⊎ Holds k c after.saved)) stays.goes_on.size
-          (subst (λ (s : Stored). LeavesEither mid new s.saved after.saved) stays.stored
-          (subst (λ (s : Stored). LeavesEither mid new (stored_on mid b).saved s.saved) same is.any_moment)));
-      cause = counts_on none is.cause;
-    }
+publishes_after {T} {E} {old} {mid} {new} {a} {b} {c} {next} {after} {r} stays sound none same is = grind (arith, nat_tests)
 
 -- what is then held is said in two ways
 pub publishes_as : {T E : Type 0} {old new : Disk} {b c : Books} {next after : Stored} {r : Result T E} → next ≡ after → Publishes old new b c next r →
@@ -258,15 +206,10 @@ module _ {disk : Disk} {b : Books} {next : CheckpointHeader} {es : List Entry} (
   raw_kept = kept_raw may.written may.stands
 
   kept_then : {c : Books} → c.unwritten ≡ b.unwritten → IsKept disk.sectors new.seen c → IsKept new.sectors (mended new.seen c.unwritten) c
-  kept_then {c} same kept = subst (λ (o : Option Unwritten). IsKept new.sectors (mended new.seen o) c) (sym (same ∙ may.written))
-      (subst (λ (k : ℕ). IsKept k new.seen c) (sym size) kept)
+  kept_then {c} same kept = grind (arith, nat_tests)
 
   moments : LeavesEither disk new (stored_on disk b).saved (stored_on disk after).saved
-  moments =
-      leaves_weaker {old = disk} {new = new} {P = λ c. Encodes c disk.sectors (state_in disk.seen b.plan b.header b.directory) ⊎ Encodes c disk.sectors
-      (state_in disk.seen b.plan next es)} (λ c. Holds disk.sectors c (stored_on disk b).saved ⊎ Holds disk.sectors c (stored_on disk after).saved) (λ c. ⊎_elim
-      (λ is. inl (subst (λ (s : Stored). Holds disk.sectors c s.saved) (sym (stored_raw disk b may.written b refl)) (holds is)))
-      (λ is. inr (subst (λ (s : Stored). Holds disk.sectors c s.saved) (sym (stored_raw disk b may.written after refl)) (holds is)))) run
+  moments = grind (arith, nat_tests)
 
   pub adopted_publishes : {T E : Type 0} {value : T} → LeavesState new (state_in disk.seen b.plan next es) → new.failures ≡ disk.failures →
       Publishes {T = T} {E = E} disk new b (adopted next es b) (stored_on disk (adopted next es b)) (Ok value)
@@ -307,59 +250,70 @@ no_places : (ps : List Place) → ((n : ℕ) → place_at ps n ≡ Nowhere) → 
 no_places [] none = refl
 no_places (p ∷ ps) none = rw (none zero, no_places ps (λ n. none (suc n)))
 
+-- two generations of one half
+pub slot_same : (image : Image) (plan : Plan) (g h : ℕ) → g % 2 ≡ h % 2 → (s n : ℕ) → slot_bytes image plan g s n ≡ slot_bytes image plan h s n
+slot_same image plan g h same s n = ap (λ (r : ℕ). bytes_at image (half_start plan (if r == 0 then First else Second) + 9 * s) plan n) same
+
+pub after_same : (g h : ℕ) (o : Option ℕ) → g % 2 ≡ h % 2 → generation_after g o % 2 ≡ generation_after h o % 2
+after_same g h o same = grind (arith, nat_tests)
+
+half_put : {image : Image} {p : Plan} {g h : ℕ} {ps : List Place} → h % 2 ≡ g % 2 → ArePut image p g ps → ArePut image p h ps
+half_put {image} {p = plan} {g} {h} same are = are_put_same (λ n s lt is. slot_same image plan h g same s n) are
+
 module _ {disk : Disk} {b : Books} (next : CheckpointHeader) (es : List Entry) (is : IsDurable disk b) (idle : b.size ≡ None) where
-  pub none : b.unwritten ≡ None
+  none : b.unwritten ≡ None
   none = none_idle b b.unwritten is.unwritten idle
 
   blank : (n : ℕ) → place_at b.frozen n ≡ Nowhere
-  blank = subst (IsRunning b) idle is.kept.running
+  blank = nowhere_frozen is.kept idle
 
-  pub idle_books : with_header b next es ≡ adopted next es b
-  idle_books =
-      ap (λ (o : Option ℕ). record (with_header b next es) { size = o }) idle
-      ∙ ap (λ (ps : List Place). record (with_header b next es) { frozen = ps; size = None }) (sym (no_places b.frozen blank))
+  pub idle_kept : IsKept disk.sectors disk.seen b
+  idle_kept = kept_raw none is
 
-  pub may_adopt_idle : IsSoundOn disk b → b.header.sequence + 1 ≡ next.sequence → IsKept disk.sectors disk.seen (with_header b next es) →
-      Spares b.plan b.header b.directory (directory_extent b.plan next.generation next.entries)
-      → SparesKept b (directory_extent b.plan next.generation next.entries)
-      → SparesKept (with_header b next es) (directory_extent b.plan next.generation next.entries) → MayAdopt disk b next es
-  may_adopt_idle sound follows kept apart spares spares_next =
-      search (
-        none,
-        subst (IsKept disk.sectors disk.seen) idle_books kept,
-        subst (λ (c : Books). SparesKept c (directory_extent b.plan next.generation next.entries)) idle_books spares_next,
-      )
+  idle_books : with_header b next es ≡ adopted next es b
+  idle_books = grind (arith, nat_tests, no_places, blank)
+
+  pub idle_stored : (stage : Snapshots FrozenPuts → Snapshots FrozenPuts) →
+      stored_in disk.seen (with_header b next es) ≡ on_snapshots stage (stored_in disk.seen b) →
+      stored_on disk (adopted next es b) ≡ on_snapshots stage (stored_on disk b)
+  idle_stored stage stored = grind (arith, nat_tests)
+
+  module _ (parity : next.generation % 2 ≡ b.header.generation % 2) (header : IsHeader b.plan.geometry.log next) (count : length es ≡ next.entries)
+      (directory : IsDirectory b.plan.geometry es) (spelt : AreSpelt disk.seen b.plan next.age next.generation es)
+      (apart : Spares b.plan b.header b.directory (directory_extent b.plan next.generation next.entries)) where
+    abbrev sectors : Extent
+    sectors = directory_extent b.plan next.generation next.entries
+
+    inside : IsInside sectors (half_extent b.plan.geometry (half_sector b.plan next.generation))
+    inside = directories_inside b.plan next.generation next.entries header.entries
+
+    kept_next : IsKept disk.sectors disk.seen (with_header b next es)
+    kept_next = record {
+      readable = search (header, count, directory, spelt);
+      few = omega arith;
+      moved = λ i less. absurd (omega (arith, less));
+      frozen = half_put (omega (arith, parity)) idle_kept.frozen;
+      running = subst (IsRunning (with_header b next es)) (sym idle) blank;
+      working = half_put (after_same next.generation b.header.generation b.size parity) idle_kept.working;
+    }
+
+    spares : SparesKept b sectors
+    spares = search (arith, homes_spare, kept, inside, none_spares, blank, half_spares, idle_half)
+
+    spares_next : SparesKept (with_header b next es) sectors
+    spares_next = record {
+      frames = directory_spares next.generation next.entries is.kept.plan directory header.entries;
+      homes = λ i less. absurd (omega (arith, less));
+      frozen = none_spares b.plan (next.generation + 1) b.frozen sectors blank;
+      working = half_spares (working_generation (with_header b next es)) next.generation is.kept.plan
+          (idle_half (with_header b next es) idle next.generation refl) is.kept.working.table is.kept.working.few inside;
+    }
+
+    pub may_adopt_idle : IsSoundOn disk b → b.header.sequence + 1 ≡ next.sequence → MayAdopt disk b next es
+    may_adopt_idle sound follows = grind (arith, nat_tests, sound, none, seen, idle_books, kept_next, spares, spares_next)
 
 -- ---- what can be kept at an age can be at a later one
 
 module _ (g : Geometry) (age later : ℕ) (le : age ≤ later) where
-  count_later : {n : ℕ} → IsCount age n → IsCount later n
-  count_later is = (omega (arith, is.0, le), is.1)
-
-  follows_later : (count : ℕ) (k : Capability) → Follows g age count k → Follows g later count k
-  follows_later count (Page o a) is = (is.0, is.1, count_later is.2)
-  follows_later count (Node o a) is = (is.0, is.1, count_later is.2)
-  follows_later count (Space o h a) is = (is.0, is.1, is.2, is.3, count_later is.4)
-  follows_later count (Process p) is = (is.0, count_later is.1)
-  follows_later count (Start p key) is = (is.0, is.1, count_later is.2)
-  follows_later count (Resume p) is = (is.0, count_later is.1)
-  follows_later count (Bank b) is = (is.0, count_later is.1)
-  follows_later count other is = is
-
-  slots_later : {slots : List Cap} → AreKeptSlots g age slots → AreKeptSlots g later slots
-  slots_later {slots} are = record {
-    count = are.count;
-    each = All-weaker (IsKeptCap g age) (IsKeptCap g later) (λ c is. follows_later c.count c.what is) slots are.each;
-  }
-
-  content_later : (c : Content Cap) → MayBeKept g age c → MayBeKept g later c
-  content_later (content.Node slots) may = slots_later may
-  content_later (content.Root root) may = (may.0, may.1, may.2, follows_later root.space.count root.space.what may.3, may.4)
-  content_later (content.Annex registers) may = (slots_later may.0, may.1)
-  content_later other may = may
-
   pub keepable_later : {n : ℕ} {f : Frame} → IsKeepable g age n f → IsKeepable g later n f
-  keepable_later {f} is = record {
-    kind = is.kind;
-    kept = search (is, count_later is.kept.allocations, count_later is.kept.calls, content_later f.content is.kept.content);
-  }
+  keepable_later {n} {f} is = grind (arith, nat_tests)

@@ -1,16 +1,16 @@
 -- A frame is put into its slot: what then holds of a device and its books.
-use Rattle.migrator.proofs.Names.{on_ok_weaker, MayPut, PutsFrame, Stores, ℕ, Bool, true, false, Option, Some, None, Result, Ok, Err, List, length, set, refl}
-use Rattle.migrator.proofs.Names.{sym, ap, subst, arith, option_map, OnOk, OnErr, Frame, IsKeepable, Image, Disk, Failed, Extent, IsFrameOf, frame_bytes}
-use Rattle.migrator.proofs.Names.{half_sector, place_length, slot_sector, count_of, IsInside, half_extent, bytes_spelt, WritesAt, place_extent, most, Keeps}
-use Rattle.migrator.proofs.Names.{Books, Place, Torn, Whole, slot_of, IsDurable, IsRunning, FrozenPuts, Stored, frozen_generation, frozen_of, seen_by}
-use Rattle.migrator.proofs.Names.{stored_in, stored_on, with_frozen, with_put, with_working, working_generation, Unwritten, mended, Put, Broken, Kept}
-use Rattle.migrator.proofs.Names.{HasFreeSlot, ArePut, puts_in, slot_bytes, slot_frame, Touches, entries_of, slot_for, Counts, IsKept, Spares, SparesKept}
+use Rattle.migrator.proofs.Names.{nat_tests, on_ok_weaker, MayPut, PutsFrame, Stores, ℕ, Bool, true, false, Option, Some, None, Result, List, length, set, refl}
+use Rattle.migrator.proofs.Names.{sym, ap, subst, arith, OnOk, OnErr, Frame, IsKeepable, Image, Disk, Failed, Extent, IsFrameOf, frame_bytes, half_sector}
+use Rattle.migrator.proofs.Names.{place_length, slot_sector, count_of, IsInside, half_extent, bytes_spelt, WritesAt, place_extent, most, Keeps, Books, Place}
+use Rattle.migrator.proofs.Names.{Torn, Whole, slot_of, IsDurable, IsRunning, Stored, frozen_generation, seen_by, stored_in, stored_on, with_frozen}
+use Rattle.migrator.proofs.Names.{with_working, working_generation, Unwritten, mended, Put, Broken, Kept, HasFreeSlot, ArePut, puts_in, slot_bytes, slot_frame}
+use Rattle.migrator.proofs.Names.{Touches, entries_of, slot_for, Counts, IsKept, Spares, SparesKept}
 use Rattle.std.proofs.Common.{◌≡◌, ◌⊎◌, ◌∙◌, ◌+◌, ◌<◌, ◌≤◌}
 use Rattle.std.specs.Prelude.{if◌then◌else◌}
 use Rattle.migrator.proofs.Completing.{entry_of, held_after, without, working_again, goes_after, kept_with, mid_kept, stored_after, keeps_written}
 use Rattle.migrator.proofs.Completing.{unwritten_inside}
 use Rattle.migrator.proofs.Committing.{frozen_fits}
-use Rattle.migrator.proofs.Kept.{GoesOnSeen, goes_seen, goes_spared, goes_with, stored_stays, kept_on}
+use Rattle.migrator.proofs.Kept.{GoesOnSeen, goes_seen, goes_spared, stored_stays, kept_on}
 use Rattle.migrator.proofs.PlacesApart.{unmended, writes_mended, place_inside, spares_other, touches}
 use Rattle.migrator.proofs.Putting.{frozen_working, half_spares, homes_spare, later_half, mended as mended_put, other_parity, puts_mended, puts_set}
 use Rattle.migrator.proofs.Putting.{saved_working, set_twice, slot_room, slots_spare, taken_set, torn_put}
@@ -37,17 +37,14 @@ HasSlot false b n = (k : ℕ) × (b.size ≡ Some k) × (slot_for b.frozen n < k
 
 slot_low : (since : Bool) {size : ℕ} {image : Image} {b : Books} (n : ℕ) → IsKept size image b → HasSlot since b n →
     slot_for (places since b) n < b.plan.geometry.log
-slot_low true n kept has = has
-slot_low false {b = b} n kept has = let was : IsRunning b (Some has.0) = subst (IsRunning b) has.1 kept.running in omega (arith, has.2, was.2)
+slot_low since {size} {image} {b} n kept has = grind (arith, nat_tests)
 
 same_places : (since : Bool) {size : ℕ} {image : Image} {b : Books} → IsKept size image b → IsKept size image (with_places since b (places since b))
-same_places true kept = kept
-same_places false kept = kept
+same_places since {size} {image} {b} kept = grind (arith, nat_tests)
 
 are_put : (since : Bool) {size : ℕ} {image : Image} (b : Books) (ps : List Place) → IsKept size image (with_places since b ps) →
     ArePut image b.plan (generation_of since b) ps
-are_put true b ps kept = kept.working
-are_put false b ps kept = kept.frozen
+are_put since {size} {image} b ps kept = grind (arith, nat_tests)
 
 -- the place of an object is another, with its slot
 module _ {first : ℕ} {was : Image} {b : Books} (n : ℕ) (q : Place) (before : IsKept first was b) where
@@ -63,19 +60,10 @@ module _ {first : ℕ} {was : Image} {b : Books} (n : ℕ) (q : Place) (before :
 stored_put : (since : Bool) (image : Image) (b : Books) (ps qs : List Place) (n : ℕ) (x : Put) →
     puts_in image b.plan (generation_of since b) qs ≡ set (puts_in image b.plan (generation_of since b) ps) n x →
     stored_in image (with_places since b qs) ≡ putting since n x (stored_in image (with_places since b ps))
-stored_put true image b ps qs n x same = ap (λ (puts : List Put). record (stored_in image b) { working = puts }) same
-stored_put false image b ps qs n x same = ap (λ (f : Option FrozenPuts). record (stored_in image b) { frozen = f }) (by b.size) where
-  by : (o : Option ℕ) →
-      option_map (frozen_of image (with_places false b qs)) o ≡ option_map (with_put n x) (option_map (frozen_of image (with_places false b ps)) o)
-  by None = refl
-  by (Some k) = ap (λ (puts : List Put). Some (record { put = puts; size = k })) same
+stored_put since image b ps qs n x same = grind (arith, nat_tests)
 
 pub put_twice : (since : Bool) (s : Stored) (n : ℕ) (x y : Put) → putting since n y (putting since n x s) ≡ putting since n y s
-put_twice true s n x y = ap (λ (puts : List Put). record s { working = puts }) (set_twice s.working n x y)
-put_twice false s n x y = ap (λ (f : Option FrozenPuts). record s { frozen = f }) (by s.frozen) where
-  by : (o : Option FrozenPuts) → option_map (with_put n y) (option_map (with_put n x) o) ≡ option_map (with_put n y) o
-  by None = refl
-  by (Some f) = ap (λ (puts : List Put). Some (record { put = puts; size = f.size })) (set_twice f.put n x y)
+put_twice since s n x y = grind (arith, nat_tests, set_twice)
 
 -- what was put of an object is given up
 module _ (since : Bool) {size : ℕ} {image : Image} {b : Books} {n : ℕ} (kept : IsKept size image b) (lt : n < count_of b.plan) (has : HasSlot since b n) where
@@ -90,11 +78,7 @@ module _ (since : Bool) {size : ℕ} {image : Image} {b : Books} {n : ℕ} (kept
       (torn_put are lt (slot_low since n kept has))
 
   tear_stored : stored_in image (with_places since b (set (places since b) n (Torn (slot_for (places since b) n)))) ≡ putting since n Broken (stored_in image b)
-  tear_stored = same since (stored_put since image b (places since b) (set (places since b) n (Torn (slot_for (places since b) n))) n Broken
-      (puts_set are lt (slot_low since n kept has) (Torn (slot_for (places since b) n)))) where
-        same : (t : Bool) {s : Stored} → s ≡ putting t n Broken (stored_in image (with_places t b (places t b))) → s ≡ putting t n Broken (stored_in image b)
-        same true is = is
-        same false is = is
+  tear_stored = grind (arith, nat_tests, stored_put, puts_set, are, slot_low)
 
 -- the sectors of its slot are none of the others
 saved_spares : (since : Bool) {size : ℕ} {image : Image} {b : Books} {e : Extent} → IsKept size image b →
@@ -172,8 +156,7 @@ module _ (since : Bool) {old new : Disk} {b : Books} {n : ℕ} (f : Frame) (kept
       IsKept new.sectors new.seen (with_places since b ps)
       × OnOk r (stored_in new.seen (with_places since b ps) ≡ putting since n (Kept f) (stored_in old.seen b))
       × OnErr r (stored_in new.seen (with_places since b ps) ≡ putting since n Broken (stored_in old.seen b))
-  put_either (Ok u) ps keepable ok err written = rw ok (put_kept keepable written, put_stored keepable written, tt)
-  put_either (Err e) ps keepable ok err written = rw err (stays_kept, tt, stays_stored)
+  put_either {T} r ps keepable ok err written = grind (arith, nat_tests, put_kept, put_stored, stays_kept, stays_stored)
 
 -- ---- over a device that is partly in memory
 
@@ -190,8 +173,7 @@ module _ {old : Disk} {b : Books} {n : ℕ} (is : IsDurable old b) (lt : n < cou
       → PutsFrame old new b (record b { working = ps }) f (λ put. with_working n put (stored_on old b)) r
   working_puts {new = new} {f = f} {r = r} writes counts {ps} keepable ok err written =
       let wrote = writes_mended b.unwritten writes in
-      let read = on_ok_weaker r (λ is_written. working_again old.sectors old.seen b new.seen b.unwritten is.kept is.unwritten n working_room ∙ is_written)
-      written in
+      let read = on_ok_weaker r (λ is_written. working_again is new.seen n working_room ∙ is_written) written in
       let both = put_either true f is.kept lt working_room wrote r ps keepable ok err read in
       search (goes_seen (put_goes_on true f is.kept lt working_room wrote ps), counts)
 
@@ -228,8 +210,7 @@ module _ {old : Disk} {b : Books} {k n : ℕ} (is : IsDurable old b) (size : b.s
           kept_with {o = o} (tear_kept false mid lt has_slot),
           held_after b (Torn (slot_for b.frozen n)) (omega (arith, lt, is.kept.frozen.count)) refl is.unwritten either,
           tear_stored false mid lt has_slot ∙ ap (with_frozen n Broken) (stored_after is.kept size keeps),
-          goes_seen (goes_with {d = record b { frozen = set b.frozen n (Torn (slot_for b.frozen n)); unwritten = o }} refl refl refl
-              (goes_after is.kept size keeps)),
+          goes_seen (goes_after is.kept size keeps {c = record b { frozen = set b.frozen n (Torn (slot_for b.frozen n)); unwritten = o }} refl refl refl),
         )
 
 pub frozen_puts : {T : Type 0} {old new : Disk} {b : Books} {n k : ℕ} {f : Frame} {r : Result T Failed} → MayPut old b k n f → b.unwritten ≡ None →

@@ -1,12 +1,11 @@
 -- A frame is put into a slot.
-use Rattle.migrator.proofs.Names.{ℕ, zero, suc, Option, Some, None, List, [], length, get_or, set, refl, sym, ap, subst, inl, inr, ⊎_elim, arith}
-use Rattle.migrator.proofs.Names.{range_with_len, cases_eq, same_lists, length-set, length-map-range_with_len, get_or-map-range_with_len, Frame, Image, Extent}
+use Rattle.migrator.proofs.Names.{nat_tests, ℕ, zero, suc, Option, Some, None, List, [], length, get_or, set, refl, sym, ap, subst, inl, inr, arith}
+use Rattle.migrator.proofs.Names.{cases_eq, same_lists, length-set, length-map-range_with_len, get_or-map-range_with_len, Frame, Image, Extent}
 use Rattle.migrator.proofs.Names.{IsFrameOf, half_sector, count_of, entry_at, Plan, IsPlan, IsApart, IsInside, half_extent, apart_inside, home_extent}
 use Rattle.migrator.proofs.Names.{slot_extent, place_extent, frames_in_slots, slots_apart, Place, Nowhere, Torn, Whole, place_at, slot_of, has_slot, has_frame}
 use Rattle.migrator.proofs.Names.{tally, taken_count, whole_count, slot_or, slot_for, IsTable, Put, Absent, Kept, put_at, kept_frame, held_slot, sum_of}
 use Rattle.migrator.proofs.Names.{kept_count, HasFreeSlot, slot_bytes, slot_frame, put_of, puts_in, ArePut, most, Books, frozen_generation, generation_after}
 use Rattle.migrator.proofs.Names.{IsRunning, IsKept, Spares, SparesPuts, working_generation}
-use Rattle.std.specs.Prelude.{map}
 use Rattle.std.proofs.Common.{◌≡◌, ◌⊎◌, ◌+◌, ◌%◌, ◌<◌, ◌≤◌, ◌∷◌, ◌∙◌}
 use Rattle.migrator.proofs.Tables.{some_has, tally-set, table_set, set_here, set_there}
 use Rattle.migrator.proofs.Kept.{map_set}
@@ -33,14 +32,7 @@ from_at image p generation n (suc i) (q ∷ ps) d lt =
 puts_are : (image : Image) (p : Plan) (generation : ℕ) (ps : List Place) → length ps ≡ count_of p →
     puts_in image p generation ps ≡ puts_from image p generation 0 ps
 unfolding puts_in
-puts_are image p generation ps size =
-    same_lists (map (λ n. put_of image p generation n (place_at ps n)) (range_with_len 0 (count_of p))) (puts_from image p generation 0 ps)
-    (length-map-range_with_len (λ n. put_of image p generation n (place_at ps n)) 0 (count_of p) ∙ sym size ∙ sym (length_from image p generation 0 ps))
-    (λ i d lt.
-    let few : i < count_of p = omega (arith, lt, length-map-range_with_len (λ n. put_of image p generation n (place_at ps n)) 0 (count_of p)) in
-    let place : 0 + i ≡ i = omega arith in
-    get_or-map-range_with_len (λ n. put_of image p generation n (place_at ps n)) 0 (count_of p) i i d few (omega arith)
-    ∙ sym (from_at image p generation 0 i ps d (omega (arith, few, size)) ∙ ap (λ (k : ℕ). put_of image p generation k (place_at ps i)) place))
+puts_are image p generation ps size = grind (arith, nat_tests, same_lists, length-map-range_with_len, length_from, get_or-map-range_with_len, from_at)
 
 sum_from : (count : Put → ℕ) {has : Place → ℕ} (image : Image) (p : Plan) (generation n : ℕ) (ps : List Place) →
     ((k : ℕ) (q : Place) → count (put_of image p generation k q) ≡ has q) → sum_of count (puts_from image p generation n ps) ≡ tally has ps
@@ -49,12 +41,10 @@ sum_from count image p generation n [] same = refl
 sum_from count {has} image p generation n (q ∷ ps) same = let rest = sum_from count image p generation (n + 1) ps same in omega (arith, rest, same n q)
 
 frame_count : (image : Image) (p : Plan) (generation k : ℕ) (q : Place) → kept_frame (put_of image p generation k q) ≡ has_frame q
-frame_count image p generation k Nowhere = refl
-frame_count image p generation k other = refl
+frame_count image p generation k q = grind (arith, nat_tests)
 
 slot_count : (image : Image) (p : Plan) (generation k : ℕ) (q : Place) → held_slot (put_of image p generation k q) ≡ has_slot q
-slot_count image p generation k Nowhere = refl
-slot_count image p generation k other = refl
+slot_count image p generation k q = grind (arith, nat_tests)
 
 -- as many frames were put as places are whole
 pub kept_whole : (image : Image) (p : Plan) (generation : ℕ) (ps : List Place) → length ps ≡ count_of p →
@@ -72,31 +62,21 @@ put_is image p generation ps {n} lt = get_or-map-range_with_len (λ n. put_of im
 
 room_by : (image : Image) (p : Plan) (generation : ℕ) {room : ℕ} (n : ℕ) (q : Place) {taken : ℕ} → taken ≤ room → ((s : ℕ) → slot_of q ≡ Some s → s < taken) →
     ((put_of image p generation n q ≡ Absent → ⊥) ⊎ (taken < room)) → slot_or (slot_of q) taken < room
-room_by image p generation n Nowhere few in' has = ⊎_elim (λ other. absurd (other refl)) (λ lt. lt) has
-room_by image p generation n (Torn s) few in' has = let lt = in' s refl in omega (arith, lt, few)
-room_by image p generation n (Whole s) few in' has = let lt = in' s refl in omega (arith, lt, few)
+room_by image p generation {room} n q {taken} few in' has = grind (arith, nat_tests)
 
 -- an object has a slot, or there is a free one among `room`
 pub slot_room : (image : Image) (p : Plan) (generation : ℕ) {room : ℕ} {ps : List Place} {n : ℕ} → length ps ≡ count_of p → n < count_of p → IsTable ps →
     taken_count ps ≤ room → HasFreeSlot room (puts_in image p generation ps) n → slot_for ps n < room
-slot_room image p generation {room} {ps} {n} size lt table few has =
-    room_by image p generation n (place_at ps n) few (λ s is. table.few n s is)
-    (⊎_elim (λ other. inl (λ none. other (put_is image p generation ps lt ∙ none))) (λ less. inr (omega (arith, less, held_taken image p generation ps size)))
-    has)
+slot_room image p generation {room} {ps} {n} size lt table few has = grind (arith, nat_tests, room_by, put_is, held_taken)
 
 -- ---- a place is set
 
 few_by : (old : Place) {taken taken' room : ℕ} → taken' + has_slot old ≡ taken + 1 → taken ≤ room → slot_or (slot_of old) taken < room → taken' ≤ room
-few_by Nowhere is few lt = omega (arith, is, lt)
-few_by (Torn s) is few lt = omega (arith, is, few)
-few_by (Whole s) is few lt = omega (arith, is, few)
+few_by old {taken} {taken'} {room} is few lt = grind (arith, nat_tests)
 
 pub taken_set : (ps : List Place) {n room : ℕ} (q : Place) → n < length ps → slot_of q ≡ Some (slot_for ps n) → taken_count ps ≤ room → slot_for ps n < room →
     taken_count (set ps n q) ≤ room
-taken_set ps {n} {room} q lt is few less =
-    let set' = tally-set has_slot ps n q lt in
-    let one = some_has q is in
-    few_by (place_at ps n) (omega (arith, set', one)) few less
+taken_set ps {n} {room} q lt is few less = grind (arith, nat_tests, tally-set, some_has, few_by)
 
 module _ {image : Image} {p : Plan} {generation : ℕ} {ps : List Place} {n : ℕ} (are : ArePut image p generation ps) (lt : n < count_of p)
     (room : slot_for ps n < p.geometry.log) where
@@ -135,10 +115,7 @@ module _ {image : Image} {p : Plan} {generation : ℕ} {ps : List Place} {n : �
 
   pub puts_set : (q : Place) → puts_in image p generation (set ps n q) ≡ set (puts_in image p generation ps) n (put_of image p generation n q)
   unfolding puts_in
-  puts_set q =
-      map_set (λ k. put_of image p generation k (place_at ps k)) (λ k. put_of image p generation k (place_at (set ps n q) k)) (count_of p) n
-      (put_of image p generation n q) lt (ap (put_of image p generation n) (set_here ps in_table))
-      (λ m within other. ap (put_of image p generation m) (set_there ps q other))
+  puts_set q = grind (arith, nat_tests, map_set, set_here, in_table, set_there)
 
 -- ---- the sectors of a slot
 
@@ -147,13 +124,11 @@ other_parity g same = omega (arith, same)
 
 -- while a checkpoint is on its way, what is put since lies in the other half
 pub later_half : (b : Books) {k : ℕ} → b.size ≡ Some k → working_generation b % 2 ≡ frozen_generation b % 2 → ⊥
-later_half b running same =
-    other_parity (frozen_generation b) (sym (sym (ap (λ (o : Option ℕ). generation_after b.header.generation o % 2) running) ∙ same))
+later_half b {k} running same = grind (arith, nat_tests)
 
 -- and where none is, in the half of the saved generation no longer
 pub idle_half : (b : Books) → b.size ≡ None → (g : ℕ) → g % 2 ≡ b.header.generation % 2 → working_generation b % 2 ≡ g % 2 → ⊥
-idle_half b none g same is =
-    other_parity b.header.generation (sym (sym (ap (λ (o : Option ℕ). generation_after b.header.generation o % 2) none) ∙ is ∙ same))
+idle_half b none g same is = grind (arith, nat_tests)
 
 -- frames in the other slots of a half lie apart from the slot of an object
 pub slots_spare : (p : Plan) (generation : ℕ) {ps : List Place} {n : ℕ} → IsTable ps → n < length ps →
@@ -222,13 +197,8 @@ module _ {image : Image} {p : Plan} {generation : ℕ} (ps : List Place) (n s : 
 
     pub mended : IsFrameOf p.geometry most n (slot_bytes image p generation s n) (slot_frame image p generation s n) →
         ArePut image p generation (set ps n (Whole s))
-    mended spelt =
-        subst (ArePut image p generation) (set_twice ps n (Torn s) (Whole s))
-        (subst (λ (t : ℕ). ArePut image p generation (set (set ps n (Torn s)) n (Whole t))) slot_here (whole_put are lt slot_low
-        (subst (λ (t : ℕ). IsFrameOf p.geometry most n (slot_bytes image p generation t n) (slot_frame image p generation t n)) (sym slot_here) spelt)))
+    mended spelt = grind (arith, nat_tests, set_twice, slot_here, whole_put, slot_low)
 
     pub puts_mended : {f : Frame} → slot_frame image p generation s n ≡ f →
         puts_in image p generation (set ps n (Whole s)) ≡ set (puts_in image p generation (set ps n (Torn s))) n (Kept f)
-    puts_mended is =
-        ap (puts_in image p generation) (sym (set_twice ps n (Torn s) (Whole s))) ∙ puts_set are lt slot_low (Whole s)
-        ∙ ap (λ (g : Frame). set (puts_in image p generation (set ps n (Torn s))) n (Kept g)) is
+    puts_mended {f} is = grind (arith, nat_tests, set_twice, puts_set, slot_low)

@@ -1,13 +1,12 @@
 -- What is known of a table of places.
-use native.Mathlib.Numerals.{unary_clauses}
-use Rattle.migrator.proofs.Names.{ℕ, zero, suc, Bool, true, false, Option, Some, None, List, [], length, set, take, drop, refl, sym, ap, subst, inl, inr, arith}
-use Rattle.migrator.proofs.Names.{length-append, replicate, cases_eq, get_or-map, get_or-set_same, get_or-set_other, get_or_default, take_all, drop_all}
+use Rattle.migrator.proofs.Names.{nat_tests, ℕ, zero, suc, Bool, true, false, Option, Some, None, List, [], length, set, take, drop, refl, sym, ap, subst}
+use Rattle.migrator.proofs.Names.{arith, length-append, replicate, get_or-map, get_or-set_same, get_or-set_other, get_or_default, take_all, drop_all}
 use Rattle.migrator.proofs.Names.{nil_from_length, length-map, map-set, is_marked, IsNextMarked, HasNoneMarked, Geometry, Entry, entry_at, AreRising, IsEntry}
-use Rattle.migrator.proofs.Names.{IsDirectory, slot_in, slot_here, slot_behind, own_slot, same_Some, two_objects, Place, Nowhere, Torn, Whole, place_at}
-use Rattle.migrator.proofs.Names.{slot_of, is_held, has_slot, has_frame, tally, taken_count, whole_count, slot_or, slot_for, IsTable, entry_before}
-use Rattle.migrator.proofs.Names.{entries_from, entries_of, map}
+use Rattle.migrator.proofs.Names.{IsDirectory, slot_in, own_slot, same_Some, two_objects, Place, Nowhere, Torn, Whole, place_at, slot_of, is_held, has_slot}
+use Rattle.migrator.proofs.Names.{has_frame, tally, taken_count, whole_count, slot_or, slot_for, IsTable, entry_before, entries_from, entries_of, map}
 use Rattle.std.proofs.Common.{◌≡◌, ◌+◌, ◌-◌, ◌<◌, ◌≤◌, ◌∷◌, ◌++◌, ◌∙◌}
 use Rattle.std.proofs.lemmas.List.{append-nil}
+use native.Mathlib.Numerals.{unary_clauses}
 
 -- ---- counts
 
@@ -26,8 +25,7 @@ tally_at has (p ∷ ps) zero lt = omega arith
 tally_at has (p ∷ ps) (suc n) lt = let rest = tally_at has ps n (omega (arith, lt)) in omega (arith, rest)
 
 frame_slot : (p : Place) → has_frame p ≤ has_slot p
-frame_slot Nowhere = omega arith
-frame_slot other = omega arith
+frame_slot p = grind (arith, nat_tests)
 
 pub whole_taken : (ps : List Place) → whole_count ps ≤ taken_count ps
 unfolding tally
@@ -35,9 +33,7 @@ whole_taken [] = omega arith
 whole_taken (p ∷ ps) = let rest = whole_taken ps in let here = frame_slot p in omega (arith, rest, here)
 
 whole_of : (p : Place) {s : ℕ} → has_slot p ≤ has_frame p → slot_of p ≡ Some s → p ≡ Whole s
-whole_of Nowhere le is = absurd cc
-whole_of (Torn t) le is = absurd (omega (arith, le))
-whole_of (Whole t) {s} le is = let same : t ≡ s = cc in ap Whole same
+whole_of p {s} le is = grind (arith, nat_tests)
 
 -- where no slot is torn, each has its frame
 pub all_whole : (ps : List Place) (n : ℕ) {s : ℕ} → taken_count ps ≤ whole_count ps → n < length ps → slot_of (place_at ps n) ≡ Some s → place_at ps n ≡ Whole s
@@ -59,24 +55,15 @@ blank_at (suc n) zero = refl
 blank_at (suc n) (suc k) = blank_at n k
 
 pub blank_table : (n : ℕ) → IsTable (replicate n Nowhere)
-blank_table n = record {
-  few = λ k s is. absurd
-      (let e : slot_of (place_at (replicate n Nowhere) k) ≡ None = ap slot_of (blank_at n k) in let never : None ≡ Some s = sym e ∙ is in cc);
-  apart = λ m k s is is'. absurd
-      (let e : slot_of (place_at (replicate n Nowhere) m) ≡ None = ap slot_of (blank_at n m) in let never : None ≡ Some s = sym e ∙ is in cc);
-}
+blank_table n = grind (arith, nat_tests, blank_at)
 
 -- ---- a place is set
 
 none_has : (p : Place) → slot_of p ≡ None → has_slot p ≡ 0
-none_has Nowhere is = refl
-none_has (Torn s) is = absurd cc
-none_has (Whole s) is = absurd cc
+none_has p is = grind (arith, nat_tests)
 
 pub some_has : (p : Place) {s : ℕ} → slot_of p ≡ Some s → has_slot p ≡ 1
-some_has Nowhere is = absurd cc
-some_has (Torn t) is = refl
-some_has (Whole t) is = refl
+some_has p {s} is = grind (arith, nat_tests)
 
 pub set_here : (ps : List Place) {n : ℕ} {q : Place} → n < length ps → place_at (set ps n q) n ≡ q
 set_here ps {n} {q} lt = get_or-set_same ps n q Nowhere lt
@@ -90,51 +77,16 @@ set_there ps {n} {m} q other = get_or-set_other ps n m q Nowhere other
 
 -- an object with a slot stays in it
 table_kept : {ps : List Place} {n t : ℕ} (q : Place) → IsTable ps → n < length ps → slot_of (place_at ps n) ≡ Some t → slot_of q ≡ Some t → IsTable (set ps n q)
-table_kept {ps} {n} {t} q is lt was has =
-    let count : taken_count (set ps n q) ≡ taken_count ps = let set' = tally-set has_slot ps n q lt in let one = some_has (place_at ps n) was in let one' =
-    some_has q has in omega (arith, set', one, one') in
-    let same : (m s : ℕ) → slot_of (place_at (set ps n q) m) ≡ Some s → slot_of (place_at ps m) ≡ Some s = λ m s e. elim (cases_eq m n) [
-      | inl here ↦
-          let now : slot_of (place_at (set ps n q) m) ≡ Some t = ap (λ (k : ℕ). slot_of (place_at (set ps n q) k)) here ∙ ap slot_of (set_here ps lt) ∙ has in
-          ap (λ (k : ℕ). slot_of (place_at ps k)) here ∙ was ∙ sym now ∙ e
-      | inr there ↦ ap slot_of (sym (set_there ps q there)) ∙ e
-    ] in
-    record {
-      few = λ m s e. let less = is.few m s (same m s e) in omega (arith, less, count);
-      apart = λ m k s e e'. is.apart m k s (same m s e) (same k s e');
-    }
+table_kept {ps} {n} {t} q is lt was has = grind (arith, nat_tests, tally-set, some_has, set_here, set_there)
 
 -- the next slot is taken
 table_more : {ps : List Place} {n : ℕ} (q : Place) → IsTable ps → n < length ps → slot_of (place_at ps n) ≡ None → slot_of q ≡ Some (taken_count ps) →
     IsTable (set ps n q)
-table_more {ps} {n} q is lt was has =
-    let count : taken_count (set ps n q) ≡ taken_count ps + 1 = let set' = tally-set has_slot ps n q lt in let none = none_has (place_at ps n) was in let one =
-    some_has q has in omega (arith, set', none, one) in
-    let here : (m s : ℕ) → m ≡ n → slot_of (place_at (set ps n q) m) ≡ Some s → s ≡ taken_count ps = λ m s same e.
-    same_Some _ _ (sym e ∙ ap (λ (k : ℕ). slot_of (place_at (set ps n q) k)) same ∙ ap slot_of (set_here ps lt) ∙ has) in
-    let there : (m s : ℕ) → (m ≡ n → ⊥) → slot_of (place_at (set ps n q) m) ≡ Some s →
-    slot_of (place_at ps m) ≡ Some s = λ m s other e. ap slot_of (sym (set_there ps q other)) ∙ e in
-    record {
-      few = λ m s e. elim (cases_eq m n) [
-        | inl same ↦ let at = here m s same e in omega (arith, at, count)
-        | inr other ↦ let less = is.few m s (there m s other e) in omega (arith, less, count)
-      ];
-      apart = λ m k s e e'. elim (cases_eq m n) [
-        | inl same ↦ elim (cases_eq k n) [
-          | inl same' ↦ same ∙ sym same'
-          | inr other' ↦ let at = here m s same e in let less = is.few k s (there k s other' e') in absurd (omega (arith, at, less))
-        ]
-        | inr other ↦ elim (cases_eq k n) [
-          | inl same' ↦ let at = here k s same' e' in let less = is.few m s (there m s other e) in absurd (omega (arith, at, less))
-          | inr other' ↦ is.apart m k s (there m s other e) (there k s other' e')
-        ]
-      ];
-    }
+table_more {ps} {n} q is lt was has = grind (arith, nat_tests, tally-set, none_has, some_has, same_Some, set_here, set_there)
 
 set_by : (o : Option ℕ) {ps : List Place} {n : ℕ} (q : Place) → IsTable ps → n < length ps → slot_of (place_at ps n) ≡ o →
     slot_of q ≡ Some (slot_or o (taken_count ps)) → IsTable (set ps n q)
-set_by None {ps} {n} q is lt was has = table_more q is lt was has
-set_by (Some s) {ps} {n} q is lt was has = table_kept q is lt was has
+set_by o {ps} {n} q is lt was has = grind (arith, nat_tests, table_more, table_kept)
 
 pub table_set : {ps : List Place} {n : ℕ} (q : Place) → IsTable ps → n < length ps → slot_of q ≡ Some (slot_for ps n) → IsTable (set ps n q)
 table_set {ps} {n} q is lt has = set_by (slot_of (place_at ps n)) q is lt refl has
@@ -142,8 +94,7 @@ table_set {ps} {n} q is lt has = set_by (slot_of (place_at ps n)) q is lt refl h
 -- ---- entries
 
 entry_length : (n : ℕ) (p : Place) (es : List Entry) → length (entry_before n (slot_of p) es) ≡ has_slot p + length es
-entry_length n Nowhere es = omega arith
-entry_length n other es = omega arith
+entry_length n p es = grind (arith, nat_tests)
 
 length_from : (n : ℕ) (ps : List Place) → length (entries_from n ps) ≡ taken_count ps
 unfolding tally
@@ -161,14 +112,10 @@ mark_is : (ps : List Place) (n : ℕ) → is_marked (map is_held ps) n ≡ is_he
 mark_is ps n = get_or-map is_held ps n Nowhere
 
 held_has : (p : Place) → is_held p ≡ true → has_slot p ≡ 1
-held_has Nowhere held = absurd cc
-held_has (Torn s) held = refl
-held_has (Whole s) held = refl
+held_has p held = grind (arith, nat_tests)
 
 unheld_slot : (p : Place) → is_held p ≡ false → slot_of p ≡ None
-unheld_slot Nowhere unheld = refl
-unheld_slot (Torn s) unheld = absurd cc
-unheld_slot (Whole s) unheld = absurd cc
+unheld_slot p unheld = grind (arith, nat_tests)
 
 -- the entries of the objects from the n-th on, whose number is i
 entries_step : (i n : ℕ) (ps : List Place) → entries_from i (drop n ps) ≡ entry_before i (slot_of (place_at ps n)) (entries_from (i + 1) (drop (n + 1) ps))
@@ -220,11 +167,7 @@ none_taken ps none = sym (length_from 0 ps) ∙ ap length (none_held ps none)
 
 -- one is taken away
 pub one_less : (ps : List Place) {n : ℕ} → IsNextMarked (map is_held ps) 0 n → taken_count (set ps n Nowhere) + 1 ≡ taken_count ps
-one_less ps {n} next =
-    let within : n < length ps = omega (arith, next.inside, length-map ps is_held) in
-    let after = tally-set has_slot ps n Nowhere within in
-    let one = held_has (place_at ps n) (sym (mark_is ps n) ∙ next.marked) in
-    omega (arith, after, one)
+one_less ps {n} next = grind (arith, nat_tests, length-map, tally-set, held_has, mark_is)
 
 -- and then none has one
 pub all_nowhere : (ps : List Place) → taken_count ps ≡ 0 → ps ≡ replicate (length ps) Nowhere
@@ -237,20 +180,17 @@ all_nowhere (Whole s ∷ ps) none = absurd (omega (arith, none))
 -- ---- the slots that the entries give
 
 none_below : (o : Option ℕ) {n m : ℕ} (es : List Entry) → m < n → slot_in es m ≡ None → slot_in (entry_before n o es) m ≡ None
-none_below None es lt none = none
-none_below (Some s) {n} {m} es lt none = slot_behind (record { object = n; slot = s }) es m (λ same. omega (arith, same, lt)) ∙ none
+none_below o {n} {m} es lt none = grind (arith, nat_tests)
 
 below : (n : ℕ) {m : ℕ} (ps : List Place) → m < n → slot_in (entries_from n ps) m ≡ None
 below n [] lt = refl
 below n {m} (p ∷ ps) lt = none_below (slot_of p) (entries_from (n + 1) ps) lt (below (n + 1) ps (omega (arith, lt)))
 
 slot_first : (o : Option ℕ) (n : ℕ) (es : List Entry) → slot_in es n ≡ None → slot_in (entry_before n o es) n ≡ o
-slot_first None n es none = none
-slot_first (Some s) n es none = slot_here (record { object = n; slot = s }) es n refl
+slot_first o n es none = grind (arith, nat_tests)
 
 slot_later : (o : Option ℕ) {n m : ℕ} (es : List Entry) → n < m → slot_in (entry_before n o es) m ≡ slot_in es m
-slot_later None es lt = refl
-slot_later (Some s) {n} {m} es lt = slot_behind (record { object = n; slot = s }) es m (λ same. omega (arith, same, lt))
+slot_later o {n} {m} es lt = grind (arith, nat_tests)
 
 slot_from : (n k : ℕ) (ps : List Place) → slot_in (entries_from n ps) (n + k) ≡ slot_of (place_at ps k)
 slot_from n k [] = refl
@@ -267,27 +207,13 @@ slot_entries ps n = let same : 0 + n ≡ n = omega arith in ap (slot_in (entries
 
 -- ---- the entries are a directory
 
-rising_cons : (e : Entry) (es : List Entry) → AreRising es → (0 < length es → e.object < (entry_at es 0).object) → AreRising (e ∷ es)
-rising_cons e es rising first zero lt = first (omega (arith, lt))
-rising_cons e es rising first (suc i) lt =
-    let next : suc (i + 1) ≡ suc i + 1 = omega arith in
-    subst (λ (k : ℕ). (entry_at es i).object < (entry_at (e ∷ es) k).object) next (rising i (omega (arith, lt)))
-
 -- the objects of entries lie in a range
 record AreFrom (low high : ℕ) (es : List Entry) : Type 0 where
   pub each : (i : ℕ) → i < length es → (low ≤ (entry_at es i).object) × ((entry_at es i).object < high)
   pub rising : AreRising es
 
 from_by : (o : Option ℕ) {n high : ℕ} {es : List Entry} → n < high → AreFrom (n + 1) high es → AreFrom n high (entry_before n o es)
-from_by None lt are = record { each = λ i within. let one = are.each i within in (omega (arith, one.0), one.1); rising = are.rising }
-from_by (Some s) {n} {high} {es} lt are = record {
-  each = each_of;
-  rising = rising_cons (record { object = n; slot = s }) es are.rising (λ some. let one = are.each 0 some in omega (arith, one.0));
-} where
-  each_of : (i : ℕ) → i < length (entry_before n (Some s) es) →
-      (n ≤ (entry_at (entry_before n (Some s) es) i).object) × ((entry_at (entry_before n (Some s) es) i).object < high)
-  each_of zero within = (omega arith, lt)
-  each_of (suc i) within = let one = are.each i (omega (arith, within)) in (omega (arith, one.0), one.1)
+from_by o {n} {high} {es} lt are = grind (arith, nat_tests)
 
 from_of : (n : ℕ) (ps : List Place) → AreFrom n (n + length ps) (entries_from n ps)
 from_of n [] = record { each = λ i lt. absurd (omega (arith, lt)); rising = λ i lt. absurd (omega (arith, lt)) }
@@ -328,8 +254,7 @@ entries_directory {g} {ps} is size few small small' =
 -- ---- what the code keeps
 
 one_slot : (p : Place) → has_slot p ≤ 1
-one_slot Nowhere = omega arith
-one_slot other = omega arith
+one_slot p = grind (arith, nat_tests)
 
 pub taken_few : (ps : List Place) → taken_count ps ≤ length ps
 unfolding tally
@@ -338,29 +263,18 @@ taken_few (p ∷ ps) = let rest = taken_few ps in let here = one_slot p in omega
 
 pub count_set : (has : Place → ℕ) {items now : List Place} {n : ℕ} {q old : Place} {count a b : ℕ} → items ≡ now → n < length now → old ≡ place_at now n →
     count ≡ tally has items → a ≡ has q → b ≡ has old → count + a - b ≡ tally has (set items n q)
-count_set has {items} {n} {q} {b} same lt is total one other =
-    let within : n < length items = subst (λ (xs : List Place). n < length xs) (sym same) lt in
-    let before : b ≡ has (place_at items n) = other ∙ ap has (is ∙ ap (λ (xs : List Place). place_at xs n) (sym same)) in
-    let after = tally-set has items n q within in
-    omega (arith, after, before, total, one)
+count_set has {items} {now} {n} {q} {old} {count} {a} {b} same lt is total one other = grind (arith, nat_tests, tally-set)
 
 pub count_at : (has : Place → ℕ) {items now : List Place} {n : ℕ} {old : Place} {count b : ℕ} → items ≡ now → n < length now → old ≡ place_at now n →
     count ≡ tally has items → b ≡ has old → b ≤ count
-count_at has {items} {n} {b} same lt is total other =
-    let within : n < length items = subst (λ (xs : List Place). n < length xs) (sym same) lt in
-    let before : b ≡ has (place_at items n) = other ∙ ap has (is ∙ ap (λ (xs : List Place). place_at xs n) (sym same)) in
-    let one = tally_at has items n within in
-    omega (arith, one, before, total)
+count_at has {items} {now} {n} {old} {count} {b} same lt is total other = grind (arith, nat_tests, tally_at)
 
 pub table_is : {items now : List Place} {n : ℕ} (q : Place) → items ≡ now → n < length now → slot_of q ≡ Some (slot_for now n) → IsTable items →
     IsTable (set items n q)
-table_is {items} {n} q same lt has is =
-    table_set q is (subst (λ (xs : List Place). n < length xs) (sym same) lt) (has ∙ ap (λ (xs : List Place). Some (slot_for xs n)) (sym same))
+table_is {items} {now} {n} q same lt has is = grind (arith, nat_tests, table_set)
 
 slot_held : (p : Place) {s : ℕ} → slot_of p ≡ Some s → is_held p ≡ true
-slot_held Nowhere has = absurd cc
-slot_held (Torn t) has = refl
-slot_held (Whole t) has = refl
+slot_held p {s} has = grind (arith, nat_tests)
 
 pub held_set : (ps : List Place) {held : List Bool} (n : ℕ) {s : ℕ} (q : Place) → held ≡ map is_held ps → slot_of q ≡ Some s →
     set held n true ≡ map is_held (set ps n q)
@@ -368,9 +282,7 @@ held_set ps n {s} q are has = ap (λ (bs : List Bool). set bs n true) are ∙ ap
 
 pub blank_is : {ps : List Place} {held : List Bool} (n : ℕ) → ps ≡ replicate n Nowhere → held ≡ map is_held ps →
     IsTable ps × (held ≡ map is_held ps) × (0 ≡ taken_count ps) × (0 ≡ whole_count ps)
-blank_is {ps} {held} n is marks =
-    subst (λ (xs : List Place). IsTable xs × (held ≡ map is_held ps) × (0 ≡ taken_count xs) × (0 ≡ whole_count xs)) (sym is)
-    (blank_table n, marks, sym (tally-blank has_slot n refl), sym (tally-blank has_frame n refl))
+blank_is {ps} {held} n is marks = grind (arith, nat_tests, blank_table, tally-blank)
 
 -- no object is held
 pub unheld_all : (n : ℕ) → replicate n false ≡ map is_held (replicate n Nowhere)
@@ -379,5 +291,4 @@ unheld_all (suc n) = ap (λ (bs : List Bool). false ∷ bs) (unheld_all n)
 
 pub rewritten : {X : Type 0} (items : List X) {new : List X} {len : ℕ} → length new ≡ length items → len ≡ length items → take len
     (new ++ drop (length new) items) ≡ new
-rewritten {X = X} items {new} {len} long size = rw (drop_all (length new) items (omega (arith, long)), append-nil new)
-    (take_all len new (omega (arith, long, size)))
+rewritten {X} items {new} {len} long size = grind (arith, nat_tests, drop_all, append-nil, take_all)

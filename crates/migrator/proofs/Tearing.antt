@@ -1,9 +1,8 @@
 -- What was put of an object is given up: its slot stays.
-use Rattle.migrator.proofs.Names.{on_err_weaker, on_ok_weaker, false, MayPut, PutsFrame, Stores, inl, ℕ, Option, Some, length, sym, ap, arith, get_or-set_same}
-use Rattle.migrator.proofs.Names.{same_Some, Disk, count_of, Absent, Broken, put_at, puts_in, HasFreeSlot, Books, FrozenPuts, Stored, frozen_generation}
-use Rattle.migrator.proofs.Names.{frozen_of, seen_by, stored_on, with_frozen, with_put, subst, Result, Err, IsErr, Counts, counts_on, Frame, IsKeepable}
-use Rattle.migrator.proofs.Names.{IsObject, Plan, Kept, most}
-use Rattle.std.proofs.Common.{◌≡◌, ◌∙◌, ◌<◌, option_map}
+use Rattle.migrator.proofs.Names.{nat_tests, on_err_weaker, on_ok_weaker, false, MayPut, PutsFrame, Stores, ℕ, Some, ap, arith, get_or-set_same, same_Some}
+use Rattle.migrator.proofs.Names.{Disk, count_of, Broken, puts_in, HasFreeSlot, Books, Stored, frozen_generation, seen_by, stored_on}
+use Rattle.migrator.proofs.Names.{with_frozen, Result, Err, IsErr, Counts, counts_on, Frame, Kept}
+use Rattle.std.proofs.Common.{◌≡◌, ◌∙◌, ◌<◌}
 use Rattle.migrator.proofs.Publishing.{err_counts, no_ok, on_err}
 use Rattle.migrator.proofs.Freezing.{length_puts}
 use Rattle.migrator.proofs.Moving.{goes_trans}
@@ -12,26 +11,12 @@ use Rattle.migrator.proofs.PutFrames.{put_twice}
 torn_room : (old mid : Disk) (b c : Books) {size n : ℕ} → b.size ≡ Some size → c.size ≡ Some size →
     stored_on mid c ≡ with_frozen n Broken (stored_on old b) → n < count_of b.plan
     → HasFreeSlot size (puts_in (seen_by mid.seen c) c.plan (frozen_generation c) c.frozen) n
-torn_room old mid b c {size} {n} running still torn known =
-    let puts = puts_in (seen_by old.seen b) b.plan (frozen_generation b) b.frozen in
-    let within : n < length puts = omega (arith, known, length_puts (seen_by old.seen b) b.plan (frozen_generation b) b.frozen) in
-    let is = same_Some (frozen_of (seen_by mid.seen c) c size) (with_put n Broken (frozen_of (seen_by old.seen b) b size))
-    (sym (ap (option_map (frozen_of (seen_by mid.seen c) c)) still) ∙ ap (λ (s : Stored). s.frozen) torn
-    ∙ ap (λ (o : Option ℕ). option_map (with_put n Broken) (option_map (frozen_of (seen_by old.seen b) b) o)) running) in
-    inl (λ none.
-    let never : Broken ≡ Absent = sym (get_or-set_same puts n Broken Absent within) ∙ sym (ap (λ (f : FrozenPuts). put_at f.put n) is) ∙ none in
-    absurd cc)
+torn_room old mid b c {size} {n} running still torn known = grind (arith, nat_tests, length_puts, same_Some, get_or-set_same)
 
 -- it may then be put
 pub may_put_torn : {old mid : Disk} {a b : Books} {k n : ℕ} {f : Frame} → MayPut old a k n f → Stores old mid a b (with_frozen n Broken (stored_on old a)) →
     b.size ≡ Some k → MayPut mid b k n f
-may_put_torn {old} {mid} {a} {b} {k} {n} {f} may torn still = search (
-  torn,
-  still,
-  subst (λ (p : Plan). IsObject p.geometry n) (sym torn.goes_on.plan) may.object,
-  subst (λ (p : Plan). IsKeepable p.geometry most n f) (sym torn.goes_on.plan) may.keepable,
-  torn_room old mid a b may.running still torn.stored may.object,
-)
+may_put_torn {old} {mid} {a} {b} {k} {n} {f} may torn still = grind (arith, nat_tests, torn_room)
 
 -- the device failed before
 pub puts_none : {T E U F : Type 0} {old mid : Disk} {a b : Books} (n : ℕ) {f : Frame} {e : E} {r : Result U F} →

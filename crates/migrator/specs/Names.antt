@@ -2,7 +2,6 @@
 pub use Rattle.checkpoint.specs.Opened.{OnlyReads}
 pub use Rattle.checkpoint.specs.Saved.{Holds, LeavesEither, LeavesSaved, SavedFrames, kept_of, most}
 pub use Rattle.checkpoint.specs.Snapshots.{FrozenView, Snapshots, freezing, moved, moved_saved, next_saved}
-pub use Rattle.layout.specs.declared.open_fault.OpenFault.{OpenFault}
 pub use Rattle.ckpt_log.specs.Commit.{header_sector}
 pub use Rattle.ckpt_log.specs.Places.{directory_extent, place_extent}
 pub use Rattle.device.specs.Calls.{Agrees, Counts, Elsewhere, IsTorn, Narrows, Only, Tears, image_of}
@@ -28,6 +27,7 @@ pub use Rattle.layout.specs.declared.bad_image.BadImage.TheVariants.{BadFrame}
 pub use Rattle.layout.specs.declared.directory.Entry.{Entry}
 pub use Rattle.layout.specs.declared.extent.Extent.{Extent}
 pub use Rattle.layout.specs.declared.header.CheckpointHeader.{CheckpointHeader}
+pub use Rattle.layout.specs.declared.open_fault.OpenFault.{OpenFault}
 pub use Rattle.layout.specs.declared.shape.Shape.{Shape}
 pub use Rattle.layout.specs.declared.shape.Shape.TheVariants.{Packed}
 pub use Rattle.model.specs.Frame.{frame_at}

@@ -1,4 +1,4 @@
-use Rattle.migrator.proofs.Names.{on_ok_weaker, ℕ, ap, sym, subst, home_place, shape_length, begins, Touches}
+use Rattle.migrator.proofs.Names.{on_ok_weaker, ap, sym, shape_length, begins}
 use Rattle.std.proofs.Common.{◌∙◌}
 use Rattle.migrator.proofs.Gathering.{copied_own, no_cluster, zeros_there}
 use Rattle.migrator.proofs.copy.copy_home.Goals as goal

@@ -1,4 +1,4 @@
-use Rattle.migrator.proofs.Names.{subst, ℕ, IfErr, Image, agrees_is, OpenFault, IsBadFor}
+use Rattle.migrator.proofs.Names.{agrees_is}
 use Rattle.migrator.proofs.Opening.{refused_plan}
 use Rattle.migrator.proofs.image.read_plan.Goals as goal
 

@@ -1,5 +1,5 @@
-use Rattle.std.proofs.Common.{◌<◌, ◌≤◌, rules, arith}
-use Rattle.migrator.proofs.Names.{err_from_is_err_and}
+use Rattle.migrator.proofs.Names.{rules, arith, err_from_is_err_and}
+use Rattle.std.proofs.Common.{◌<◌, ◌≤◌}
 use Rattle.migrator.proofs.Opening.{sector_is, total_small, plan_refused, plan_read}
 use Rattle.migrator.proofs.read.superblock_of.Goals as goal
 

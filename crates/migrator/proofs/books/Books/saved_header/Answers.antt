@@ -12,7 +12,7 @@ returns-clause-found g c =
     let place = rw c.new-home.ensures at c.place-at.ensures.value in
     let same = ap (λ (image : Image). bytes_at image (home_place b.plan c.args.number) b.plan c.args.number)
     (agrees_is new.seen disk.seen c.read_header_of.ensures.reads.seen)
-    ∙ home_raw disk.sectors disk.seen b b.unwritten c.requires.stands.kept c.requires.stands.unwritten c.requires.home c.requires.object in
+    ∙ home_raw c.requires.stands c.requires.object in
     IfOk-weaker c.read_header_of.result _ _
     (λ header is. header_read new.seen c.requires.stands.kept c.requires.home c.requires.object place c.shape.ensures.value
     c.shape.ensures.fits same is) c.read_header_of.ensures.found

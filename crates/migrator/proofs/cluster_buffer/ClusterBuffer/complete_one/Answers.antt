@@ -1,5 +1,5 @@
-use Rattle.migrator.proofs.Names.{on_ok_weaker, Some, Option, refl, sym, ap, subst, arith, Image, agrees_is, slot_sector, entry_at, shape_of, own_of, KeepsOne}
-use Rattle.migrator.proofs.Names.{Unwritten, counted_ok, counts_on, mended}
+use Rattle.migrator.proofs.Names.{on_ok_weaker, Some, refl, sym, ap, arith, Image, agrees_is, slot_sector, entry_at, shape_of, own_of, Unwritten, counted_ok}
+use Rattle.migrator.proofs.Names.{counts_on, mended}
 use Rattle.std.proofs.Common.{◌∙◌, ◌-◌}
 use Rattle.migrator.proofs.PlacesApart.{touches_on, reads_touch}
 use Rattle.migrator.proofs.Tables.{rewritten}
