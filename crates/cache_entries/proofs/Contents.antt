@@ -54,6 +54,30 @@ module _ (change : Root Cap → Root Cap) where
   root_room (kind.Root root) o s room = tt
   root_room other o s room = room
 
+-- a slot of a content
+module _ (slot : ℕ) (c : Cap) where
+  slot_in : (o : Option (List ℕ)) (s : List Cap) (a : Kind) → slots_are_of a ≡ true → with_slot_in (content_in a o (Some s)) slot c ≡ content_in a o
+      (Some (set s slot c))
+  slot_in o s kind.Node is = refl
+  slot_in o s kind.Annex is = refl
+  slot_in o s other is = absurd (true≢false (sym is))
+
+  no_slot : (a : Kind) (o : Option (List ℕ)) (s : Option (List Cap)) → slots_are_of a ≡ false → with_slot_in (content_in a o s) slot c ≡ content_in a o s
+  no_slot kind.Node o s none = absurd (true≢false none)
+  no_slot kind.Annex o s none = absurd (true≢false none)
+  no_slot other o s none = refl
+
+-- slots of a content from one on
+slots_in : (o : Option (List ℕ)) (s : List Cap) (i : ℕ) (cs : List Cap) (a : Kind) → slots_are_of a ≡ true →
+    with_slots_in (content_in a o (Some s)) i cs ≡ content_in a o (Some (slots_from s i cs))
+slots_in o s i [] a is = refl
+slots_in o s i (c ∷ cs) a is = rw (slot_in i c o s a is) (slots_in o (set s i c) (i + 1) cs a is)
+
+no_slots_in : (i : ℕ) (cs : List Cap) (a : Kind) (o : Option (List ℕ)) (s : Option (List Cap)) → slots_are_of a ≡ false → with_slots_in
+    (content_in a o s) i cs ≡ content_in a o s
+no_slots_in i [] a o s none = refl
+no_slots_in i (c ∷ cs) a o s none = ap (λ (d : Content Cap). with_slots_in d (i + 1) cs) (no_slot i c a o s none) ∙ no_slots_in (i + 1) cs a o s none
+
 module _ {ks : List Kind} {ps : List (Option (List ℕ))} {ns : List (Option (List Cap))} (are : AreBodies ks ps ns) {v : List (Content Cap)}
     (view : contents_in ks ps ns ≡ v) {k : ℕ} (within : k < length v) where
   pub kind_within : k < length ks
@@ -64,6 +88,8 @@ module _ {ks : List Kind} {ps : List (Option (List ℕ))} {ns : List (Option (Li
 
   pub node_within : k < length ns
   node_within = omega (arith, kind_within, are.nodes)
+
+  pub ruleset places_within = (kind_within, page_within, node_within)
 
   replaced : (qs : List (Option (List ℕ))) (ms : List (Option (List Cap))) (b : Kind) (c : Content Cap) → length qs ≡ length ps → length ms ≡ length ns →
       ((m : ℕ) → m ≢ k → item_at qs m ≡ item_at ps m) → ((m : ℕ) → m ≢ k → item_at ms m ≡ item_at ns m) →
@@ -116,6 +142,14 @@ module _ {ks : List Kind} {ps : List (Option (List ℕ))} {ns : List (Option (Li
   puts (content.Annex slots) = slotted kind.Annex slots (content.Annex slots) refl refl
   puts (content.Bank limit) = bare (kind.Bank limit) (content.Bank limit) tt refl
 
+  pub puts_are : (c : Content Cap) → AreBodies (set ks k (kind_of c)) (with_words_of c k ps) (with_slots_of c k ns)
+  puts_are c = (puts c).are
+
+  pub puts_seen : (c : Content Cap) → contents_in (set ks k (kind_of c)) (with_words_of c k ps) (with_slots_of c k ns) ≡ set v k c
+  puts_seen c = (puts c).contents
+
+  pub ruleset body_edits = (puts_are, puts_seen)
+
   module _ {b : Kind} (b_is : b ≡ get_or ks k b) where
     there : b ≡ kind_at ks k
     there = b_is ∙ get_or_default ks k b kind.Free kind_within
@@ -157,6 +191,10 @@ module _ {ks : List Kind} {ps : List (Option (List ℕ))} {ns : List (Option (Li
           subst (λ (js : List Kind). Puts js (set ps k (Some (set w index word))) ns (set v k (with_word_in (held_at v k) index word))) same_kinds
           (worded b (set w index word) (with_word_in (held_at v k) index word) (word_room b (set w index word) (item_at ns k) is) after)
 
+    pub word_seen : (index word : ℕ) → words_are_of b ≡ true → (w : List ℕ) → item_at ps k ≡ Some w →
+        contents_in ks (set ps k (Some (set w index word))) ns ≡ set v k (with_word_in (held_at v k) index word)
+    word_seen index word is w here = (word_put index word is w here).contents
+
     pub slots_there : slots_are_of b ≡ true → IsSome (item_at ns k)
     slots_there is = some_slots b (item_at ps k) (item_at ns k) is room_of
 
@@ -168,8 +206,11 @@ module _ {ks : List Kind} {ps : List (Option (List ℕ))} {ns : List (Option (Li
         bare (kind_with_root change b) (with_root_in change (held_at v k)) (root_room change b (item_at ps k) (item_at ns k) room_of)
         (root_in change b (item_at ps k) (item_at ns k) ∙ sym (ap (with_root_in change) held))
 
+    pub root_seen : (change : Root Cap → Root Cap) → contents_in (set ks k (kind_with_root change b)) ps ns ≡ set v k (with_root_in change (held_at v k))
+    root_seen change = (root_put change).contents
+
     -- the slots of a body are others
-    pub slots_put : slots_are_of b ≡ true → (s t : List Cap) → item_at ns k ≡ Some s → (change : Content Cap → Content Cap) →
+    slots_put : slots_are_of b ≡ true → (s t : List Cap) → item_at ns k ≡ Some s → (change : Content Cap → Content Cap) →
         ((a : Kind) → slots_are_of a ≡ true → change (content_in a (item_at ps k) (Some s)) ≡ content_in a (item_at ps k) (Some t)) →
         Puts ks ps (set ns k (Some t)) (set v k (change (held_at v k)))
     slots_put is s t here change changes =
@@ -178,23 +219,28 @@ module _ {ks : List Kind} {ps : List (Option (List ℕ))} {ns : List (Option (Li
         subst (λ (js : List Kind). Puts js ps (set ns k (Some t)) (set v k (change (held_at v k)))) same_kinds
         (slotted b t (change (held_at v k)) (slot_room b (item_at ps k) t is) after)
 
-    pub no_slots : slots_are_of b ≡ false → (change : Content Cap → Content Cap) →
+    no_slots : slots_are_of b ≡ false → (change : Content Cap → Content Cap) →
         ((a : Kind) (o : Option (List ℕ)) (s : Option (List Cap)) → slots_are_of a ≡ false → change (content_in a o s) ≡ content_in a o s) →
         v ≡ set v k (change (held_at v k))
     no_slots none change same = rw held (unchanged (change (content_in b (item_at ps k) (item_at ns k))) (sym (same b (item_at ps k) (item_at ns k) none)))
 
--- a slot of a content
-module _ (slot : ℕ) (c : Cap) where
-  pub slot_in : (o : Option (List ℕ)) (s : List Cap) (a : Kind) → slots_are_of a ≡ true → with_slot_in (content_in a o (Some s)) slot c ≡ content_in a o
-      (Some (set s slot c))
-  slot_in o s kind.Node is = refl
-  slot_in o s kind.Annex is = refl
-  slot_in o s other is = absurd (true≢false (sym is))
+    pub slot_seen : (slot : ℕ) (c : Cap) → slots_are_of b ≡ true → (s : List Cap) → item_at ns k ≡ Some s →
+        contents_in ks ps (set ns k (Some (set s slot c))) ≡ set v k (with_slot_in (held_at v k) slot c)
+    slot_seen slot c is s here = (slots_put is s (set s slot c) here (λ x. with_slot_in x slot c) (slot_in slot c (item_at ps k) s)).contents
 
-  pub no_slot : (a : Kind) (o : Option (List ℕ)) (s : Option (List Cap)) → slots_are_of a ≡ false → with_slot_in (content_in a o s) slot c ≡ content_in a o s
-  no_slot kind.Node o s none = absurd (true≢false none)
-  no_slot kind.Annex o s none = absurd (true≢false none)
-  no_slot other o s none = refl
+    pub no_slot_seen : (slot : ℕ) (c : Cap) → slots_are_of b ≡ false → v ≡ set v k (with_slot_in (held_at v k) slot c)
+    no_slot_seen slot c none = no_slots none (λ x. with_slot_in x slot c) (no_slot slot c)
+
+    pub slots_seen : (i : ℕ) (cs : List Cap) → slots_are_of b ≡ true → (s : List Cap) → item_at ns k ≡ Some s →
+        contents_in ks ps (set ns k (Some (slots_from s i cs))) ≡ set v k (with_slots_in (held_at v k) i cs)
+    slots_seen i cs is s here = (slots_put is s (slots_from s i cs) here (λ x. with_slots_in x i cs) (slots_in (item_at ps k) s i cs)).contents
+
+    pub no_slots_seen : (i : ℕ) (cs : List Cap) → slots_are_of b ≡ false → v ≡ set v k (with_slots_in (held_at v k) i cs)
+    no_slots_seen i cs none = no_slots none (λ x. with_slots_in x i cs) (no_slots_in i cs)
+
+    pub ruleset word_edits = (words_there, no_page, word_seen)
+
+    pub ruleset slot_edits = (slots_there, slot_seen, no_slot_seen, slots_seen, no_slots_seen)
 
 all_held : (ks : List Kind) (ps : List (Option (List ℕ))) (ns : List (Option (List Cap))) → ((k : ℕ) → kind_at ks k ≡ kind.Free) → replicate (length ks)
     content.Free ≡ contents_in ks ps ns
@@ -202,17 +248,6 @@ unfolding contents_in
 all_held ks ps ns free =
     (fill_by_all (content_at ks ps ns) (replicate (length ks) content.Free) (length ks) content.Free (length-replicate (length ks) content.Free)
     (λ k below. get_or-replicate (length ks) k content.Free content.Free below ∙ sym (ap (λ (a : Kind). content_in a (item_at ps k) (item_at ns k)) (free k))))
-
--- slots of a content from one on
-pub slots_in : (o : Option (List ℕ)) (s : List Cap) (i : ℕ) (cs : List Cap) (a : Kind) → slots_are_of a ≡ true →
-    with_slots_in (content_in a o (Some s)) i cs ≡ content_in a o (Some (slots_from s i cs))
-slots_in o s i [] a is = refl
-slots_in o s i (c ∷ cs) a is = rw (slot_in i c o s a is) (slots_in o (set s i c) (i + 1) cs a is)
-
-pub no_slots_in : (i : ℕ) (cs : List Cap) (a : Kind) (o : Option (List ℕ)) (s : Option (List Cap)) → slots_are_of a ≡ false → with_slots_in
-    (content_in a o s) i cs ≡ content_in a o s
-no_slots_in i [] a o s none = refl
-no_slots_in i (c ∷ cs) a o s none = ap (λ (d : Content Cap). with_slots_in d (i + 1) cs) (no_slot i c a o s none) ∙ no_slots_in (i + 1) cs a o s none
 
 -- no place holds anything at first
 pub none_held : (n : ℕ) (ks : List Kind) (ps : List (Option (List ℕ))) (ns : List (Option (List Cap))) → ks ≡ replicate n kind.Free → ps ≡ replicate n

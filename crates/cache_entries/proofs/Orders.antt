@@ -1,8 +1,9 @@
 -- Numbers in the order of their last use, and pairs of a cache with them as its keys.
 use Rattle.cache_entries.proofs.Names.{IsFilled, inl, inr, ℕ, nat_eq, Bool, true, false, cond, true≢false, List, [], length, take, Option, Some, None, is_some}
 use Rattle.cache_entries.proofs.Names.{refl, sym, ap, arith, keys_of, lookup_entry, remove_entry, option_map_or, eqb-true, eq-eqb, ne_eqb, cases_eq, take_all}
-use Rattle.cache_entries.proofs.Names.{LruCache, promoted, demoted, put_entries, Contains-lookup_entry, is_member, AllDiffer, without}
-use Rattle.std.proofs.Common.{◌≡◌, ◌≢◌, ◌+◌, ◌-◌, ◌<◌, ◌||◌, ◌∷◌, ◌++◌, ◌∙◌}
+use Rattle.cache_entries.proofs.Names.{LruCache, promoted, demoted, put_entries, Contains-lookup_entry, is_member, AllDiffer, without, or_right, or_cases}
+use Rattle.cache_entries.proofs.Names.{or_parts, false_from_ne_true, any_passes_from_place, list_any-append, take-append-drop, slice_get, drop}
+use Rattle.std.proofs.Common.{◌≡◌, ◌≢◌, ◌+◌, ◌-◌, ◌<◌, ◌||◌, ◌∷◌, ◌++◌, ◌∙◌, ◌⊎◌}
 
 -- ---- the keys of pairs
 
@@ -75,6 +76,46 @@ member_tail n m ms other = ap (λ (t : Bool). t || is_member ms n) (ne_eqb n m (
 pub member_head : (n m : ℕ) (ms : List ℕ) → n ≡ m → is_member (m ∷ ms) n ≡ true
 member_head n m ms same = ap (λ (t : Bool). t || is_member ms n) (eq-eqb n m same)
 
+pub in_tail : (m : ℕ) (ms : List ℕ) (n : ℕ) → is_member ms n ≡ true → is_member (m ∷ ms) n ≡ true
+in_tail m ms n is = or_right (nat_eq n m) (is_member ms n) is
+
+pub either_of : (m : ℕ) (ms : List ℕ) (n : ℕ) → is_member (m ∷ ms) n ≡ true → (n ≡ m) ⊎ (is_member ms n ≡ true)
+either_of m ms n is = elim (or_cases (nat_eq n m) (is_member ms n) is) [ inl same ↦ inl (eqb-true n m same) | inr later ↦ inr later ]
+
+pub not_here : (m : ℕ) (ms : List ℕ) (n : ℕ) → is_member (m ∷ ms) n ≡ false → (n ≢ m) × (is_member ms n ≡ false)
+not_here m ms n none = (λ same. true≢false (sym (member_head n m ms same) ∙ none), (or_parts (nat_eq n m) (is_member ms n) none).1)
+
+-- what stands in a list is a member
+pub listed_member : (ns : List ℕ) (i n : ℕ) → slice_get ns i ≡ Some n → is_member ns n ≡ true
+listed_member ns i n at = any_passes_from_place (nat_eq n) ns i n at (eq-eqb n n refl)
+
+pub in_either : (xs ys : List ℕ) (n : ℕ) → is_member (xs ++ ys) n ≡ true → (is_member xs n ≡ true) ⊎ (is_member ys n ≡ true)
+in_either xs ys n is = or_cases (is_member xs n) (is_member ys n) (sym (list_any-append (nat_eq n) xs ys) ∙ is)
+
+pub in_behind : (front ns : List ℕ) (n : ℕ) → is_member ns n ≡ true → is_member (front ++ ns) n ≡ true
+in_behind front ns n is = list_any-append (nat_eq n) front ns ∙ or_right (is_member front n) (is_member ns n) is
+
+pub in_front : (k : ℕ) (ns : List ℕ) (n : ℕ) → is_member (take k ns) n ≡ true → is_member ns n ≡ true
+in_front k ns n is =
+    ap (λ (ms : List ℕ). is_member ms n) (sym (take-append-drop k ns)) ∙ list_any-append (nat_eq n) (take k ns) (drop k ns)
+    ∙ ap (λ (t : Bool). t || is_member (drop k ns) n) is
+
+-- a list with a number at its end has the members of one with it in front
+pub member_end : (ns : List ℕ) (n m : ℕ) → is_member (ns ++ n ∷ []) m ≡ is_member (n ∷ ns) m
+member_end [] n m = refl
+member_end (k ∷ ns) n m = ap (λ (t : Bool). nat_eq m k || t) (member_end ns n m) ∙ swapped (nat_eq m k) (nat_eq m n)
+  where
+    swapped : (s t : Bool) → (s || (t || is_member ns m)) ≡ (t || (s || is_member ns m))
+    swapped true true = refl
+    swapped true false = refl
+    swapped false t = refl
+
+pub without_here : (n m : ℕ) (ms : List ℕ) → n ≡ m → without n (m ∷ ms) ≡ ms
+without_here n m ms same = ap (λ (t : Bool). cond t ms (m ∷ without n ms)) (eq-eqb n m same)
+
+pub without_tail : (n m : ℕ) (ms : List ℕ) → n ≢ m → without n (m ∷ ms) ≡ m ∷ without n ms
+without_tail n m ms other = ap (λ (t : Bool). cond t ms (m ∷ without n ms)) (ne_eqb n m other)
+
 -- a number more, and one less
 pub length_without : (n : ℕ) (ns : List ℕ) → is_member ns n ≡ true → length (without n ns) + 1 ≡ length ns
 length_without n [] is = absurd (true≢false (sym is))
@@ -115,11 +156,7 @@ differ_without n (m ∷ ms) once = elim (cases_eq n m) [
 ]
 
 pub not_yet : (keys : List ℕ) (k : ℕ) → ((p : ℕ) → is_member keys p ≡ true → p < k) → is_member keys k ≡ false
-not_yet keys k known = go (is_member keys k) refl
-  where
-    go : (t : Bool) → is_member keys k ≡ t → is_member keys k ≡ false
-    go true is = absurd (omega (arith, known k is))
-    go false is = is
+not_yet keys k known = false_from_ne_true (is_member keys k) (λ is. omega (arith, known k is))
 
 -- one more key, greater than all others
 pub filled_more : (keys : List ℕ) (k : ℕ) → IsFilled keys k → IsFilled (k ∷ keys) (k + 1)

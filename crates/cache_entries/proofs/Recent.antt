@@ -1,43 +1,32 @@
 -- The numbers used last, and the one used longest ago.
-use Rattle.cache_entries.proofs.Names.{inl, inr, ℕ, zero, suc, nat_eq, Bool, true, false, cond, true≢false, List, [], length, take, Some, refl, sym, ap, arith}
-use Rattle.cache_entries.proofs.Names.{slice_get, eq-eqb, ne_eqb, cases_eq, none-some, same_Some, is_member, AllDiffer, without}
-use Rattle.std.proofs.Common.{◌≡◌, ◌≢◌, ◌+◌, ◌<◌, ◌||◌, ◌∷◌, ◌∙◌}
-
--- what stands in a list is a member
-pub listed_member : (ns : List ℕ) (i n : ℕ) → slice_get ns i ≡ Some n → is_member ns n ≡ true
-listed_member [] i n at = absurd (none-some n at)
-listed_member (m ∷ ms) zero n at = ap (λ (t : Bool). t || is_member ms n) (eq-eqb n m (sym (same_Some m n at)))
-listed_member (m ∷ ms) (suc i) n at = go (nat_eq n m) (listed_member ms i n at)
-  where
-    go : (t : Bool) → is_member ms n ≡ true → (t || is_member ms n) ≡ true
-    go true is = refl
-    go false is = is
-
--- the last of two or more isn't the first
-last_apart : (m p : ℕ) (ps : List ℕ) (n : ℕ) → AllDiffer (m ∷ p ∷ ps) → slice_get (p ∷ ps) (length ps) ≡ Some n → n ≢ m
-last_apart m p ps n once at same = true≢false (sym (listed_member (p ∷ ps) (length ps) n at) ∙ ap (is_member (p ∷ ps)) same ∙ once.0)
+use Rattle.cache_entries.proofs.Names.{ℕ, zero, suc, true, false, true≢false, List, [], length, take, Some, refl, sym, ap, arith, slice_get, none-some}
+use Rattle.cache_entries.proofs.Names.{same_Some, is_member, AllDiffer, without, remove}
+use Rattle.std.proofs.Common.{◌≡◌, ◌≢◌, ◌+◌, ◌<◌, ◌∷◌, ◌∙◌}
+use Rattle.cache_entries.proofs.Orders.{listed_member, in_front, without_here, without_tail, gone}
 
 module _ (n : ℕ) where
+  pub apart_from : (m : ℕ) (ms : List ℕ) (place : ℕ) → slice_get ms place ≡ Some n → is_member ms m ≡ false → n ≢ m
+  apart_from m ms place at none same = true≢false (sym (listed_member ms place n at) ∙ ap (is_member ms) same ∙ none)
+
   -- without the last, those before it stay
   pub front_stays : (ns : List ℕ) (i k : ℕ) → i + 1 ≡ length ns → AllDiffer ns → slice_get ns i ≡ Some n → k < length ns → take k (without n ns) ≡ take k ns
   front_stays [] i k last once at below = absurd (omega (arith, below))
   front_stays (m ∷ ms) i zero last once at below = refl
-  front_stays (m ∷ []) i (suc k) last once at below = absurd (omega (arith, below))
-  front_stays (m ∷ p ∷ ps) zero (suc k) last once at below = absurd (omega (arith, last))
-  front_stays (m ∷ p ∷ ps) (suc i) (suc k) last once at below =
-      let other = last_apart m p ps n once (ap (slice_get (p ∷ ps)) (omega (arith, last)) ∙ at) in
-      ap (λ (t : Bool). take (suc k) (cond t (p ∷ ps) (m ∷ without n (p ∷ ps)))) (ne_eqb n m other)
-      ∙ ap (λ (ms : List ℕ). m ∷ ms) (front_stays (p ∷ ps) i k (omega (arith, last)) once.1 at (omega (arith, below)))
+  front_stays (m ∷ ms) zero (suc k) last once at below = absurd (omega (arith, last, below))
+  front_stays (m ∷ ms) (suc i) (suc k) last once at below =
+      ap (take (suc k)) (without_tail n m ms (apart_from m ms i at once.0))
+      ∙ ap (λ (rest : List ℕ). m ∷ rest) (front_stays ms i k (omega (arith, last)) once.1 at (omega (arith, below)))
 
   -- and none of them is the last
   pub front_apart : (ns : List ℕ) (i k m : ℕ) → i + 1 ≡ length ns → AllDiffer ns → slice_get ns i ≡ Some n → k < length ns → is_member (take k ns) m ≡
       true → m ≢ n
-  front_apart [] i k m last once at below is = absurd (omega (arith, below))
-  front_apart (a ∷ rest) i zero m last once at below is = absurd (true≢false (sym is))
-  front_apart (a ∷ []) i (suc k) m last once at below is = absurd (omega (arith, below))
-  front_apart (a ∷ p ∷ ps) zero (suc k) m last once at below is = absurd (omega (arith, last))
-  front_apart (a ∷ p ∷ ps) (suc i) (suc k) m last once at below is = elim (cases_eq m a) [
-    | inl same ↦ (λ there. last_apart a p ps n once (ap (slice_get (p ∷ ps)) (omega (arith, last)) ∙ at) (sym there ∙ same))
-    | inr other ↦ front_apart (p ∷ ps) i k m (omega (arith, last)) once.1 at (omega (arith, below))
-        (sym (ap (λ (t : Bool). t || is_member (take k (p ∷ ps)) m) (ne_eqb m a other)) ∙ is)
-  ]
+  front_apart ns i k m last once at below is same = true≢false (
+      sym (in_front k (without n ns) m (ap (λ (ms : List ℕ). is_member ms m) (front_stays ns i k last once at below) ∙ is))
+      ∙ ap (is_member (without n ns)) same ∙ gone n ns once)
+
+  -- what stands at a place is taken out
+  pub taken_out : (ns : List ℕ) (place : ℕ) → slice_get ns place ≡ Some n → AllDiffer ns → remove ns place ≡ without n ns
+  taken_out [] place at once = absurd (none-some n at)
+  taken_out (m ∷ ms) zero at once = sym (without_here n m ms (sym (same_Some m n at)))
+  taken_out (m ∷ ms) (suc place) at once =
+      ap (λ (rest : List ℕ). m ∷ rest) (taken_out ms place at once.1) ∙ sym (without_tail n m ms (apart_from m ms place at once.0))

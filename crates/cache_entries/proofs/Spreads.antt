@@ -1,53 +1,33 @@
 -- Places of numbers.
 use Rattle.cache_entries.proofs.Names.{ArePlaced, AreSpread, inl, inr, ℕ, zero, suc, Bool, true, false, true≢false, List, [], length, map, set, take, get_or}
-use Rattle.cache_entries.proofs.Names.{Option, Some, None, is_some, refl, sym, ap, subst, arith, nat_eq, eqb-true, nat_lt, cond, cases_eq, cases_lt, lt-ltb}
-use Rattle.cache_entries.proofs.Names.{le-ltb, length-map, length-set, length-take-le, take_all, get_or_default, get_or-replicate}
-use Rattle.cache_entries.proofs.Names.{length-replicate, replicate, get_or-set_same, get_or-set_other, get_or_past, none-some, same_Some, slice_get, is_member}
-use Rattle.cache_entries.proofs.Names.{AllDiffer, OrderState, order_of, place_at, place_below, used_last, used_longest_ago, without, changed_once, get_map}
-use Rattle.cache_entries.proofs.Names.{IsFilled}
-use Rattle.std.proofs.Common.{◌≡◌, ◌≢◌, ◌⊎◌, ◌+◌, ◌-◌, ◌<◌, ◌≤◌, ◌∷◌, ◌++◌, ◌∙◌}
-use Rattle.cache_entries.proofs.Turns.{filled_back, filled_front}
-use Rattle.cache_entries.proofs.Orders.{gone, length_without, member_head, still}
-use Rattle.cache_entries.proofs.Recent.{front_apart, front_stays, listed_member}
-use Rattle.cache_entries.proofs.Turns.{either, in_front, in_tail, member_used, without_here, without_tail}
+use Rattle.cache_entries.proofs.Names.{Option, Some, None, is_some, refl, sym, ap, subst, arith, nat_lt, cond, cases_eq, cases_lt, lt-ltb, le-ltb, length-map}
+use Rattle.cache_entries.proofs.Names.{length-set, length-take-le, take_all, get_or_default, get_or-replicate, length-replicate, replicate, get_or-set_same}
+use Rattle.cache_entries.proofs.Names.{get_or-set_other, get_or_past, none-some, same_Some, slice_get, is_member, AllDiffer, OrderState, order_of, place_at}
+use Rattle.cache_entries.proofs.Names.{place_below, used_last, used_longest_ago, without, changed_once, get_map, IsFilled, false_from_ne_true, take-append-le}
+use Rattle.cache_entries.proofs.Names.{slice_get-map, add-one, option_map}
+use Rattle.std.proofs.Common.{◌≡◌, ◌≢◌, ◌+◌, ◌-◌, ◌<◌, ◌≤◌, ◌∷◌, ◌++◌, ◌∙◌}
+use Rattle.cache_entries.proofs.Turns.{filled_back, filled_front, member_used}
+use Rattle.cache_entries.proofs.Orders.{gone, length_without, member_head, still, in_tail, either_of, listed_member, in_front, without_here, without_tail}
+use Rattle.cache_entries.proofs.Orders.{member_tail}
+use Rattle.cache_entries.proofs.Recent.{front_apart, front_stays}
 
--- ---- members of a list and of its first ones
-
-either_of : (m : ℕ) (ms : List ℕ) (n : ℕ) → is_member (m ∷ ms) n ≡ true → (n ≡ m) ⊎ (is_member ms n ≡ true)
-either_of m ms n is = elim (either (nat_eq n m) (is_member ms n) is) [ inl same ↦ inl (eqb-true n m same) | inr later ↦ inr later ]
+-- ---- the first members of a list
 
 -- the first ones, once one of them is taken out
 front_used : (p : ℕ) (ns : List ℕ) (k : ℕ) → is_member (take (suc k) ns) p ≡ true → take k (without p ns) ≡ without p (take (suc k) ns)
 front_used p [] k is = absurd (true≢false (sym is))
-front_used p (m ∷ ms) zero is = elim (either_of m [] p is) [
-  | inl same ↦ sym (without_here p m [] same)
-  | inr later ↦ absurd (true≢false (sym later))
-]
+front_used p (m ∷ ms) zero is = sym (without_here p m [] (elim (either_of m [] p is) [ inl same ↦ same | inr later ↦ absurd (true≢false (sym later)) ]))
 front_used p (m ∷ ms) (suc k) is = elim (cases_eq p m) [
   | inl same ↦ ap (take (suc k)) (without_here p m ms same) ∙ sym (without_here p m (take (suc k) ms) same)
-  | inr other ↦ elim (either_of m (take (suc k) ms) p is) [
-    | inl same ↦ absurd (other same)
-    | inr later ↦ ap (take (suc k)) (without_tail p m ms other) ∙ ap (λ (rest : List ℕ). m ∷ rest) (front_used p ms k later) ∙ sym
-        (without_tail p m (take (suc k) ms) other)
-  ]
+  | inr other ↦ ap (take (suc k)) (without_tail p m ms other) ∙ ap (λ (rest : List ℕ). m ∷ rest) (front_used p ms k
+      (sym (member_tail p m (take (suc k) ms) (λ same. other (sym same))) ∙ is)) ∙ sym (without_tail p m (take (suc k) ms) other)
 ]
-
-take_front : (k : ℕ) (ns : List ℕ) (n : ℕ) → k ≤ length ns → take k (ns ++ n ∷ []) ≡ take k ns
-take_front zero ns n few = refl
-take_front (suc k) [] n few = absurd (omega (arith, few))
-take_front (suc k) (m ∷ ms) n few = ap (λ (rest : List ℕ). m ∷ rest) (take_front k ms n (omega (arith, few)))
 
 differ_front : (k : ℕ) (ns : List ℕ) → AllDiffer ns → AllDiffer (take k ns)
 differ_front zero ns once = tt
 differ_front (suc k) [] once = tt
-differ_front (suc k) (m ∷ ms) once = (none_in (is_member (take k ms) m) refl, differ_front k ms once.1)
-  where
-    none_in : (t : Bool) → is_member (take k ms) m ≡ t → is_member (take k ms) m ≡ false
-    none_in true is = absurd (true≢false (sym (in_front k ms m is) ∙ once.0))
-    none_in false is = is
-
-plus_one : (k : ℕ) → k + 1 ≡ suc k
-plus_one k = omega arith
+differ_front (suc k) (m ∷ ms) once =
+    (false_from_ne_true (is_member (take k ms) m) (λ is. true≢false (sym (in_front k ms m is) ∙ once.0)), differ_front k ms once.1)
 
 -- ---- the numbers of places
 
@@ -67,11 +47,7 @@ module _ (f : ℕ → ℕ) where
   ]
 
   not_mapped : (ps : List ℕ) (n : ℕ) → ((p : ℕ) → is_member ps p ≡ true → f p ≢ n) → is_member (map f ps) n ≡ false
-  not_mapped ps n none = go (is_member (map f ps) n) refl
-    where
-      go : (t : Bool) → is_member (map f ps) n ≡ t → is_member (map f ps) n ≡ false
-      go true is = let p = map_member ps n is in absurd (none p.0 p.1 p.2)
-      go false is = is
+  not_mapped ps n none = false_from_ne_true (is_member (map f ps) n) (λ is. let p = map_member ps n is in none p.0 p.1 p.2)
 
   differ_map : (ps : List ℕ) → AllDiffer ps → ((p q : ℕ) → is_member ps p ≡ true → is_member ps q ≡ true → f p ≡ f q → p ≡ q) → AllDiffer (map f ps)
   differ_map [] once apart = tt
@@ -278,7 +254,7 @@ module _ {keys numbers places : List ℕ} {count : ℕ} (are : ArePlaced keys nu
       removed after c is less =
           let left : length (without (place n) keys) + 1 ≡ length keys = length_without (place n) keys listed in
           let front_is : take c after ≡ without (place n) used =
-          ap (take c) is ∙ take_front c (without (place n) keys) (place n) (omega (arith, left, less, are.few, are.filled.all))
+          ap (take c) is ∙ take-append-le c (without (place n) keys) (place n ∷ []) (omega (arith, left, less, are.few, are.filled.all))
           ∙ front c (omega (arith, less)) in
           let once : AllDiffer used = differ_front count keys are.filled.once in
           let size : n < length places = place_known n below in
@@ -318,19 +294,14 @@ module _ {keys numbers places : List ℕ} {count : ℕ} (are : ArePlaced keys nu
                 ∙ ap (λ (o : OrderState). let t : OrderState = record { numbers = without n o.numbers; places = set o.places n None; most = o.most } in t) view;
           }
 
-  -- a number gets the place that was used longest ago
-  module _ (p n : ℕ) (last : slice_get keys (length keys - 1) ≡ Some p) (short : count < most) (known : n < length places) (absent : most ≤ place n) where
-    p_below : p < most
-    p_below = are.filled.known p (listed_member keys (length keys - 1) p last)
+  pub last_below : (p : ℕ) → used_longest_ago keys ≡ Some p → p < most
+  last_below p last = are.filled.known p (listed_member keys (length keys - 1) p last)
 
+  -- a number gets the place that was used longest ago
+  module _ (p n : ℕ) (last : used_longest_ago keys ≡ Some p) (short : count < most) (known : n < length places) (absent : most ≤ place n) where
     p_free : is_member used p ≡ false
-    p_free = go (is_member used p) refl
-      where
-        go : (t : Bool) → is_member used p ≡ t → is_member used p ≡ false
-        go true is =
-            let last_index : length keys - 1 + 1 ≡ length keys = omega (arith, short, are.filled.all) in
-            absurd (front_apart p keys (length keys - 1) count p last_index are.filled.once last (omega (arith, short, are.filled.all)) is refl)
-        go false is = is
+    p_free = false_from_ne_true (is_member used p) (λ is.
+        front_apart p keys (length keys - 1) count p (omega (arith, short, are.filled.all)) are.filled.once last (omega (arith, short, are.filled.all)) is refl)
 
     abbrev numbers_after : List ℕ
     numbers_after = set numbers p n
@@ -357,12 +328,12 @@ module _ {keys numbers places : List ℕ} {count : ℕ} (are : ArePlaced keys nu
     inserted {s = s} view after c is more =
         let listed = listed_member keys (length keys - 1) p last in
         let front_is : take c after ≡ p ∷ used =
-        ap (take c) is ∙ ap (λ (k : ℕ). take k (p ∷ without p keys)) more ∙ ap (λ (k : ℕ). take k (p ∷ without p keys)) (plus_one count)
+        ap (take c) is ∙ ap (λ (k : ℕ). take k (p ∷ without p keys)) more ∙ ap (λ (k : ℕ). take k (p ∷ without p keys)) (add-one count)
         ∙ ap (λ (rest : List ℕ). p ∷ rest) (front_stays p keys (length keys - 1) count (omega (arith, short, are.filled.all)) are.filled.once last
         (omega (arith, short, are.filled.all))) in
         let new_place : get_or places_after n most ≡ p = get_or-set_same places n p most known in
         let old_place : (m : ℕ) → m ≢ n → get_or places_after m most ≡ place m = λ m other. get_or-set_other places n m p most other in
-        let new_number : get_or numbers_after p 0 ≡ n = get_or-set_same numbers p n 0 p_below in
+        let new_number : get_or numbers_after p 0 ≡ n = get_or-set_same numbers p n 0 (last_below p last) in
         record {
           are = record {
             filled = subst (IsFilled after) (sym same_most) (subst (λ (ks : List ℕ). IsFilled ks most) (sym is) (filled_front are.filled p listed));
@@ -397,7 +368,7 @@ module _ {keys numbers places : List ℕ} {count : ℕ} (are : ArePlaced keys nu
               (ap (map (λ q. get_or numbers_after q 0)) front_is ∙ ap (λ (m : ℕ). m ∷ map (λ q. get_or numbers_after q 0) used) new_number
               ∙ ap (λ (ns : List ℕ). n ∷ ns) (same_map (λ q. get_or numbers_after q 0) number used number_after))
               ∙ ap (λ (os : List (Option ℕ)). let o : OrderState = record { numbers = n ∷ map number used; places = os; most = most } in o)
-              (places_set n p (Some p) known (below_is most p p_below))
+              (places_set n p (Some p) known (below_is most p (last_below p last)))
               ∙ ap (λ (o : OrderState). let t : OrderState = record { numbers = n ∷ o.numbers; places = set o.places n (Some p); most = o.most } in t) view;
         }
 
@@ -408,15 +379,10 @@ module _ {keys numbers places : List ℕ} {count : ℕ} (are : ArePlaced keys nu
   least_number {s = s} view many p n last is =
       let full : most ≤ count = omega (arith, many, count_is view, most_is view) in
       let whole : used ≡ keys = take_all count keys (omega (arith, full, are.filled.all)) in
-      ap Some (is ∙ get_or_default numbers p n 0 (are.filled.known p (listed_member keys (length keys - 1) p last))) ∙ sym (
+      ap Some (is ∙ get_or_default numbers p n 0 (last_below p last)) ∙ sym (
       ap (slice_get (map number used)) (omega (arith, length_used, full, are.few, are.filled.all))
       ∙ ap (λ (ps : List ℕ). slice_get (map number ps) (length keys - 1)) whole
-      ∙ mapped keys (length keys - 1) last) ∙ ap (λ (o : OrderState). used_longest_ago o.numbers) view
-    where
-      mapped : (ps : List ℕ) (k : ℕ) → slice_get ps k ≡ Some p → slice_get (map number ps) k ≡ Some (number p)
-      mapped [] k at = absurd (none-some p at)
-      mapped (q ∷ qs) zero at = ap (λ (i : ℕ). Some (number i)) (same_Some q p at)
-      mapped (q ∷ qs) (suc k) at = mapped qs k at
+      ∙ slice_get-map number keys (length keys - 1) ∙ ap (option_map number) last) ∙ ap (λ (o : OrderState). used_longest_ago o.numbers) view
 
 -- no number has a place at first
 pub none_placed : (keys numbers places : List ℕ) (most count : ℕ) → 0 < most → IsFilled keys most → length numbers ≡ most → places ≡ replicate count most →

@@ -7,15 +7,19 @@ use Rattle.cache_entries.proofs.Names.{changed_once, get_map}
 use Rattle.std.proofs.Common.{◌≡◌, ◌≢◌, ◌<◌, ◌≤◌, ◌∷◌, ◌∙◌}
 use Rattle.model.specs.declared.object.Content.TheVariants as content
 
-some_map : {X Y : Type 0} (f : X → Y) (o : Option X) → is_some (option_map f o) ≡ is_some o
+pub some_map : {X Y : Type 0} (f : X → Y) (o : Option X) → is_some (option_map f o) ≡ is_some o
 some_map f None = refl
 some_map f (Some x) = refl
 
-some_within : {X : Type 0} (os : List (Option X)) (n : ℕ) → is_some (get_or os n None) ≡ true → n < length os
+pub some_within : {X : Type 0} (os : List (Option X)) (n : ℕ) → is_some (get_or os n None) ≡ true → n < length os
 some_within os n is = elim (cases_lt n (length os)) [
   | inl within ↦ within
   | inr past ↦ absurd (true≢false (sym is ∙ ap is_some (get_or_past os n None past)))
 ]
+
+elsewhere : (f g : ℕ → Entry) (r : Option ℕ) → ((q : ℕ) → r ≡ Some q → f q ≡ g q) → option_map f r ≡ option_map g r
+elsewhere f g None same = refl
+elsewhere f g (Some q) same = ap Some (same q refl)
 
 module _ (o : OrderState) {ps ks : List (Content Cap)} {ms : List Bool} (are : AreStored o.most ps ks ms) {s : EntriesState}
     (view : entries_of o ps ks ms ≡ s) where
@@ -57,14 +61,10 @@ module _ (o : OrderState) {ps ks : List (Content Cap)} {ms : List Bool} (are : A
         (get_map (option_map (entry_in qs js ls)) o.places n None None refl ∙ ap (option_map (entry_in qs js ls)) at
         ∙ ap Some here ∙ sym (ap (option_map change) (at_is n ∙ ap (option_map entry) at)))
         (λ m other. get_map (option_map (entry_in qs js ls)) o.places m None None refl
-        ∙ elsewhere (place_at o.places m) (λ q is. others q (λ same. other (spread.apart m n p (is ∙ ap Some same) at)))
+        ∙ elsewhere (entry_in qs js ls) entry (place_at o.places m) (λ q is. others q (λ same. other (spread.apart m n p (is ∙ ap Some same) at)))
         ∙ sym (get_map (option_map entry) o.places m None None refl)))
         ∙ ap (λ (t : EntriesState). let u : EntriesState = record { at = set t.at n (option_map change (entry_at s.at n)); order = t.order; most = t.most }
         in u) view
-      where
-        elsewhere : (r : Option ℕ) → ((q : ℕ) → r ≡ Some q → entry_in qs js ls q ≡ entry q) → option_map (entry_in qs js ls) r ≡ option_map entry r
-        elsewhere None same = refl
-        elsewhere (Some q) same = ap Some (same q refl)
 
     -- it holds something else now
     pub present_put : (change : Content Cap → Content Cap) → entries_of o (set ps p (change (held_at ps p))) ks ms ≡ with_entry_of (changing change) n s
@@ -79,13 +79,13 @@ module _ (o : OrderState) {ps ks : List (Content Cap)} {ms : List Bool} (are : A
     abbrev kept_by : Bool → Content Cap → Option (Content Cap)
     kept_by mark c = cond mark (Some c) None
 
-    pub kept_put : entries_of o ps (set ks p (held_at ps p)) (set ms p true) ≡ with_entry_of (λ e. record e { kept = Some e.present }) n s
-    kept_put =
-        let c = held_at ps p in
+    pub kept_put : (c : Content Cap) → held_at ps p ≡ c →
+        entries_of o ps (set ks p c) (set ms p true) ≡ with_entry_of (λ e. record e { kept = Some e.present }) n s
+    kept_put c is =
         replaced ps (set ks p c) (set ms p true) (λ e. record e { kept = Some e.present })
         (ap (λ (d : Option (Content Cap)). let e : Entry = record { present = held_at ps p; kept = d } in e)
         (ap (λ (t : Bool). kept_by t (held_at (set ks p c) p)) (get_or-set_same ms p true false mark_within) ∙ ap Some
-        (get_or-set_same ks p c content.Free (omega (arith, below, are.kepts)))))
+        (get_or-set_same ks p c content.Free (omega (arith, below, are.kepts)) ∙ sym is)))
         (λ q other. ap (λ (d : Option (Content Cap)). let e : Entry = record { present = held_at ps q; kept = d } in e)
         (ap (λ (t : Bool). kept_by t (held_at (set ks p c) q)) (get_or-set_other ms p q true false other)
         ∙ ap (kept_by (get_or ms q false)) (get_or-set_other ks p q c content.Free other)))
@@ -99,9 +99,10 @@ module _ (o : OrderState) {ps ks : List (Content Cap)} {ms : List Bool} (are : A
         (get_or-set_other ms p q false false other))
 
   -- a number gets a place that none has
-  pub entered : (n p : ℕ) (c : Content Cap) → n < length o.places → p < o.most → ((m : ℕ) → place_at o.places m ≢ Some p) →
+  pub entered : (n p : ℕ) (c : Content Cap) → n < length s.at → p < o.most → ((m : ℕ) → place_at o.places m ≢ Some p) →
       entries_of (record { numbers = n ∷ o.numbers; places = set o.places n (Some p); most = o.most }) (set ps p c) ks (set ms p false) ≡ with_new n c s
-  entered n p c known within fresh =
+  entered n p c inside within fresh =
+      let known : n < length o.places = omega (arith, inside, known_is) in
       let qs = set ps p c in
       let ls = set ms p false in
       let new : Entry = record { present = c; kept = None } in
@@ -123,18 +124,15 @@ module _ (o : OrderState) {ps ks : List (Content Cap)} {ms : List Bool} (are : A
       ∙ ap (option_map (entry_in qs ks ls)) (get_or-set_same o.places n (Some p) None known) ∙ ap Some here)
       (λ m other. get_map (option_map (entry_in qs ks ls)) (set o.places n (Some p)) m None None refl
       ∙ ap (option_map (entry_in qs ks ls)) (get_or-set_other o.places n m (Some p) None other)
-      ∙ elsewhere (entry_in qs ks ls) (place_at o.places m) (λ q is. other_entry q (λ same. fresh m (is ∙ ap Some same)))
+      ∙ elsewhere (entry_in qs ks ls) entry (place_at o.places m) (λ q is. other_entry q (λ same. fresh m (is ∙ ap Some same)))
       ∙ sym (get_map (option_map entry) o.places m None None refl)))
       ∙ ap (with_new n c) view
-    where
-      elsewhere : (f : ℕ → Entry) (r : Option ℕ) → ((q : ℕ) → r ≡ Some q → f q ≡ entry q) → option_map f r ≡ option_map entry r
-      elsewhere f None same = refl
-      elsewhere f (Some q) same = ap Some (same q refl)
 
   -- a number loses its place
-  pub left : (n : ℕ) → is_some (place_at o.places n) ≡ true →
+  pub left : (n : ℕ) → is_some (entry_at s.at n) ≡ true →
       entries_of (record { numbers = without n o.numbers; places = set o.places n None; most = o.most }) ps ks ms ≡ without_entry n s
-  left n is =
+  left n some =
+      let is = some_is n ∙ some in
       ap (λ (es : List (Option Entry)). let t : EntriesState = record { at = es; order = without n o.numbers; most = o.most } in t)
       (changed_once (map (option_map entry) o.places) (map (option_map entry) (set o.places n None)) n None None
       (length-map (set o.places n None) (option_map entry) ∙ length-set o.places n None ∙ sym (length-map o.places (option_map entry)))

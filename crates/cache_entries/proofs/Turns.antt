@@ -1,66 +1,11 @@
 -- Numbers that are used in turn, and those whose use the order doesn't have yet.
-use Rattle.cache_entries.proofs.Names.{Uses, AreLatest, AreSpread, inl, inr, ℕ, zero, suc, nat_eq, Bool, true, false, cond, true≢false, List, [], length, set}
-use Rattle.cache_entries.proofs.Names.{take, drop, get_or, Some, refl, sym, ap, subst, arith, Contains, slice_get, take_more, eqb-true, eq-eqb, ne_eqb}
-use Rattle.cache_entries.proofs.Names.{cases_eq, none-some, same_Some, is_member, AllDiffer, OrderState, used_in_turn, used_last, without, keys_of}
-use Rattle.cache_entries.proofs.Names.{length-append, promoted, IsFilled, used_all}
-use Rattle.std.proofs.Common.{◌≡◌, ◌≢◌, ◌⊎◌, ◌+◌, ◌||◌, ◌∷◌, ◌++◌, ◌<◌, ◌≤◌, ◌∙◌}
-use Rattle.cache_entries.proofs.Orders.{used_keys, unused_keys, differ_without, gone, length_without, member_head, member_tail, still}
-use Rattle.cache_entries.proofs.Recent.{listed_member}
-
--- ---- members
-
--- a list with a number more in front, or at its end
-pub either : (t b : Bool) → (t || b) ≡ true → (t ≡ true) ⊎ (b ≡ true)
-either true b is = inl refl
-either false b is = inr is
-
-neither : (t b : Bool) → (t || b) ≡ false → (t ≡ false) × (b ≡ false)
-neither true b is = absurd (true≢false is)
-neither false b is = (refl, is)
-
-or_true : (t b : Bool) → b ≡ true → (t || b) ≡ true
-or_true true b is = refl
-or_true false b is = is
-
-pub in_tail : (m : ℕ) (ms : List ℕ) (n : ℕ) → is_member ms n ≡ true → is_member (m ∷ ms) n ≡ true
-in_tail m ms n is = or_true (nat_eq n m) (is_member ms n) is
-
-pub not_here : (m : ℕ) (ms : List ℕ) (n : ℕ) → is_member (m ∷ ms) n ≡ false → (n ≢ m) × (is_member ms n ≡ false)
-not_here m ms n none = (λ same. true≢false (sym (member_head n m ms same) ∙ none), (neither (nat_eq n m) (is_member ms n) none).1)
-
-pub at_end : (ns : List ℕ) (n m : ℕ) → is_member (ns ++ n ∷ []) m ≡ true → (is_member ns m ≡ true) ⊎ (m ≡ n)
-at_end [] n m is = elim (either (nat_eq m n) false is) [ inl same ↦ inr (eqb-true m n same) | inr none ↦ absurd (true≢false (sym none)) ]
-at_end (k ∷ ns) n m is = elim (either (nat_eq m k) (is_member (ns ++ n ∷ []) m) is) [
-  | inl same ↦ inl (ap (λ (t : Bool). t || is_member ns m) same)
-  | inr later ↦ elim (at_end ns n m later) [
-    | inl has ↦ inl (in_tail k ns m has)
-    | inr last ↦ inr last
-  ]
-]
-
-pub not_at_end : (ns : List ℕ) (n m : ℕ) → is_member ns m ≡ false → m ≢ n → is_member (ns ++ n ∷ []) m ≡ false
-not_at_end [] n m none other = member_tail m n [] (λ same. other (sym same))
-not_at_end (k ∷ ns) n m none other =
-    let apart = not_here k ns m none in
-    member_tail m k (ns ++ n ∷ []) (λ same. apart.0 (sym same)) ∙ not_at_end ns n m apart.1 other
-
-pub in_front : (k : ℕ) (ns : List ℕ) (n : ℕ) → is_member (take k ns) n ≡ true → is_member ns n ≡ true
-in_front zero ns n is = absurd (true≢false (sym is))
-in_front (suc k) [] n is = is
-in_front (suc k) (m ∷ ms) n is = elim (either (nat_eq n m) (is_member (take k ms) n) is) [
-  | inl same ↦ ap (λ (t : Bool). t || is_member ms n) same
-  | inr later ↦ in_tail m ms n (in_front k ms n later)
-]
-
-pub in_either : (xs ys : List ℕ) (n : ℕ) → is_member (xs ++ ys) n ≡ true → (is_member xs n ≡ true) ⊎ (is_member ys n ≡ true)
-in_either [] ys n is = inr is
-in_either (x ∷ xs) ys n is = elim (either (nat_eq n x) (is_member (xs ++ ys) n) is) [
-  | inl same ↦ inl (ap (λ (t : Bool). t || is_member xs n) same)
-  | inr later ↦ elim (in_either xs ys n later) [
-    | inl first ↦ inl (in_tail x xs n first)
-    | inr second ↦ inr second
-  ]
-]
+use Rattle.cache_entries.proofs.Names.{Uses, AreLatest, AreSpread, inl, inr, ℕ, nat_eq, Bool, true, false, true≢false, List, [], length, take, drop, get_or}
+use Rattle.cache_entries.proofs.Names.{Some, refl, sym, ap, subst, arith, slice_get, take_more, cases_eq, is_member, AllDiffer, OrderState, used_in_turn}
+use Rattle.cache_entries.proofs.Names.{used_last, without, keys_of, length-append, promoted, IsFilled, used_all, remove}
+use Rattle.std.proofs.Common.{◌≡◌, ◌≢◌, ◌+◌, ◌∷◌, ◌++◌, ◌<◌, ◌∙◌}
+use Rattle.cache_entries.proofs.Orders.{used_keys, unused_keys, differ_without, gone, length_without, member_head, member_tail, still, in_tail, either_of}
+use Rattle.cache_entries.proofs.Orders.{not_here, listed_member, member_end, without_here, without_tail}
+use Rattle.cache_entries.proofs.Recent.{taken_out}
 
 -- a number that is listed keeps its place among the members when it is used
 pub member_used : (n : ℕ) (ns : List ℕ) (m : ℕ) → is_member ns n ≡ true → is_member (n ∷ without n ns) m ≡ is_member ns m
@@ -85,12 +30,6 @@ length_in_turn (n ∷ ns) order listed =
     omega (arith, rest, length_without n order here)
 
 -- ---- the order
-
-pub without_here : (n m : ℕ) (ms : List ℕ) → n ≡ m → without n (m ∷ ms) ≡ ms
-without_here n m ms same = ap (λ (t : Bool). cond t ms (m ∷ without n ms)) (eq-eqb n m same)
-
-pub without_tail : (n m : ℕ) (ms : List ℕ) → n ≢ m → without n (m ∷ ms) ≡ m ∷ without n ms
-without_tail n m ms other = ap (λ (t : Bool). cond t ms (m ∷ without n ms)) (ne_eqb n m other)
 
 pub without_absent : (n : ℕ) (ns : List ℕ) → is_member ns n ≡ false → without n ns ≡ ns
 without_absent n [] none = refl
@@ -195,10 +134,6 @@ differ_behind : (front ns : List ℕ) → AllDiffer (front ++ ns) → AllDiffer 
 differ_behind [] ns once = once
 differ_behind (m ∷ ms) ns once = differ_behind ms ns once.1
 
-pub in_behind : (front ns : List ℕ) (k : ℕ) → is_member ns k ≡ true → is_member (front ++ ns) k ≡ true
-in_behind [] ns k is = is
-in_behind (m ∷ ms) ns k is = in_tail m (ms ++ ns) k (in_behind ms ns k is)
-
 pub used_front : (front ns order : List ℕ) → used_in_turn (front ++ ns) order ≡ used_in_turn ns (used_in_turn front order)
 used_front [] ns order = refl
 used_front (m ∷ ms) ns order = used_front ms ns (m ∷ without m order)
@@ -209,15 +144,6 @@ used_again front ns order once =
     used_front front ns order
     ∙ sym (used_behind ns [] (used_in_turn front order) (differ_behind front ns once) (λ k is. refl))
     ∙ ap (used_in_turn ns) (sym (used_front front ns order))
-
--- what a list has is one of its members
-member_by : (ns : List ℕ) (i n : ℕ) → i < length ns → get_or ns i n ≡ n → is_member ns n ≡ true
-member_by [] i n within at = absurd (omega (arith, within))
-member_by (m ∷ ms) zero n within at = member_head n m ms (sym at)
-member_by (m ∷ ms) (suc i) n within at = in_tail m ms n (member_by ms i n (omega (arith, within)) at)
-
-pub contains_member : (ns : List ℕ) (n : ℕ) → Contains ns n → is_member ns n ≡ true
-contains_member ns n has = member_by ns has.0 n has.1 has.2
 
 pub all_at_end : (ns : List ℕ) (n : ℕ) (s : OrderState) → used_all (ns ++ n ∷ []) s ≡ used_last n (used_all ns s)
 all_at_end [] n s = refl
@@ -234,12 +160,13 @@ one_more s t ns i below is =
 pub listed_more : (s t : List ℕ) (ns : List ℕ) (i : ℕ) → i < length ns → t ≡ used_in_turn (take i ns) s → is_member t (get_or ns i 0) ≡ true →
     ((n : ℕ) → is_member (take i ns) n ≡ true → is_member s n ≡ true) → (n : ℕ) → is_member (take (i + 1) ns) n ≡ true → is_member s n ≡ true
 listed_more s t ns i below is here listed n has =
-    elim (at_end (take i ns) (get_or ns i 0) n (sym (ap (λ (ks : List ℕ). is_member ks n) (take_more ns i 0 below)) ∙ has)) [
-      | inl there ↦ listed n there
-      | inr same ↦
+    elim (either_of (get_or ns i 0) (take i ns) n (sym (ap (λ (ks : List ℕ). is_member ks n) (take_more ns i 0 below) ∙ member_end (take i ns)
+    (get_or ns i 0) n) ∙ has)) [
+      | inl same ↦
           ap (is_member s) same
           ∙ sym (member_in_turn (take i ns) s (get_or ns i 0) listed)
           ∙ ap (λ (ks : List ℕ). is_member ks (get_or ns i 0)) (sym is) ∙ here
+      | inr there ↦ listed n there
     ]
 
 -- ---- the latest
@@ -248,50 +175,38 @@ pub differ_end : (ns : List ℕ) (n : ℕ) → AllDiffer ns → is_member ns n �
 differ_end [] n once none = (refl, tt)
 differ_end (m ∷ ms) n once none =
     let apart = not_here m ms n none in
-    (not_at_end ms n m once.0 (λ same. apart.0 (sym same)), differ_end ms n once.1 apart.1)
+    (member_end ms n m ∙ member_tail m n ms apart.0 ∙ once.0, differ_end ms n once.1 apart.1)
 
-module _ (latest : List ℕ) (o : OrderState) (are : AreLatest latest o.numbers) (n : ℕ) where
-  -- one of them is used again
-  again_latest : is_member latest n ≡ true → AreLatest (without n latest ++ n ∷ []) o.numbers
-  again_latest has = record {
-    once = differ_end (without n latest) n (differ_without n latest are.once) (gone n latest are.once);
-    listed = λ m is. elim (cases_eq m n) [
-      | inl same ↦ ap (is_member o.numbers) same ∙ are.listed n has
-      | inr other ↦ elim (at_end (without n latest) n m is) [
-        | inl there ↦ are.listed m (sym (still n latest m other) ∙ there)
-        | inr same ↦ absurd (other same)
-      ]
-    ];
-  }
+-- one of them is used again
+pub record Again (latest after : List ℕ) (n : ℕ) : Type 0 where
+  pub once : AllDiffer after
+  pub members : (m : ℕ) → is_member after m ≡ is_member latest m
+  pub count : length after ≡ length latest
+  pub used : (o : OrderState) → used_all after o ≡ used_last n (used_all latest o)
 
-  pub used_again_at : (place : ℕ) → slice_get latest place ≡ Some n → {after : List ℕ} → after ≡ without n latest ++ n ∷ [] →
-      AreLatest after o.numbers × (length after ≡ length latest) × (used_all after o ≡ used_last n (used_all latest o))
-  used_again_at place at is =
-      let has = listed_member latest place n at in
-      rw is (
-        again_latest has,
-        omega (arith, length-append (without n latest) (n ∷ []), length_without n latest has),
-        (λ k. record { numbers = used_once_more n latest o.numbers are.once k; places = o.places; most = o.most }),
-      )
+pub used_again_at : (latest after : List ℕ) (place n : ℕ) → slice_get latest place ≡ Some n → AllDiffer latest → after ≡ remove latest place ++ n ∷ [] →
+    Again latest after n
+used_again_at latest after place n at once is =
+    let has = listed_member latest place n at in
+    rw (is, taken_out n latest place at once) (record {
+      once = differ_end (without n latest) n (differ_without n latest once) (gone n latest once);
+      members = λ m. member_end (without n latest) n m ∙ member_used n latest m has;
+      count = omega (arith, length-append (without n latest) (n ∷ []), length_without n latest has);
+      used = λ o k. record { numbers = used_once_more n latest o.numbers once k; places = o.places; most = o.most };
+    })
 
-  -- another one is used
-  pub more_latest : is_member latest n ≡ false → is_member o.numbers n ≡ true → AreLatest (latest ++ n ∷ []) o.numbers
-  more_latest none here = record {
-    once = differ_end latest n are.once none;
-    listed = λ m is. elim (at_end latest n m is) [
-      | inl has ↦ are.listed m has
-      | inr same ↦ ap (is_member o.numbers) same ∙ here
-    ];
-  }
-
--- the first of them moves to the end of the order
-pub settled_latest : (n : ℕ) (ns order : List ℕ) → AreLatest (n ∷ ns) order → AreLatest ns (n ∷ without n order)
-settled_latest n ns order are = record {
-  once = are.once.1;
-  listed = λ m is. member_used n order m (are.listed n (member_head n n ns refl)) ∙ are.listed m (in_tail n ns m is);
+-- another one is used
+pub more_latest : (latest order : List ℕ) → AreLatest latest order → (n : ℕ) → is_member latest n ≡ false → is_member order n ≡ true →
+    AreLatest (latest ++ n ∷ []) order
+more_latest latest order are n none here = record {
+  once = differ_end latest n are.once none;
+  listed = λ m is. elim (either_of n latest m (sym (member_end latest n m) ∙ is)) [
+    | inl same ↦ ap (is_member order) same ∙ here
+    | inr has ↦ are.listed m has
+  ];
 }
 
--- what that leaves
+-- what is left once the first of them moved to the end of the order
 pub record Settles (latest rest : List ℕ) (order after : OrderState) : Type 0 where
   pub same : used_all rest after ≡ used_all latest order
   pub are : AreLatest rest after.numbers
@@ -308,73 +223,14 @@ settles (m ∷ ms) rest order after n some first is used are =
     record {
       same = λ k. used_all (is k) (on k);
       are = subst (λ (ks : List ℕ). AreLatest ks after.numbers) (sym is)
-          (subst (λ (s : OrderState). AreLatest ms s.numbers) (sym on) (settled_latest m ms order.numbers are));
+          (subst (λ (s : OrderState). AreLatest ms s.numbers) (sym on) (record {
+            once = are.once.1;
+            listed = λ k is. member_used m order.numbers k here ∙ are.listed k (in_tail m ms k is);
+          }));
       others = λ k none. ap (λ (ks : List ℕ). is_member ks k) is ∙ (not_here m ms k none).1;
       members = λ k. ap (λ (s : OrderState). is_member s.numbers k) on ∙ member_used m order.numbers k here;
       fewer = omega (arith, ap length is);
     }
-
--- ---- a number is moved to the end of a list
-
--- those behind the first move up, one after the other
-up_one : (m : ℕ) (ms : List ℕ) (i : ℕ) → i < length ms → set (take i ms ++ drop i (m ∷ ms)) i (get_or (take i ms ++ drop i (m ∷ ms)) (suc i) 0) ≡ take
-    (suc i) ms ++ drop i ms
-up_one m [] i below = absurd (omega (arith, below))
-up_one m (k ∷ ks) zero below = refl
-up_one m (k ∷ ks) (suc i) below = ap (λ (rest : List ℕ). k ∷ rest) (up_one k ks i (omega (arith, below)))
-
-up_last : (m n : ℕ) (ms : List ℕ) (i : ℕ) → i ≡ length ms → set (take i ms ++ drop i (m ∷ ms)) i n ≡ ms ++ n ∷ []
-up_last m n [] zero is = refl
-up_last m n [] (suc i) is = absurd (omega (arith, is))
-up_last m n (k ∷ ks) zero is = absurd (omega (arith, is))
-up_last m n (k ∷ ks) (suc i) is = ap (λ (rest : List ℕ). k ∷ rest) (up_last k n ks i (omega (arith, is)))
-
-apart_from : (m : ℕ) (ms : List ℕ) (place n : ℕ) → slice_get ms place ≡ Some n → is_member ms m ≡ false → n ≢ m
-apart_from m ms place n at none same = true≢false (sym (listed_member ms place n at) ∙ ap (is_member ms) same ∙ none)
-
-module _ (n : ℕ) where
-  pub move_begun : (ns : List ℕ) (place : ℕ) → slice_get ns place ≡ Some n → AllDiffer ns → ns ≡ take place (without n ns) ++ drop place ns
-  move_begun [] place at once = absurd (none-some n at)
-  move_begun (m ∷ ms) zero at once = refl
-  move_begun (m ∷ ms) (suc place) at once =
-      ap (λ (rest : List ℕ). m ∷ rest) (move_begun ms place at once.1)
-      ∙ ap (λ (rest : List ℕ). take (suc place) rest ++ drop place ms) (sym (without_tail n m ms (apart_from m ms place n at once.0)))
-
-  move_up : (ns : List ℕ) (place i : ℕ) → slice_get ns place ≡ Some n → AllDiffer ns → place ≤ i → suc i < length ns →
-      set (take i (without n ns) ++ drop i ns) i (get_or (take i (without n ns) ++ drop i ns) (suc i) 0) ≡ take (suc i) (without n ns) ++ drop (suc i) ns
-  move_up [] place i at once from below = absurd (none-some n at)
-  move_up (m ∷ ms) zero i at once from below =
-      subst (λ (rest : List ℕ). set (take i rest ++ drop i (m ∷ ms)) i (get_or (take i rest ++ drop i (m ∷ ms)) (suc i) 0) ≡ take (suc i) rest ++ drop i ms)
-      (sym (without_here n m ms (sym (same_Some m n at)))) (up_one m ms i (omega (arith, below)))
-  move_up (m ∷ ms) (suc place) zero at once from below = absurd (omega (arith, from))
-  move_up (m ∷ ms) (suc place) (suc i) at once from below =
-      subst (λ (rest : List ℕ). set (take (suc i) rest ++ drop i ms) (suc i) (get_or (take (suc i) rest ++ drop i ms) (suc (suc i)) 0) ≡ take (suc (suc i))
-      rest ++ drop (suc i) ms)
-      (sym (without_tail n m ms (apart_from m ms place n at once.0)))
-      (ap (λ (rest : List ℕ). m ∷ rest) (move_up ms place i at once.1 (omega (arith, from)) (omega (arith, below))))
-
-  pub moved_up : (xs ns : List ℕ) (place i j : ℕ) → slice_get ns place ≡ Some n → AllDiffer ns → place ≤ i → j ≡ suc i → j < length ns →
-      xs ≡ take i (without n ns) ++ drop i ns → set xs i (get_or xs j 0) ≡ take j (without n ns) ++ drop j ns
-  moved_up xs ns place i j at once from next below is =
-      ap (λ (ys : List ℕ). set ys i (get_or ys j 0)) is
-      ∙ subst (λ (k : ℕ). set (take i (without n ns) ++ drop i ns) i (get_or (take i (without n ns) ++ drop i ns) k 0) ≡ take k (without n ns) ++ drop k
-      ns) (sym next)
-      (move_up ns place i at once from (omega (arith, next, below)))
-
-  move_last : (ns : List ℕ) (place i : ℕ) → slice_get ns place ≡ Some n → AllDiffer ns → place ≤ i → suc i ≡ length ns →
-      set (take i (without n ns) ++ drop i ns) i n ≡ without n ns ++ n ∷ []
-  move_last [] place i at once from last = absurd (none-some n at)
-  move_last (m ∷ ms) zero i at once from last =
-      subst (λ (rest : List ℕ). set (take i rest ++ drop i (m ∷ ms)) i n ≡ rest ++ n ∷ []) (sym (without_here n m ms (sym (same_Some m n at))))
-      (up_last m n ms i (omega (arith, last)))
-  move_last (m ∷ ms) (suc place) zero at once from last = absurd (omega (arith, from))
-  move_last (m ∷ ms) (suc place) (suc i) at once from last =
-      subst (λ (rest : List ℕ). set (take (suc i) rest ++ drop i ms) (suc i) n ≡ rest ++ n ∷ []) (sym (without_tail n m ms (apart_from m ms place n at once.0)))
-      (ap (λ (rest : List ℕ). m ∷ rest) (move_last ms place i at once.1 (omega (arith, from)) (omega (arith, last))))
-
-  pub moved_last : (xs ns : List ℕ) (place i : ℕ) → slice_get ns place ≡ Some n → AllDiffer ns → place ≤ i → suc i ≡ length ns →
-      xs ≡ take i (without n ns) ++ drop i ns → set xs i n ≡ without n ns ++ n ∷ []
-  moved_last xs ns place i at once from last is = ap (λ (ys : List ℕ). set ys i n) is ∙ move_last ns place i at once from last
 
 -- ---- an order with places
 
@@ -411,13 +267,7 @@ module _ {keys : List ℕ} {count : ℕ} (are : IsFilled keys count) (p : ℕ) (
   filled_back = record {
     once = differ_end (without p keys) p (differ_without p keys are.once) (gone p keys are.once);
     all = omega (arith, length-append (without p keys) (p ∷ []), length_without p keys has, are.all);
-    known = λ q here. elim (cases_eq q p) [
-      | inl same ↦ omega (arith, same, are.known p has)
-      | inr other ↦ elim (at_end (without p keys) p q here) [
-        | inl there ↦ are.known q (sym (still p keys q other) ∙ there)
-        | inr same ↦ absurd (other same)
-      ]
-    ];
+    known = λ q here. are.known q (sym (member_end (without p keys) p q ∙ member_used p keys q has) ∙ here);
   }
 
 pub filled_used : (p : ℕ) (es : List (ℕ × Unit {0})) {count : ℕ} → IsFilled (keys_of es) count → IsFilled (keys_of (promoted (nat_eq p) es)) count

@@ -5,8 +5,8 @@ ghost use Rattle.capability.specs.Parts.{fresh_content};
 ghost use Rattle.model.specs.Frame.{content_behind, held_at, void_held};
 ghost use Rattle.model.specs.Object.{with_slot_in, with_word_in};
 ghost use Rattle.model.specs.declared.object.Content.{Content};
-ghost use Rattle.cache_entries.specs.Bodies.{kind_of, slots_are_of, with_slots_of, with_words_of};
-ghost use Rattle.cache_entries.specs.Bodies.{kind_with_root, slots_from, words_are_of};
+ghost use Rattle.cache_entries.specs.Bodies.{kind_of, slots_are_of, with_slots_of, with_words_of, kind_with_root};
+ghost use Rattle.cache_entries.specs.Bodies.{slots_from, words_are_of};
 
 use capability::{Fresh, RootChange};
 use collections::SparseVec;
@@ -195,6 +195,7 @@ fn fresh_kind(fresh: Fresh) -> Kind
 }
 
 // Sets the words or slots at a place to those of a new object.
+#[tactic(auto, unfolding(model::specs::Object::all_slots, model::specs::Object::zero_words))]
 fn clear_arrays(
     pages: &mut SparseVec<Page>,
     nodes: &mut SparseVec<[Cap; SLOTS]>,
@@ -229,6 +230,7 @@ impl Bodies {
     }
 
     /// The body at a place.
+    #[tactic(auto, using(crate::proofs::Contents::kind_within, crate::proofs::Contents::room_of))]
     pub(crate) fn get(&self, place: usize) -> ContentRef<'_>
         requires { place < length self.now }
         ensures { held_at self.now place ≡ content_behind result }
@@ -244,6 +246,7 @@ impl Bodies {
     }
 
     /// Copies a content to a place.
+    #[tactic(auto, using(crate::proofs::Contents::places_within, crate::proofs::Contents::puts_seen))]
     pub(crate) fn put(&mut self, place: usize, content: ContentRef<'_>)
         requires { place < length self.old }
         ensures { self.new ≡ slice_set self.old place (content_behind content.entry) }
@@ -253,6 +256,7 @@ impl Bodies {
     }
 
     /// Sets a word of the page at a place. Any other body stays.
+    #[tactic(auto, using(crate::proofs::Contents::kind_within, crate::proofs::Contents::word_edits))]
     pub(crate) fn set_word(&mut self, place: usize, index: usize, word: u64)
         requires place { place < length self.old }
         requires within { index < 512 }
@@ -264,6 +268,7 @@ impl Bodies {
     }
 
     /// Sets a slot of the node or annex at a place. Any other body stays.
+    #[tactic(auto, using(crate::proofs::Contents::kind_within, crate::proofs::Contents::slot_edits))]
     pub(crate) fn set_slot(&mut self, place: usize, slot: usize, held: Cap)
         requires place { place < length self.old }
         requires within { slot < 32 }
@@ -276,6 +281,7 @@ impl Bodies {
     }
 
     /// Sets the last four slots of the node or annex at a place. Any other body stays.
+    #[tactic(auto, using(crate::proofs::Contents::kind_within, crate::proofs::Contents::slot_edits))]
     pub(crate) fn set_last_slots(&mut self, place: usize, held: [Cap; 4])
         requires { place < length self.old }
         ensures { self.new ≡ slice_set self.old place (with_slots_in (held_at self.old place) 28 held) }
@@ -287,6 +293,7 @@ impl Bodies {
 
     /// Changes the root at a place. Any other body stays.
     #[inline(always)]
+    #[tactic(auto, using(crate::proofs::Contents::kind_within, crate::proofs::Contents::root_seen))]
     pub(crate) fn change_root(&mut self, place: usize, change: RootChange)
         requires { place < length self.old }
         ensures { self.new ≡ slice_set self.old place (with_root_in (changed_root change) (held_at self.old place)) }
@@ -295,6 +302,7 @@ impl Bodies {
     }
 
     /// Replaces the body at a place by a new object's.
+    #[tactic(auto, using(crate::proofs::Contents::places_within, crate::proofs::Contents::body_edits))]
     pub(crate) fn claim(&mut self, place: usize, fresh: Fresh)
         requires { place < length self.old }
         ensures { self.new ≡ slice_set self.old place (fresh_content void_held fresh) }

@@ -1,6 +1,6 @@
 // Entries in the order of their last use.
-ghost use Rattle.std.specs.Prelude.{◌≡◌, ℕ, ◌<◌, ◌≤◌, [], Some, None, true, false, length, replicate, is_some, nat_le};
-ghost use Rattle.std.specs.Prelude.{option_map, take, IfOk, IsSome};
+ghost use Rattle.std.specs.Prelude.{◌≡◌, ◌↔◌, ℕ, ◌<◌, ◌≤◌, [], Some, None, true, false, length, replicate, is_some};
+ghost use Rattle.std.specs.Prelude.{nat_le, option_map, take, IfOk, IsSome};
 ghost use Rattle.std.specs.List.{Contains};
 ghost use Rattle.capability.specs.Objects.{changed_root, with_root_in, with_slots_in};
 ghost use Rattle.capability.specs.Parts.{fresh_content};
@@ -91,8 +91,7 @@ impl Entries {
 
     /// Whether it is for `capacity` entries of the numbers below `count`.
     pub fn fits(&self, capacity: Capacity, count: usize) -> bool
-        ensures most { result ≡ true → self.now.most ≡ capacity }
-        ensures count { result ≡ true → length self.now.at ≡ count }
+        ensures { result ≡ true ↔ ((self.now.most ≡ capacity) × (length self.now.at ≡ count)) }
     {
         self.order.fits(capacity.count() as usize, count)
     }
@@ -154,6 +153,7 @@ impl Entries {
     }
 
     /// Sets a word of a page that has an entry. Any other body stays.
+    #[tactic(auto, using(crate::proofs::Stored::present_put))]
     pub fn set_word(&mut self, number: u64, index: usize, word: u64)
         requires entry { IsSome (entry_at self.old.at number) }
         requires within { index < 512 }
@@ -164,6 +164,7 @@ impl Entries {
     }
 
     /// Sets a slot of a node or a register of an annex that has an entry. Any other body stays.
+    #[tactic(auto, using(crate::proofs::Stored::present_put))]
     pub fn set_slot(&mut self, number: u64, slot: usize, held: Cap)
         requires entry { IsSome (entry_at self.old.at number) }
         requires within { slot < 32 }
@@ -175,6 +176,7 @@ impl Entries {
 
     /// Sets the last four slots of a node or registers of an annex that has an entry. Any other body
     /// stays.
+    #[tactic(auto, using(crate::proofs::Stored::present_put))]
     pub fn set_last_slots(&mut self, number: u64, held: [Cap; 4])
         requires { IsSome (entry_at self.old.at number) }
         ensures { self.new ≡ with_entry_of (changing (λ c. with_slots_in c 28 held)) number self.old }
@@ -185,6 +187,7 @@ impl Entries {
 
     /// Changes a root that has an entry. Any other body stays.
     #[inline(always)]
+    #[tactic(auto, using(crate::proofs::Stored::present_put))]
     pub fn change_root(&mut self, number: u64, change: RootChange)
         requires { IsSome (entry_at self.old.at number) }
         ensures { self.new ≡ with_entry_of (changing (with_root_in (changed_root change))) number self.old }
@@ -194,6 +197,7 @@ impl Entries {
     }
 
     /// Replaces the present body of an entry by a copy of `content`.
+    #[tactic(auto, using(crate::proofs::Stored::present_put))]
     pub fn put(&mut self, number: u64, content: ContentRef<'_>)
         requires { IsSome (entry_at self.old.at number) }
         ensures { self.new ≡ with_entry_of (changing (λ c. content_behind content.entry)) number self.old }
@@ -203,6 +207,7 @@ impl Entries {
     }
 
     /// Replaces the present body of an entry by a new object's.
+    #[tactic(auto, using(crate::proofs::Stored::present_put))]
     pub fn claim(&mut self, number: u64, fresh: Fresh)
         requires { IsSome (entry_at self.old.at number) }
         ensures { self.new ≡ with_entry_of (changing (λ c. fresh_content void_held fresh)) number self.old }
@@ -212,6 +217,7 @@ impl Entries {
     }
 
     /// Makes the present body `Free` if the number has an entry; else changes nothing.
+    #[tactic(auto, using(crate::proofs::Stored::present_put))]
     pub fn free(&mut self, number: u64)
         requires { number < length self.old.at }
         ensures { self.new ≡ with_entry_of (changing (λ c. content.Free)) number self.old }
@@ -233,6 +239,7 @@ impl Entries {
     }
 
     /// Drops the frozen copy of an entry, if it has one.
+    #[tactic(auto, using(crate::proofs::Stored::kept_dropped))]
     pub fn drop_kept(&mut self, number: u64)
         requires { IsSome (entry_at self.old.at number) }
         ensures { self.new ≡ with_entry_of (λ e. record e { kept = None }) number self.old }
@@ -243,6 +250,7 @@ impl Entries {
 
     /// Adds an entry with a copy of `content` and no frozen copy. Its number is then the one used
     /// last. The number must have no entry, and the cache must not be full.
+    #[tactic(auto, using(crate::proofs::Stored::entered))]
     pub fn insert(&mut self, number: u64, content: ContentRef<'_>)
         requires known { number < length self.old.at }
         requires absent { entry_at self.old.at number ≡ None }
@@ -255,6 +263,7 @@ impl Entries {
     }
 
     /// Removes the entry of a number.
+    #[tactic(auto, using(crate::proofs::Stored::left))]
     pub fn remove(&mut self, number: u64)
         requires { IsSome (entry_at self.old.at number) }
         ensures { self.new ≡ without_entry number self.old }

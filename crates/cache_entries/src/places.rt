@@ -1,11 +1,10 @@
 // Numbers in the order of their last use, and a place for each.
-ghost use Rattle.std.specs.Prelude.{◌≡◌, ◌≢◌, ◌<◌, ◌≤◌, [], ◌∷◌, ℕ, None, Some, true, false, is_some, length, nat_le};
-ghost use Rattle.std.specs.Prelude.{replicate, slice_set, IfOk, IsSome};
+ghost use Rattle.std.specs.Prelude.{◌≡◌, ◌≢◌, ◌↔◌, ◌<◌, ◌≤◌, [], ◌∷◌, ℕ, None, Some, true, false, is_some, length};
+ghost use Rattle.std.specs.Prelude.{nat_le, replicate, slice_set, IfOk, IsSome};
 ghost use Rattle.std.specs.Map.{keys_of};
 ghost use Rattle.std.specs.NonZero.{non_zero_usize_get};
 ghost use Rattle.model.specs.Revoke.{is_member};
-ghost use Rattle.cache_entries.specs.Order.{AreSpread, IsFilled, place_at, used_last};
-ghost use Rattle.cache_entries.specs.Order.{used_longest_ago, without};
+ghost use Rattle.cache_entries.specs.Order.{AreSpread, IsFilled, place_at, used_last, used_longest_ago, without};
 
 use crate::number_hasher::NumberHasher;
 use lru::LruCache;
@@ -97,8 +96,7 @@ impl Places {
 
     /// Whether there are `most` places, for the numbers below `count`.
     pub(crate) fn fits(&self, most: usize, count: usize) -> bool
-        ensures most { result ≡ true → self.now.most ≡ most }
-        ensures count { result ≡ true → length self.now.places ≡ count }
+        ensures { result ≡ true ↔ ((self.now.most ≡ most) × (length self.now.places ≡ count)) }
     {
         self.numbers.len() == most && self.places.len() == count
     }
@@ -126,6 +124,7 @@ impl Places {
     }
 
     /// Whether all places have a number.
+    #[tactic(auto, using(crate::proofs::Spreads::count_is, crate::proofs::Spreads::most_is))]
     pub(crate) fn is_full(&self) -> bool
         ensures full { result ≡ nat_le self.now.most (length self.now.numbers) }
         ensures spread { AreSpread self.now }

@@ -1,11 +1,11 @@
 // Numbers in the order of their last use.
-ghost use Rattle.std.specs.Prelude.{◌≡◌, ◌≢◌, ℕ, List, ◌+◌, ◌<◌, ◌≤◌, [], ◌∷◌, ◌++◌, None, Some, true, false, length};
-ghost use Rattle.std.specs.Prelude.{is_some, nat_le, replicate, slice_get, slice_set, vec_capacity, IfSome, IfOk};
-ghost use Rattle.std.specs.Prelude.{IsSome};
+ghost use Rattle.std.specs.Prelude.{◌≡◌, ◌≢◌, ◌↔◌, ℕ, List, ◌+◌, ◌<◌, ◌≤◌, [], ◌∷◌, ◌++◌, None, Some, true, false};
+ghost use Rattle.std.specs.Prelude.{length, is_some, nat_le, replicate, slice_get, slice_set, vec_capacity, IfSome};
+ghost use Rattle.std.specs.Prelude.{IfOk, IsSome};
 ghost use Rattle.std.specs.NonZero.{non_zero_usize_get};
 ghost use Rattle.model.specs.Revoke.{is_member};
-ghost use Rattle.cache_entries.specs.Order.{AllDiffer, AreLatest, AreSpread, Uses, place_at, used_all, used_last};
-ghost use Rattle.cache_entries.specs.Order.{used_longest_ago, without};
+ghost use Rattle.cache_entries.specs.Order.{AllDiffer, AreLatest, AreSpread, OrderState, Uses, place_at, used_all};
+ghost use Rattle.cache_entries.specs.Order.{used_last, used_longest_ago, without};
 
 use crate::places::Places;
 use std::alloc::{AllocError, Global};
@@ -52,27 +52,24 @@ fn place_of(numbers: &[u64], number: u64) -> Option<usize>
     None
 }
 
-// Moves the number at index `place` to the end, and those behind it one index forward.
-fn shift_to_end(numbers: &mut [u64], place: usize, number: u64)
-    requires there { slice_get numbers.old place ≡ Some number }
-    requires once { AllDiffer numbers.old }
-    ensures { numbers.new ≡ without number numbers.old ++ number ∷ [] }
+// Moves a number to the end of the latest, if it is one of them. Returns whether it is.
+fn move_to_end(latest: &mut Vec<u64>, number: u64) -> bool
+    requires { AllDiffer latest.old.items }
+    ensures found { result ≡ is_member latest.old.items number }
+    ensures used { result ≡ true → (o : OrderState)
+        → used_all latest.new.items o ≡ used_last number (used_all latest.old.items o) }
+    ensures unchanged { result ≡ false → latest.new ≡ latest.old }
+    ensures once { AllDiffer latest.new.items }
+    ensures members { (n : ℕ) → is_member latest.new.items n ≡ is_member latest.old.items n }
+    ensures count { length latest.new.items ≡ length latest.old.items }
+    ensures capacity { vec_capacity latest.new ≡ vec_capacity latest.old }
 {
-    let last = numbers.len() - 1;
-    for i in place..last {
-        numbers[i] = numbers[i + 1];
-    }
-    numbers[last] = number;
-}
-
-// The same in a `Vec`.
-fn move_to_end(numbers: &mut Vec<u64>, place: usize, number: u64)
-    requires there { slice_get numbers.old.items place ≡ Some number }
-    requires once { AllDiffer numbers.old.items }
-    ensures moved { numbers.new.items ≡ without number numbers.old.items ++ number ∷ [] }
-    ensures capacity { vec_capacity numbers.new ≡ vec_capacity numbers.old }
-{
-    shift_to_end(numbers, place, number);
+    let Some(place) = place_of(latest, number) else {
+        return false;
+    };
+    latest.remove(place);
+    latest.push_reserved(number);
+    true
 }
 
 // Moves the first of the latest numbers to the end of the order.
@@ -142,8 +139,7 @@ impl UseOrder {
 
     /// Whether it is for at most `most` of the numbers below `count`.
     pub(crate) fn fits(&self, most: usize, count: usize) -> bool
-        ensures most { result ≡ true → self.now.most ≡ most }
-        ensures count { result ≡ true → length self.now.places ≡ count }
+        ensures { result ≡ true ↔ ((self.now.most ≡ most) × (length self.now.places ≡ count)) }
     {
         self.order.fits(most, count)
     }
@@ -161,6 +157,7 @@ impl UseOrder {
     }
 
     /// How many numbers there are.
+    #[tactic(auto, using(crate::proofs::Turns::length_in_turn))]
     pub(crate) fn len(&self) -> usize
         ensures count { result ≡ length self.now.numbers }
         ensures spread { AreSpread self.now }
@@ -169,6 +166,7 @@ impl UseOrder {
     }
 
     /// Whether all places have a number.
+    #[tactic(auto, using(crate::proofs::Turns::length_in_turn))]
     pub(crate) fn is_full(&self) -> bool
         ensures full { result ≡ nat_le self.now.most (length self.now.numbers) }
         ensures spread { AreSpread self.now }
@@ -201,16 +199,13 @@ impl UseOrder {
     }
 
     // Marks a number as used last if it is among the latest. Returns whether it is.
+    #[tactic(auto, using(crate::proofs::Turns::member_in_turn))]
     fn use_one_again(&mut self, number: u64) -> bool
         ensures listed { result ≡ true → is_member self.old.numbers number ≡ true }
         ensures used { result ≡ true → self.new ≡ used_last number self.old }
         ensures unchanged { result ≡ false → self.new ≡ self.old }
     {
-        let Some(place) = place_of(&self.latest, number) else {
-            return false;
-        };
-        move_to_end(&mut self.latest, place, number);
-        true
+        move_to_end(&mut self.latest, number)
     }
 
     /// Marks numbers as used, in turn, up to the first that isn't among the latest. Returns whether
@@ -235,13 +230,11 @@ impl UseOrder {
         requires { is_member self.old.numbers number ≡ true }
         ensures { self.new ≡ used_last number self.old }
     {
-        match place_of(&self.latest, number) {
-            Some(place) => move_to_end(&mut self.latest, place, number),
-            None => {
-                spare_place(&mut self.order, &mut self.latest);
-                self.latest.push_reserved(number);
-            }
+        if move_to_end(&mut self.latest, number) {
+            return;
         }
+        spare_place(&mut self.order, &mut self.latest);
+        self.latest.push_reserved(number);
     }
 
     /// Gives a place to a number that has none, and marks it as used last. Not all places may have a

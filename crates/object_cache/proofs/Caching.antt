@@ -1,11 +1,11 @@
 -- A number gets an entry, or has one no more: no object and no frozen frame is another.
 use Rattle.object_cache.proofs.Names.{inl, inr, ℕ, Bool, true, false, true≢false, List, length, set, Option, Some, None, option_map, refl, sym, ap, arith}
-use Rattle.object_cache.proofs.Names.{length-set, ne_eqb, get_or-set_same, get_or-set_other, map-set, get_or-map-range_with_len, none-some, same_Some}
-use Rattle.object_cache.proofs.Names.{Cap, Content, Role, header_at, held_at, Disk, put_at, DurableState, Stored, below_at, stored_of, maps_same, map_set}
-use Rattle.object_cache.proofs.Names.{Entry, Held, entry_at, new_entry, is_some, Memory, FrozenState, Nothing, mark_at, masked, in_staging, put_body}
-use Rattle.object_cache.proofs.Names.{present_body, content_at, newest_body, below_body, apart_body, frozen_body, frozen_frame, frozen_at, frozen_state_of}
-use Rattle.object_cache.proofs.Names.{frozen_state_body, frozen_state_in_memory, frozen_states_in, StoreState, IsCache, IsFetchedIn, cache_of, is_kept}
-use Rattle.object_cache.proofs.Names.{frozen_state_by, frozen_state_at, cached_at, cached_in, with_cached, without, with_entry, Shared, Apart}
+use Rattle.object_cache.proofs.Names.{length-set, ne_eqb, get_or-set_same, get_or-set_other, map-set, get_or-map-range_with_len, none-some, same_Some, Cap}
+use Rattle.object_cache.proofs.Names.{Content, Role, header_at, held_at, Disk, put_at, DurableState, Stored, below_at, stored_of, maps_same, map_set, Entry}
+use Rattle.object_cache.proofs.Names.{Held, entry_at, new_entry, is_some, Memory, FrozenState, Nothing, mark_at, masked, in_staging, put_body, present_body}
+use Rattle.object_cache.proofs.Names.{content_at, newest_body, below_body, apart_body, frozen_body, frozen_frame, frozen_at, frozen_state_of, frozen_state_body}
+use Rattle.object_cache.proofs.Names.{frozen_state_in_memory, frozen_states_in, StoreState, IsCache, IsFetchedIn, cache_of, is_kept, frozen_state_by}
+use Rattle.object_cache.proofs.Names.{frozen_state_at, cached_at, cached_in, with_cached, without, with_entry, Shared, Apart}
 use Rattle.std.proofs.Common.{◌≡◌, ◌≢◌, ◌⊎◌, ◌<◌, ◌∷◌, ◌∙◌}
 use Rattle.object_cache.proofs.Objects.{Alike, cached_entry, cached_stay, clean_alike, content_in, contents_alike, entry_found, fetched_known, frozen_alike}
 use Rattle.object_cache.proofs.Objects.{of_each, keepable_alike, unwritten_alike, with_objects}
@@ -70,10 +70,13 @@ nothing_frozen_state e true touched is = let p = go e.kept touched is in inr (re
     go None false same = cc
 
 -- only a pending number's body is in the staging buffer
-pub no_staging : (staging : Option Held) (pending : List Bool) → ((h : Held) → staging ≡ Some h → mark_at pending h.number ≡ true) → (n : ℕ) (c : Content Cap) →
-    mark_at pending n ≡ false → in_staging staging n c ≡ c
-no_staging None pending held n c not_pending = refl
-no_staging (Some h) pending held n c not_pending = rw (ne_eqb h.number n (λ same. true≢false (sym (held h refl) ∙ ap (mark_at pending) same ∙ not_pending)))
+pub no_staging : {s : Stored} {m : Memory} {left count : ℕ} → IsCache s m left count → (n : ℕ) (c : Content Cap) → mark_at m.pending n ≡ false →
+    in_staging m.staging n c ≡ c
+no_staging {m = m} is n c not_pending = go m.staging is.held
+  where
+    go : (o : Option Held) → ((h : Held) → o ≡ Some h → mark_at m.pending h.number ≡ true) → in_staging o n c ≡ c
+    go None held = refl
+    go (Some h) held = rw (ne_eqb h.number n (λ same. true≢false (sym (held h refl) ∙ ap (mark_at m.pending) same ∙ not_pending)))
 
 module _ {s : Stored} {m : Memory} {left count : ℕ} (is : IsCache s m left count) (n : ℕ) (within : n < length m.headers) (e : Entry)
     (at : entry_at m.entries n ≡ Some e)
@@ -100,7 +103,7 @@ module _ {s : Stored} {m : Memory} {left count : ℕ} (is : IsCache s m left cou
         | inr wanted ↦ absurd (true≢false (sym wanted.1 ∙ untouched))
       ]) in
       ap (λ p. put_body p (below_body s m n)) (is.unput n untouched)
-      ∙ no_staging m.staging m.pending is.held n (below_at s n).content not_pending
+      ∙ no_staging is n (below_at s n).content not_pending
       ∙ sym (ap (λ f. f.content) (is.unwritten n within untouched
       ∙ ap (λ p. frozen_frame p (header_at m.frozen_headers n) (frozen_body (entry_at m.entries n) (mark_at m.touched n) (below_body s m n))
       (below_at s n)) not_pending))

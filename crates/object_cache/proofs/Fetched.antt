@@ -1,90 +1,69 @@
 -- Objects are brought into memory: those used last stay there.
-use Rattle.object_cache.proofs.Names.{inl, inr, ℕ, zero, suc, nat_eq, Bool, true, false, true≢false, List, [], length, take, Option, is_some, Result, Ok, Err}
-use Rattle.object_cache.proofs.Names.{refl, sym, ap, subst, arith, OnOk, OnErr, slice_index_or, cases_eq, cases_lt, eq-eqb, get_or-set_same, length-map}
-use Rattle.object_cache.proofs.Names.{is_member, Disk, DurableState, stored_of, Entry, Memory, without, StoreState, IsCache, IsFetchedIn, cond, ne_eqb}
-use Rattle.object_cache.proofs.Names.{cache_of, cached_at, cached_in, with_cached, IsRecentIn, on_device, on_device_with, take-take, used_in_turn, IsBounded}
-use Rattle.object_cache.proofs.Names.{UsesSome, take_all, length_without, in_either, in_front, one_more, used_anew, used_front, without_absent, without_here}
-use Rattle.object_cache.proofs.Names.{without_tail, length-take, Held, None, header_at, held_at, put_at, ReadsStore, below_at, newest, masked, in_staging}
-use Rattle.object_cache.proofs.Names.{put_body, present_body, newest_body, contents_in, GoesOnIn, frozen_seen, set, Some, Cap, Content, new_entry, option_map}
-use Rattle.object_cache.proofs.Names.{same_Some, Stored, entry_at, mark_at, below_body, content_at, frozen_at}
-use Rattle.object_cache.proofs.Names.{frozen_states_in}
-use Rattle.std.proofs.Common.{◌≡◌, ◌≢◌, ◌+◌, ◌<◌, ◌≤◌, ◌||◌, ◌∷◌, ◌∙◌, ◌-◌, ◌++◌}
-use Rattle.object_cache.proofs.Marking.{still_set, marked_within}
-use Rattle.object_cache.proofs.Objects.{Alike, clean_alike, content_in, contents_alike, contents_count, frozen_alike, keepable_alike, stored_next}
-use Rattle.object_cache.proofs.Objects.{unwritten_alike, with_objects}
+use Rattle.object_cache.proofs.Names.{inl, inr, ℕ, zero, suc, true, false, true≢false, List, [], length, take, Result, Ok, Err, refl, sym, ap, subst, arith}
+use Rattle.object_cache.proofs.Names.{OnOk, OnErr, slice_index_or, cases_eq, cases_lt, eq-eqb, is_member, Disk, DurableState, stored_of, Memory, without}
+use Rattle.object_cache.proofs.Names.{StoreState, IsCache, IsFetchedIn, cond, ne_eqb, cache_of, cached_at, with_cached, on_device, on_device_with, take-take}
+use Rattle.object_cache.proofs.Names.{used_in_turn, IsBounded, UsesSome, take_all, length_without, in_either, in_front, one_more, used_anew, used_front}
+use Rattle.object_cache.proofs.Names.{without_absent, without_here, without_tail, length-take, Held, None, header_at, held_at, put_at, ReadsStore, below_at}
+use Rattle.object_cache.proofs.Names.{newest, masked, in_staging, put_body, present_body, newest_body, contents_in, GoesOnIn, frozen_seen, set, Some, Cap}
+use Rattle.object_cache.proofs.Names.{Content, new_entry, option_map, same_Some, Stored, entry_at, mark_at, below_body, content_at, frozen_at, frozen_states_in}
+use Rattle.object_cache.proofs.Names.{either_of, member_head, member_tail, in_tail, list_any-from_Contains, nat_eq_equiv, All, All-contains, Contains, Frame}
+use Rattle.object_cache.proofs.Names.{ObjectHeader}
+use Rattle.std.proofs.Common.{◌≡◌, ◌≢◌, ◌+◌, ◌<◌, ◌≤◌, ◌∷◌, ◌∙◌, ◌-◌, ◌++◌}
+use Rattle.object_cache.proofs.Marking.{marked_within}
+use Rattle.object_cache.proofs.Objects.{Alike, clean_alike, content_in, contents_alike, frozen_alike, keepable_alike, stored_next, unwritten_alike}
+use Rattle.object_cache.proofs.Objects.{with_objects}
 use Rattle.object_cache.proofs.Outcomes.{IsNext, continues_with}
 use Rattle.object_cache.proofs.Freezing.{put_or_body}
 use Rattle.object_cache.proofs.Caching.{no_entry, cached_next}
 
 -- ---- the front of an order
 
-front_same : (k j : ℕ) (xs ys : List ℕ) → k ≤ j → take j ys ≡ take j xs → take k ys ≡ take k xs
-front_same k j xs ys few same = sym (take-take k j ys few) ∙ ap (take k) same ∙ take-take k j xs few
-
-or_right : (t a : Bool) → a ≡ true → (t || a) ≡ true
-or_right true a is = refl
-or_right false a is = is
-
-or_keeps : (t a b : Bool) → (a ≡ true → b ≡ true) → (t || a) ≡ true → (t || b) ≡ true
-or_keeps true a b then is = refl
-or_keeps false a b then is = then is
-
 front_within : (k j n : ℕ) (xs : List ℕ) → k ≤ j → is_member (take k xs) n ≡ true → is_member (take j xs) n ≡ true
-front_within zero j n xs few is = absurd (true≢false (sym is))
-front_within (suc k) zero n xs few is = absurd (omega (arith, few))
-front_within (suc k) (suc j) n [] few is = is
-front_within (suc k) (suc j) n (x ∷ xs) few is = or_keeps (nat_eq n x) (is_member (take k xs) n) (is_member (take j xs) n)
-    (front_within k j n xs (omega (arith, few))) is
+front_within k j n xs few is = in_front k (take j xs) n (ap (λ ns. is_member ns n) (take-take k j xs few) ∙ is)
 
--- taking a number out of the order brings none further back
-front_without : (n : ℕ) (ns : List ℕ) (k m : ℕ) → m ≢ n → is_member (take k ns) m ≡ true → is_member (take k (without n ns)) m ≡ true
-front_without n [] k m other is = is
-front_without n (a ∷ rest) zero m other is = absurd (true≢false (sym is))
-front_without n (a ∷ rest) (suc k) m other is = elim (cases_eq n a) [
-  | inl same ↦ rw (eq-eqb n a same) (front_more rest k m (sym (ap (λ t. t || is_member (take k rest) m) (ne_eqb m a (λ there. other (there ∙ sym same)))) ∙ is))
-  | inr differs ↦ rw (ne_eqb n a differs) (or_keeps (nat_eq m a) (is_member (take k rest) m) (is_member (take k (without n rest)) m)
-      (front_without n rest k m other) is)
-]
-  where
-    front_more : (ns : List ℕ) (k m : ℕ) → is_member (take k ns) m ≡ true → is_member (take (suc k) ns) m ≡ true
-    front_more [] zero m is = absurd (true≢false (sym is))
-    front_more [] (suc k) m is = absurd (true≢false (sym is))
-    front_more (b ∷ bs) zero m is = absurd (true≢false (sym is))
-    front_more (b ∷ bs) (suc k) m is = or_keeps (nat_eq m b) (is_member (take k bs) m) (is_member (take (suc k) bs) m) (front_more bs k m) is
-
-front_first : (n k : ℕ) (ns : List ℕ) → 0 < k → is_member (take k (n ∷ ns)) n ≡ true
-front_first n zero ns some = absurd (omega (arith, some))
-front_first n (suc k) ns some = ap (λ t. t || is_member (take k ns) n) (eq-eqb n n refl)
-
-front_pushed : (n m j k : ℕ) (ns : List ℕ) → j < k → is_member (take j ns) m ≡ true → is_member (take k (n ∷ ns)) m ≡ true
-front_pushed n m j zero ns below is = absurd (omega (arith, below))
-front_pushed n m j (suc k) ns below is = or_right (nat_eq m n) (is_member (take k ns) m) (front_within j k m ns (omega (arith, below)) is)
-
-front_used : (n m j k : ℕ) (ns : List ℕ) → j < k → is_member (take j ns) m ≡ true → is_member (take k (n ∷ without n ns)) m ≡ true
-front_used n m j zero ns below is = absurd (omega (arith, below))
-front_used n m j (suc k) ns below is = elim (cases_eq m n) [
-  | inl same ↦ ap (λ t. t || is_member (take k (without n ns)) m) (eq-eqb m n same)
-  | inr other ↦ or_right (nat_eq m n) (is_member (take k (without n ns)) m)
-      (front_within j k m (without n ns) (omega (arith, below)) (front_without n ns j m other is))
+-- taking a number out of the order brings no other further back
+front_without : (n m k : ℕ) (ns : List ℕ) → m ≢ n → is_member (take k ns) m ≡ true → is_member (take k (without n ns)) m ≡ true
+front_without n m zero ns other is = absurd (true≢false (sym is))
+front_without n m (suc k) [] other is = is
+front_without n m (suc k) (a ∷ rest) other is = elim (cases_eq n a) [
+  | inl same ↦ rw (without_here n a rest same) (front_within k (suc k) m rest (omega arith)
+      (sym (member_tail m a (take k rest) (λ here. other (sym here ∙ sym same))) ∙ is))
+  | inr differs ↦ rw (without_tail n a rest differs) (elim (either_of a (take k rest) m is) [
+    | inl here ↦ member_head m a (take k (without n rest)) here
+    | inr later ↦ in_tail a (take k (without n rest)) m (front_without n m k rest other later)
+  ])
 ]
 
--- ---- numbers that have an entry
+-- each use brings a number at most one further back
+uses_stay : (ns order : List ℕ) (n k j : ℕ) → length ns + k ≤ j → is_member (take k order) n ≡ true → is_member (take j (used_in_turn ns order)) n ≡ true
+uses_stay [] order n k j few is = front_within k j n order (omega (arith, few)) is
+uses_stay (m ∷ ms) order n k j few is = uses_stay ms (m ∷ without m order) n (suc k) j (omega (arith, few)) (elim (cases_eq n m) [
+  | inl same ↦ member_head n m (take k (without m order)) same
+  | inr other ↦ in_tail m (take k (without m order)) n (front_without m n k order other is)
+])
+
+-- what was used in turn is in front
+used_stay : (ns order : List ℕ) (n j : ℕ) → length ns ≤ j → is_member ns n ≡ true → is_member (take j (used_in_turn ns order)) n ≡ true
+used_stay [] order n j few has = absurd (true≢false (sym has))
+used_stay (m ∷ ms) order n j few has = elim (either_of m ms n has) [
+  | inl same ↦ uses_stay ms (m ∷ without m order) n 1 j (omega (arith, few)) (member_head n m [] same)
+  | inr later ↦ used_stay ms (m ∷ without m order) n j (omega (arith, few)) later
+]
 
 module _ {D : Type 0} where
-  pub place_recent : (s t : StoreState D) → t ≡ on_device_with s t → take 7 t.order ≡ take 7 s.order →
-      ((n : ℕ) → is_member (take 7 s.order) n ≡ true → cached_at t.cached n ≡ cached_at s.cached n) → (k n : ℕ) → k ≤ 7 → IsRecentIn s k n → IsRecentIn t k n
-  place_recent s t rest order others k n few recent = (
-    record {
-      header = omega (arith, recent.0.header, ap (λ x. length x.headers) rest);
-      content = omega (arith, recent.0.content, ap (λ x. length x.contents) rest);
-      cached = others n (front_within k 7 n s.order few recent.1) ∙ recent.0.cached;
-    },
-    ap (λ ns. is_member ns n) (front_same k 7 s.order t.order few order) ∙ recent.1,
-  )
-
-  pub use_recent : (s : StoreState D) (n j k m : ℕ) → j < k → IsRecentIn s j m → IsRecentIn (record s { order = n ∷ without n s.order }) k m
-  use_recent s n j k m below recent =
-      (record { header = recent.0.header; content = recent.0.content; cached = recent.0.cached }, front_used n m j k s.order below recent.1)
+  -- so it is in memory
+  pub all_fetched : (s t u : StoreState D) (ns : List ℕ) → t ≡ record s { order = t.order } → u ≡ on_device_with t u →
+      length s.contents ≡ length s.headers → All (λ n. n < length s.headers) ns → length ns ≤ 8 → 8 ≤ t.capacity → IsBounded u →
+      u.order ≡ take t.capacity (used_in_turn ns t.order) → (n : ℕ) → Contains ns n → IsFetchedIn u n
+  all_fetched s t u ns used rest each known few least bounded order n has =
+      let here = All-contains (λ k. k < length s.headers) ns n known has in
+      record {
+        header = omega (arith, here, ap (λ x. length x.headers) used, ap (λ x. length x.headers) rest);
+        content = omega (arith, here, each, ap (λ x. length x.contents) used, ap (λ x. length x.contents) rest);
+        cached =
+            sym (bounded.listed n) ∙ ap (λ os. is_member os n) order
+            ∙ used_stay ns t.order n t.capacity (omega (arith, few, least)) (list_any-from_Contains nat_eq_equiv n ns has);
+      }
 
   -- what was put is on the device, and what was read is in memory
   pub rest_of : (s t : StoreState D) → t ≡ on_device s t → t ≡ on_device_with s t
@@ -106,56 +85,6 @@ module _ {D : Type 0} where
       t.staging ≡ s.staging
   read_staging (Ok x) s t n ok err = ap (λ x. x.staging) ok
   read_staging (Err e) s t n ok err = ap (λ x. x.staging) err
-
-  pub read_first : (s t : StoreState D) (n k : ℕ) → t ≡ with_cached n (read_on s t) → IsFetchedIn t n → 0 < k → IsRecentIn t k n
-  read_first s t n k is there some = (there, ap (λ x. is_member (take k x.order) n) is ∙ front_first n k s.order some)
-
-  pub read_recent : (s t : StoreState D) (n j k m : ℕ) → t ≡ with_cached n (read_on s t) → j < k → IsRecentIn s j m → IsRecentIn t k m
-  read_recent s t n j k m is below recent = (
-    record {
-      header = omega (arith, recent.0.header, ap (λ x. length x.headers) is);
-      content = omega (arith, recent.0.content, ap (λ x. length x.contents) is);
-      cached = ap (λ x. cached_at x.cached m) is ∙ still_set s.cached n m recent.0.cached;
-    },
-    ap (λ x. is_member (take k x.order) m) is ∙ front_pushed n m j k s.order below recent.1,
-  )
-
-cached_count : (es : List (Option Entry)) → length (cached_in es) ≡ length es
-unfolding cached_in
-cached_count es = length-map es is_some
-
-module _ {D : Type 0} (disk : D → Disk) {d : DurableState D} {m : Memory} {left count : ℕ} {order : List ℕ} {most_entries : ℕ} {s : StoreState D}
-    (view : cache_of disk d m left order most_entries ≡ s) (is : IsCache (stored_of disk d) m left count) (n : ℕ) (known : n < length s.headers) where
-  known_cached : n < length s.cached
-  known_cached = omega (
-    arith,
-    known,
-    ap (λ t. length t.headers) view,
-    ap (λ t. length t.cached) view,
-    cached_count m.entries,
-    is.headers,
-    is.entries,
-  )
-
-  pub cached_fetched : IsFetchedIn (with_cached n s) n
-  cached_fetched = search (
-    arith,
-    known,
-    ap (λ t. length t.headers) view,
-    ap (λ t. length t.contents) view,
-    contents_count (stored_of disk d) m,
-    get_or-set_same s.cached n true false known_cached,
-  )
-
--- ---- the objects of a list
-
-pub recent_on : {D : Type 0} (t u : StoreState D) (ns : List ℕ) (i : ℕ) → i ≤ 7 → ((j k n : ℕ) → j ≤ 7 → j < k → IsRecentIn t j n → IsRecentIn u k n) →
-    ((k : ℕ) → 0 < k → IsRecentIn u k (slice_index_or ns i 0)) → ((k : ℕ) → k < i → IsRecentIn t i (slice_index_or ns k 0)) →
-    (k : ℕ) → k < i + 1 → IsRecentIn u (i + 1) (slice_index_or ns k 0)
-recent_on t u ns i few recent first before k below = elim (cases_lt k i) [
-  | inl earlier ↦ recent i (i + 1) (slice_index_or ns k 0) few (omega arith) (before k earlier)
-  | inr now ↦ subst (λ j. IsRecentIn u (i + 1) (slice_index_or ns j 0)) (omega (arith, now, below)) (first (i + 1) (omega arith))
-]
 
 -- ---- which entries go: a cache keeps the numbers used last, as many as its capacity
 
@@ -284,25 +213,22 @@ module _ {D : Type 0} (disk : D → Disk) {d : DurableState D} {m : Memory} {lef
   }
 
   -- and it is made an entry
-  module _ (n : ℕ) (known : n < length s.headers) (uncached : cached_at s.cached n ≡ false) (empty : s.staging ≡ None) {new : DurableState D}
-      (reads : ReadsStore disk d new) (later : (disk d.beneath).failures ≤ (disk new.beneath).failures) {c : Content Cap}
-      (c_is : c ≡ masked (header_at m.headers n).role (newest (stored_of disk d) n).content) where
-    pub kept_next : IsNext disk s new (with_objects m m.headers (set m.entries n (Some (new_entry c)))) left count (n ∷ order) most_entries
-        (with_cached n (record s { durable = new }))
-    kept_next =
-        let next = read_next reads later in
-        let t = with_cached n (record s { durable = new }) in
-        let now = cached_next disk next.view next.is n c known uncached (c_is ∙ read_holds n known uncached empty) in
-        search (
-          now,
-          subst (GoesOnIn disk s) (sym now.view) (continues_with disk t.cached t.frozen_state t.order t.staging
-              (subst (GoesOnIn disk s) next.view next.continues)),
-        )
-
-    pub kept_fetched : IsFetchedIn (cache_of disk new (with_objects m m.headers (set m.entries n (Some (new_entry c)))) left (n ∷ order) most_entries) n
-    kept_fetched =
-        let next = read_next reads later in
-        subst (λ t. IsFetchedIn t n) (sym kept_next.view) (cached_fetched disk next.view next.is n known)
+  pub kept_next : (n : ℕ) → n < length s.headers → cached_at s.cached n ≡ false → s.staging ≡ None → {new : DurableState D} → ReadsStore disk d new →
+      (disk d.beneath).failures ≤ (disk new.beneath).failures → {f : Frame} → f ≡ newest (stored_of disk d) n → {h : ObjectHeader} →
+      h ≡ header_at m.headers n →
+      IsNext disk s new (with_objects m m.headers (set m.entries n (Some (new_entry (masked h.role f.content))))) left count (n ∷ order) most_entries
+      (with_cached n (record s { durable = new }))
+  kept_next n known uncached empty {new} reads later {f} found {h} h_is =
+      let next = read_next reads later in
+      let t = with_cached n (record s { durable = new }) in
+      let held = ap (λ g. masked h.role g.content) found ∙ ap (λ g. masked g.role (newest (stored_of disk d) n).content) h_is
+      ∙ read_holds n known uncached empty in
+      let now = cached_next disk next.view next.is n (masked h.role f.content) known uncached held in
+      search (
+        now,
+        subst (GoesOnIn disk s) (sym now.view) (continues_with disk t.cached t.frozen_state t.order t.staging
+            (subst (GoesOnIn disk s) next.view next.continues)),
+      )
 
 -- ---- the frozen body of an object is taken up from below the entries: nothing that is seen changes but the staging buffer
 

@@ -5,15 +5,16 @@ use Rattle.object_cache.proofs.Names.{length-map-range_with_len, get_or-map-rang
 use Rattle.object_cache.proofs.Names.{Content, Role, blank_frame, frame_at, frames_in, header_at, AreKeepable, touched_count, untouched, object_count, Disk}
 use Rattle.object_cache.proofs.Names.{role_of, Put, Absent, Broken, freezing, all_frozen, freezing_puts, Kept, put_at, put_or, held_slot, sum_of, most}
 use Rattle.object_cache.proofs.Names.{DurableState, Stored, below_at, frozen_put, stored_of, maps_same, frame_in, length_in, Entry, entry_at, Memory, mark_at}
-use Rattle.object_cache.proofs.Names.{masked, in_staging, put_body, present_body, content_at, present_at, newest_body, below_body, apart_body, frozen_body}
-use Rattle.object_cache.proofs.Names.{frozen_frame, frozen_at, contents_in, frozen_in, StoreState, IsCache, AreFrozen, snapshots_of, cache_of, frozen_seen}
-use Rattle.object_cache.proofs.Names.{is_kept, left_of, sum_by-replicate, get_or_default}
+use Rattle.object_cache.proofs.Names.{masked, put_body, present_body, content_at, present_at, newest_body, below_body, apart_body, frozen_body, frozen_frame}
+use Rattle.object_cache.proofs.Names.{frozen_at, contents_in, frozen_in, StoreState, IsCache, AreFrozen, snapshots_of, cache_of, frozen_seen, is_kept, left_of}
+use Rattle.object_cache.proofs.Names.{sum_by-replicate, get_or_default}
 use Rattle.std.proofs.Common.{◌≡◌, ◌<◌, ◌≤◌, ◌||◌, ◌∷◌, ◌∙◌}
 use Rattle.model.specs.declared.object.Content.TheVariants as content
 use Rattle.object_cache.proofs.Marking.{alike}
 use Rattle.object_cache.proofs.Objects.{content_in}
 use Rattle.object_cache.proofs.Puts.{held_touched}
 use Rattle.object_cache.proofs.Caching.{no_staging}
+use Rattle.object_cache.proofs.Outcomes.{none_of}
 
 -- what has the role of its header is what the mask leaves of it
 pub masked_same : (r : Role) (c : Content Cap) → r ≡ role_of c → masked r c ≡ c
@@ -23,10 +24,6 @@ masked_same r (content.Node slots) is = ap (λ x. masked x (content.Node slots))
 masked_same r (content.Root root) is = ap (λ x. masked x (content.Root root)) is
 masked_same r (content.Annex registers) is = ap (λ x. masked x (content.Annex registers)) is
 masked_same r (content.Bank limit) is = ap (λ x. masked x (content.Bank limit)) is
-
-pub none_of : {A B : Type 0} (f : A → B) (o : Option A) → option_map f o ≡ None → o ≡ None
-none_of f None is = refl
-none_of f (Some x) is = absurd (none-some (f x) (sym is))
 
 pub none_counted : (n : ℕ) → touched_count (replicate n false) ≡ 0
 none_counted n = omega (arith, sum_by-replicate (λ b. cond b 1 0) n false)
@@ -69,16 +66,14 @@ module _ {s : Stored} {m : Memory} {left count : ℕ} (is : IsCache s m left cou
   abbrev now : Memory
   now = frozen_memory fh m
 
-  staging_none : (n : ℕ) (c : Content Cap) → in_staging m.staging n c ≡ c
-  staging_none n c = no_staging m.staging m.pending is.held n c (is.idle none n)
-
   below_was : (n : ℕ) → below_at s n ≡ frame_at s.saved.frames n
   below_was n = ap (λ o. put_or (frozen_put o n) (frame_at s.saved.frames n)) none
 
   -- what lies below now is the newest there was
   below_now : (n : ℕ) → below_body begun now n ≡ newest_body s m n
-  below_now n = rw (staging_none n (below_at s n).content, below_was n)
-      (staging_none n (put_or (put_at s.working n) (frame_at s.saved.frames n)).content ∙ put_or_body (put_at s.working n) (frame_at s.saved.frames n))
+  below_now n = rw (no_staging is n (below_at s n).content (is.idle none n), below_was n)
+      (no_staging is n (put_or (put_at s.working n) (frame_at s.saved.frames n)).content (is.idle none n)
+      ∙ put_or_body (put_at s.working n) (frame_at s.saved.frames n))
 
   content_same : (n : ℕ) → content_at begun now n ≡ content_at s m n
   content_same n = rw (alike (length s.working) n Absent, below_now n)

@@ -1,43 +1,19 @@
 -- What entries have of unwritten frozen frames, and which numbers have one, by the state.
 use Rattle.object_cache.proofs.Names.{inl, inr, ℕ, zero, suc, Bool, true, false, true≢false, List, [], length, set, take, Option, Some, None, IsSome, is_some}
-use Rattle.object_cache.proofs.Names.{option_map, refl, sym, ap, arith, slice_get, get_or_past, get_or-set_other, length-map-range_with_len, cases_eq, cases_lt}
-use Rattle.object_cache.proofs.Names.{none-some, same_Some, Cap, Content, is_member, Disk, DurableState, stored_of, Entry, entry_at, kept_of, frozen_state_by}
-use Rattle.object_cache.proofs.Names.{Memory, FrozenState, Nothing, Shared, Apart, mark_at, has_frozen, is_shared, frozen_state_of, content_at, contents_in}
+use Rattle.object_cache.proofs.Names.{option_map, refl, sym, ap, arith, slice_get, get_or-set_other, cases_eq, none-some, same_Some, Cap, Content, is_member}
+use Rattle.object_cache.proofs.Names.{Disk, DurableState, stored_of, Entry, entry_at, kept_of, frozen_state_by, Memory, Nothing, mark_at, frozen_state_of}
 use Rattle.object_cache.proofs.Names.{AreOrdered, used_longest_ago, without, StoreState, IsCache, IsFetchedIn, cache_of, frozen_state_at, cached_at, take_all}
-use Rattle.object_cache.proofs.Names.{length_without, front_apart, front_stays, listed_member, on_device, without_cached, Result, Ok, Err, OnOk, OnErr, subst}
+use Rattle.object_cache.proofs.Names.{length_without, front_stays, listed_member, on_device, without_cached, Result, Ok, Err, OnOk, OnErr, subst, some_within}
 use Rattle.std.proofs.Common.{◌≡◌, ◌≢◌, ◌+◌, ◌-◌, ◌<◌, ◌≤◌, ◌∷◌, ◌∙◌}
 use Rattle.object_cache.proofs.Marking.{set_there}
-use Rattle.object_cache.proofs.Objects.{cached_entry}
+use Rattle.object_cache.proofs.Objects.{cached_entry, contents_count}
 use Rattle.object_cache.proofs.Caching.{frozen_state_entry}
-
-pub has_frozen_yes : (o : FrozenState) (b : Bool) → b ≡ has_frozen o → b ≡ true → o ≢ Nothing
-has_frozen_yes o b is marked none = true≢false (sym marked ∙ is ∙ ap has_frozen none)
-
-pub has_frozen_none : (o : FrozenState) (b : Bool) → b ≡ has_frozen o → b ≡ false → o ≡ Nothing
-has_frozen_none Nothing b is none = refl
-has_frozen_none Shared b is none = absurd (true≢false (sym is ∙ none))
-has_frozen_none Apart b is none = absurd (true≢false (sym is ∙ none))
-
-pub shared_yes : (o : FrozenState) (b : Bool) → b ≡ is_shared o → b ≡ true → o ≡ Shared
-shared_yes Nothing b is marked = absurd (true≢false (sym marked ∙ is))
-shared_yes Shared b is marked = refl
-shared_yes Apart b is marked = absurd (true≢false (sym marked ∙ is))
-
-pub shared_none : (o : FrozenState) (b : Bool) → b ≡ is_shared o → b ≡ false → o ≢ Shared
-shared_none o b is none same = true≢false (sym (is ∙ ap is_shared same) ∙ none)
-
-pub nothing_apart : (o : FrozenState) → o ≡ Nothing → o ≢ Shared
-nothing_apart o none same = cc
 
 pub still_uncached : (ss : List Bool) (n k : ℕ) → cached_at ss k ≡ false → cached_at (set ss n false) k ≡ false
 still_uncached ss n k none = elim (cases_eq k n) [
   | inl same ↦ ap (cached_at (set ss n false)) same ∙ set_there ss n false
   | inr other ↦ get_or-set_other ss n k false false other ∙ none
 ]
-
-pub same_some : {A B : Type 0} (f : A → B) (o : Option A) → is_some (option_map f o) ≡ is_some o
-same_some f None = refl
-same_some f (Some a) = refl
 
 module _ {D : Type 0} (disk : D → Disk) {d : DurableState D} {m : Memory} {left count : ℕ} {order : List ℕ} {most_entries : ℕ} {s : StoreState D}
     (view : cache_of disk d m left order most_entries ≡ s) (is : IsCache (stored_of disk d) m left count) (n : ℕ) where
@@ -70,34 +46,22 @@ module _ {D : Type 0} (disk : D → Disk) {d : DurableState D} {m : Memory} {lef
         go None is = refl
         go (Some e) is = absurd (true≢false is)
 
-    contents_count : length (contents_in (stored_of disk d) m) ≡ length m.headers
-    unfolding contents_in
-    contents_count = length-map-range_with_len (content_at (stored_of disk d) m) 0 (length m.headers)
-
     pub fetched_by : IsSome (entry_at m.entries n) → IsFetchedIn s n
     fetched_by some = record {
       header = known;
-      content = omega (arith, known_there, contents_count, ap (λ t. length t.contents) view);
+      content = omega (arith, known_there, contents_count (stored_of disk d) m, ap (λ t. length t.contents) view);
       cached = ap (λ t. cached_at t.cached n) (sym view) ∙ cached_entry m.entries n ∙ some;
     }
 
   pub uncached_by : is_some (entry_at m.entries n) ≡ false → cached_at s.cached n ≡ false
   uncached_by none = ap (λ t. cached_at t.cached n) (sym view) ∙ cached_entry m.entries n ∙ none
 
-some_within : (es : List (Option Entry)) (n : ℕ) → IsSome (entry_at es n) → n < length es
-some_within es n is = elim (cases_lt n (length es)) [
-  | inl within ↦ within
-  | inr past ↦ absurd (true≢false (sym (sym (ap is_some (get_or_past es n None past)) ∙ is)))
-]
-
 -- the entry that was used longest ago: the other entries stay without it
 pub record IsLeast {D : Type 0} (s : StoreState D) (n : ℕ) : Type 0 where
   pub known : n < length s.headers
   pub fetched : IsFetchedIn s n
   pub room : length (without n s.order) < s.capacity
-  pub order : take 7 (without n s.order) ≡ take 7 s.order
   pub rest : without n s.order ≡ take (s.capacity - 1) s.order
-  pub others : (k : ℕ) → is_member (take 7 s.order) k ≡ true → cached_at (set s.cached n false) k ≡ cached_at s.cached k
 
 module _ {D : Type 0} (disk : D → Disk) {d : DurableState D} {m : Memory} {left count : ℕ} {order : List ℕ} {most_entries : ℕ} {s : StoreState D}
     (view : cache_of disk d m left order most_entries ≡ s) (is : IsCache (stored_of disk d) m left count)
@@ -129,7 +93,6 @@ module _ {D : Type 0} (disk : D → Disk) {d : DurableState D} {m : Memory} {lef
     pub is_least : IsLeast s n
     is_least =
         let last : length order - 1 + 1 ≡ length order = omega (arith, long) in
-        let seven : 7 < length order = omega (arith, long) in
         record {
           known = known;
           fetched = fetched_by disk view is n known has_entry;
@@ -140,36 +103,28 @@ module _ {D : Type 0} (disk : D → Disk) {d : DurableState D} {m : Memory} {lef
             ordered.few,
             ap (λ t. t.capacity) view,
           );
-          order = ap (λ ns. take 7 (without n ns)) seen ∙ front_stays n order (length order - 1) 7 last ordered.once (sym at) seven ∙ ap (take 7) (sym seen);
           rest =
               ap (without n) seen
               ∙ sym (take_all (length order - 1) (without n order) (omega (arith, length_without n order listed)))
               ∙ front_stays n order (length order - 1) (length order - 1) last ordered.once (sym at) (omega arith)
               ∙ ap (λ k. take k order) (omega (arith, full, ordered.few, ap (λ t. t.capacity) view, ap (λ ns. length ns) seen))
               ∙ ap (take (s.capacity - 1)) (sym seen);
-          others = λ k recent. get_or-set_other s.cached n k false false
-              (front_apart n order (length order - 1) 7 k last ordered.once (sym at) seven (ap (λ ns. is_member (take 7 ns) k) (sym seen) ∙ recent));
         }
 
 -- and what is there once it was evicted, or wasn't
 pub evicted : {D T E : Type 0} (r : Result T E) (s u : StoreState D) (n : ℕ) → IsLeast s n → OnOk r (u ≡ without_cached n (on_device s u)) →
     OnErr r (u ≡ on_device s u) →
     OnOk r (length u.order < u.capacity) × ((k : ℕ) → cached_at s.cached k ≡ false → cached_at u.cached k ≡ false) ×
-    ((k : ℕ) → is_member (take 7 s.order) k ≡ true → cached_at u.cached k ≡ cached_at s.cached k) × (take 7 u.order ≡ take 7 s.order) ×
     OnOk r (u.order ≡ take (s.capacity - 1) s.order) × OnErr r (u.order ≡ s.order)
 evicted {D} (Ok x) s u n least away stays = (
   subst (λ t. length t.order < t.capacity) (sym away) least.room,
   λ k none. ap (λ t. cached_at t.cached k) away ∙ still_uncached s.cached n k none,
-  λ k recent. ap (λ t. cached_at t.cached k) away ∙ least.others k recent,
-  ap (λ t. take 7 t.order) away ∙ least.order,
   ap (λ t. t.order) away ∙ least.rest,
   tt,
 )
 evicted {D} (Err e) s u n least away stays = (
   tt,
   λ k none. ap (λ t. cached_at t.cached k) stays ∙ none,
-  λ k recent. ap (λ t. cached_at t.cached k) stays,
-  ap (λ t. take 7 t.order) stays,
   tt,
   ap (λ t. t.order) stays,
 )

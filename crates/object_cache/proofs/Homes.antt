@@ -5,8 +5,8 @@ use Rattle.object_cache.proofs.Names.{length-map-range_with_len, get_or-map-rang
 use Rattle.object_cache.proofs.Names.{AreKeepable, Disk, Put, Absent, Broken, Kept, put_at, put_or, overlaid, kept_count, sum_of, SavedFrames, LeavesEither}
 use Rattle.object_cache.proofs.Names.{LeavesOneOf, home_saved, DurableState, MayCommit, committed, moved, next_saved, whole, on_snapshots, puts, FrozenPuts}
 use Rattle.object_cache.proofs.Names.{Stored, below_at, frozen_put, left_of, stored_of, maps_same, FrozenFrames, entry_at, Memory, mark_at, in_staging}
-use Rattle.object_cache.proofs.Names.{content_at, frozen_body, frozen_frame, frozen_at, get_or-map, get_or_default, contents_in}
-use Rattle.object_cache.proofs.Names.{frozen_in, StoreState, IsCache, snapshots_of, cache_of, frozen_seen, is_kept}
+use Rattle.object_cache.proofs.Names.{content_at, frozen_body, frozen_frame, frozen_at, get_or-map, get_or_default, contents_in, frozen_in, StoreState, IsCache}
+use Rattle.object_cache.proofs.Names.{snapshots_of, cache_of, frozen_seen, is_kept}
 use Rattle.std.proofs.Common.{◌≡◌, ◌+◌, ◌-◌, ◌≤◌, ◌<◌, ◌||◌, ◌∷◌, ◌∙◌, OnOk, OnErr}
 use Rattle.std.specs.Prelude.{◌==◌}
 use Rattle.object_cache.proofs.Outcomes.{IsSeenAs}

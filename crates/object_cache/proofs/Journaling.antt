@@ -6,17 +6,16 @@ use Rattle.object_cache.proofs.Names.{LeavesOnly, leaves_on, leaves_weaker, Body
 use Rattle.object_cache.proofs.Names.{most, SavedFrames, Holds, LeavesEither, LeavesOneOf, journaled_saved, with_words, Snapshots, journaled, on_snapshots}
 use Rattle.object_cache.proofs.Names.{DurableState, FrozenPuts, Stored, below_at, ReadsStore, frozen_put, is_sound, left_of, stored_of, maps_same, frame_in}
 use Rattle.object_cache.proofs.Names.{is_page_role, next_journaled, FrozenFrames, page_is, role_is_page, content_is_page, known_page, next_same, Entry}
-use Rattle.object_cache.proofs.Names.{entry_at, entry_body, held_now, Memory, mark_at, masked, in_staging, put_body, newest_body, below_body, present_body}
-use Rattle.object_cache.proofs.Names.{content_at, present_at, frozen_at, contents_in, frozen_in, StoreState, IsCache, snapshots_of}
-use Rattle.object_cache.proofs.Names.{cache_of, frozen_seen, nat_lt, Refusal, NotPage, Renewed, IsJournalAnswer, is_some, present_of, same_Some, true≢false}
-use Rattle.object_cache.proofs.Names.{newest}
+use Rattle.object_cache.proofs.Names.{entry_at, entry_body, held_now, Memory, mark_at, masked, put_body, newest_body, below_body, present_body, content_at}
+use Rattle.object_cache.proofs.Names.{present_at, frozen_at, contents_in, frozen_in, StoreState, IsCache, snapshots_of, cache_of, frozen_seen, nat_lt, Refusal}
+use Rattle.object_cache.proofs.Names.{NotPage, Renewed, IsJournalAnswer, is_some, present_of, same_Some, true≢false, newest}
 use Rattle.std.proofs.Common.{◌≡◌, ◌≢◌, ◌⊎◌, ◌<◌, ◌∙◌, OnOk, OnErr}
 use Rattle.model.specs.declared.object.Role.TheVariants as role
 use Rattle.layout.specs.declared.body.Body.TheVariants as body
 use Rattle.model.specs.declared.answer.Refusal.TheVariants as refusal
 use Rattle.checkpoint.specs.Journal as journal
-use Rattle.object_cache.proofs.Freezing.{none_of, put_or_body}
-use Rattle.object_cache.proofs.Outcomes.{IsSeenAs}
+use Rattle.object_cache.proofs.Freezing.{put_or_body}
+use Rattle.object_cache.proofs.Outcomes.{IsSeenAs, none_of}
 use Rattle.object_cache.proofs.Objects.{content_in, stored_next}
 use Rattle.object_cache.proofs.Caching.{no_staging}
 
@@ -26,15 +25,12 @@ as_page (Some e) c = refl
 
 module _ {s : Stored} {m : Memory} {left count : ℕ} (is : IsCache s m left count) (none : s.frozen ≡ None) (n : ℕ)
     (role_is : (header_at m.headers n).role ≡ role.Page) where
-  staging_none : (k : ℕ) (c : Content Cap) → in_staging m.staging k c ≡ c
-  staging_none k c = no_staging m.staging m.pending is.held k c (is.idle none k)
-
   -- what it holds now
   pub page_held : content_at s m n ≡ held_now m.entries s n
   page_held =
       ap (λ r. present_body (entry_at m.entries n) r (newest_body s m n)) role_is
       ∙ as_page (entry_at m.entries n) (newest_body s m n)
-      ∙ ap (λ c. entry_body (entry_at m.entries n) (put_body (put_at s.working n) c)) (staging_none n (below_at s n).content)
+      ∙ ap (λ c. entry_body (entry_at m.entries n) (put_body (put_at s.working n) c)) (no_staging is n (below_at s n).content (is.idle none n))
       ∙ ap (entry_body (entry_at m.entries n)) (sym (put_or_body (put_at s.working n) (below_at s n)))
 
   module _ (age : ℕ) (holds : is_page (content_at s m n) ≡ true) where
@@ -70,7 +66,7 @@ module _ {s : Stored} {m : Memory} {left count : ℕ} (is : IsCache s m left cou
         ap (λ o. present_body o (header_at m.headers n).role (newest_body after m n)) at
         ∙ ap (λ q. masked (header_at m.headers n).role (put_body q (below_body after m n))) put
         ∙ ap (masked (header_at m.headers n).role) (bare (below_body after m n)
-        ∙ (staging_none n (below_at after n).content ∙ ap (λ f. f.content) below_here ∙ sym (page_is (content_at s m n) holds))) ∙ masked_here
+        ∙ (no_staging is n (below_at after n).content (is.idle none n) ∙ ap (λ f. f.content) below_here ∙ sym (page_is (content_at s m n) holds))) ∙ masked_here
 
     here_by : (o : Option Entry) (p : Put) → entry_at m.entries n ≡ o → put_at s.working n ≡ p → content_at after m n ≡ content_at s m n
     here_by (Some e) p at put = rw at

@@ -4,12 +4,11 @@ use Rattle.object_cache.proofs.Names.{Some, None, option_map, refl, sym, ap, sub
 use Rattle.object_cache.proofs.Names.{get_or-set_same, Cap, Frame, ObjectHeader, Content, header_at, touched_count, touching, Disk, DurableState, Stored}
 use Rattle.object_cache.proofs.Names.{below_at, stored_of, maps_same, Entry, entry_at, Memory, Shared, mark_at, apart_body, below_body, frozen_body}
 use Rattle.object_cache.proofs.Names.{frozen_frame, frozen_at, frozen_state_of, frozen_state_body, frozen_state_in_memory, contents_in, frozen_states_in}
-use Rattle.object_cache.proofs.Names.{StoreState, IsCache, cache_of, frozen_state_at, is_some, length-map-range_with_len, Image, peeks_started, goes_none}
-use Rattle.object_cache.proofs.Names.{content_at, IsAnnouncedIn, GoesOnIn}
+use Rattle.object_cache.proofs.Names.{StoreState, IsCache, cache_of, frozen_state_at, is_some, Image, peeks_started, goes_none, IsAnnouncedIn, GoesOnIn}
 use Rattle.std.proofs.Common.{◌≡◌, ◌≢◌, ◌⊎◌, ◌<◌, ◌≤◌, ◌∷◌, ◌∙◌}
 use Rattle.object_cache.proofs.Marking.{length-touching, set-marked, still_marked}
 use Rattle.object_cache.proofs.Caching.{frozen_state_entry}
-use Rattle.object_cache.proofs.Objects.{Alike, frozen_alike, keepable_alike}
+use Rattle.object_cache.proofs.Objects.{Alike, frozen_alike, keepable_alike, contents_count}
 
 -- a mark is as it was, or is of a number that was listed
 marked_or : (ts : List Bool) (ns : List ℕ) (k : ℕ) → (mark_at (touching ts ns) k ≡ mark_at ts k) ⊎ Contains ns k
@@ -162,16 +161,12 @@ module _ {D : Type 0} (disk : D → Disk) where
 
 module _ {D : Type 0} (disk : D → Disk) {d : DurableState D} {m : Memory} {left count : ℕ} {order : List ℕ} {most_entries : ℕ} {s : StoreState D}
     (view : cache_of disk d m left order most_entries ≡ s) (is : IsCache (stored_of disk d) m left count) where
-  contents_count : length (contents_in (stored_of disk d) m) ≡ length m.headers
-  unfolding contents_in
-  contents_count = length-map-range_with_len (content_at (stored_of disk d) m) 0 (length m.headers)
-
   -- what is marked may be written
   pub marked_announced : (ns : List ℕ) (n : ℕ) → n < length s.headers → Contains ns n →
       IsAnnouncedIn (record s { touched = touching s.touched ns; dirty = touching s.dirty ns }) n
   marked_announced ns n known has = record {
     header = known;
-    content = omega (arith, known, contents_count, ap (λ t. length t.headers) view, ap (λ t. length t.contents) view);
+    content = omega (arith, known, contents_count (stored_of disk d) m, ap (λ t. length t.headers) view, ap (λ t. length t.contents) view);
     dirty = listed_is_marked s.dirty ns n has
         (omega (arith, known, is.headers, is.dirty_marks, ap (λ t. length t.headers) view, ap (λ t. length t.dirty) view));
   }
@@ -189,6 +184,7 @@ module _ {D : Type 0} (disk : D → Disk) {d : DurableState D} {m : Memory} {lef
     pub ready_announced : (n : ℕ) → Contains ns n → IsAnnouncedIn s n
     ready_announced n has = record {
       header = known n has;
-      content = let there = known n has in omega (arith, there, contents_count, ap (λ t. length t.headers) view, ap (λ t. length t.contents) view);
+      content = let there = known n has in omega
+          (arith, there, contents_count (stored_of disk d) m, ap (λ t. length t.headers) view, ap (λ t. length t.contents) view);
       dirty = ap (λ t. mark_at t.dirty n) (sym view) ∙ dirty_already n has;
     }

@@ -1,7 +1,9 @@
 -- The names that the proofs here cite: of other crates, and of the definitions of this one.
-pub use Rattle.cache_entries.proofs.Orders.{length_without}
-pub use Rattle.cache_entries.proofs.Recent.{front_apart, front_stays, listed_member}
-pub use Rattle.cache_entries.proofs.Turns.{in_either, in_front, one_more, used_anew, used_front, without_absent, without_here, without_tail}
+pub use Rattle.cache_entries.proofs.Orders.{either_of, in_either, in_front, in_tail, length_without, listed_member, member_head, member_tail, without_here}
+pub use Rattle.cache_entries.proofs.Orders.{without_tail}
+pub use Rattle.cache_entries.proofs.Recent.{front_stays}
+pub use Rattle.cache_entries.proofs.Stored.{some_map, some_within}
+pub use Rattle.cache_entries.proofs.Turns.{one_more, used_anew, used_front, without_absent}
 pub use Rattle.cache_entries.specs.Entries.{Entry, changing, entry_at, kept_of, new_entry, present_of, with_entry}
 pub use Rattle.cache_entries.specs.Order.{AreOrdered, EntriesState, used_in_turn, used_longest_ago, used_now, with_new, without}
 pub use Rattle.capability.proofs.FrameLists.{frame_in, length_in}
@@ -13,7 +15,7 @@ pub use Rattle.checkpoint.proofs.Lists.{maps_same}
 pub use Rattle.checkpoint.specs.Journal.{is_page_role, next_journaled}
 pub use Rattle.checkpoint.specs.Opened.{OnlyReads}
 pub use Rattle.checkpoint.specs.Refused.{IsCommitAnswer, IsJournalAnswer}
-pub use Rattle.checkpoint.specs.Saved.{Holds, LeavesEither, LeavesOneOf, LeavesSaved, SavedFrames, home_saved, journaled_saved, most, with_words}
+pub use Rattle.checkpoint.specs.Saved.{Holds, LeavesEither, LeavesOneOf, SavedFrames, home_saved, journaled_saved, most, with_words}
 pub use Rattle.checkpoint.specs.Snapshots.{MayCommit, Snapshots, committed, freezing, journaled, moved, next_saved}
 pub use Rattle.checkpoint.specs.Store.{FrozenFrames, OpensStore, all_frozen, stabilized, whole}
 pub use Rattle.collections.specs.Marks.{HasNoneMarked}
@@ -24,10 +26,9 @@ pub use Rattle.device.specs.Moments.{LeavesOnly}
 pub use Rattle.layout.specs.Frame.{content_of, frame_of}
 pub use Rattle.layout.specs.declared.body.Body.{Body}
 pub use Rattle.layout.specs.declared.body.Scratch.{Scratch}
-pub use Rattle.migrator.proofs.Publishing.{ok_counts}
 pub use Rattle.migrator.proofs.Kept.{map_set}
 pub use Rattle.migrator.proofs.Moving.{goes_none, goes_trans}
-pub use Rattle.migrator.proofs.Publishing.{on_err, on_ok}
+pub use Rattle.migrator.proofs.Publishing.{ok_counts, on_err, on_ok}
 pub use Rattle.migrator.specs.Durable.{DurableState, FrozenPuts, GoesOn, ReadsStore, Stored, below_at, freezing_puts, frozen_put, is_sound, left_of, newest}
 pub use Rattle.migrator.specs.Durable.{on_snapshots, puts, stored_of, with_frozen, with_put, with_working}
 pub use Rattle.migrator.specs.Opened.{OpensDurable}
@@ -49,8 +50,8 @@ pub use Rattle.model.specs.declared.frame.Frame.{Frame}
 pub use Rattle.model.specs.declared.frame.ObjectHeader.{ObjectHeader}
 pub use Rattle.model.specs.declared.object.Content.{Content}
 pub use Rattle.model.specs.declared.object.Role.{Role}
-pub use Rattle.std.proofs.Common.{Bool, Err, IsSome, List, None, Ok, Option, Result, Some, [], ap, arith, cond, eqb, false, get_or, inl, inr, is_some, length}
-pub use Rattle.std.proofs.Common.{length-set, map, nat_eq, nat_lt, option_map, refl, replicate, rules, set, subst, suc, sym, take, true, true≢false, zero, ℕ}
+pub use Rattle.std.proofs.Common.{Bool, Err, IfOk, IsSome, List, None, Ok, Option, Result, Some, [], ap, arith, cond, eqb, false, get_or, inl, inr, is_some}
+pub use Rattle.std.proofs.Common.{length, length-set, map, nat_lt, option_map, refl, replicate, rules, set, subst, suc, sym, take, true, true≢false, zero, ℕ}
 pub use Rattle.std.proofs.Common.{⊎_elim}
 pub use Rattle.std.proofs.Math.ListN.{get_or-map}
 pub use Rattle.std.proofs.Math.Seq.{map-set_same}
@@ -62,20 +63,24 @@ pub use Rattle.std.proofs.lemmas.List.Elements.{All-contains}
 pub use Rattle.std.proofs.lemmas.List.Folds.{sum_by-replicate}
 pub use Rattle.std.proofs.lemmas.List.FromFn.{get_or-map-range_with_len, length-map-range_with_len}
 pub use Rattle.std.proofs.lemmas.List.Sums.{sum_by-cons, sum_by-set}
+pub use Rattle.std.proofs.lemmas.Map.Views.{list_any-from_Contains}
 pub use Rattle.std.proofs.lemmas.Option.{none-some, same_Some}
 pub use Rattle.std.proofs.lemmas.Result.{on_err_weaker, on_ok_weaker}
-pub use Rattle.std.specs.List.{Contains, list_any, range_with_len, slice_get}
+pub use Rattle.std.specs.Cmp.{nat_eq_equiv}
+pub use Rattle.std.specs.List.{All, Contains, list_any, range_with_len, slice_get}
 pub use Rattle.std.specs.Prelude.{OnErr, OnOk, count_by, slice_index_or}
-pub use Rattle.object_cache.specs.Journaled.{entry_body, held_now}
+pub use Rattle.object_cache.specs.Journaled.{SavesPage, entry_body, held_now}
 pub use Rattle.object_cache.specs.Memory.{Apart, FrozenState, Held, Memory, Nothing, Shared, apart_body, below_body, content_at, frozen_at, frozen_body}
-pub use Rattle.object_cache.specs.Memory.{frozen_frame, frozen_state_body, frozen_state_by, frozen_state_in_memory, frozen_state_of, has_frozen, held_behind}
-pub use Rattle.object_cache.specs.Memory.{in_staging, is_shared, mark_at, masked, memory_of, newest_body, own_body, own_body_of, own_frame, present_at}
-pub use Rattle.object_cache.specs.Memory.{present_body, put_body, released}
+pub use Rattle.object_cache.specs.Memory.{frozen_frame, frozen_state_body, frozen_state_by, frozen_state_in_memory, frozen_state_of, held_behind, in_staging}
+pub use Rattle.object_cache.specs.Memory.{mark_at, masked, memory_of, newest_body, own_body, own_body_of, own_frame, present_at, present_body, put_body}
+pub use Rattle.object_cache.specs.Memory.{released}
 unfoldable pub use Rattle.object_cache.specs.Memory.{contents_in, frozen_in, frozen_states_in}
-pub use Rattle.object_cache.specs.Prepared.{IsRecentIn, UsesSome, on_device_with}
+pub use Rattle.object_cache.specs.Prepared.{UsesSome, on_device_with}
 pub use Rattle.object_cache.specs.PresentLaws.{continues_same, goes_on_same, goes_on_twice}
-pub use Rattle.object_cache.specs.StoreState.{AreAll, AreFrozen, AreInserted, AreTaken, ContinuesIn, GoesOnIn, HaveRoom, HoldBodies, IsAnnouncedIn, IsBounded}
-pub use Rattle.object_cache.specs.StoreState.{IsCache, IsFetchedIn, IsJustOpened, IsOpenOver, IsUnkept, IsWhole, MayPutFrozen, PutsBy, StoreState, TakenState}
-pub use Rattle.object_cache.specs.StoreState.{all_of, bodies_of, cache_of, cached_at, frozen_seen, frozen_state_at, is_kept, on_device, on_device_frozen}
-pub use Rattle.object_cache.specs.StoreState.{parts_of, pending_count, snapshots_of, view_of, with_body, with_cached, with_content_in, without_cached}
+pub use Rattle.object_cache.specs.StoreState.{AreAll, AreFrozen, AreInserted, AreObjectsOf, AreTaken, ContinuesIn, GoesOnIn, HaveRoom, HoldBodies}
+pub use Rattle.object_cache.specs.StoreState.{IsAnnouncedIn, IsBounded, IsCache, IsFetchedIn, IsJustOpened, IsOpenOver, IsUnkept, IsWhole, MayPutFrozen, PutsBy}
+pub use Rattle.object_cache.specs.StoreState.{StoreState, TakenState, all_of, bodies_of, cache_of, cached_at, frozen_seen, frozen_state_at, is_kept, on_device}
+pub use Rattle.object_cache.specs.StoreState.{on_device_frozen, parts_of, pending_count, snapshots_of, view_of, with_body, with_cached, with_content_in}
+pub use Rattle.object_cache.specs.StoreState.{without_cached}
 unfoldable pub use Rattle.object_cache.specs.StoreState.{cached_in}
+pub use Rattle.object_cache.specs.declared.all_objects.AllObjects.{AllObjects}

@@ -7,9 +7,10 @@ use Rattle.object_cache.proofs.Names.{frozen_state_of, frozen_state_body, frozen
 use Rattle.object_cache.proofs.Names.{length-set, get_or-map-range_with_len, length-map-range_with_len, get_or-map, get_or-set_same, get_or-set_other, Role}
 use Rattle.object_cache.proofs.Names.{blank_header, held_at, Disk, DurableState, stored_of, with_entry, changing, present_of, masked, AreOrdered, StoreState}
 use Rattle.object_cache.proofs.Names.{IsBounded, IsAnnouncedIn, IsFetchedIn, cache_of, cached_in, cached_at, with_content_in, map-set_same, [], cases_lt}
-use Rattle.object_cache.proofs.Names.{ext_get_or, get_or_append_left, get_or_at, IsWhole, frozen_seen, ⊎_elim}
+use Rattle.object_cache.proofs.Names.{ext_get_or, get_or_append_left, get_or_at, IsWhole, frozen_seen, ⊎_elim, some_map, newest, Ok, Err, Result, AreObjectsOf}
+use Rattle.object_cache.proofs.Names.{AllObjects, IfOk}
 use Rattle.std.proofs.Common.{◌≡◌, ◌≢◌, ◌⊎◌, ◌<◌, ◌∙◌, ◌+◌, ◌∷◌, ◌++◌}
-use Rattle.object_cache.proofs.Outcomes.{IsSeenAs}
+use Rattle.object_cache.proofs.Outcomes.{IsSeenAs, none_of}
 use Rattle.model.specs.declared.object.Role.TheVariants as role
 use Rattle.model.specs.declared.object.Content.TheVariants as content
 
@@ -149,11 +150,7 @@ module _ (s : Stored) {m : Memory} {hs : List ObjectHeader} {es : List (Option E
         ]
 
     none_here : entry_at es n ≡ None → entry_at m.entries n ≡ None
-    none_here at = go (entry_at m.entries n) (sym change.kept ∙ ap (option_map kept_of) at)
-      where
-        go : (o : Option Entry) → option_map kept_of o ≡ None → o ≡ None
-        go None same = refl
-        go (Some f) same = absurd (none-some f.kept (sym same))
+    none_here at = none_of kept_of (entry_at m.entries n) (sym change.kept ∙ ap (option_map kept_of) at)
 
     pub still_cache : IsCache s changed left count
     still_cache =
@@ -198,13 +195,9 @@ present_kept : (f : Content Cap → Content Cap) (n : ℕ) (es : List (Option En
 present_kept f n es within = ap (option_map kept_of) (get_or-set_same es n (option_map (changing f) (entry_at es n)) None within) ∙ kept_stays f (entry_at es n)
 
 -- the same numbers have entries
-still_some : (change : Entry → Entry) (o : Option Entry) → is_some (option_map change o) ≡ is_some o
-still_some change None = refl
-still_some change (Some e) = refl
-
 pub cached_stay : (change : Entry → Entry) (n : ℕ) (es : List (Option Entry)) → cached_in (with_entry change n es) ≡ cached_in es
 unfolding cached_in
-cached_stay change n es = map-set_same is_some es n (option_map change (entry_at es n)) None (still_some change (entry_at es n))
+cached_stay change n es = map-set_same is_some es n (option_map change (entry_at es n)) None (some_map change (entry_at es n))
 
 -- another header, and another present body if there is an entry
 edit_changes : (m : Memory) (n : ℕ) (h : ObjectHeader) (f : Content Cap → Content Cap) → n < length m.headers → n < length m.entries →
@@ -216,11 +209,9 @@ edit_changes m n h f within entry_within free = record {
   entries = λ k other. get_or-set_other m.entries n k (option_map (changing f) (entry_at m.entries n)) None other;
   kept = present_kept f n m.entries entry_within;
   role = λ none. inr (ap (λ i. i.role) (get_or-set_same m.headers n h blank_header within)
-      ∙ free (no_more (entry_at m.entries n) (sym (get_or-set_same m.entries n (option_map (changing f) (entry_at m.entries n)) None entry_within) ∙ none)));
-} where
-  no_more : (o : Option Entry) → option_map (changing f) o ≡ None → o ≡ None
-  no_more None is = refl
-  no_more (Some e) is = absurd (none-some (changing f e) (sym is))
+      ∙ free (none_of (changing f) (entry_at m.entries n)
+      (sym (get_or-set_same m.entries n (option_map (changing f) (entry_at m.entries n)) None entry_within) ∙ none)));
+}
 
 body_changes : (m : Memory) (n : ℕ) (f : Content Cap → Content Cap) → n < length m.entries → Changes m m.headers (with_entry (changing f) n m.entries) n
 body_changes m n f within = record {
@@ -337,6 +328,12 @@ module _ {D : Type 0} (disk : D → Disk) {d : DurableState D} {m : Memory} {lef
       let dirty : mark_at m.dirty n ≡ true = ap (λ t. mark_at t.dirty n) view ∙ announced.dirty in
       search (arith, header, dirty, is.headers, is.entries, is.marked n dirty)
 
+  pub announced_known : n < length m.headers
+  announced_known = known.header
+
+  pub announced_entry : n < length m.entries
+  announced_entry = known.entry
+
   module _ {hs : List ObjectHeader} {es : List (Option Entry)} (change : Changes m hs es n) where
     edit_seen : {cs : List (Content Cap)} → cached_in es ≡ cached_in m.entries → contents_in (stored_of disk d) (with_objects m hs es) ≡ cs →
         cache_of disk d (with_objects m hs es) left order most_entries ≡ record (cache_of disk d m left order most_entries) { headers = hs; contents = cs }
@@ -412,7 +409,7 @@ module _ {D : Type 0} (disk : D → Disk) {d : DurableState D} {m : Memory} {lef
   pub contents_each : length s.contents ≡ length s.headers
   contents_each = ap (λ t. length t.contents) (sym view) ∙ contents_count (stored_of disk d) m ∙ ap (λ t. length t.headers) view
 
-  pub copied_are : IsWhole s → (bodies : List (Content Cap)) → length bodies ≡ length m.headers
+  copied_are : IsWhole s → (bodies : List (Content Cap)) → length bodies ≡ length m.headers
       → ((n : ℕ) → n < length m.headers → option_map present_of (entry_at m.entries n) ≡ Some (held_at bodies n)) → bodies ≡ s.contents
   copied_are whole bodies each copied =
       let headers = ap (λ t. length t.headers) view in
@@ -420,3 +417,14 @@ module _ {D : Type 0} (disk : D → Disk) {d : DurableState D} {m : Memory} {lef
       (λ n within.
       let known : n < length m.headers = omega (arith, within, each) in
       entry_holds disk view is (whole n (omega (arith, known, headers))) (held_at bodies n) (copied n known))
+
+  pub all_copied : {E : Type 0} → IsWhole s → (headers : List ObjectHeader) → headers ≡ m.headers → (r : Result AllObjects E)
+      → IfOk r (λ o. o.headers.items ≡ headers) → IfOk r (λ o. length o.contents.items ≡ length headers)
+      → IfOk r (λ o. (n : ℕ) → n < length headers → option_map present_of (entry_at m.entries n) ≡ Some (held_at o.contents.items n))
+      → IfOk r (λ o. AreObjectsOf s o)
+  all_copied whole headers made (Ok o) same count copied = record {
+    headers_are = same ∙ made ∙ ap (λ t. t.headers) view;
+    contents = copied_are whole o.contents.items (count ∙ ap length made) (λ n within. copied n (omega (arith, within, ap length made)));
+    each = contents_each;
+  }
+  all_copied whole headers made (Err e) same count copied = tt

@@ -3,17 +3,17 @@ use Rattle.object_cache.proofs.Names.{inl, inr, ℕ, Bool, false, true≢false, 
 use Rattle.object_cache.proofs.Names.{get_or-map, cases_lt, ext_get_or, get_or_past, length-map, length-replicate, none-some, Frame, ObjectHeader, blank_frame}
 use Rattle.object_cache.proofs.Names.{frame_at, frames_in, header_at, headers, untouched, role_of, object_count, Image, Disk, Only, OnlyReads, Put, Absent}
 use Rattle.object_cache.proofs.Names.{put_at, put_or, SavedFrames, Holds, OpensDurable, DurableState, Stored, below_at, frozen_put, is_sound, stored_of}
-use Rattle.object_cache.proofs.Names.{HaveTheirRoles, OpensStore, Entry, entry_at, Memory, memory_of, newest_body}
-use Rattle.object_cache.proofs.Names.{present_body, content_at, present_at, frozen_at, contents_in, frozen_in, StoreState, IsCache}
-use Rattle.object_cache.proofs.Names.{IsJustOpened, IsOpenOver, AreAll, HoldBodies, EntriesState, bodies_of, cache_of, frozen_seen, parts_of, view_of, Some}
-use Rattle.object_cache.proofs.Names.{length-set, length-append, get_or-set_same, get_or-set_other, get_or_append_left, get_or_at, same_Some, Content, Cap}
-use Rattle.object_cache.proofs.Names.{new_entry, with_new, AreTaken, AreInserted, HaveRoom, IsUnkept, TakenState, true, changing, with_body, with_entry}
-use Rattle.object_cache.proofs.Names.{is_some, get_or-replicate, all_of}
+use Rattle.object_cache.proofs.Names.{HaveTheirRoles, OpensStore, Entry, entry_at, Memory, memory_of, newest_body, present_body, content_at, present_at}
+use Rattle.object_cache.proofs.Names.{frozen_at, contents_in, frozen_in, StoreState, IsCache, IsJustOpened, IsOpenOver, AreAll, HoldBodies, EntriesState}
+use Rattle.object_cache.proofs.Names.{bodies_of, cache_of, frozen_seen, parts_of, view_of, Some, length-set, length-append, get_or-set_same, get_or-set_other}
+use Rattle.object_cache.proofs.Names.{get_or_append_left, get_or_at, same_Some, Content, Cap, new_entry, with_new, AreTaken, AreInserted, HaveRoom, IsUnkept}
+use Rattle.object_cache.proofs.Names.{TakenState, true, changing, with_body, with_entry, is_some, all_of}
 use Rattle.std.proofs.Common.{◌≡◌, ◌∷◌, ◌∙◌, ◌<◌, ◌≤◌, ◌+◌, ◌++◌}
 use Rattle.object_cache.proofs.Freezing.{masked_same, none_counted}
 use Rattle.object_cache.proofs.Marking.{alike}
 use Rattle.object_cache.proofs.Objects.{content_in, contents_count, cached_entry}
 use Rattle.model.specs.declared.object.Content.TheVariants as content
+use Rattle.object_cache.proofs.PutsOut.{dropping}
 
 -- what is held on sectors: each frame has its role, and there is one for each object
 pub held_roles : (size : ℕ) (c : Image) (saved : SavedFrames) → Holds size c saved → HaveTheirRoles saved.frames
@@ -148,12 +148,6 @@ module _ {D : Type 0} (disk : D → Disk) (device : D) (d : DurableState D) (hs 
 
 -- ---- what is taken of the saved objects when a device is opened, frame by frame
 
-pub none_entered : (k n : ℕ) → entry_at (replicate k None) n ≡ None
-none_entered k n = elim (cases_lt n k) [
-  | inl lt ↦ get_or-replicate k n None None lt
-  | inr past ↦ get_or_past (replicate k None) n None (let size = length-replicate {A = Option Entry} k None in omega (arith, size, past))
-]
-
 -- no entries
 pub none_inserted : (count : ℕ) (e : EntriesState) → e ≡ record { at = replicate count None; order = []; most = all_of count } →
     count ≤ all_of count → AreInserted e 0 count
@@ -163,7 +157,7 @@ none_inserted count e is whole = subst (λ x. AreInserted x 0 count) (sym is) (r
   most = refl;
   whole = whole;
   earlier = λ n less. absurd (omega (arith, less));
-  later = λ n past. none_entered count n;
+  later = λ n past. alike count n None;
 })
 
 -- one more
@@ -185,30 +179,26 @@ one_inserted e k count are below c = record {
   later = λ n past. get_or-set_other e.at k n (Some (new_entry c)) None (λ same. omega (arith, past, same)) ∙ are.later n (omega (arith, past));
 }
 
--- an entry whose frozen copy is dropped
-abbrev pub drop : Entry → Entry
-drop x = record x { kept = None }
-
 -- a number more has no frozen copy
 pub dropped_one : (e : EntriesState) (k : ℕ) → is_some (entry_at e.at k) ≡ true → k < length e.at →
     ((n : ℕ) → n < k → IsUnkept (entry_at e.at n)) →
-    (n : ℕ) → n < k + 1 → IsUnkept (entry_at (with_entry drop k e.at) n)
+    (n : ℕ) → n < k + 1 → IsUnkept (entry_at (with_entry dropping k e.at) n)
 dropped_one e k some within before n less = elim (cases_lt n k) [
   | inl earlier ↦
-      subst IsUnkept (sym (get_or-set_other e.at k n (option_map drop (entry_at e.at k)) None (λ same. omega (arith, earlier, same))))
+      subst IsUnkept (sym (get_or-set_other e.at k n (option_map dropping (entry_at e.at k)) None (λ same. omega (arith, earlier, same))))
       (before n earlier)
   | inr last ↦
       let same : k ≡ n = omega (arith, last, less) in
-      subst (λ i. IsUnkept (entry_at (with_entry drop k e.at) i)) same (go (entry_at e.at k) refl some)
+      subst (λ i. IsUnkept (entry_at (with_entry dropping k e.at) i)) same (go (entry_at e.at k) refl some)
 ] where
-  go : (o : Option Entry) → entry_at e.at k ≡ o → is_some o ≡ true → IsUnkept (entry_at (with_entry drop k e.at) k)
+  go : (o : Option Entry) → entry_at e.at k ≡ o → is_some o ≡ true → IsUnkept (entry_at (with_entry dropping k e.at) k)
   go None at is = absurd (true≢false (sym is))
-  go (Some x) at is = (x.present, get_or-set_same e.at k (option_map drop (entry_at e.at k)) None within ∙ ap (option_map drop) at)
+  go (Some x) at is = (x.present, get_or-set_same e.at k (option_map dropping (entry_at e.at k)) None within ∙ ap (option_map dropping) at)
 
 pub blank_hold : (fs : List Frame) (most : ℕ) → HoldBodies (record { at = replicate (length fs) None; order = []; most = most }) fs
 blank_hold fs most = record {
   each = length-replicate {A = Option Entry} (length fs) None;
-  bodies = λ n x some. absurd (none-some x (sym (none_entered (length fs) n) ∙ some));
+  bodies = λ n x some. absurd (none-some x (sym (alike (length fs) n None) ∙ some));
 }
 
 -- one more
@@ -293,5 +283,6 @@ module _ (s : TakenState) (fs : List Frame) (took : AreTaken s fs) (e : EntriesS
   taken_all n within = ap is_some (took.bodies e at n (omega (arith, within, frames_count)))
 
 -- there is memory for one more of the frames
-pub taken_below : (s : TakenState) (fs : List Frame) → AreTaken s fs → length fs < s.count → length s.headers < s.count
-taken_below s fs took few = let size = ap (λ hs. length hs) took.headers_are ∙ length-map fs (λ f. f.header) in omega (arith, size, few)
+pub taken_below : {s t : TakenState} → s ≡ t → (fs : List Frame) → AreTaken t fs → length fs < t.count → length s.headers < s.count
+taken_below view fs took few = omega
+    (arith, ap (λ x. x.count) view, ap (λ x. length x.headers) view, ap length took.headers_are, length-map fs (λ f. f.header), few)

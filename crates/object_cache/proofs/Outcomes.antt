@@ -1,7 +1,7 @@
 -- Why one value of a cache continues as another.
 use Rattle.object_cache.proofs.Names.{ℕ, Bool, List, Option, sym, ap, Disk, stored_of, Held, FrozenState, StoreState, GoesOnIn, on_device, DurableState}
 use Rattle.object_cache.proofs.Names.{IsCache, Memory, cache_of, true, false, Result, Ok, Err, refl, subst, OnOk, OnErr, None, set, without, Nothing, released}
-use Rattle.object_cache.proofs.Names.{mark_at, frozen_state_at, without_cached}
+use Rattle.object_cache.proofs.Names.{mark_at, frozen_state_at, without_cached, option_map, Some, none-some}
 use Rattle.std.proofs.Common.{◌≡◌, ◌∙◌}
 use Rattle.object_cache.proofs.Marking.{set_there}
 
@@ -39,6 +39,10 @@ module _ {D : Type 0} (disk : D → Disk) where
   continues_with cached frozen_state order staging first = search
 
 -- ---- what calls that may fail leave, by their outcome
+
+pub none_of : {A B : Type 0} (f : A → B) (o : Option A) → option_map f o ≡ None → o ≡ None
+none_of f None is = refl
+none_of f (Some x) is = absurd (none-some (f x) (sym is))
 
 pub ok_both : {T E P Q R : Type 0} (r : Result T E) → OnOk r P → OnOk r Q → (P → Q → R) → OnOk r R
 ok_both (Ok t) first second next = next first second

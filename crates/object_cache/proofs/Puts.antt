@@ -2,9 +2,9 @@
 use Rattle.object_cache.proofs.Names.{None, inl, inr, ℕ, zero, suc, Bool, true, false, true≢false, cond, List, [], length, set, Some, option_map, refl, sym, ap}
 use Rattle.object_cache.proofs.Names.{subst, arith, length-set, get_or-set_same, get_or-set_other, sum_by-cons, none-some, Cap, ObjectHeader, Content}
 use Rattle.object_cache.proofs.Names.{header_at, held_at, IsKeepable, touched_count, Disk, Put, Absent, Broken, Kept, put_at, held_slot, sum_of, HasFreeSlot}
-use Rattle.object_cache.proofs.Names.{most, DurableState, Stored, GoesOn, stored_of, with_working, Entry, entry_at, present_of, Memory, mark_at}
-use Rattle.object_cache.proofs.Names.{content_at, present_at, newest_body, contents_in, frozen_in, frozen_states_in, StoreState}
-use Rattle.object_cache.proofs.Names.{IsCache, IsFetchedIn, GoesOnIn, cache_of, is_kept, frozen_seen, ⊎_elim}
+use Rattle.object_cache.proofs.Names.{most, DurableState, Stored, GoesOn, stored_of, with_working, Entry, entry_at, present_of, Memory, mark_at, content_at}
+use Rattle.object_cache.proofs.Names.{present_at, newest_body, contents_in, frozen_in, frozen_states_in, StoreState, IsCache, IsFetchedIn, GoesOnIn, cache_of}
+use Rattle.object_cache.proofs.Names.{is_kept, frozen_seen, ⊎_elim}
 use Rattle.std.proofs.Common.{◌≡◌, ◌≢◌, ◌⊎◌, ◌<◌, ◌≤◌, ◌∷◌, ◌∙◌}
 use Rattle.model.specs.declared.object.Role.TheVariants as role
 use Rattle.object_cache.proofs.Outcomes.{IsNext, next_as}

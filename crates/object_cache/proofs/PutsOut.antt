@@ -1,14 +1,14 @@
 -- The frozen frame of an object is put, or was to be.
 use Rattle.object_cache.proofs.Names.{inl, inr, ℕ, Bool, true, false, true≢false, List, length, map, set, Option, Some, None, option_map, refl, sym, ap, subst}
 use Rattle.object_cache.proofs.Names.{arith, length-set, count_by, range_with_len, cases_eq, get_or-set_same, get_or-set_other, none-some, same_Some, Cap}
-use Rattle.object_cache.proofs.Names.{Frame, Content, header_at, Put, Absent, Broken, Kept, put_at, most, FrozenPuts, Stored, below_at}
-use Rattle.object_cache.proofs.Names.{with_frozen, with_put, maps_same, map_set, Entry, Held, entry_at, Memory, Nothing, frozen_state_of}
-use Rattle.object_cache.proofs.Names.{frozen_state_in_memory, frozen_states_in, mark_at, in_staging, put_body, present_body, content_at, below_body}
-use Rattle.object_cache.proofs.Names.{frozen_body, frozen_frame, frozen_at, contents_in, frozen_in, IsCache, AreFrozen, is_kept, frozen_seen, object_count}
-use Rattle.object_cache.proofs.Names.{cond, cases_lt, eq-eqb, ne_eqb, get_or_past, length-map-range_with_len, get_or-map-range_with_len, ObjectHeader, Role}
-use Rattle.object_cache.proofs.Names.{blank_frame, IsKeepable, Disk, HasFreeSlot, DurableState, GoesOn, stored_of, with_entry, is_some, own_body_of}
-use Rattle.object_cache.proofs.Names.{FrozenState, masked, released, own_body, own_frame, newest_body, apart_body, frozen_state_body, StoreState, IsFetchedIn}
-use Rattle.object_cache.proofs.Names.{GoesOnIn, cache_of, frozen_state_at, cached_in, MayPutFrozen}
+use Rattle.object_cache.proofs.Names.{Frame, Content, header_at, Put, Absent, Broken, Kept, put_at, most, FrozenPuts, Stored, below_at, with_frozen, with_put}
+use Rattle.object_cache.proofs.Names.{maps_same, map_set, Entry, Held, entry_at, Memory, Nothing, frozen_state_of, frozen_state_in_memory, frozen_states_in}
+use Rattle.object_cache.proofs.Names.{mark_at, in_staging, put_body, present_body, content_at, below_body, frozen_body, frozen_frame, frozen_at, contents_in}
+use Rattle.object_cache.proofs.Names.{frozen_in, IsCache, AreFrozen, is_kept, frozen_seen, object_count, cond, cases_lt, eq-eqb, ne_eqb, get_or_past}
+use Rattle.object_cache.proofs.Names.{length-map-range_with_len, get_or-map-range_with_len, ObjectHeader, Role, blank_frame, IsKeepable, Disk, HasFreeSlot}
+use Rattle.object_cache.proofs.Names.{DurableState, GoesOn, stored_of, with_entry, is_some, own_body_of, FrozenState, masked, released, own_body, own_frame}
+use Rattle.object_cache.proofs.Names.{newest_body, apart_body, frozen_state_body, StoreState, IsFetchedIn, GoesOnIn, cache_of, frozen_state_at, cached_in}
+use Rattle.object_cache.proofs.Names.{MayPutFrozen}
 use Rattle.std.proofs.Common.{◌≡◌, ◌≢◌, ◌⊎◌, ◌<◌, ◌≤◌, ◌||◌, ◌∙◌}
 use Rattle.object_cache.proofs.Marking.{one_fewer, marked_within}
 use Rattle.object_cache.proofs.Outcomes.{IsNext, next_as}
@@ -434,67 +434,65 @@ put_under Absent fr r c freed = mask_under fr r c (λ free. elim (freed free) [ 
 put_under Broken fr r c freed = mask_under fr r c (λ free. elim (freed free) [ inl kept ↦ absurd (true≢false (sym kept)) | inr now ↦ now ])
 put_under (Kept f) fr r c freed = refl
 
-module _ {s : Stored} {m : Memory} {left count : ℕ} (is : IsCache s m left count) (h : Held) (staging : m.staging ≡ Some h)
-    (frozen_state : frozen_state_in_memory m h.number ≡ Nothing) where
+module _ {s : Stored} {m : Memory} {left count : ℕ} (is : IsCache s m left count) (h : Held) (staging : m.staging ≡ Some h) where
   pub held_pending : mark_at m.pending h.number ≡ true
   held_pending = is.held h staging
 
   pub held_within : h.number < length m.headers
   held_within = omega (arith, marked_within m.pending h.number held_pending, is.headers, is.pending_marks)
 
-  below_is : (t : Stored) → below_body t m h.number ≡ h.content
-  below_is t = rw (staging, eq-eqb h.number h.number refl)
+  module _ (frozen_state : frozen_state_in_memory m h.number ≡ Nothing) where
+    below_is : (t : Stored) → below_body t m h.number ≡ h.content
+    below_is t = rw (staging, eq-eqb h.number h.number refl)
 
-  -- an entry has nothing of it
-  bare : (e : Entry) → entry_at m.entries h.number ≡ Some e → (mark_at m.touched h.number ≡ true) × (e.kept ≡ None)
-  bare e at = elim (nothing_frozen_state e (mark_at m.pending h.number) (mark_at m.touched h.number)
-      (ap (λ o. frozen_state_of o (mark_at m.pending h.number) (mark_at m.touched h.number)) (sym at) ∙ frozen_state)) [
-        | inl done ↦ absurd (true≢false (sym held_pending ∙ done))
-        | inr wanted ↦ (wanted.1, wanted.2)
-      ]
+    -- an entry has nothing of it
+    bare : (e : Entry) → entry_at m.entries h.number ≡ Some e → (mark_at m.touched h.number ≡ true) × (e.kept ≡ None)
+    bare e at = elim (nothing_frozen_state e (mark_at m.pending h.number) (mark_at m.touched h.number)
+        (ap (λ o. frozen_state_of o (mark_at m.pending h.number) (mark_at m.touched h.number)) (sym at) ∙ frozen_state)) [
+          | inl done ↦ absurd (true≢false (sym held_pending ∙ done))
+          | inr wanted ↦ (wanted.1, wanted.2)
+        ]
 
-  body_is : (t : Stored) (o : Option Entry) → entry_at m.entries h.number ≡ o → frozen_body o (mark_at m.touched h.number) (below_body t m h.number) ≡ h.content
-  body_is t None at = below_is t
-  body_is t (Some e) at = rw ((bare e at).0, (bare e at).1) (below_is t)
+    body_is : (t : Stored) (o : Option Entry) → entry_at m.entries h.number ≡ o →
+        frozen_body o (mark_at m.touched h.number) (below_body t m h.number) ≡ h.content
+    body_is t None at = below_is t
+    body_is t (Some e) at = rw ((bare e at).0, (bare e at).1) (below_is t)
 
-  frozen_is_held : (t : Stored) → frozen_at t m h.number ≡ record
-      { header = header_at m.frozen_headers h.number; content = masked (header_at m.frozen_headers h.number).role h.content }
-  frozen_is_held t = λ k. frozen_frame (held_pending k) (header_at m.frozen_headers h.number) (body_is t (entry_at m.entries h.number) refl k)
-      (below_at t h.number)
+    frozen_is_held : (t : Stored) → frozen_at t m h.number ≡ record
+        { header = header_at m.frozen_headers h.number; content = masked (header_at m.frozen_headers h.number).role h.content }
+    frozen_is_held t = λ k. frozen_frame (held_pending k) (header_at m.frozen_headers h.number) (body_is t (entry_at m.entries h.number) refl k)
+        (below_at t h.number)
 
-  content_put : {f : FrozenPuts} → s.frozen ≡ Some f → (g : Frame) → g ≡ frozen_at s m h.number → (o : Option Entry) → entry_at m.entries h.number ≡ o →
-      present_body o (header_at m.headers h.number).role
-      (newest_body (with_frozen h.number (Kept g) s) (with_pending m (set m.pending h.number false) m.entries None) h.number) ≡
-      present_body o (header_at m.headers h.number).role (newest_body s m h.number)
-  content_put f_is g g_is None at = rw (frozen_below is held_pending f_is held_within g, g_is, frozen_is_held s, below_is s)
-      (put_under (put_at s.working h.number) (header_at m.frozen_headers h.number).role (header_at m.headers h.number).role h.content
-      (is.freed h.number at held_pending))
-  content_put f_is g g_is (Some e) at = refl
+    content_put : {f : FrozenPuts} → s.frozen ≡ Some f → (g : Frame) → g ≡ frozen_at s m h.number → (o : Option Entry) → entry_at m.entries h.number ≡ o →
+        present_body o (header_at m.headers h.number).role
+        (newest_body (with_frozen h.number (Kept g) s) (with_pending m (set m.pending h.number false) m.entries None) h.number) ≡
+        present_body o (header_at m.headers h.number).role (newest_body s m h.number)
+    content_put f_is g g_is None at = rw (frozen_below is held_pending f_is held_within g, g_is, frozen_is_held s, below_is s)
+        (put_under (put_at s.working h.number) (header_at m.frozen_headers h.number).role (header_at m.headers h.number).role h.content
+        (is.freed h.number at held_pending))
+    content_put f_is g g_is (Some e) at = refl
 
-  pub held_releases : {f : FrozenPuts} → s.frozen ≡ Some f → (g : Frame) → g ≡ frozen_at s m h.number →
-      Releases s m h.number (Kept g) (set m.pending h.number false) m.entries None
-  held_releases f_is g g_is = put_releases is held_pending f_is held_within g g_is m.entries refl (λ k other. refl) (λ e at. (bare e at).1) None
-      (λ k c other. sym (ap (λ o. in_staging o k c) staging
-      ∙ ap (λ b. cond b h.content c) (ne_eqb h.number k (λ same. other (sym same))))) (λ g gone. absurd (none-some g gone))
-      (content_put f_is g g_is (entry_at m.entries h.number) refl)
-
--- the number of the body in the staging buffer is known
-module _ {D : Type 0} (disk : D → Disk) {d : DurableState D} {m : Memory} {left count : ℕ} {order : List ℕ} {most_entries : ℕ} {s : StoreState D}
-    (view : cache_of disk d m left order most_entries ≡ s) (is : IsCache (stored_of disk d) m left count) (h : Held) (staging : m.staging ≡ Some h) where
-  pub held_frozen : h.number < length m.frozen_headers
-  held_frozen = omega (arith, marked_within m.pending h.number (is.held h staging), is.frozen_headers, is.pending_marks)
-
-  pub held_number : h.number < length s.headers
-  held_number = omega (arith, held_frozen, is.headers, is.frozen_headers, ap (λ t. length t.headers) view)
+    pub held_releases : {f : FrozenPuts} → s.frozen ≡ Some f → (g : Frame) → g ≡ frozen_at s m h.number →
+        Releases s m h.number (Kept g) (set m.pending h.number false) m.entries None
+    held_releases f_is g g_is = put_releases is held_pending f_is held_within g g_is m.entries refl (λ k other. refl) (λ e at. (bare e at).1) None
+        (λ k c other. sym (ap (λ o. in_staging o k c) staging
+        ∙ ap (λ b. cond b h.content c) (ne_eqb h.number k (λ same. other (sym same))))) (λ g gone. absurd (none-some g gone))
+        (content_put f_is g g_is (entry_at m.entries h.number) refl)
 
 -- the same by what is seen
 module _ {D : Type 0} (disk : D → Disk) {d : DurableState D} {m : Memory} {left count : ℕ} {order : List ℕ} {most_entries : ℕ} {s : StoreState D}
     (view : cache_of disk d m left order most_entries ≡ s) (is : IsCache (stored_of disk d) m left count) (h : Held) (staging : m.staging ≡ Some h) where
-  pub held_marked : mark_at m.pending h.number ≡ true
-  held_marked = is.held h staging
+  held_marked : mark_at m.pending h.number ≡ true
+  held_marked = held_pending is h staging
 
-  pub held_known : h.number < length m.headers
-  held_known = omega (arith, marked_within m.pending h.number held_marked, is.headers, is.pending_marks)
+  held_known : h.number < length m.headers
+  held_known = held_within is h staging
+
+  pub held_frozen : h.number < length m.frozen_headers
+  held_frozen = omega (arith, held_known, is.headers, is.frozen_headers)
+
+  pub held_number : h.number < length s.headers
+  held_number = omega (arith, held_known, ap (λ t. length t.headers) view)
 
   pub held_fewer : count_by (λ b. b) (set m.pending h.number false) < count_by (λ b. b) s.pending
   held_fewer = fewer_here disk view is held_known held_marked

@@ -1,12 +1,10 @@
 -- The present body of a page to be journaled, and how it is saved.
 use Rattle.object_cache.specs.Names.{ℕ, Bool, Option, Some, None, List, Cap, Content, ObjectHeader, Stored, newest}
 use Rattle.object_cache.specs.Names.{Entry, entry_at, frame_at, is_same_page, Disk, DurableState, stored_of, is_sound}
-use Rattle.std.specs.Prelude.{◌≡◌, ◌+◌, ◌<◌, ◌≤◌, ◌^◌, Result, IfOk, OnOk, OnErr}
+use Rattle.object_cache.specs.Names.{Result, IfOk, OnOk, OnErr, Counts, LeavesEither, journaled_saved, journaled}
+use Rattle.object_cache.specs.Names.{on_snapshots}
+use Rattle.std.specs.Prelude.{◌≡◌, ◌+◌, ◌<◌, ◌≤◌, ◌^◌}
 use Rattle.model.specs.declared.object.Role.TheVariants as role
-use Rattle.device.specs.Calls.{Counts}
-use Rattle.checkpoint.specs.Saved.{LeavesEither, journaled_saved}
-use Rattle.checkpoint.specs.Snapshots.{journaled}
-use Rattle.migrator.specs.Durable.{on_snapshots}
 
 -- the body in its entry or, if it has none, the newest on the device
 abbrev pub entry_body : Option Entry → Content Cap → Content Cap

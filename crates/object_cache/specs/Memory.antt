@@ -6,6 +6,8 @@ use Rattle.object_cache.specs.Names.{Body, Scratch, content_behind, ContentRef}
 use Rattle.std.specs.Prelude.{◌==◌, if◌then◌else◌}
 use Rattle.model.specs.declared.object.Content.TheVariants as content
 use Rattle.model.specs.declared.object.Role.TheVariants as role
+pub use Rattle.object_cache.specs.declared.frozen_state.FrozenState.{FrozenState}
+pub use Rattle.object_cache.specs.declared.frozen_state.FrozenState.TheVariants.{Nothing, Shared, Apart}
 
 -- a body in no entry: what an object was frozen as, read so that its frame can be written again under a newer header
 pub record Held : Type 0 where
@@ -125,23 +127,8 @@ contents_in s m = map (content_at s m) (range_with_len 0 (length m.headers))
 unfoldable pub frozen_in : Stored → Memory → List Frame
 frozen_in s m = map (frozen_at s m) (range_with_len 0 (length m.headers))
 
--- what an entry has of an unwritten frozen frame: nothing, the present body, or a frozen copy
-pub data FrozenState : Type 0 where
-  Nothing : FrozenState
-  Shared : FrozenState
-  Apart : FrozenState
-
-abbrev pub has_frozen : FrozenState → Bool
-has_frozen Nothing = false
-has_frozen Shared = true
-has_frozen Apart = true
-
-abbrev pub is_shared : FrozenState → Bool
-is_shared Nothing = false
-is_shared Shared = true
-is_shared Apart = false
-
--- by whether the frozen frame is pending, whether there is a frozen copy, and whether the object was written since
+-- what an entry has of an unwritten frozen frame, by whether it is pending, whether there is a frozen copy, and whether
+-- the object was written since
 abbrev pub frozen_state_body : Bool → Bool → FrozenState
 frozen_state_body true touched = Apart
 frozen_state_body false true = Nothing

@@ -3,10 +3,11 @@ pub use Rattle.cache_entries.specs.Entries.{Entry, changing, entry_at, new_entry
 pub use Rattle.cache_entries.specs.Order.{AllDiffer, EntriesState, used_in_turn, with_entry_of, without}
 pub use Rattle.capability.specs.Parts.{HaveTheirRoles, Parts, frames_of}
 pub use Rattle.checkpoint.specs.Journal.{is_same_page}
-pub use Rattle.checkpoint.specs.Saved.{Holds, most}
-pub use Rattle.checkpoint.specs.Snapshots.{Snapshots}
+pub use Rattle.checkpoint.specs.Saved.{Holds, LeavesEither, journaled_saved, most}
+pub use Rattle.checkpoint.specs.Snapshots.{Snapshots, journaled}
 pub use Rattle.checkpoint.specs.Store.{Continues, FrozenFrames, View, stabilized}
 pub use Rattle.device.proofs.Moments.{ends, leaves_on, leaves_weaker, peeks_started}
+pub use Rattle.device.specs.Calls.{Counts}
 pub use Rattle.device.specs.Disk.{Disk, Image}
 pub use Rattle.device.specs.Moments.{Peeks}
 pub use Rattle.layout.specs.Frame.{content_of}
@@ -15,7 +16,7 @@ pub use Rattle.layout.specs.declared.body.Body.{Body}
 pub use Rattle.layout.specs.declared.body.Scratch.{Scratch}
 pub use Rattle.migrator.proofs.Moving.{goes_none, goes_trans}
 pub use Rattle.migrator.specs.Durable.{DurableState, FrozenPuts, GoesOn, Stored, below_at, is_sound, newest}
-pub use Rattle.migrator.specs.Durable.{saved_state, seen_of, stored_of}
+pub use Rattle.migrator.specs.Durable.{on_snapshots, saved_state, seen_of, stored_of}
 pub use Rattle.migrator.specs.Put.{Absent, Broken, HasFreeSlot, Kept, Put, put_at}
 pub use Rattle.model.specs.Frame.{content_behind, frame_at, header_at, headers, held_at}
 pub use Rattle.model.specs.Keepable.{AreKeepable, IsKeepable}
@@ -31,5 +32,6 @@ pub use Rattle.model.specs.declared.object.ContentRef.{ContentRef}
 pub use Rattle.model.specs.declared.object.Role.{Role}
 pub use Rattle.std.proofs.Common.{ap, arith, refl}
 pub use Rattle.std.specs.List.{range_with_len}
-pub use Rattle.std.specs.Prelude.{Bool, IsSome, List, None, Option, Some, count_by, false, is_some, length, map, nat_le}
-pub use Rattle.std.specs.Prelude.{option_map, replicate, slice_index_or, slice_set, take, true, ℕ}
+pub use Rattle.std.specs.Prelude.{Bool, IfOk, IsSome, List, None, OnErr, OnOk, Option, Result, Some, count_by, false}
+pub use Rattle.std.specs.Prelude.{is_some, length, map, nat_le, option_map, replicate, slice_index_or, slice_set, take}
+pub use Rattle.std.specs.Prelude.{true, ℕ}

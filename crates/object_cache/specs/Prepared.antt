@@ -1,11 +1,7 @@
 -- What fetching and announcing do to entries and marks.
 use Rattle.object_cache.specs.Names.{ℕ, true, List, take, is_member, used_in_turn}
 use Rattle.std.specs.Prelude.{◌≡◌, ◌+◌, ◌≤◌}
-use Rattle.object_cache.specs.StoreState.{StoreState, IsFetchedIn, on_device}
-
--- a number has an entry, and is among the `k` numbers used last
-abbrev pub IsRecentIn : {D : Type 0} → StoreState D → ℕ → ℕ → Type 0
-IsRecentIn s k n = IsFetchedIn s n × (is_member (take k s.order) n ≡ true)
+use Rattle.object_cache.specs.StoreState.{StoreState, on_device}
 
 -- other entries, in another order, and other things on the device: all else stays
 abbrev pub on_device_with : {D : Type 0} → StoreState D → StoreState D → StoreState D

@@ -15,7 +15,7 @@ pub struct AllObjects {
 }
 
 // Copies of all bodies, by number. Each object must have an entry.
-pub(crate) fn copy_bodies(
+fn copy_bodies(
     alloc: Global,
     entries: &Entries,
     count: usize,
@@ -31,4 +31,22 @@ pub(crate) fn copy_bodies(
         bodies.push(body)?;
     }
     Ok(bodies)
+}
+
+impl AllObjects {
+    // The objects with these headers and copies of their bodies. Each must have an entry.
+    pub(crate) fn copied(
+        alloc: Global,
+        headers: Vec<ObjectHeader>,
+        entries: &Entries,
+    ) -> Result<AllObjects, AllocError>
+        requires { (n : ℕ) → n < length headers.items → IsSome (entry_at entries.now.at n) }
+        ensures headers { IfOk result (λ objects. objects.headers.items ≡ headers.items) }
+        ensures count { IfOk result (λ objects. length objects.contents.items ≡ length headers.items) }
+        ensures bodies { IfOk result (λ objects. (n : ℕ) → n < length headers.items
+            → option_map present_of (entry_at entries.now.at n) ≡ Some (held_at objects.contents.items n)) }
+    {
+        let contents = copy_bodies(alloc, entries, headers.len())?;
+        Ok(AllObjects { headers, contents })
+    }
 }

@@ -6,12 +6,11 @@ ghost use Rattle.model.specs.Frame.{content_behind, header_at, held_at, given_up
 ghost use Rattle.model.specs.Object.{role_of, with_slot_in, with_word_in};
 ghost use Rattle.capability.specs.Objects.{changed_root, with_root_in, with_slots_in};
 ghost use Rattle.capability.specs.Parts.{fresh_content};
-ghost use Rattle.model.specs.Revoke.{is_member};
 ghost use Rattle.device.specs.Calls.{Counts};
 ghost use Rattle.migrator.specs.Durable.{stored_of};
 
 use crate::frozen::{own_body, put_body};
-use crate::frozen_state::has_frozen;
+use crate::frozen_state::{FrozenState, state_by};
 use crate::headers::Headers;
 use crate::staging::Staging;
 use cache_entries::Entries;
@@ -168,6 +167,7 @@ impl<D: Device> Cache<D> {
     }
 
     /// Sets the owner of an object.
+    #[tactic(auto, using(crate::proofs::Objects::announced_known))]
     pub fn set_owner(&mut self, number: u64, bank: u64)
         requires { IsAnnouncedIn self.old number }
         ensures { self.new ≡ record self.old {
@@ -179,6 +179,7 @@ impl<D: Device> Cache<D> {
     }
 
     /// Raises a process's call count by one, so every resume capability to it is stale.
+    #[tactic(auto, using(crate::proofs::Objects::announced_known))]
     pub fn consume(&mut self, root: u64)
         requires announced { IsAnnouncedIn self.old root }
         requires calls { (header_at self.old.headers root).calls < u64.MAX }
@@ -206,6 +207,7 @@ impl<D: Device> Cache<D> {
     }
 
     /// Frees an object and raises both of its counts by one.
+    #[tactic(auto, using(crate::proofs::Objects::announced_known, crate::proofs::Objects::announced_entry))]
     pub fn reset(&mut self, number: u64)
         requires announced { IsAnnouncedIn self.old number }
         requires allocations { (header_at self.old.headers number).allocations < u64.MAX }
@@ -300,19 +302,18 @@ impl<D: Device> Cache<D> {
         Ok(())
     }
 
-    // Whether an entry holds a frozen body that isn't in the log. False if the object has no entry.
-    pub(crate) fn has_frozen_body(&self, number: u64) -> bool
+    // What an object's entry has of its frozen frame, if that isn't in the log. Nothing if the object has no entry.
+    pub(crate) fn frozen_state(&self, number: u64) -> FrozenState
         requires { number < length self.now.headers }
-        ensures fetched { result ≡ true → IsFetchedIn self.now number }
-        ensures yes { result ≡ true → frozen_state_at self.now.frozen_state number ≢ Nothing }
-        ensures none { result ≡ false → frozen_state_at self.now.frozen_state number ≡ Nothing }
+        ensures fetched { result ≢ Nothing → IsFetchedIn self.now number }
+        ensures state { result ≡ frozen_state_at self.now.frozen_state number }
     {
         let is_pending = self.pending.contains(number as usize);
         let is_touched = self.touched.contains(number as usize);
         if self.entries.holds(number) {
-            return has_frozen(is_pending, self.entries.kept(number).is_some(), is_touched);
+            return state_by(is_pending, self.entries.kept(number).is_some(), is_touched);
         }
-        false
+        FrozenState::Nothing
     }
 
     // Writes an object's frozen frame from its entry, if the entry holds a frozen body that isn't in the log.
@@ -324,10 +325,10 @@ impl<D: Device> Cache<D> {
         ensures continues { GoesOnIn D.disk self.old self.new }
         ensures cause { Counts (D.disk self.old.durable.beneath) (D.disk self.new.durable.beneath) result }
     {
-        if self.has_frozen_body(number) {
-            return self.put_own_frozen(number);
+        match self.frozen_state(number) {
+            FrozenState::Nothing => Ok(()),
+            _ => self.put_own_frozen(number),
         }
-        Ok(())
     }
 
     // Writes the present frame of an object and clears its mark, if it is dirty.
@@ -369,9 +370,6 @@ impl<D: Device> Cache<D> {
         ensures room { OnOk result (length self.new.order < self.new.capacity) }
         ensures uncached { (n : ℕ) → cached_at self.old.cached n ≡ false
             → cached_at self.new.cached n ≡ false }
-        ensures others { (n : ℕ) → is_member (take 7 self.old.order) n ≡ true
-            → cached_at self.new.cached n ≡ cached_at self.old.cached n }
-        ensures order { take 7 self.new.order ≡ take 7 self.old.order }
         ensures least { OnOk result (self.new.order ≡ take (self.old.capacity - 1) self.old.order) }
         ensures stays { OnErr result (self.new.order ≡ self.old.order) }
         ensures unchanged { length self.old.order < self.old.capacity → self.new ≡ self.old }

@@ -1,18 +1,27 @@
-// Whether an entry holds a frozen body that isn't in the log.
+// What an entry has of a frozen frame that isn't in the log.
 ghost use Rattle.std.specs.Prelude.{◌≡◌};
-ghost use Rattle.object_cache.specs.Memory.{frozen_state_by, has_frozen, is_shared};
+ghost use Rattle.object_cache.specs.Memory.{frozen_state_by};
 
-// Whether an entry holds a frozen body that isn't in the log: a frozen copy, or the present body of an object that
-// wasn't written since the freeze.
-pub(crate) fn has_frozen(is_pending: bool, is_kept: bool, is_touched: bool) -> bool
-    ensures { result ≡ has_frozen (frozen_state_by is_pending is_kept is_touched) }
-{
-    is_pending && (is_kept || !is_touched)
+/// What an entry has of a frozen frame that isn't in the log: nothing, the present body, or a frozen copy.
+#[derive(Drop)]
+pub(crate) enum FrozenState {
+    Nothing,
+    Shared,
+    Apart,
 }
 
-// Whether its present body is one.
-pub(crate) fn is_shared(is_pending: bool, is_kept: bool, is_touched: bool) -> bool
-    ensures { result ≡ is_shared (frozen_state_by is_pending is_kept is_touched) }
+// By whether the frozen frame is pending, whether there is a frozen copy, and whether the object was written since.
+pub(crate) fn state_by(is_pending: bool, is_kept: bool, is_touched: bool) -> FrozenState
+    ensures { result ≡ frozen_state_by is_pending is_kept is_touched }
 {
-    is_pending && !is_kept && !is_touched
+    if !is_pending {
+        return FrozenState::Nothing;
+    }
+    if is_kept {
+        return FrozenState::Apart;
+    }
+    if is_touched {
+        return FrozenState::Nothing;
+    }
+    FrozenState::Shared
 }

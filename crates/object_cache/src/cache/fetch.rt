@@ -7,9 +7,9 @@ ghost use Rattle.cache_entries.specs.Order.{used_in_turn, with_new, without};
 ghost use Rattle.layout.specs.Frame.{content_of};
 ghost use Rattle.object_cache.specs.Memory.{masked};
 ghost use Rattle.checkpoint.specs.Saved.{most};
-ghost use Rattle.object_cache.specs.StoreState.{GoesOnIn, IsFetchedIn, cached_at, with_cached};
-ghost use Rattle.object_cache.specs.StoreState.{AreKeepableIn, IsWithinLog};
-ghost use Rattle.object_cache.specs.Prepared.{IsRecentIn, UsesSome, on_device_with};
+ghost use Rattle.object_cache.specs.StoreState.{GoesOnIn, IsFetchedIn, cached_at, with_cached, AreKeepableIn};
+ghost use Rattle.object_cache.specs.StoreState.{IsWithinLog};
+ghost use Rattle.object_cache.specs.Prepared.{UsesSome, on_device_with};
 
 use crate::cache::Cache;
 use crate::frozen::mask;
@@ -39,7 +39,6 @@ impl<D: Device> Cache<D> {
         requires room { length self.old.order < self.old.capacity }
         ensures cached { OnOk result (self.new
             ≡ with_cached number (record self.old { durable = self.new.durable })) }
-        ensures fetched { OnOk result (IsFetchedIn self.new number) }
         ensures unread { OnErr result (self.new ≡ record self.old { durable = self.new.durable }) }
         ensures continues { GoesOnIn D.disk self.old self.new }
         ensures cause { Counts (D.disk self.old.durable.beneath) (D.disk self.new.durable.beneath) result }
@@ -64,9 +63,6 @@ impl<D: Device> Cache<D> {
         requires uncached { cached_at self.old.cached number ≡ false }
         requires empty { self.old.staging ≡ None }
         requires keepable { AreKeepableIn D.disk self.old }
-        ensures first { OnOk result ((k : ℕ) → 0 < k → IsRecentIn self.new k number) }
-        ensures recent { OnOk result ((j k n : ℕ) → j ≤ 7 → j < k → IsRecentIn self.old j n
-            → IsRecentIn self.new k n) }
         ensures order { OnOk result (self.new.order ≡ take self.old.capacity (number ∷ self.old.order)) }
         ensures stopped { OnErr result ((j : ℕ) × (self.old.capacity ≤ j + 1)
             × (self.new.order ≡ take j self.old.order)) }
@@ -84,9 +80,6 @@ impl<D: Device> Cache<D> {
         requires known { number < length self.old.headers }
         requires empty { self.old.staging ≡ None }
         requires keepable { AreKeepableIn D.disk self.old }
-        ensures first { OnOk result ((k : ℕ) → 0 < k → IsRecentIn self.new k number) }
-        ensures recent { OnOk result ((j k n : ℕ) → j ≤ 7 → j < k → IsRecentIn self.old j n
-            → IsRecentIn self.new k n) }
         ensures order { OnOk result (self.new.order
             ≡ take self.old.capacity (number ∷ without number self.old.order)) }
         ensures stopped { OnErr result ((j : ℕ) × (self.old.capacity ≤ j + 1)
@@ -102,27 +95,6 @@ impl<D: Device> Cache<D> {
         self.read_in(number)
     }
 
-    // Fetches the objects of a list in turn. The staging buffer must be empty.
-    fn fetch_all(&mut self, fetched: &[u64]) -> Result<(), Failed>
-        requires few { length fetched.now ≤ MAX_FETCHED }
-        requires known { All (λ n. n < length self.old.headers) fetched.now }
-        requires empty { self.old.staging ≡ None }
-        requires bounded { length self.old.order ≤ self.old.capacity }
-        requires keepable { AreKeepableIn D.disk self.old }
-        ensures fetched { OnOk result ((n : ℕ) → Contains fetched.now n → IsFetchedIn self.new n) }
-        ensures order { OnOk result (self.new.order
-            ≡ take self.old.capacity (used_in_turn fetched.now self.old.order)) }
-        ensures stopped { OnErr result (UsesSome self.old.capacity fetched.now self.old.order self.new.order) }
-        ensures rest { self.new ≡ on_device_with self.old self.new }
-        ensures continues { GoesOnIn D.disk self.old self.new }
-        ensures cause { Counts (D.disk self.old.durable.beneath) (D.disk self.new.durable.beneath) result }
-    {
-        for number in fetched {
-            self.fetch_one(*number)?;
-        }
-        Ok(())
-    }
-
     // Marks objects as used, in turn, up to the first that isn't among the last few used. Returns whether it marked
     // them all; then they are in memory.
     fn use_again(&mut self, numbers: &[u64]) -> bool
@@ -131,6 +103,8 @@ impl<D: Device> Cache<D> {
         ensures used { result ≡ true → self.new.order ≡ used_in_turn numbers.now self.old.order }
         ensures prefix { (k : ℕ) × (self.new.order ≡ used_in_turn (take k numbers.now) self.old.order) }
         ensures few { length self.new.order ≤ self.new.capacity }
+        ensures least { 8 ≤ self.new.capacity }
+        ensures each { length self.old.contents ≡ length self.old.headers }
         ensures rest { self.new ≡ record self.old { order = self.new.order } }
         ensures within { IsWithinLog D.disk self.old }
         ensures continues { GoesOnIn D.disk self.old self.new }
@@ -140,11 +114,9 @@ impl<D: Device> Cache<D> {
 
     // Empties the staging buffer, then fetches the objects of a list in turn.
     fn read_all_in(&mut self, fetched: &[u64]) -> Result<(), Failed>
-        requires few { length fetched.now ≤ MAX_FETCHED }
         requires known { All (λ n. n < length self.old.headers) fetched.now }
         requires bounded { length self.old.order ≤ self.old.capacity }
         requires keepable { AreKeepableIn D.disk self.old }
-        ensures fetched { OnOk result ((n : ℕ) → Contains fetched.now n → IsFetchedIn self.new n) }
         ensures order { OnOk result (self.new.order
             ≡ take self.old.capacity (used_in_turn fetched.now self.old.order)) }
         ensures stopped { OnErr result (UsesSome self.old.capacity fetched.now self.old.order self.new.order) }
@@ -153,7 +125,10 @@ impl<D: Device> Cache<D> {
         ensures cause { Counts (D.disk self.old.durable.beneath) (D.disk self.new.durable.beneath) result }
     {
         self.empty_staging()?;
-        self.fetch_all(fetched)
+        for number in fetched {
+            self.fetch_one(*number)?;
+        }
+        Ok(())
     }
 
     /// Brings the bodies of up to 8 objects into memory, in turn, and evicts those used longest ago for which there is
@@ -174,6 +149,9 @@ impl<D: Device> Cache<D> {
         if self.use_again(fetched) {
             return Ok(());
         }
-        self.read_all_in(fetched)
+        let read = self.read_all_in(fetched);
+        // The numbers of the order are those that have an entry.
+        self.len();
+        read
     }
 }

@@ -5,13 +5,13 @@ ghost use Rattle.capability.specs.Parts.{IsUnprepared};
 ghost use Rattle.model.specs.Machine.{touching, touched_count};
 ghost use Rattle.migrator.specs.Durable.{stored_of};
 ghost use Rattle.object_cache.specs.Memory.{Shared};
-ghost use Rattle.object_cache.specs.StoreState.{GoesOnIn, IsAnnouncedIn, IsFetchedIn, frozen_state_at};
-ghost use Rattle.object_cache.specs.StoreState.{AreKeepableIn, IsWithinLog};
+ghost use Rattle.object_cache.specs.StoreState.{GoesOnIn, IsAnnouncedIn, IsFetchedIn, frozen_state_at, AreKeepableIn};
+ghost use Rattle.object_cache.specs.StoreState.{IsWithinLog};
 ghost use Rattle.object_cache.specs.Prepared.{UsesSome, on_device_with, readied};
 ghost use Rattle.cache_entries.specs.Order.{used_in_turn};
 
 use crate::cache::Cache;
-use crate::frozen_state::is_shared;
+use crate::frozen_state::FrozenState;
 use crate::touched::{are_ready, fresh_count, mark};
 use capability::MAX_FETCHED;
 use device::Device;
@@ -60,21 +60,6 @@ impl<D: Device> Cache<D> {
         Ok(())
     }
 
-    // Whether the present body is also the unwritten frozen one. False if the object has no entry.
-    fn shares(&self, number: u64) -> bool
-        requires { number < length self.now.headers }
-        ensures fetched { result ≡ true → IsFetchedIn self.now number }
-        ensures shared { result ≡ true → frozen_state_at self.now.frozen_state number ≡ Shared }
-        ensures apart { result ≡ false → frozen_state_at self.now.frozen_state number ≢ Shared }
-    {
-        let is_pending = self.pending.contains(number as usize);
-        let is_touched = self.touched.contains(number as usize);
-        if self.entries.holds(number) {
-            return is_shared(is_pending, self.entries.kept(number).is_some(), is_touched);
-        }
-        false
-    }
-
     // Copies the frozen body if the present body is also it.
     fn keep_one_apart(&mut self, number: u64)
         requires { number < length self.old.headers }
@@ -83,7 +68,7 @@ impl<D: Device> Cache<D> {
             → frozen_state_at self.new.frozen_state n ≢ Shared }
         ensures rest { self.new ≡ record self.old { frozen_state = self.new.frozen_state } }
     {
-        if self.shares(number) {
+        if let FrozenState::Shared = self.frozen_state(number) {
             self.keep_apart(number);
         }
     }

@@ -11,6 +11,7 @@ ghost use Rattle.object_cache.specs.StoreState.{GoesOnIn, PutsBy, on_device, on_
 ghost use Rattle.object_cache.specs.StoreState.{parts_of, pending_count, view_of};
 
 use crate::cache::Cache;
+use crate::frozen_state::FrozenState;
 use device::{Device, Failed};
 use model::Refusal;
 
@@ -29,22 +30,7 @@ impl<D: Device> Cache<D> {
         Ok(())
     }
 
-    // Writes the frozen frame of a pending object whose frozen body is in no cache entry. After
-    // `Failed` the body is in `staging`, or where it was.
-    fn put_below(&mut self, number: u64) -> Result<(), Failed>
-        requires pending { mark_at self.old.pending number ≡ true }
-        requires empty { self.old.staging ≡ None }
-        requires frozen_state { frozen_state_at self.old.frozen_state number ≡ Nothing }
-        ensures fewer { OnOk result (pending_count self.new < pending_count self.old) }
-        ensures put { self.new ≡ on_device self.old self.new }
-        ensures continues { GoesOnIn D.disk self.old self.new }
-        ensures cause { Counts (D.disk self.old.durable.beneath) (D.disk self.new.durable.beneath) result }
-    {
-        self.take_below(number)?;
-        self.put_held()
-    }
-
-    // Writes the frozen frame of a pending object. The staging buffer must be empty.
+    // Writes the frozen frame of a pending object. The staging buffer must be empty. After `Failed` it may be in use.
     fn put_pending(&mut self, number: u64) -> Result<(), Failed>
         requires pending { mark_at self.old.pending number ≡ true }
         requires empty { self.old.staging ≡ None }
@@ -54,10 +40,11 @@ impl<D: Device> Cache<D> {
         ensures cause { Counts (D.disk self.old.durable.beneath) (D.disk self.new.durable.beneath) result }
     {
         let _ = &self.durable;
-        if self.has_frozen_body(number) {
-            return self.put_own_frozen(number);
+        if let FrozenState::Nothing = self.frozen_state(number) {
+            self.take_below(number)?;
+            return self.put_held();
         }
-        self.put_below(number)
+        self.put_own_frozen(number)
     }
 
     // Writes the frozen frame of a pending object, if there is one: first that of the body in `staging`.

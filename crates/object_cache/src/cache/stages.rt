@@ -10,7 +10,7 @@ ghost use Rattle.checkpoint.specs.Snapshots.{MayCommit, committed, freezing, lef
 ghost use Rattle.checkpoint.specs.Store.{all_frozen, whole, FrozenFrames};
 ghost use Rattle.object_cache.specs.StoreState.{AreKeepableIn, AreObjectsOf, IsWhole, parts_of, view_of};
 
-use crate::all_objects::{AllObjects, copy_bodies};
+use crate::all_objects::AllObjects;
 use crate::cache::Cache;
 use cache_entries::Entries;
 use checkpoint::Checkpoint;
@@ -41,11 +41,8 @@ impl<D: Device> Cache<D> {
             entries,
             ..
         } = self;
-        let headers = table.into_headers();
-        match copy_bodies(alloc, &entries, headers.len()) {
-            Ok(contents) => (durable, Ok(AllObjects { headers, contents })),
-            Err(_) => (durable, Err(AllocError)),
-        }
+        let objects = AllObjects::copied(alloc, table.into_headers(), &entries);
+        (durable, objects)
     }
 
     /// The superblock of the device.

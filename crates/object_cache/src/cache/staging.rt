@@ -6,6 +6,7 @@ ghost use Rattle.object_cache.specs.StoreState.{GoesOnIn, on_device, frozen_stat
 
 use crate::cache::Cache;
 use crate::frozen::put_body;
+use crate::frozen_state::FrozenState;
 use device::{Device, Failed};
 
 impl<D: Device> Cache<D> {
@@ -44,9 +45,9 @@ impl<D: Device> Cache<D> {
             return Ok(());
         };
         let number = held.0;
-        if self.has_frozen_body(number) {
-            return self.put_own_frozen(number);
+        match self.frozen_state(number) {
+            FrozenState::Nothing => self.put_held(),
+            _ => self.put_own_frozen(number),
         }
-        self.put_held()
     }
 }

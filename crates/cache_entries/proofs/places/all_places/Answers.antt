@@ -1,5 +1,5 @@
-use Rattle.cache_entries.proofs.Names.{ℕ, true≢false, arith, length, length-map, keys_of, sym, refl, subst, non_zero_usize_get, IsFilled}
-use Rattle.std.proofs.Common.{◌≡◌, ◌<◌}
+use Rattle.cache_entries.proofs.Names.{ℕ, arith, length, length-map, keys_of}
+use Rattle.std.proofs.Common.{◌<◌}
 use Rattle.cache_entries.proofs.Orders.{filled_more, new_keys, not_yet}
 use Rattle.cache_entries.proofs.places.all_places.Goals as goal
 

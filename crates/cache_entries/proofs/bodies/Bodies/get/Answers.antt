@@ -1,18 +1,5 @@
-use Rattle.cache_entries.proofs.Names.{arith}
-use Rattle.cache_entries.proofs.Contents.{kind_within, held, room_of}
+use Rattle.cache_entries.proofs.Contents.{held}
 use Rattle.cache_entries.proofs.bodies.Bodies.get.Goals as goal
-
-pub index-requires : goal.index-requires
-index-requires c = omega (arith, kind_within c.self.invariant c.self.view_is c.requires, c.self.inside.kinds.ok.0)
-
-pub item-requires : goal.item-requires
-item-requires c = rw c.in-Page.is at (room_of c.self.invariant c.self.view_is c.requires c.index.ensures)
-
-pub item-requires-in-Node : goal.item-requires-in-Node
-item-requires-in-Node c = rw c.in-Node.is at (room_of c.self.invariant c.self.view_is c.requires c.index.ensures)
-
-pub item-requires-in-Annex : goal.item-requires-in-Annex
-item-requires-in-Annex c = rw c.in-Annex.is at (room_of c.self.invariant c.self.view_is c.requires c.index.ensures)
 
 pub returns-in-Free : goal.returns-in-Free
 returns-in-Free c = rw c.in-Free.is at (held c.self.invariant c.self.view_is c.requires c.index.ensures)

@@ -1,14 +1,15 @@
-use Rattle.cache_entries.proofs.Names.{AreStored, ℕ, List, ap, is_member, sym, take, take_all, refl, subst, EntriesState, OrderState, used_in_turn}
+use Rattle.cache_entries.proofs.Names.{AreStored, ℕ, List, ap, is_member, sym, take_all, refl, subst, OrderState, list_any-from_Contains, nat_eq_equiv}
 use Rattle.std.proofs.Common.{◌∙◌}
 use Rattle.cache_entries.proofs.Stored.{ordered, some_is}
-use Rattle.cache_entries.proofs.Turns.{contains_member, spread_uses}
+use Rattle.cache_entries.proofs.Turns.{spread_uses}
 use Rattle.cache_entries.proofs.entries.Entries.use_again.Goals as goal
 
 pub returns-clause-held : goal.returns-clause-held
 returns-clause-held c =
     let ns = c.args.numbers.now in
     λ all n has. sym (some_is c.self.inside.order c.self.invariant c.self.view_is n) ∙ sym (c.spread.ensures.listed n) ∙ c.use_again.ensures.listed n
-    (ap (λ (ks : List ℕ). is_member ks n) (take_all c.use_again.ensures.count ns (c.use_again.ensures.whole all)) ∙ contains_member ns n has)
+    (ap (λ (ks : List ℕ). is_member ks n) (take_all c.use_again.ensures.count ns (c.use_again.ensures.whole all))
+    ∙ list_any-from_Contains nat_eq_equiv n ns has)
 
 pub returns-clause-ordered : goal.returns-clause-ordered
 returns-clause-ordered c =

@@ -1,11 +1,10 @@
-use Rattle.cache_entries.proofs.Names.{ℕ, [], None, replicate, arith, ap, sym, keys_of, length, length-map, place_below, OrderState}
+use Rattle.cache_entries.proofs.Names.{ℕ, replicate, arith, ap, sym, keys_of, length, length-map, place_below, OrderState}
 use Rattle.std.proofs.Common.{◌≡◌, ◌∙◌}
-use Rattle.cache_entries.proofs.Spreads.{Spreads, none_placed}
+use Rattle.cache_entries.proofs.Spreads.{none_placed}
 use Rattle.cache_entries.proofs.places.Places.clear.Goals as goal
 
-cleared : (c : goal.After-self-1) → Spreads (keys_of c.restore_order.new.order.entries) c.self.inside.numbers.items c.fill.new.self.items 0 (record
-    { numbers = []; places = replicate (length c.args.self.now.places) None; most = c.args.self.now.most })
-cleared c =
+pub returns : goal.returns
+returns c =
     let i = c.self.inside in
     let most = length i.numbers.items in
     let view = c.self.view_is in
@@ -16,7 +15,4 @@ cleared c =
     rw (← most_is) (none_placed (keys_of c.restore_order.new.order.entries) i.numbers.items c.fill.new.self.items most (length c.args.self.now.places)
     c.self.invariant.some (c.restore_order.ensures most c.self.invariant.filled) (omega arith)
     (c.fill.ensures.items (λ y is. is) ∙ ap (λ (k : ℕ). replicate k c.len-most.result) (i.places.ok.0 ∙ count)
-    ∙ ap (replicate (length c.args.self.now.places)) len))
-
-pub returns : goal.returns
-returns c = (cleared c).view
+    ∙ ap (replicate (length c.args.self.now.places)) len)).view

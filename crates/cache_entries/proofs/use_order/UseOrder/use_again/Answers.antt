@@ -1,8 +1,9 @@
 use Rattle.cache_entries.proofs.Names.{ℕ, List, length, take, get_or, sym, ap, subst, arith, take_all, take_more, is_member, AllDiffer, OrderState, used_last}
 use Rattle.cache_entries.proofs.Names.{used_all, ends_is, Decides-eqb}
 use Rattle.std.proofs.Common.{◌≡◌, ◌++◌, ◌-◌, ◌∙◌}
-use Rattle.cache_entries.proofs.Turns.{all_at_end, in_behind, listed_more, member_in_turn, used_again}
+use Rattle.cache_entries.proofs.Turns.{all_at_end, listed_more, member_in_turn, used_again}
 use Rattle.cache_entries.proofs.use_order.UseOrder.use_again.Goals as goal
+use Rattle.cache_entries.proofs.Orders.{in_behind}
 
 pub loop-number-preserved : goal.loop-number-preserved
 loop-number-preserved c =

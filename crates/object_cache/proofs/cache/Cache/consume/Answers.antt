@@ -1,9 +1,6 @@
 use Rattle.object_cache.proofs.Names.{refl, called}
-use Rattle.object_cache.proofs.Objects.{header_becomes, known}
+use Rattle.object_cache.proofs.Objects.{header_becomes}
 use Rattle.object_cache.proofs.cache.Cache.consume.Goals as goal
-
-pub consume-requires-clause-known : goal.consume-requires-clause-known
-consume-requires-clause-known g c = (known g.D.Device.disk c.self.view_is c.self.invariant c.requires.announced).header
 
 pub invariant_of-self : goal.invariant_of-self
 invariant_of-self g c = rw c.consume.ensures (header_becomes g.D.Device.disk c.self.view_is c.self.invariant c.requires.announced called (λ x. refl)).is

@@ -1,6 +1,6 @@
-use Rattle.object_cache.proofs.Objects.{entry_some}
 use Rattle.object_cache.proofs.Caching.{dropped_next}
 use Rattle.object_cache.proofs.cache.Cache.drop_entry.Goals as goal
+use Rattle.object_cache.proofs.Objects.{entry_some}
 
 pub remove-requires : goal.remove-requires
 remove-requires g c = entry_some g.D.Device.disk c.self.view_is c.self.invariant c.requires.fetched

@@ -1,26 +1,32 @@
 use Rattle.object_cache.proofs.Names.{on_err_weaker, on_ok_weaker, UsesSome, ap, arith, length, subst, take, used_in_turn}
 use Rattle.std.proofs.Common.{◌∙◌}
-use Rattle.object_cache.proofs.Fetched.{same_front, some_then, used_then}
+use Rattle.object_cache.proofs.Fetched.{same_front, some_then, used_then, all_fetched}
 use Rattle.object_cache.proofs.cache.Cache.fetch.Goals as goal
+
+pub returns-clause-fetched : goal.returns-clause-fetched
+returns-clause-fetched g c =
+    on_ok_weaker c.read_all_in-read.result (all_fetched c.args.self.now c.use_again.new.self c.read_all_in-read.new.self c.args.fetched.now
+    c.use_again.ensures.rest c.read_all_in-read.ensures.rest c.use_again.ensures.each c.requires.known c.requires.few c.use_again.ensures.least
+    c.len.ensures.bounded) c.read_all_in-read.ensures.order
 
 pub returns-clause-order : goal.returns-clause-order
 returns-clause-order g c =
     let s = c.args.self.now in
     let t = c.use_again.new.self in
     let first = c.use_again.ensures.prefix in
-    on_ok_weaker c.read_all_in.result (λ is.
-    used_then s.capacity first.0 c.args.fetched.now s.order t.order c.read_all_in.new.self.order first.1
-    (is ∙ ap (λ x. take x.capacity (used_in_turn c.args.fetched.now t.order)) c.use_again.ensures.rest)) c.read_all_in.ensures.order
+    on_ok_weaker c.read_all_in-read.result (λ is.
+    used_then s.capacity first.0 c.args.fetched.now s.order t.order c.read_all_in-read.new.self.order first.1
+    (is ∙ ap (λ x. take x.capacity (used_in_turn c.args.fetched.now t.order)) c.use_again.ensures.rest)) c.read_all_in-read.ensures.order
 
 pub returns-clause-stopped : goal.returns-clause-stopped
 returns-clause-stopped g c =
     let s = c.args.self.now in
     let t = c.use_again.new.self in
-    let u = c.read_all_in.new.self in
+    let u = c.read_all_in-read.new.self in
     let first = c.use_again.ensures.prefix in
-    on_err_weaker c.read_all_in.result (λ some.
+    on_err_weaker c.read_all_in-read.result (λ some.
     some_then s.capacity first.0 c.args.fetched.now s.order t.order u.order first.1
-    (subst (λ x. UsesSome x.capacity c.args.fetched.now t.order u.order) c.use_again.ensures.rest some)) c.read_all_in.ensures.stopped
+    (subst (λ x. UsesSome x.capacity c.args.fetched.now t.order u.order) c.use_again.ensures.rest some)) c.read_all_in-read.ensures.stopped
 
 pub returns-then-use_again-clause-fetched : goal.returns-then-use_again-clause-fetched
 returns-then-use_again-clause-fetched g c = c.use_again.ensures.fetched c.if-use_again.true

@@ -1,6 +1,6 @@
-use Rattle.object_cache.proofs.Names.{on_err_weaker, on_ok_weaker, sym, ap, subst, without, GoesOnIn, IsRecentIn, goes_on_same, arith, take}
+use Rattle.object_cache.proofs.Names.{on_err_weaker, on_ok_weaker, sym, ap, subst, without, GoesOnIn, goes_on_same, arith, take}
 use Rattle.std.proofs.Common.{◌∷◌, ◌∙◌}
-use Rattle.object_cache.proofs.Fetched.{use_recent, brought_order, used_order}
+use Rattle.object_cache.proofs.Fetched.{brought_order, used_order}
 use Rattle.object_cache.proofs.Outcomes.{continues_with}
 use Rattle.object_cache.proofs.cache.Cache.fetch_one.Goals as goal
 
@@ -15,11 +15,6 @@ pub returns-then-use_now-clause-order : goal.returns-then-use_now-clause-order
 returns-then-use_now-clause-order g c = rw (c.use_now.ensures.used c.if-use_now.true)
     (used_order c.args.self.now c.args.number c.use_now.ensures.bounded (c.use_now.ensures.fetched c.if-use_now.true))
 
-pub returns-clause-recent : goal.returns-clause-recent
-returns-clause-recent g c =
-    on_ok_weaker c.read_in.result (λ brought j k n few below recent.
-    brought j k n few below (subst (λ t. IsRecentIn t j n) (sym (c.use_now.ensures.unchanged c.if-use_now.false)) recent)) c.read_in.ensures.recent
-
 pub returns-clause-stopped : goal.returns-clause-stopped
 returns-clause-stopped g c =
     let same = c.use_now.ensures.unchanged c.if-use_now.false in
@@ -28,11 +23,6 @@ returns-clause-stopped g c =
       omega (arith, stop.1, ap (λ t. t.capacity) same),
       stop.2 ∙ ap (λ t. take stop.0 t.order) same,
     )) c.read_in.ensures.stopped
-
-pub returns-then-use_now-clause-recent : goal.returns-then-use_now-clause-recent
-returns-then-use_now-clause-recent g c =
-    λ j k n few below recent. subst (λ t. IsRecentIn t k n) (sym (c.use_now.ensures.used c.if-use_now.true))
-    (use_recent c.args.self.now c.args.number j k n below recent)
 
 pub returns-clause-order : goal.returns-clause-order
 returns-clause-order g c =

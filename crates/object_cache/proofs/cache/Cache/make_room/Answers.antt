@@ -1,5 +1,5 @@
-use Rattle.object_cache.proofs.Names.{rules, arith, None, sym, ap, length, subst, OnOk, OnErr, header_at, held_at, IsKeepable, most, stored_of, keepable_at}
-use Rattle.object_cache.proofs.Names.{Counts, GoesOnIn, IsFetchedIn, cache_of, on_device, parts_of, without_cached, memory_of}
+use Rattle.object_cache.proofs.Names.{Counts, rules, arith, None, sym, ap, length, subst, OnOk, OnErr, header_at, held_at, IsKeepable, most, stored_of}
+use Rattle.object_cache.proofs.Names.{keepable_at, GoesOnIn, IsFetchedIn, cache_of, on_device, parts_of, without_cached, memory_of}
 use Rattle.std.proofs.Common.{◌∙◌, ◌≡◌, ◌≤◌}
 use Rattle.object_cache.proofs.Outcomes.{away_rest}
 use Rattle.object_cache.proofs.FrozenStates.{evicted, is_least, some_least}

@@ -1,4 +1,4 @@
-use Rattle.object_cache.proofs.Names.{sym, subst, is_sound}
+use Rattle.object_cache.proofs.Names.{sym, subst, is_sound, rules}
 use Rattle.object_cache.proofs.Homes.{moved_next}
 use Rattle.object_cache.proofs.cache.Cache.migrate.Goals as goal
 
@@ -7,15 +7,11 @@ invariant_of-self g c =
     (moved_next g.D.Device.disk c.self.view_is c.self.invariant c.migrate.new.self c.args.count c.migrate.result c.migrate.ensures.moved
     c.migrate.ensures.unmoved).0.is
 
-pub returns-clause-rest : goal.returns-clause-rest
-returns-clause-rest g c =
-    (moved_next g.D.Device.disk c.self.view_is c.self.invariant c.migrate.new.self c.args.count c.migrate.result c.migrate.ensures.moved
-    c.migrate.ensures.unmoved).0.view
-
-pub returns-clause-snapshots : goal.returns-clause-snapshots
-returns-clause-snapshots g c =
-    (moved_next g.D.Device.disk c.self.view_is c.self.invariant c.migrate.new.self c.args.count c.migrate.result c.migrate.ensures.moved
-    c.migrate.ensures.unmoved).1
+pub returns : goal.returns
+returns g c =
+    let next = moved_next g.D.Device.disk c.self.view_is c.self.invariant c.migrate.new.self c.args.count c.migrate.result c.migrate.ensures.moved
+    c.migrate.ensures.unmoved in
+    search (rules, next.0.view, next.1)
 
 pub migrate-requires : goal.migrate-requires
 migrate-requires g c = record { sound = subst (λ t. is_sound g.D.Device.disk t.durable) (sym c.self.view_is) c.requires.sound }

@@ -1,7 +1,10 @@
 use Rattle.object_cache.proofs.Names.{rules, on_err}
-use Rattle.object_cache.proofs.Objects.{entry_some}
 use Rattle.object_cache.proofs.PutsOut.{own_fewer, own_ready, own_torn, out_next}
 use Rattle.object_cache.proofs.cache.Cache.put_own_frozen.Goals as goal
+use Rattle.object_cache.proofs.Objects.{entry_some}
+
+pub drop_kept-requires : goal.drop_kept-requires
+drop_kept-requires g c = entry_some g.D.Device.disk c.self.view_is c.self.invariant c.requires.fetched
 
 pub own_body-content-requires : goal.own_body-content-requires
 own_body-content-requires g c = entry_some g.D.Device.disk c.self.view_is c.self.invariant c.requires.fetched
@@ -25,9 +28,6 @@ returns g c =
       next,
       own_fewer g.D.Device.disk c.self.view_is c.self.invariant c.requires.fetched c.requires.frozen_state,
     ))
-
-pub drop_kept-requires : goal.drop_kept-requires
-drop_kept-requires g c = entry_some g.D.Device.disk c.self.view_is c.self.invariant c.requires.fetched
 
 pub returns-in_err-put_body : goal.returns-in_err-put_body
 returns-in_err-put_body g c =

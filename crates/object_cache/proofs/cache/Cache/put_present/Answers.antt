@@ -1,7 +1,7 @@
 use Rattle.object_cache.proofs.Names.{rules, on_err}
-use Rattle.object_cache.proofs.Objects.{entry_some}
 use Rattle.object_cache.proofs.Puts.{kept_next, keepable_here, room_here, unput_next}
 use Rattle.object_cache.proofs.cache.Cache.put_present.Goals as goal
+use Rattle.object_cache.proofs.Objects.{entry_some}
 
 pub present-requires : goal.present-requires
 present-requires g c = entry_some g.D.Device.disk c.self.view_is c.self.invariant c.requires.fetched

@@ -1,28 +1,53 @@
-use Rattle.object_cache.proofs.Names.{on_err_weaker, on_ok_weaker, subst, counted_ok, counts_on, goes_on_twice, UsesSome, ap, take, used_in_turn, on_err}
-use Rattle.std.proofs.Common.{◌∙◌}
-use Rattle.object_cache.proofs.Fetched.{rest_of, rest_on, uses_none}
+use Rattle.object_cache.proofs.Names.{arith, counted_ok, goes_on_twice, ap, slice_index_or, take, without, on_err}
+use Rattle.std.proofs.Common.{◌∙◌, ◌∷◌}
+use Rattle.object_cache.proofs.Fetched.{rest_on, stopped_at, used_more, same_front, rest_of, uses_none}
 use Rattle.object_cache.proofs.cache.Cache.read_all_in.Goals as goal
 
-pub returns : goal.returns
-returns g c = record {
-  fetched = c.fetch_all.ensures.fetched;
-  order =
-      on_ok_weaker c.fetch_all.result (λ is.
-      is ∙ ap (λ t. take t.capacity (used_in_turn c.args.fetched.now t.order)) c.empty_staging.ensures.put) c.fetch_all.ensures.order;
-  stopped =
-      on_err_weaker c.fetch_all.result (λ some.
-      subst (λ t. UsesSome t.capacity c.args.fetched.now t.order c.fetch_all.new.self.order) c.empty_staging.ensures.put some) c.fetch_all.ensures.stopped;
-  rest =
-      rest_on c.args.self.now c.empty_staging.new.self c.fetch_all.new.self
-      (rest_of c.args.self.now c.empty_staging.new.self c.empty_staging.ensures.put) c.fetch_all.ensures.rest;
-  continues =
-      goes_on_twice g.D.Device.disk g.met.D.Device.counts_now c.args.self.now c.empty_staging.new.self c.fetch_all.new.self c.empty_staging.ensures.continues
-      c.fetch_all.ensures.continues;
-  cause = counts_on (counted_ok c.in_ok-empty_staging.ensures.cause) c.fetch_all.ensures.cause;
-}
+pub loop-number-init : goal.loop-number-init
+loop-number-init g c =
+    let s = c.args.self.now in
+    let put = c.empty_staging.ensures.put in
+    let ok = c.in_ok-empty_staging.ensures in (
+      rest_of s c.empty_staging.new.self put,
+      ok.empty,
+      c.empty_staging.ensures.continues,
+      counted_ok ok.cause,
+      same_front s.capacity s.order c.empty_staging.new.self.order (ap (λ t. t.order) put) c.requires.bounded,
+    )
 
 pub returns-in_err-empty_staging-clause-stopped : goal.returns-in_err-empty_staging-clause-stopped
 returns-in_err-empty_staging-clause-stopped g c =
     let s = c.args.self.now in
     on_err c.from_residual.result (uses_none s.capacity c.args.fetched.now s.order c.empty_staging.new.self.order
     (ap (λ t. t.order) c.empty_staging.ensures.put))
+
+pub returns-in_err-fetch_one-clause-continues : goal.returns-in_err-fetch_one-clause-continues
+returns-in_err-fetch_one-clause-continues g c =
+    goes_on_twice g.D.Device.disk g.met.D.Device.counts_now c.args.self.now c.loop-number.self c.fetch_one.new.self c.loop-number.invariant.2
+    c.fetch_one.ensures.continues
+
+pub loop-number-preserved : goal.loop-number-preserved
+loop-number-preserved g c =
+    let disk = g.D.Device.disk in
+    let s = c.args.self.now in
+    let t = c.loop-number.self in
+    let u = c.fetch_one.new.self in
+    let before = c.loop-number.invariant in
+    let ok = c.in_ok-fetch_one.ensures in (
+      rest_on s t u before.0 c.fetch_one.ensures.rest,
+      c.fetch_one.ensures.empty,
+      goes_on_twice disk g.met.D.Device.counts_now s t u before.2 c.fetch_one.ensures.continues,
+      counted_ok ok.cause ∙ before.3,
+      used_more s.capacity c.loop-number.number-index c.args.fetched.now s.order t.order u.order c.loop-number-test.true before.4
+          (ok.order ∙ ap (λ m. take m (slice_index_or c.args.fetched.now c.loop-number.number-index 0 ∷
+          without (slice_index_or c.args.fetched.now c.loop-number.number-index 0) t.order)) before.2.capacity),
+    )
+
+pub returns-in_err-fetch_one-clause-stopped : goal.returns-in_err-fetch_one-clause-stopped
+returns-in_err-fetch_one-clause-stopped g c =
+    let s = c.args.self.now in
+    let before = c.loop-number.invariant in
+    let stop = c.in_err-fetch_one.ensures.stopped in
+    on_err c.from_residual-in_err-fetch_one.result
+    (stopped_at s.capacity c.loop-number.number-index stop.0 c.args.fetched.now s.order c.loop-number.self.order c.fetch_one.new.self.order before.4
+    (omega (arith, stop.1, before.2.capacity)) stop.2)

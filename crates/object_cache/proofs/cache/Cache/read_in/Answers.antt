@@ -1,19 +1,10 @@
 use Rattle.object_cache.proofs.Names.{on_err_weaker, on_ok_weaker, goes_on_twice, counted_ok, counts_on, ap, arith, on_err}
 use Rattle.std.proofs.Common.{◌∙◌, ◌∷◌, ◌-◌}
-use Rattle.object_cache.proofs.Fetched.{place_recent, rest_on, read_rest, read_staging, read_first, read_recent, pushed_to_front, stops_none}
-use Rattle.object_cache.proofs.Outcomes.{ok_both}
+use Rattle.object_cache.proofs.Fetched.{rest_on, read_rest, read_staging, pushed_to_front, stops_none}
 use Rattle.object_cache.proofs.cache.Cache.read_in.Goals as goal
 
 pub returns : goal.returns
 returns g c = record {
-  first =
-      ok_both c.read.result c.read.ensures.cached c.read.ensures.fetched
-      (λ is there k some. read_first c.make_room.new.self c.read.new.self c.args.number k is there some);
-  recent =
-      on_ok_weaker c.read.result
-      (λ is j k n few below recent. read_recent c.make_room.new.self c.read.new.self c.args.number j k n is below
-      (place_recent c.args.self.now c.make_room.new.self c.make_room.ensures.rest c.make_room.ensures.order c.make_room.ensures.others j n few recent))
-      c.read.ensures.cached;
   order =
       let s = c.args.self.now in
       let room = c.in_ok-make_room.ensures in

@@ -1,13 +1,7 @@
 use Rattle.object_cache.proofs.Names.{refl, given_up}
 use Rattle.model.specs.declared.object.Content.TheVariants as content
-use Rattle.object_cache.proofs.Objects.{both_become, known}
+use Rattle.object_cache.proofs.Objects.{both_become}
 use Rattle.object_cache.proofs.cache.Cache.reset.Goals as goal
-
-pub free-requires : goal.free-requires
-free-requires g c = (known g.D.Device.disk c.self.view_is c.self.invariant c.requires.announced).entry
-
-pub rescind-requires-clause-known : goal.rescind-requires-clause-known
-rescind-requires-clause-known g c = (known g.D.Device.disk c.self.view_is c.self.invariant c.requires.announced).header
 
 pub invariant_of-self : goal.invariant_of-self
 invariant_of-self g c =

@@ -3,6 +3,7 @@ use Rattle.object_cache.proofs.Names.{IsFetchedIn, cache_of, goes_on_same, take}
 use Rattle.std.proofs.Common.{◌≤◌, ◌<◌, ◌∙◌}
 use Rattle.object_cache.proofs.Outcomes.{continues_with}
 use Rattle.object_cache.proofs.FrozenStates.{fetched_by}
+use Rattle.object_cache.proofs.Objects.{contents_each}
 use Rattle.object_cache.proofs.cache.Cache.use_again.Goals as goal
 
 pub returns : goal.returns
@@ -22,6 +23,8 @@ returns g c =
       used = λ all. c.use_again.ensures.used all ∙ ap (λ t. used_in_turn c.args.numbers.now t.order) c.self.view_is;
       prefix = (first.0, first.1 ∙ ap (λ t. used_in_turn (take first.0 c.args.numbers.now) t.order) c.self.view_is);
       few = c.use_again.ensures.ordered.few;
+      least = c.use_again.ensures.ordered.least;
+      each = contents_each g.D.Device.disk c.self.view_is c.self.invariant;
       rest = seen;
       within =
           subst (λ t. touched_count t.touched ≤ (stored_of g.D.Device.disk t.durable).saved.geometry.log) c.self.view_is

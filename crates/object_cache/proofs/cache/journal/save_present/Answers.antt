@@ -1,6 +1,5 @@
-use Rattle.object_cache.proofs.Names.{true, sym, subst, content_behind, is_page, stored_of, words_in}
+use Rattle.object_cache.proofs.Names.{true, sym, subst, content_behind, is_page, stored_of, words_in, SavesPage}
 use Rattle.std.proofs.Common.{◌≡◌, ◌∙◌}
-use Rattle.object_cache.specs.Journaled.{SavesPage}
 use Rattle.object_cache.proofs.Journaling.{held_is, held_newest}
 use Rattle.object_cache.proofs.cache.journal.save_present.Goals as goal
 

@@ -1,11 +1,10 @@
-use Rattle.object_cache.proofs.Names.{ℕ, None, take, used_in_turn, GoesOnIn, IsRecentIn, on_device_with}
-use Rattle.std.proofs.Common.{◌≡◌, ◌<◌, slice_index_or}
-use Rattle.object_cache.proofs.cache.Cache.fetch_all.Given as goal
+use Rattle.object_cache.proofs.Names.{None, take, used_in_turn, GoesOnIn, on_device_with}
+use Rattle.std.proofs.Common.{◌≡◌}
+use Rattle.object_cache.proofs.cache.Cache.read_all_in.Given as goal
 
 abbrev pub invariant-loop-number : goal.invariant-loop-number
 invariant-loop-number g l =
-    ((k : ℕ) → k < l.number-index → IsRecentIn l.self l.number-index (slice_index_or l.fetched k 0))
-    × (l.self ≡ on_device_with l.fn.self l.self)
+    (l.self ≡ on_device_with l.fn.self l.self)
     × (l.self.staging ≡ None)
     × GoesOnIn g.D.Device.disk l.fn.self l.self
     × ((g.D.Device.disk l.self.durable.beneath).failures ≡ (g.D.Device.disk l.fn.self.durable.beneath).failures)
