@@ -1,6 +1,6 @@
 -- What a writer is left with, put together.
 use Rattle.script.proofs.Names.{ℕ, List, [], Option, None, Some, Result, Ok, Err, length, take, drop, sym, ap, subst, append_assoc, append-nil, arith}
-use Rattle.script.proofs.Names.{take-append-drop, take_all, length-drop, take-add, Appends-trans, Appends-kept, Appends, Keeps, line_of, RunFault, AppendsFront}
+use Rattle.script.proofs.Names.{take-append-drop, take_all, length-drop, take-add, Appends-trans, Appends, Keeps, line_of, RunFault, AppendsFront}
 use Rattle.script.proofs.Names.{Writes, Written, Wrote, WroteFront}
 use Rattle.std.proofs.Common.{◌≡◌, ◌+◌, ◌-◌, ◌<◌, ◌++◌, ◌∙◌}
 

@@ -1,6 +1,6 @@
 -- The command that numbers say which are read one after the other.
 use Rattle.script.proofs.Names.{ℕ, List, [], Option, None, Some, length, get_or, drop, refl, ap, arith, IfSome, IsSome, lt-ltb, Command, Operation, Fits}
-use Rattle.script.proofs.Names.{command_words, operation_name, Keyword, keyword_name, Words, arguments_at, invocation_at, number_at, numbers_at, register_at}
+use Rattle.script.proofs.Names.{command_words, operation_name, keyword_name, Words, arguments_at, invocation_at, number_at, numbers_at, register_at}
 use Rattle.script.proofs.Names.{registers_at, words_of}
 use Rattle.std.proofs.Common.{◌≡◌, ◌<◌, ◌+◌, ◌*◌, ◌∷◌, ◌∙◌}
 use Rattle.model.specs.declared.command.Command.TheVariants as command
@@ -23,30 +23,31 @@ pub registers_read : (words one two three : Words) (first second third fourth : 
 unfolding registers_at
 registers_read words one two three first second third fourth a b c d = rw (a, b, c, d) refl
 
-abbrev invocation : Operation → ℕ → ℕ → ℕ → ℕ → ℕ → ℕ → List ℕ → Command
-invocation o process register first second third fourth sent =
-    command.Invoke (record { operation = o; process = process; register = register; words = first ∷ second ∷ third ∷ fourth ∷ []; sent = sent })
+pub numbers_read : (words one two three four : Words) (a b c d : ℕ) → number_at words ≡ Some (a, one) → number_at one ≡ Some (b, two) →
+    number_at two ≡ Some (c, three) → number_at three ≡ Some (d, four) → numbers_at words ≡ Some (a ∷ b ∷ c ∷ d ∷ [], four)
+unfolding numbers_at
+numbers_read words one two three four a b c d first second third fourth = rw (first, second, third, fourth) refl
 
-invocation_read : (o : Operation) (one two three four five six seven : Words) (process register first second third fourth : ℕ) (sent : List ℕ)
-    → number_at one ≡ Some (process, two) → register_at two ≡ Some (register, three) → number_at three ≡ Some (first, four) →
-    number_at four ≡ Some (second, five)
-    → number_at five ≡ Some (third, six) → number_at six ≡ Some (fourth, seven) → registers_at seven ≡ Some (sent, [])
-    → arguments_at (keyword.Invoke o) one ≡ Some (invocation o process register first second third fourth sent, [])
-unfolding arguments_at invocation_at numbers_at
-invocation_read o one two three four five six seven process register first second third fourth sent a b c d e f g = rw (a, b, c, d, e, f, g) refl
+abbrev invocation : Operation → ℕ → ℕ → List ℕ → List ℕ → Command
+invocation o process register words sent =
+    command.Invoke (record { operation = o; process = process; register = register; words = words; sent = sent })
 
--- a line that names an operation and ten numbers
-pub invocation_said : (o : Operation) (line : List ℕ) (one two three four five six seven : Words) (process register first second third fourth : ℕ)
-    (sent : List ℕ)
+invocation_read : (o : Operation) (one two three four : Words) (process register : ℕ) (words sent : List ℕ)
+    → number_at one ≡ Some (process, two) → register_at two ≡ Some (register, three) → numbers_at three ≡ Some (words, four) →
+    registers_at four ≡ Some (sent, [])
+    → arguments_at (keyword.Invoke o) one ≡ Some (invocation o process register words sent, [])
+unfolding arguments_at invocation_at
+invocation_read o one two three four process register words sent a b c d = rw (a, b, c, d) refl
+
+-- a line that names an operation, a process, a register, four words and what is sent
+pub invocation_said : (o : Operation) (line : List ℕ) (one two three four : Words) (process register : ℕ) (words : List ℕ) (sent : List ℕ)
     → words_of line ≡ operation_name o ∷ one
-    → number_at one ≡ Some (process, two) → register_at two ≡ Some (register, three) → number_at three ≡ Some (first, four) →
-    number_at four ≡ Some (second, five)
-    → number_at five ≡ Some (third, six) → number_at six ≡ Some (fourth, seven) → registers_at seven ≡ Some (sent, [])
-    → Fits (invocation o process register first second third fourth sent) ×
-    (words_of line ≡ command_words (invocation o process register first second third fourth sent))
-invocation_said o line one two three four five six seven process register first second third fourth sent named a b c d e f g =
-    command_found (words_of line) one [] (operation_name o) (keyword.Invoke o) (invocation o process register first second third fourth sent) named refl
-    (invocation_read o one two three four five six seven process register first second third fourth sent a b c d e f g) refl
+    → number_at one ≡ Some (process, two) → register_at two ≡ Some (register, three) → numbers_at three ≡ Some (words, four) →
+    registers_at four ≡ Some (sent, [])
+    → Fits (invocation o process register words sent) × (words_of line ≡ command_words (invocation o process register words sent))
+invocation_said o line one two three four process register words sent named a b c d =
+    command_found (words_of line) one [] (operation_name o) (keyword.Invoke o) (invocation o process register words sent) named refl
+    (invocation_read o one two three four process register words sent a b c d) refl
 
 -- four bytes as one number
 abbrev four : ℕ → ℕ → ℕ → ℕ → ℕ
@@ -81,9 +82,18 @@ void_read text at whole bytes begins ends =
     (register_reads _ _ 0 third (omega arith))
     (register_reads _ _ 0 fourth (omega arith))
 
--- the command whose keyword and arguments were read
-pub said : (line : List ℕ) (rest : Words) (k : Keyword) (r : Option Command) → words_of line ≡ keyword_name k ∷ rest →
-    IfSome r (λ c. arguments_at k rest ≡ Some (c, []))
-    → IfSome r (λ c. Fits c × (words_of line ≡ command_words c))
-said line rest k None named read = tt
-said line rest k (Some c) named read = command_found (words_of line) rest [] (keyword_name k) k c named refl read refl
+-- a line that names a load and two numbers
+pub load_said : (line : List ℕ) (one two : Words) (process address : ℕ) → words_of line ≡ keyword_name keyword.Load ∷ one
+    → number_at one ≡ Some (process, two) → number_at two ≡ Some (address, [])
+    → Fits (command.Load process address) × (words_of line ≡ command_words (command.Load process address))
+unfolding arguments_at
+load_said line one two process address named a b =
+    command_found (words_of line) one [] (keyword_name keyword.Load) keyword.Load (command.Load process address) named refl (rw (a, b) refl) refl
+
+-- a line that names a store and three numbers
+pub store_said : (line : List ℕ) (one two three : Words) (process address value : ℕ) → words_of line ≡ keyword_name keyword.Store ∷ one
+    → number_at one ≡ Some (process, two) → number_at two ≡ Some (address, three) → number_at three ≡ Some (value, [])
+    → Fits (command.Store process address value) × (words_of line ≡ command_words (command.Store process address value))
+unfolding arguments_at
+store_said line one two three process address value named a b c =
+    command_found (words_of line) one [] (keyword_name keyword.Store) keyword.Store (command.Store process address value) named refl (rw (a, b, c) refl) refl

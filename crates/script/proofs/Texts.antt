@@ -1,10 +1,9 @@
 -- The lines of an object, one for each of its parts.
 use Rattle.script.proofs.Names.{Option, ℕ, suc, add-one, List, [], map, length, get_or, take, drop, codes, decimal, refl, sym, ap, append_assoc, append-nil}
 use Rattle.script.proofs.Names.{arith, flat_map, enumerate_from, decimal_digit, decimal_step, flat_map-append, take-append-drop, take_all, div_below}
-use Rattle.script.proofs.Names.{flat_map-map, take-suc, Capability, Void, Number, Page, Node, Space, Process, Start, Resume, Bank, Object, Root, spaced, headed}
+use Rattle.script.proofs.Names.{flat_map-map, take-suc, Capability, Void, Object, Root, spaced, headed}
 use Rattle.script.proofs.Names.{line_of, word_lines, state_text, registers_of, object_text, capability_text, capability_line, capability_lines}
 use Rattle.std.proofs.Common.{◌≡◌, ◌≢◌, ◌+◌, ◌/◌, ◌%◌, ◌<◌, ◌≤◌, ◌∷◌, ◌++◌, ◌∙◌, length-take-le}
-use Rattle.model.specs.declared.capability.Capability.TheVariants.{Discrim}
 use Rattle.model.specs.declared.object.Content.TheVariants as content
 
 enumerate_append : {A : Type 0} (n : ℕ) (xs ys : List A) → enumerate_from n (xs ++ ys) ≡ enumerate_from n xs ++ enumerate_from (n + length xs) ys

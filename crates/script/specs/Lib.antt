@@ -4,6 +4,7 @@ pub mod Keywords
 pub mod LineFaults
 pub mod Lines
 pub mod Named
+pub mod Order
 pub mod Reading
 pub mod Writing
 pub mod Counted

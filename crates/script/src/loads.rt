@@ -1,57 +1,59 @@
 // Loads and stores, read in one pass over a line. After `None` the line may still say one.
-ghost use Rattle.std.specs.Prelude.{◌≡◌, ◌<◌, [], Some, IfSome, length, drop};
+ghost use Rattle.std.specs.Prelude.{◌≡◌, IfSome};
+ghost use Rattle.model.specs.declared.command.Command.{Command};
 ghost use Rattle.model.specs.Text.{Fits, command_words};
-ghost use Rattle.script.specs.declared.keyword.Keyword.TheVariants as keyword;
-ghost use Rattle.script.specs.Reading.{arguments_at, words_of};
+ghost use Rattle.script.specs.Reading.{words_of};
 
 use crate::keyword::{is_load, is_store};
 use crate::short::{last_number, number_before};
-use model::Command;
 
-// The load whose numbers begin at the sixth byte.
+/// A load that a line says.
+#[derive(Clone, Copy)]
+pub struct Load {
+    pub process: u64,
+    pub address: u64,
+}
+
+/// A store that a line says.
+#[derive(Clone, Copy)]
+pub struct Store {
+    pub process: u64,
+    pub address: u64,
+    pub value: u64,
+}
+
+/// The load that a line says.
 #[inline(always)]
-#[tactic(auto, unfolding(crate::specs::Reading::arguments_at))]
-fn load_in(line: &[u8]) -> Option<Command>
-    requires { 7 < length line.now }
-    ensures { IfSome result (λ c. arguments_at keyword.Load (words_of (drop 5 line.now))
-        ≡ Some (c, [])) }
+pub fn load_in(line: &[u8]) -> Option<Load>
+    ensures { IfSome result (λ l. Fits (Command.Load l.process l.address)
+        × (words_of line.now ≡ command_words (Command.Load l.process l.address))) }
 {
+    if !is_load(line) {
+        return None;
+    }
     let process = number_before(line, 5, 2)?;
     let address = last_number(line, process.next)?;
-    Some(Command::Load {
+    Some(Load {
         process: process.number,
         address,
     })
 }
 
-// The store whose numbers begin at the seventh byte.
+/// The store that a line says.
 #[inline(always)]
-#[tactic(auto, unfolding(crate::specs::Reading::arguments_at))]
-fn store_in(line: &[u8]) -> Option<Command>
-    requires { 10 < length line.now }
-    ensures { IfSome result (λ c. arguments_at keyword.Store (words_of (drop 6 line.now))
-        ≡ Some (c, [])) }
+pub fn store_in(line: &[u8]) -> Option<Store>
+    ensures { IfSome result (λ s. Fits (Command.Store s.process s.address s.value)
+        × (words_of line.now ≡ command_words (Command.Store s.process s.address s.value))) }
 {
+    if !is_store(line) {
+        return None;
+    }
     let process = number_before(line, 6, 4)?;
     let address = number_before(line, process.next, 2)?;
     let value = last_number(line, address.next)?;
-    Some(Command::Store {
+    Some(Store {
         process: process.number,
         address: address.number,
         value,
     })
-}
-
-/// The load or the store that a line says, or `None`; then the line may still say one.
-#[inline(always)]
-pub fn load_or_store(line: &[u8]) -> Option<Command>
-    ensures { IfSome result (λ c. Fits c × (words_of line.now ≡ command_words c)) }
-{
-    if is_load(line) {
-        return load_in(line);
-    }
-    if is_store(line) {
-        return store_in(line);
-    }
-    None
 }

@@ -7,8 +7,8 @@ ghost use Rattle.model.specs.Text.{Says, Fits, IsSkipped, spelling, command_word
 ghost use Rattle.script.specs.Reading.{Gives, invocation_at, arguments_at, words_of};
 
 use crate::keyword::{Keyword, keyword_of};
-use crate::loads::load_or_store;
-use crate::short::short_invocation;
+use crate::loads::{load_in, store_in};
+use crate::short::{last_registers, order_in};
 use crate::words::Words;
 use model::{Command, Invocation, Line, Operation};
 
@@ -101,24 +101,12 @@ fn command_in(line: &[u8]) -> Option<Command>
     }
 }
 
-/// What a line of a script says. The line is the bytes before the newline.
-///
-/// An empty line and one that begins with `#` say nothing. Any other line says a command if it is
-/// the command's one spelling: its words with one space between each two, numbers decimal without
-/// leading zeros and below 2^64, registers below 32. Anything else is bad, and so is every line of
-/// more than 256 bytes. It takes no memory.
-#[inline(always)]
-pub fn parse_line(line: &[u8]) -> Line
+// What a line says. Most invocations, loads and stores are read before.
+#[inline(never)]
+fn other_line(line: &[u8]) -> Line
     ensures says { Says line.now result }
-    // A command's spelling is read as that command.
     ensures reads { (c : Command) → Fits c → line.now ≡ spelling c → result ≡ Line.Command c }
 {
-    if let Some(invocation) = short_invocation(line) {
-        return Line::Command(Command::Invoke(invocation));
-    }
-    if let Some(command) = load_or_store(line) {
-        return Line::Command(command);
-    }
     if line.len() > LONGEST_LINE {
         return Line::Bad;
     }
@@ -129,4 +117,46 @@ pub fn parse_line(line: &[u8]) -> Line
         Some(command) => Line::Command(command),
         None => Line::Bad,
     }
+}
+
+/// What a line of a script says. The line is the bytes before the newline.
+///
+/// An empty line and one that begins with `#` say nothing. Any other line says a command if it is
+/// the command's one spelling: its words with one space between each two, numbers decimal without
+/// leading zeros and below 2^64, registers below 32. Anything else is bad, and so is every line of
+/// more than 256 bytes. It takes no memory.
+#[inline(never)]
+pub fn parse_line(line: &[u8]) -> Line
+    ensures says { Says line.now result }
+    // A command's spelling is read as that command.
+    ensures reads { (c : Command) → Fits c → line.now ≡ spelling c → result ≡ Line.Command c }
+{
+    if let Some(load) = load_in(line) {
+        return Line::Command(Command::Load {
+            process: load.process,
+            address: load.address,
+        });
+    }
+    if let Some(store) = store_in(line) {
+        return Line::Command(Command::Store {
+            process: store.process,
+            address: store.address,
+            value: store.value,
+        });
+    }
+    if let Some(order) = order_in(line) {
+        if let Some(sent) = last_registers(line, order.next) {
+            let words = order.words;
+            return Line::Command(Command::Invoke(Invocation {
+                operation: order.operation,
+                process: order.process,
+                register: order.register,
+                words,
+                sent,
+            }));
+        }
+    }
+    // A call's result in a variable of its own leaves the others in the caller's place.
+    let other = other_line(line);
+    other
 }

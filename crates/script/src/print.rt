@@ -88,6 +88,19 @@ fn print_numbered<W: Output>(word: &[u8], number: u64, writer: &mut W) -> Result
     line.print(writer)
 }
 
+// Writes the value that is answered to a load, as `print_numbered` does. The word is known here, so
+// it is copied faster.
+#[inline(never)]
+fn print_value<W: Output>(value: u64, writer: &mut W) -> Result<(), RunFault>
+    ensures { Writes (W.written writer.old) (W.written writer.new) result
+        (line_of (spaced (codes "value" ∷ decimal value ∷ []))) }
+{
+    let mut line = ShortLine::empty();
+    line.push(b"value");
+    line.number(value);
+    line.print(writer)
+}
+
 // Writes at which generation and age the machine stands.
 #[inline(never)]
 fn print_place<W: Output>(generation: u64, age: u64, writer: &mut W) -> Result<(), RunFault>
@@ -136,7 +149,7 @@ pub fn print_answer<W: Output>(answer: &Answer, writer: &mut W) -> Result<(), Ru
 {
     match answer {
         Answer::Done => writer.write_fully(b"done\n"),
-        Answer::Value(word) => print_numbered(b"value", *word, writer),
+        Answer::Value(word) => print_value(*word, writer),
         Answer::MemoryFault(fault) => print_numbered(b"memory fault", *fault as u64, writer),
         Answer::Frozen(count) => print_numbered(b"frozen", *count, writer),
         Answer::Left(count) => print_numbered(b"left", *count, writer),

@@ -1,19 +1,26 @@
-// Invocations, each number read at a place of the line. After `None` the line may still say one.
-ghost use Rattle.std.specs.Prelude.{◌≡◌, ◌≢◌, ◌+◌, ◌-◌, ◌<◌, ◌≤◌, [], Some, IfSome, length, drop, take, slice_index_or};
+// The parts of an invocation, each number read at a place of the line. After `None` the line may still say one.
+ghost use Rattle.std.specs.Prelude.{◌≡◌, ◌≢◌, ◌+◌, ◌-◌, ◌%◌, ◌/◌, ◌<◌, ◌≤◌, ℕ, List, [], Some, IfSome, length};
+ghost use Rattle.std.specs.Prelude.{drop, take, slice_index_or};
 ghost use Rattle.std.specs.Int.{IsInRange};
 ghost use Rattle.std.specs.Str.Parse.{AllDigits, digits_value};
 ghost use Rattle.model.specs.declared.command.Command.{Command};
 ghost use Rattle.model.specs.Text.{Fits, command_words};
-ghost use Rattle.script.specs.Reading.{words_of, number_at, register_at, registers_at};
+ghost use Rattle.script.specs.Order.{invoked};
+ghost use Rattle.script.specs.Reading.{words_of, number_at, numbers_at, register_at, registers_at};
 
 use crate::keyword::{four_at, operation_in};
 use crate::words::register_of;
-use model::{Invocation, Register};
+use model::{Operation, Register};
 
 // The first four bytes of `0 0 0 0`, and the last four.
 const VOID_BEGIN: u64 = 0x2030_2030;
 
 const VOID_END: u64 = 0x3020_3020;
+
+// `0 ` and `9 ` as one number each.
+const ZERO_AND_SPACE: u64 = 0x2030;
+
+const NINE_AND_SPACE: u64 = 0x2039;
 
 // The bytes of the digits, and of a space, as words: a digit's value is a word too.
 const FIRST_DIGIT: u64 = 48;
@@ -27,6 +34,16 @@ const SPACE: u64 = 32;
 pub struct Short {
     pub number: u64,
     pub next: usize,
+}
+
+// Two bytes of a text as one number in little-endian order.
+#[inline(always)]
+fn two_at(text: &[u8], at: usize) -> u64
+    requires { at + 1 < length text.now }
+    ensures low { result % 256 ≡ slice_index_or text.now at 0 }
+    ensures high { result / 256 ≡ slice_index_or text.now (at + 1) 0 }
+{
+    u64::from(text[at]) + u64::from(text[at + 1]) * 0x100
 }
 
 // The value of the digit at a place, if one is there.
@@ -91,45 +108,45 @@ fn digits_before(text: &[u8], at: usize, from: usize, number: u64) -> Short
     }
 }
 
-// The number at a place, if it has two or more digits and a space follows it.
-#[inline(always)]
-fn longer_before(text: &[u8], at: usize, behind: usize) -> Option<Short>
-    requires room { at + behind < length text.now }
-    requires more { 2 ≤ behind }
-    ensures reads { IfSome result (λ s. number_at (words_of (drop at text.now))
-        ≡ Some (s.number, words_of (drop s.next text.now))) }
-    ensures room { IfSome result (λ s. s.next + behind < length text.now + 2) }
+// The number at a place, if it has two or more digits and a space follows it. Else `next` is beyond
+// the text.
+#[inline(never)]
+fn longer_before(text: &[u8], at: usize) -> Short
+    requires { at + 2 < length text.now }
+    ensures { result.next ≤ length text.now → number_at (words_of (drop at text.now))
+        ≡ Some (result.number, words_of (drop result.next text.now)) }
 {
-    let first = digit_at(text, at)?;
-    let second = digit_at(text, at + 1)?;
+    let none = Short {
+        number: 0,
+        next: text.len() + 1,
+    };
+    let Some(first) = digit_at(text, at) else {
+        return none;
+    };
     if first == 0 {
-        return None;
+        return none;
     }
+    let Some(second) = digit_at(text, at + 1) else {
+        return none;
+    };
     let two = first * 10 + second;
     if text[at + 2] == b' ' {
-        if text.len() <= at + 1 + behind {
-            return None;
-        }
-        return Some(Short {
+        return Short {
             number: two,
             next: at + 3,
-        });
+        };
     }
-    if text.len() <= at + 2 + behind {
-        return None;
-    }
-    let number = two * 10 + digit_at(text, at + 2)?;
-    if text[at + 3] == b' ' {
-        return Some(Short {
-            number,
+    let Some(third) = digit_at(text, at + 2) else {
+        return none;
+    };
+    let three = two * 10 + third;
+    if text.len() > at + 3 && text[at + 3] == b' ' {
+        return Short {
+            number: three,
             next: at + 4,
-        });
+        };
     }
-    let short = digits_before(text, at, at + 3, number);
-    if short.next > text.len() - behind + 1 {
-        return None;
-    }
-    Some(short)
+    digits_before(text, at, at + 3, three)
 }
 
 /// The number at a place, if a space follows it. At least `behind` bytes follow its first byte, and
@@ -142,13 +159,19 @@ pub fn number_before(text: &[u8], at: usize, behind: usize) -> Option<Short>
         ≡ Some (s.number, words_of (drop s.next text.now))) }
     ensures room { IfSome result (λ s. s.next + behind < length text.now + 2) }
 {
-    if text[at + 1] != b' ' {
-        return longer_before(text, at, behind);
+    // Most numbers have one digit.
+    let pair = two_at(text, at);
+    if ZERO_AND_SPACE <= pair && pair <= NINE_AND_SPACE {
+        return Some(Short {
+            number: pair - ZERO_AND_SPACE,
+            next: at + 2,
+        });
     }
-    Some(Short {
-        number: digit_at(text, at)?,
-        next: at + 2,
-    })
+    let short = longer_before(text, at);
+    if short.next > text.len() - behind + 1 {
+        return None;
+    }
+    Some(short)
 }
 
 // A register that a text names, and where the word behind it begins.
@@ -199,7 +222,7 @@ fn last_digits(text: &[u8], at: usize, from: usize, number: u64) -> Option<u64>
 }
 
 // The number at a place, if it has two or more digits and is the last word.
-#[inline(always)]
+#[inline(never)]
 fn last_longer(text: &[u8], at: usize) -> Option<u64>
     requires { at + 1 < length text.now }
     ensures { IfSome result (λ n. number_at (words_of (drop at text.now)) ≡ Some (n, [])) }
@@ -241,9 +264,9 @@ fn last_register(text: &[u8], at: usize) -> Option<Register>
     register_of(last_number(text, at)?)
 }
 
-// The registers at a place, which are the last words. Mostly nothing is sent.
+/// The registers at a place, if they are the last words. Mostly nothing is sent.
 #[inline(always)]
-fn last_registers(text: &[u8], at: usize) -> Option<[Register; 4]>
+pub fn last_registers(text: &[u8], at: usize) -> Option<[Register; 4]>
     requires { at + 6 < length text.now }
     ensures { IfSome result (λ r. registers_at (words_of (drop at text.now)) ≡ Some (r, [])) }
 {
@@ -261,25 +284,59 @@ fn last_registers(text: &[u8], at: usize) -> Option<[Register; 4]>
     Some([first.register, second.register, third.register, fourth])
 }
 
-/// The invocation that a line says, or `None`; then the line may still say one.
+// Four numbers of a text, and where the word after them begins.
+#[derive(Clone, Copy)]
+struct Shorts {
+    numbers: [u64; 4],
+    next: usize,
+}
+
+// The four numbers at a place, if four more can follow.
 #[inline(always)]
-pub fn short_invocation(line: &[u8]) -> Option<Invocation>
-    ensures { IfSome result (λ i. Fits (Command.Invoke i)
-        × (words_of line.now ≡ command_words (Command.Invoke i))) }
+fn numbers_before(text: &[u8], at: usize) -> Option<Shorts>
+    requires { at + 14 < length text.now }
+    ensures reads { IfSome result (λ s. numbers_at (words_of (drop at text.now))
+        ≡ Some (s.numbers, words_of (drop s.next text.now))) }
+    ensures room { IfSome result (λ s. s.next + 6 < length text.now) }
+{
+    let first = number_before(text, at, 14)?;
+    let second = number_before(text, first.next, 12)?;
+    let third = number_before(text, second.next, 10)?;
+    let fourth = number_before(text, third.next, 8)?;
+    Some(Shorts {
+        numbers: [first.number, second.number, third.number, fourth.number],
+        next: fourth.next,
+    })
+}
+
+/// What a line says of an invocation before the registers that it sends, and where those begin.
+#[derive(Clone, Copy)]
+pub struct Order {
+    pub operation: Operation,
+    pub process: u64,
+    pub register: Register,
+    pub words: [u64; 4],
+    pub next: usize,
+}
+
+/// How the line of an invocation begins. After `None` the line may still say one.
+#[inline(always)]
+pub fn order_in(line: &[u8]) -> Option<Order>
+    ensures reads { IfSome result (λ o. (sent : List ℕ)
+        → registers_at (words_of (drop o.next line.now)) ≡ Some (sent, [])
+        → (Fits (invoked o sent) × (words_of line.now ≡ command_words (invoked o sent)))) }
+    ensures room { IfSome result (λ o. o.next + 6 < length line.now) }
 {
     let named = operation_in(line)?;
     let process = number_before(line, named.next, 18)?;
     let register = register_before(line, process.next, 16)?;
-    let first = number_before(line, register.next, 14)?;
-    let second = number_before(line, first.next, 12)?;
-    let third = number_before(line, second.next, 10)?;
-    let fourth = number_before(line, third.next, 8)?;
-    let sent = last_registers(line, fourth.next)?;
-    Some(Invocation {
+    let four = numbers_before(line, register.next)?;
+    let words = four.numbers;
+    Some(Order {
         operation: named.operation,
         process: process.number,
         register: register.register,
-        words: [first.number, second.number, third.number, fourth.number],
-        sent,
+        words,
+        next: four.next,
     })
 }

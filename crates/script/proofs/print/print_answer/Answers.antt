@@ -14,4 +14,4 @@ pub returns-in-MemoryFault : goal.returns-in-MemoryFault
 unfolding printed
 returns-in-MemoryFault g c = writes_same _ _ _ _ _ (rw (c.in-MemoryFault.is)
     (ap (λ (k : ℕ). line_of (spaced (codes "memory" ∷ codes "fault" ∷ decimal k ∷ []))) (fault_number_is c.in-MemoryFault.fault)))
-    c.print_numbered-in-MemoryFault.ensures
+    c.print_numbered.ensures

@@ -1,4 +1,4 @@
-use Rattle.script.proofs.Names.{codes, sym, err_from_is_err_and, word_lines, capability_lines, registers_of}
+use Rattle.script.proofs.Names.{sym, err_from_is_err_and, word_lines}
 use Rattle.script.proofs.Fronts.{writes_same, line_fails, line_and}
 use Rattle.script.proofs.Texts.{object_free, object_page, object_node, object_annex, object_root, object_bank}
 use Rattle.script.proofs.shown.print_object.Goals as goal
