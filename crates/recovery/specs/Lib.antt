@@ -2,6 +2,7 @@ pub use Rattle.space_bank.specs.Banks
 pub mod Names
 pub mod Consistency
 pub mod Noted
+pub mod Roles
 pub mod ConsistencyLaws
 pub mod Denotes
 pub mod Live

@@ -1,16 +1,54 @@
 // Whether each held capability is none, stale, or names what it is for.
-ghost use Rattle.std.specs.Prelude.{◌≡◌, ◌↔◌, ◌<◌, false, [], length, IfOk, IsTrue};
+ghost use Rattle.std.specs.Prelude.{◌≡◌, ◌↔◌, ◌<◌, Some, false, [], length, IfOk, IsTrue};
 ghost use Rattle.std.specs.List.{All};
+ghost use Rattle.model.specs.Capability.{named};
 ghost use Rattle.model.specs.Frame.{frame_at};
 ghost use Rattle.model.specs.Keepable.{AreKeepable, caps_in};
 ghost use Rattle.capability.specs.Parts.{HaveTheirRoles, OnlyReads, frames_of};
 ghost use Rattle.recovery.specs.Consistency.{AreNamed, IsNamed, NamesItsRole};
 ghost use Rattle.recovery.specs.Noted.{AreNoted};
+ghost use Rattle.recovery.specs.Roles.{role_for};
 
 use crate::consistency::processes::{Noted, is_waiting};
 use crate::consistency::table::has_role;
 use capability::Frames;
 use model::{Cap, Capability, ContentRef, Refusal, Role};
+
+// The role of the object that a capability is for; free if it names none. It is compiled to a table.
+fn role_for(capability: Capability) -> Role
+    ensures { result ≡ role_for capability }
+{
+    match capability {
+        Capability::Page { .. } => Role::Page,
+        Capability::Node { .. } => Role::Node,
+        Capability::Space { .. } => Role::Node,
+        Capability::Process(_) => Role::Root,
+        Capability::Start { .. } => Role::Root,
+        Capability::Resume(_) => Role::Root,
+        Capability::Bank(_) => Role::Bank,
+        Capability::Void => Role::Free,
+        Capability::Number(_) => Role::Free,
+        Capability::Discrim => Role::Free,
+    }
+}
+
+// Whether the object of this number, which a capability names, is what the capability is for.
+#[inline(always)]
+fn is_for<F: Frames>(
+    store: &F,
+    notes: &[Option<Noted>],
+    capability: Capability,
+    number: u64,
+) -> bool
+    requires notes { AreNoted (frames_of (F.parts store.now)) notes.now }
+    requires named { named capability ≡ Some number }
+    ensures { IsTrue result ↔ NamesItsRole (frames_of (F.parts store.now)) capability }
+{
+    if let Capability::Resume(_) = capability {
+        return is_waiting(notes, number);
+    }
+    has_role(store, number, role_for(capability))
+}
 
 /// Whether the object that a capability names is what the capability is for.
 #[inline(always)]
@@ -18,17 +56,9 @@ pub fn names_its_role<F: Frames>(store: &F, notes: &[Option<Noted>], capability:
     requires { AreNoted (frames_of (F.parts store.now)) notes.now }
     ensures { IsTrue result ↔ NamesItsRole (frames_of (F.parts store.now)) capability }
 {
-    match capability {
-        Capability::Page { object, .. } => has_role(store, object, Role::Page),
-        Capability::Node { object, .. } => has_role(store, object, Role::Node),
-        Capability::Space { object, .. } => has_role(store, object, Role::Node),
-        Capability::Process(process) => has_role(store, process, Role::Root),
-        Capability::Start { process, .. } => has_role(store, process, Role::Root),
-        Capability::Resume(process) => is_waiting(notes, process),
-        Capability::Bank(bank) => has_role(store, bank, Role::Bank),
-        Capability::Void => true,
-        Capability::Number(_) => true,
-        Capability::Discrim => true,
+    match capability.named() {
+        Some(number) => is_for(store, notes, capability, number),
+        None => true,
     }
 }
 
@@ -39,9 +69,12 @@ pub fn is_named<F: Frames>(store: &F, notes: &[Option<Noted>], held: Cap) -> boo
     requires { AreNoted (frames_of (F.parts store.now)) notes.now }
     ensures { IsTrue result ↔ IsNamed (frames_of (F.parts store.now)) held }
 {
+    let Some(number) = held.what.named() else {
+        return held.count == 0;
+    };
     let current = store.table().current_count(held.what);
     if held.count == current {
-        return names_its_role(store, notes, held.what);
+        return is_for(store, notes, held.what, number);
     }
     held.count < current
 }

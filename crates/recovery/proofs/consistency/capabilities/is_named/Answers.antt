@@ -4,7 +4,7 @@ use Rattle.recovery.proofs.consistency.capabilities.is_named.Goals as goal
 pub returns-then-held-current : goal.returns-then-held-current
 returns-then-held-current g c =
     named_live (g.F.Frames.parts c.args.store.now) c.table.result.now c.args.held c.current_count-current.result c.table.ensures c.current_count-current.ensures
-    c.names_its_role.result c.if-held-current.true c.names_its_role.ensures
+    c.is_for.result c.if-held-current.true c.is_for.ensures
 
 pub returns : goal.returns
 returns g c =
