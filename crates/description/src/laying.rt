@@ -1,12 +1,11 @@
 // The world of a description.
-ghost use Rattle.std.specs.Prelude.{◌≡◌, ◌<◌, replicate, vec_len, IfErr, IfOk, OnOk};
-ghost use Rattle.std.specs.List.{All};
+ghost use Rattle.std.specs.Prelude.{◌≡◌, vec_len, IfErr, IfOk, OnOk};
 ghost use Rattle.layout.specs.Superblock.{IsGeometry};
-ghost use Rattle.model.specs.Frame.{blank_frame, frames_in};
+ghost use Rattle.model.specs.Frame.{frames_in};
 ghost use Rattle.model.specs.Keepable.{AreKeepable};
 ghost use Rattle.model.specs.Sound.{object_count};
 ghost use Rattle.description.specs.Described.{HasFields, HasNumbers, IsDescribed, IsWorldFault};
-ghost use Rattle.description.specs.Laid.{Fits, HasCount, HasTargets, entries, frames_of, laid};
+ghost use Rattle.description.specs.Laid.{HasTargets};
 
 use crate::Description;
 use crate::fields::has_fields;
@@ -38,26 +37,6 @@ fn check(alloc: Global, description: &Description) -> Result<(), BuildFault>
     Ok(())
 }
 
-// The world of a description that has all that it needs. Fails only where memory runs out.
-fn lay(alloc: Global, description: &Description) -> Result<World, AllocError>
-    requires geometry { IsGeometry description.now.geometry }
-    requires numbers { HasNumbers description.now }
-    requires fields { HasFields description.now }
-    ensures frames { IfOk result (λ world. frames_of world ≡ laid (entries description.now)
-        (replicate (object_count description.now.geometry) blank_frame)) }
-    ensures fits { IfOk result (λ _. All Fits (entries description.now)) }
-    ensures count { IfOk result (HasCount (object_count description.now.geometry)) }
-{
-    let count = description.geometry.nodes + description.geometry.pages;
-    let mut world = World::free(alloc, count as usize)?;
-    lay_banks(&mut world, &description.banks);
-    lay_roots(&mut world, &description.processes);
-    lay_annexes(alloc, &mut world, &description.processes)?;
-    lay_nodes(alloc, &mut world, &description.nodes)?;
-    lay_pages(alloc, &mut world, &description.pages)?;
-    Ok(world)
-}
-
 /// Lays out the world of a description that has all that it needs. Fails only where memory runs out.
 pub fn lay_described(alloc: Global, description: &Description) -> Result<World, AllocError>
     requires geometry { IsGeometry description.now.geometry }
@@ -73,7 +52,13 @@ pub fn lay_described(alloc: Global, description: &Description) -> Result<World, 
     ensures contents { IfOk result (λ w.
         vec_len w.contents ≡ object_count description.now.geometry) }
 {
-    let world = lay(alloc, description)?;
+    let count = description.geometry.nodes + description.geometry.pages;
+    let mut world = World::free(alloc, count as usize)?;
+    lay_banks(&mut world, &description.banks);
+    lay_roots(&mut world, &description.processes);
+    lay_annexes(alloc, &mut world, &description.processes)?;
+    lay_nodes(alloc, &mut world, &description.nodes)?;
+    lay_pages(alloc, &mut world, &description.pages)?;
     Ok(world)
 }
 

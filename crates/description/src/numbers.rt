@@ -1,51 +1,28 @@
 // The numbers that a description names.
-ghost use Rattle.std.specs.Prelude.{◌≡◌, ◌+◌, ◌<◌, ◌≤◌, ◌^◌, ◌↔◌, map, IfOk, IsTrue};
+ghost use Rattle.std.specs.Prelude.{◌≡◌, ◌+◌, ◌<◌, ◌≤◌, ◌^◌, ◌↔◌, IfOk, IsTrue};
 ghost use Rattle.std.specs.List.{All};
 ghost use Rattle.layout.specs.Superblock.{IsGeometry};
 ghost use Rattle.model.specs.Sound.{object_count};
 ghost use Rattle.description.specs.Described.{AreDistinct, HasNumbers, node_numbers, page_numbers};
 
-use crate::{BankEntry, Description, NodeEntry, ProcessEntry};
+use crate::Description;
 use collections::NumberSet;
 use model::Geometry;
 use std::alloc::{AllocError, Global};
-
-fn bank_numbers(alloc: Global, banks: &[BankEntry]) -> Result<Vec<u64>, AllocError>
-    ensures { IfOk result (λ numbers. numbers.items ≡ map (λ b. b.number) banks.now) }
-{
-    banks.iter().map(|bank| bank.number).collect(alloc)
-}
-
-fn root_numbers(alloc: Global, processes: &[ProcessEntry]) -> Result<Vec<u64>, AllocError>
-    ensures { IfOk result (λ numbers. numbers.items ≡ map (λ p. p.root) processes.now) }
-{
-    processes.iter().map(|process| process.root).collect(alloc)
-}
-
-fn annex_numbers(alloc: Global, processes: &[ProcessEntry]) -> Result<Vec<u64>, AllocError>
-    ensures { IfOk result (λ numbers. numbers.items ≡ map (λ p. p.annex) processes.now) }
-{
-    processes.iter().map(|process| process.annex).collect(alloc)
-}
-
-fn plain_node_numbers(alloc: Global, nodes: &[NodeEntry]) -> Result<Vec<u64>, AllocError>
-    ensures { IfOk result (λ numbers. numbers.items ≡ map (λ n. n.number) nodes.now) }
-{
-    nodes.iter().map(|node| node.number).collect(alloc)
-}
 
 /// The numbers of banks, roots, annexes and nodes, in this order. Fails only where memory runs out.
 pub fn node_numbers(alloc: Global, description: &Description) -> Result<Vec<u64>, AllocError>
     ensures { IfOk result (λ numbers. numbers.items ≡ node_numbers description.now) }
 {
-    let roots = root_numbers(alloc, &description.processes)?;
-    let annexes = annex_numbers(alloc, &description.processes)?;
-    let nodes = plain_node_numbers(alloc, &description.nodes)?;
-    let mut numbers = bank_numbers(alloc, &description.banks)?;
-    numbers.extend_from_slice(&roots)?;
-    numbers.extend_from_slice(&annexes)?;
-    numbers.extend_from_slice(&nodes)?;
-    Ok(numbers)
+    let banks = description.banks.iter().map(|bank| bank.number);
+    let roots = description.processes.iter().map(|process| process.root);
+    let annexes = description.processes.iter().map(|process| process.annex);
+    let nodes = description.nodes.iter().map(|node| node.number);
+    banks
+        .chain(roots)
+        .chain(annexes)
+        .chain(nodes)
+        .collect(alloc)
 }
 
 /// The numbers of pages. Fails only where memory runs out.

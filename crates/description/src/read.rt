@@ -25,9 +25,8 @@ fn read_geometry(table: &Table) -> Result<Geometry, BuildFault>
 }
 
 // All nodes, and then all pages.
-fn whole_ranges(alloc: Global, geometry: Geometry) -> Result<Vec<NumberRange>, BuildFault>
-    ensures whole { IfOk result (λ v. v.items ≡ whole_ranges geometry) }
-    ensures fault { IfErr result (λ e. e ≡ NoMemory) }
+fn whole_ranges(geometry: Geometry) -> [NumberRange; 2]
+    ensures { result ≡ whole_ranges geometry }
 {
     let nodes = NumberRange {
         first: 0,
@@ -37,8 +36,7 @@ fn whole_ranges(alloc: Global, geometry: Geometry) -> Result<Vec<NumberRange>, B
         first: geometry.nodes,
         count: geometry.pages,
     };
-    let ranges = Vec::from_array(alloc, [nodes, pages])?;
-    Ok(ranges)
+    [nodes, pages]
 }
 
 // The ranges that are named, or else those of all numbers.
@@ -53,7 +51,10 @@ fn read_ranges(
 {
     match member(table, "ranges") {
         Some(value) => list_of(alloc, value),
-        None => whole_ranges(alloc, geometry),
+        None => match Vec::from_array(alloc, whole_ranges(geometry)) {
+            Ok(ranges) => Ok(ranges),
+            Err(_) => Err(BuildFault::NoMemory),
+        },
     }
 }
 

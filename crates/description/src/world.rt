@@ -1,6 +1,6 @@
 // The frames of all numbers, as headers and contents.
 ghost use Rattle.std.specs.Prelude.{◌≡◌, ◌<◌, replicate, vec_len, IfOk};
-ghost use Rattle.model.specs.Frame.{blank_frame, blank_header};
+ghost use Rattle.model.specs.Frame.{blank_frame};
 ghost use Rattle.description.specs.Described.{first_frame};
 ghost use Rattle.description.specs.Laid.{frames_of, HasCount, IsPut};
 
@@ -14,41 +14,23 @@ pub struct World {
     pub contents: Vec<Content<Cap>>,
 }
 
-// So many headers of free numbers.
-fn free_headers(alloc: Global, count: usize) -> Result<Vec<ObjectHeader>, AllocError>
-    ensures { IfOk result (λ headers. headers.items ≡ replicate count blank_header) }
-{
-    let mut headers = Vec::with_capacity(alloc, count)?;
-    for _ in 0..count {
-        headers.push(ObjectHeader {
-            role: Role::Free,
-            allocations: 0,
-            calls: 0,
-            owner: 0,
-        })?;
-    }
-    Ok(headers)
-}
-
-// So many contents of free numbers.
-fn free_contents(alloc: Global, count: usize) -> Result<Vec<Content<Cap>>, AllocError>
-    ensures { IfOk result (λ contents. contents.items ≡ replicate count Content.Free) }
-{
-    let mut contents = Vec::with_capacity(alloc, count)?;
-    for _ in 0..count {
-        contents.push(Content::Free)?;
-    }
-    Ok(contents)
-}
-
 impl World {
     // A world of `count` free numbers. Fails only where memory runs out.
     pub(crate) fn free(alloc: Global, count: usize) -> Result<World, AllocError>
         ensures frames { IfOk result (λ world. frames_of world ≡ replicate count blank_frame) }
         ensures count { IfOk result (HasCount count) }
     {
-        let headers = free_headers(alloc, count)?;
-        let contents = free_contents(alloc, count)?;
+        let unused = ObjectHeader {
+            role: Role::Free,
+            allocations: 0,
+            calls: 0,
+            owner: 0,
+        };
+        let headers = vec![in alloc; unused; count]?;
+        let mut contents = Vec::with_capacity(alloc, count)?;
+        for _ in 0..count {
+            contents.push(Content::Free)?;
+        }
         Ok(World { headers, contents })
     }
 

@@ -202,7 +202,7 @@ const STEPS: &[Step] = &[
 
 #[test]
 fn each_step_is_answered(rt: HostRuntime) -> Result<(), Fail> {
-    try_each(&rt, rt.alloc(), STEPS)
+    try_each(&rt, STEPS)
 }
 
 const PAGES: [u64; 8] = [16, 17, 18, 19, 20, 21, 22, 23];
@@ -229,7 +229,7 @@ fn what_is_committed_is_there_after_a_cut(rt: HostRuntime) -> Result<(), Fail> {
             Step::Saved(1, 3, count),
             Step::Hold(&[(pages, 116), (nodes, 100)]),
         ];
-        image(&rt, rt.alloc(), Outcome::Drop, &steps)?;
+        image(&rt, Outcome::Drop, &steps)?;
     }
     Ok(())
 }
@@ -249,7 +249,7 @@ fn headers_of<D: Device>(alloc: Global, device: D) -> Result<(usize, bool), Fail
 
 #[test]
 fn the_headers_of_all_frames_come_out(rt: HostRuntime) -> Result<(), Fail> {
-    let device = image(&rt, rt.alloc(), Outcome::Drop, IN_LOG)?;
+    let device = image(&rt, Outcome::Drop, IN_LOG)?;
     assert_eq!(rt; headers_of(rt.alloc(), device)?, (24, true));
     Ok(())
 }

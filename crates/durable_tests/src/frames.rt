@@ -2,12 +2,11 @@
 ghost use Rattle.std.specs.Prelude.{◌≡◌, ◌≤◌, ◌+◌, IfOk};
 ghost use Rattle.layout.specs.Frames.{IsObject};
 ghost use Rattle.model.specs.Keepable.{IsKeepable};
-ghost use Rattle.durable_tests.specs.Rig.{IsPage};
 
 use device::Failed;
 use layout::{Body, Scratch};
 use model::{Cap, Content, Geometry, ObjectHeader, Role, Words};
-use std::alloc::{AllocError, Global};
+use std::alloc::Global;
 
 // The header of each frame that is written.
 fn front(role: Role) -> ObjectHeader
@@ -21,17 +20,9 @@ fn front(role: Role) -> ObjectHeader
     }
 }
 
-// A page with a value as its first word, and zeros behind it.
-fn page(alloc: Global, value: u64) -> Result<Content<Cap>, AllocError>
-    ensures { IfOk result (λ content. IsPage content) }
-{
-    let mut words = Words::new(alloc)?;
-    words.set(0, value);
-    Ok(Content::Page(words))
-}
-
 /// The frame of an object with a value: a bank with this limit where it is a node, else a page with
 /// this first word. Fails where it isn't there, or memory runs out.
+#[tactic(auto, using(crate::proofs::Loads::page_words))]
 pub(crate) fn frame(
     alloc: Global,
     geometry: Geometry,
@@ -49,10 +40,11 @@ pub(crate) fn frame(
     if number < geometry.nodes {
         return Ok((front(Role::Bank), Content::Bank { limit: value }));
     }
-    match page(alloc, value) {
-        Ok(page) => Ok((front(Role::Page), page)),
-        Err(_) => Err(Failed),
-    }
+    let Ok(mut words) = Words::new(alloc) else {
+        return Err(Failed);
+    };
+    words.set(0, value);
+    Ok((front(Role::Page), Content::Page(words)))
 }
 
 /// The value of a frame that was read. `None` where it is another kind of object.

@@ -4,7 +4,6 @@ use crate::rig::Rig;
 use device::{Device, Failed};
 use devices::{Memory, Outcome};
 use model::{Geometry, Refusal};
-use std::alloc::Global;
 use std::test::Fail;
 
 const GREATEST: Geometry = Geometry {
@@ -14,9 +13,9 @@ const GREATEST: Geometry = Geometry {
 };
 
 // Commits every second object.
-fn commit_half<D: Device>(alloc: Global, rig: &mut Rig<D>) -> Result<u64, Refusal> {
+fn commit_half<D: Device>(rig: &mut Rig<D>) -> Result<u64, Refusal> {
     for index in 0..4096 {
-        if rig.put(alloc, 2 * index, 9000).is_err() {
+        if rig.put(2 * index, 9000).is_err() {
             return Err(Refusal::Fault);
         }
     }
@@ -35,22 +34,22 @@ fn is_half_put<D: Device>(rig: &mut Rig<D>) -> Result<bool, Failed> {
     Ok(true)
 }
 
-// Opens a device, and returns how many entries it has and whether all objects are right.
-fn again<D: Device>(alloc: Global, device: D) -> Result<(Rig<D>, u64, bool), Fail> {
-    let mut rig = opened(alloc, device)?;
+// Opens the device again, and returns how many entries it has and whether all objects are right.
+fn again<D: Device>(rig: Rig<D>) -> Result<(Rig<D>, u64, bool), Fail> {
+    let mut rig = opened(rig.alloc, rig.into_device())?;
     let is_half_put = is_half_put(&mut rig)?;
     let entries = rig.saved().entries;
     Ok((rig, entries, is_half_put))
 }
 
 // Commits every second object, and brings all home in two steps.
-fn commit_and_migrate<D: Device>(alloc: Global, device: D) -> Result<[bool; 3], Fail> {
-    let mut rig = opened(alloc, device)?;
-    commit_half(alloc, &mut rig)?;
+fn commit_and_migrate<D: Device>(rig: Rig<D>) -> Result<[bool; 3], Fail> {
+    let mut rig = rig;
+    commit_half(&mut rig)?;
     let at_once = is_half_put(&mut rig)?;
-    let (mut rig, entries, is_put) = again(alloc, rig.into_device())?;
+    let (mut rig, entries, is_put) = again(rig)?;
     let is_left = rig.migrate(4000)? == 96 && rig.migrate(4000)? == 0;
-    let (_, rest, is_home) = again(alloc, rig.into_device())?;
+    let (_, rest, is_home) = again(rig)?;
     Ok([
         at_once && is_left,
         is_put && entries == 4096,
@@ -61,7 +60,7 @@ fn commit_and_migrate<D: Device>(alloc: Global, device: D) -> Result<[bool; 3], 
 #[test]
 fn an_image_of_the_greatest_size(rt: HostRuntime) -> Result<(), Fail> {
     let memory = Memory::new(rt.alloc(), 131072, 150000, Outcome::Drop)?;
-    let device = build(rt.alloc(), memory, GREATEST)?;
-    assert_eq!(rt; commit_and_migrate(rt.alloc(), device)?, [true, true, true]);
+    let rig = opened(rt.alloc(), build(rt.alloc(), memory, GREATEST)?)?;
+    assert_eq!(rt; commit_and_migrate(rig)?, [true, true, true]);
     Ok(())
 }

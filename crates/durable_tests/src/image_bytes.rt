@@ -8,7 +8,6 @@ use layout::{
     encode_superblock, range_extent, total_in,
 };
 use model::{Cap, Capability, Content, Geometry, ObjectHeader, Role, Root, State, Words};
-use std::alloc::{AllocError, Global};
 use std::process::Abort;
 use std::test::Fail;
 
@@ -38,20 +37,6 @@ fn put(rt: &impl Abort, bytes: &mut [u8], puts: &[(usize, u8)])
         assert!(rt; *place < bytes.len(), "byte {place}");
         bytes[*place] = *byte;
     }
-}
-
-fn is_node_frame(alloc: Global, bytes: &[u8]) -> Result<bool, AllocError>
-    requires { length bytes.now ≡ 1024 }
-{
-    let mut scratch = Scratch::new(alloc)?;
-    Ok(decode_frame(bytes, GEOMETRY, NODE, AGE, &mut scratch).is_ok())
-}
-
-fn is_page_frame(alloc: Global, bytes: &[u8]) -> Result<bool, AllocError>
-    requires { length bytes.now ≡ 4608 }
-{
-    let mut scratch = Scratch::new(alloc)?;
-    Ok(decode_frame(bytes, GEOMETRY, PAGE, AGE, &mut scratch).is_ok())
 }
 
 // The tag of slot 0 of a node is byte 32 of its frame, its access byte 33, and its number begins at
@@ -133,29 +118,32 @@ const PAGES: &[Row] = &[
 ];
 
 // Frames with a node's number.
-fn judge_nodes(rt: &impl Abort, alloc: Global, rows: &[Row]) -> Result<(), Fail> {
+fn judge_nodes(rt: &impl Abort, scratch: &mut Scratch, rows: &[Row]) {
     let mut bytes = [0; 1024];
     for (puts, is_taken, what) in rows {
         put(rt, &mut bytes, puts);
-        assert!(rt; is_node_frame(alloc, &bytes)? == *is_taken, "{what}");
+        let is_frame = decode_frame(&bytes, GEOMETRY, NODE, AGE, scratch).is_ok();
+        assert!(rt; is_frame == *is_taken, "{what}");
     }
-    Ok(())
 }
 
 #[test]
 fn frames_of_nodes(rt: HostRuntime) -> Result<(), Fail> {
+    let mut scratch = Scratch::new(rt.alloc())?;
     for rows in [FREE_NODES, NODES, ROOTS, ANNEXES, BANKS] {
-        judge_nodes(&rt, rt.alloc(), rows)?;
+        judge_nodes(&rt, &mut scratch, rows);
     }
     Ok(())
 }
 
 #[test]
 fn frames_of_pages(rt: HostRuntime) -> Result<(), Fail> {
+    let mut scratch = Scratch::new(rt.alloc())?;
     let mut bytes = [0; 4608];
     for (puts, is_taken, what) in PAGES {
         put(&rt, &mut bytes, puts);
-        assert!(rt; is_page_frame(rt.alloc(), &bytes)? == *is_taken, "{what}");
+        let is_frame = decode_frame(&bytes, GEOMETRY, PAGE, AGE, &mut scratch).is_ok();
+        assert!(rt; is_frame == *is_taken, "{what}");
     }
     Ok(())
 }
@@ -254,14 +242,14 @@ fn written_page_frame(rt: HostRuntime) -> Result<(), Fail> {
     let page = Content::Page(words);
     encode_frame(GEOMETRY, PAGE, PAGE_HEADER, page.as_ref(), &mut bytes);
     assert!(rt; bytes[..] == spelt[..]);
-    read_page(&rt, rt.alloc(), &bytes)
+    read_page(&rt, &bytes)
 }
 
 // What such bytes are read as.
-fn read_page(rt: &impl Abort, alloc: Global, spelt: &[u8]) -> Result<(), Fail>
+fn read_page(rt: &(impl Abort + AllocGlobal), spelt: &[u8]) -> Result<(), Fail>
     requires { length spelt.now ≡ 4608 }
 {
-    let mut scratch = Scratch::new(alloc)?;
+    let mut scratch = Scratch::new(rt.alloc())?;
     let header = match decode_frame(spelt, GEOMETRY, PAGE, AGE, &mut scratch) {
         Ok((header, Body::Page)) => header,
         _ => panic!(rt; "another role"),

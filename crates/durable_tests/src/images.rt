@@ -135,8 +135,7 @@ pub(crate) const IN_LOG: &[Step] = &[
 
 /// An image of 16 nodes, 8 pages and 16 slots in each half of the log that went through steps.
 pub(crate) fn image(
-    rt: &impl Abort,
-    alloc: Global,
+    rt: &(impl Abort + AllocGlobal),
     outcome: Outcome,
     steps: &[Step],
 ) -> Result<Memory, Fail> {
@@ -145,8 +144,8 @@ pub(crate) fn image(
         pages: 8,
         log: 16,
     };
-    let device = Memory::new(alloc, 399, 2000, outcome)?;
-    take_from(rt, alloc, build(alloc, device, geometry)?, steps, 0)
+    let device = Memory::new(rt.alloc(), 399, 2000, outcome)?;
+    take_from(rt, build(rt.alloc(), device, geometry)?, steps, 0)
 }
 
 /// The store that a device holds.

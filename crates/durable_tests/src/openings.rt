@@ -1,7 +1,7 @@
 // The calls that open or make a device.
 use crate::recorded::{Made, Recorded};
-use devices::{Access, CopiedFile, HostFile, Lock, LockAnswer};
-use std::alloc::{AllocError, Global};
+use devices::{Access, CopiedFile, HostFile};
+use std::fmt::{self, Display, Formatter, Write};
 use std::fs;
 use std::process::Abort;
 use std::test::Fail;
@@ -9,31 +9,32 @@ use std::test::Fail;
 type Device = CopiedFile<HostFile<Recorded>>;
 
 // A call in short.
-fn text(alloc: Global, made: &Made) -> Result<String, AllocError> {
-    match made {
-        Made::Opened(_, Access::Read) => format!(in alloc; "opened to read"),
-        Made::Opened(_, Access::Write) => format!(in alloc; "opened"),
-        Made::Opened(_, Access::Create) => format!(in alloc; "opened or made"),
-        Made::Locked(lock, answer) => format!(in alloc; "{lock:?} {answer:?}"),
-        Made::Synced => format!(in alloc; "synced"),
-        Made::Measured(bytes) => format!(in alloc; "measured {bytes}"),
-        Made::Got(at, bytes) => format!(in alloc; "got {at} {}", bytes.len()),
-        Made::Resized(bytes) => format!(in alloc; "resized {bytes}"),
-        Made::Listed(_) => format!(in alloc; "listed"),
+impl Display for Made {
+    fn fmt<W: Write>(&self, f: &mut Formatter<W>) -> fmt::Result {
+        match self {
+            Made::Opened(_, Access::Read) => write!(f, "opened to read"),
+            Made::Opened(_, Access::Write) => write!(f, "opened"),
+            Made::Opened(_, Access::Create) => write!(f, "opened or made"),
+            Made::Locked(lock, answer) => write!(f, "{lock:?} {answer:?}"),
+            Made::Synced => write!(f, "synced"),
+            Made::Measured(bytes) => write!(f, "measured {bytes}"),
+            Made::Got(at, bytes) => write!(f, "got {at} {}", bytes.len()),
+            Made::Resized(bytes) => write!(f, "resized {bytes}"),
+            Made::Listed(_) => write!(f, "listed"),
+        }
     }
 }
 
 // These calls were made on the file of a device, in this order.
 fn are_made(
-    rt: &impl Abort,
-    alloc: Global,
+    rt: &(impl Abort + AllocGlobal),
     device: &Device,
     expected: &[&str],
 ) -> Result<(), Fail> {
     let made = device.file().file().made();
     assert_eq!(rt; made.len(), expected.len());
     for (made, expected) in made.iter().zip(expected) {
-        assert_eq!(rt; text(alloc, made)?.as_str(), *expected);
+        assert_eq!(rt; format!(in rt.alloc(); "{made}")?.as_str(), *expected);
     }
     Ok(())
 }
@@ -46,9 +47,9 @@ fn a_file_is_locked_synced_and_read(rt: HostRuntime) -> Result<(), Fail> {
     let (exclusive, shared) = ("Exclusive Granted", "Shared Granted");
     let got = "got 0 1024";
     let opened = ["opened", exclusive, "synced", "measured 1535", got];
-    are_made(&rt, rt.alloc(), &Device::open(&rt, path)?, &opened)?;
+    are_made(&rt, &Device::open(&rt, path)?, &opened)?;
     let opened = ["opened to read", shared, "synced", "measured 1535", got];
-    are_made(&rt, rt.alloc(), &Device::open_to_read(&rt, path)?, &opened)?;
+    are_made(&rt, &Device::open_to_read(&rt, path)?, &opened)?;
     let made = [
         "opened or made",
         exclusive,
@@ -57,7 +58,7 @@ fn a_file_is_locked_synced_and_read(rt: HostRuntime) -> Result<(), Fail> {
         "synced",
         "listed",
     ];
-    are_made(&rt, rt.alloc(), &Device::create(&rt, path, 1)?, &made)?;
+    are_made(&rt, &Device::create(&rt, path, 1)?, &made)?;
     fs::remove_file(&rt, path)?;
     Ok(())
 }

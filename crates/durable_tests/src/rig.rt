@@ -17,6 +17,7 @@ use std::marker::Model;
 /// that isn't later, or after a commit, a journaling or a migration that failed.
 #[derive(Drop)]
 pub(crate) struct Rig<D: Device> {
+    pub(crate) alloc: Global,
     store: Durable<D>,
     scratch: Scratch,
     /// Whether no commit, no journal and no migration failed.
@@ -50,6 +51,7 @@ impl<D: Device> Rig<D> {
         };
         let Opened { store, .. } = Durable::open::<Vec<ObjectHeader>>(alloc, device, &mut ())?;
         Ok(Rig {
+            alloc,
             store,
             scratch,
             sound: true,
@@ -81,9 +83,9 @@ impl<D: Device> Rig<D> {
     }
 
     /// Puts a frame of an object, with a value.
-    pub(crate) fn put(&mut self, alloc: Global, number: u64, value: u64) -> Result<(), Failed> {
+    pub(crate) fn put(&mut self, number: u64, value: u64) -> Result<(), Failed> {
         let geometry = self.store.geometry();
-        let (header, content) = frame(alloc, geometry, number, value)?;
+        let (header, content) = frame(self.alloc, geometry, number, value)?;
         if self.working >= geometry.log {
             return Err(Failed);
         }
@@ -92,13 +94,8 @@ impl<D: Device> Rig<D> {
     }
 
     /// Puts a frame of an object for the checkpoint on its way, with a value.
-    pub(crate) fn put_frozen(
-        &mut self,
-        alloc: Global,
-        number: u64,
-        value: u64,
-    ) -> Result<(), Refusal> {
-        let Ok((header, content)) = frame(alloc, self.store.geometry(), number, value) else {
+    pub(crate) fn put_frozen(&mut self, number: u64, value: u64) -> Result<(), Refusal> {
+        let Ok((header, content)) = frame(self.alloc, self.store.geometry(), number, value) else {
             return Err(Refusal::Fault);
         };
         if self.frozen >= self.size {

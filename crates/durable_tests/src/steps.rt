@@ -5,7 +5,6 @@ use checkpoint::Checkpoint;
 use device::{Device, Failed};
 use devices::{Fuse, Outcome};
 use model::Refusal;
-use std::alloc::Global;
 use std::process::Abort;
 use std::test::Fail;
 
@@ -47,10 +46,10 @@ pub(crate) enum Step<'a> {
     Misplace,
 }
 
-fn put<D: Device>(alloc: Global, rig: &mut Rig<D>, values: &[Values]) -> Result<(), Failed> {
+fn put<D: Device>(rig: &mut Rig<D>, values: &[Values]) -> Result<(), Failed> {
     for (objects, first) in values {
         for (index, number) in objects.iter().enumerate() {
-            rig.put(alloc, *number, first.wrapping_add(index as u64))?;
+            rig.put(*number, first.wrapping_add(index as u64))?;
         }
     }
     Ok(())
@@ -101,11 +100,11 @@ fn saved_of<D: Device>(rig: &Rig<D>) -> (u64, u64, u64) {
 }
 
 // Makes a call, and returns whether it answers what it has to.
-fn is_answered<D: Device>(alloc: Global, rig: &mut Rig<D>, step: Step) -> bool {
+fn is_answered<D: Device>(rig: &mut Rig<D>, step: Step) -> bool {
     match step {
-        Step::Put(values) => put(alloc, rig, values).is_ok(),
-        Step::NoPut(number) => rig.put(alloc, number, 1).is_err(),
-        Step::PutFrozen(number, value, answer) => rig.put_frozen(alloc, number, value) == answer,
+        Step::Put(values) => put(rig, values).is_ok(),
+        Step::NoPut(number) => rig.put(number, 1).is_err(),
+        Step::PutFrozen(number, value, answer) => rig.put_frozen(number, value) == answer,
         Step::Fetch(number, answer) => rig.fetch(number) == answer,
         Step::Hold(values) => hold(rig, values) == Ok(true),
         Step::Freeze(size, answer) => rig.freeze(size) == answer,
@@ -119,9 +118,9 @@ fn is_answered<D: Device>(alloc: Global, rig: &mut Rig<D>, step: Step) -> bool {
 }
 
 /// How many steps are answered as they say, up to the first that isn't.
-pub(crate) fn answered<D: Device>(alloc: Global, rig: &mut Rig<D>, steps: &[Step]) -> usize {
+pub(crate) fn answered<D: Device>(rig: &mut Rig<D>, steps: &[Step]) -> usize {
     for i in 0..steps.len() {
-        if !is_answered(alloc, rig, steps[i]) {
+        if !is_answered(rig, steps[i]) {
             return i;
         }
     }
@@ -129,11 +128,12 @@ pub(crate) fn answered<D: Device>(alloc: Global, rig: &mut Rig<D>, steps: &[Step
 }
 
 // The store after a step.
-fn taken<D: Device>(alloc: Global, rig: Rig<D>, step: Step) -> Result<Rig<D>, Fail> {
+fn taken<D: Device>(rig: Rig<D>, step: Step) -> Result<Rig<D>, Fail> {
     let mut rig = rig;
-    if !is_answered(alloc, &mut rig, step) {
+    if !is_answered(&mut rig, step) {
         return Err(Fail::new("another answer"));
     }
+    let alloc = rig.alloc;
     match step {
         Step::Open => opened(alloc, rig.into_device()),
         Step::Cut => {
@@ -153,18 +153,17 @@ fn taken<D: Device>(alloc: Global, rig: Rig<D>, step: Step) -> Result<Rig<D>, Fa
 /// Opens a device and takes steps from one up to the next image. Each step has to be answered as
 /// it says. Gives the device back.
 pub(crate) fn take_from<D: Device>(
-    rt: &impl Abort,
-    alloc: Global,
+    rt: &(impl Abort + AllocGlobal),
     device: D,
     steps: &[Step],
     from: usize,
 ) -> Result<D, Fail> {
-    let mut rig = opened(alloc, device)?;
+    let mut rig = opened(rt.alloc(), device)?;
     for i in from..steps.len() {
         if let Step::Image(..) = steps[i] {
             break;
         }
-        match taken(alloc, rig, steps[i]) {
+        match taken(rig, steps[i]) {
             Ok(next) => rig = next,
             Err(_) => panic!(rt; "step {i} is answered otherwise"),
         }
@@ -173,11 +172,11 @@ pub(crate) fn take_from<D: Device>(
 }
 
 /// Takes steps over one image after another.
-pub(crate) fn try_each(rt: &impl Abort, alloc: Global, steps: &[Step]) -> Result<(), Fail> {
+pub(crate) fn try_each(rt: &(impl Abort + AllocGlobal), steps: &[Step]) -> Result<(), Fail> {
     for i in 0..steps.len() {
         if let Step::Image(before, calls) = steps[i] {
-            let device = image(rt, alloc, Outcome::Drop, before)?;
-            take_from(rt, alloc, Fuse::new(device, calls), steps, i + 1)?;
+            let device = image(rt, Outcome::Drop, before)?;
+            take_from(rt, Fuse::new(device, calls), steps, i + 1)?;
         }
     }
     Ok(())

@@ -4,30 +4,25 @@ use crate::rig::Rig;
 use crate::steps::{Step, Values, answered, take_from};
 use checkpoint::{OpenFault, OpenRefused};
 use device::Device;
-use devices::{Fuse, Memory, Outcome};
+use devices::{Fuse, Outcome};
 use std::alloc::Global;
 use std::process::Abort;
 use std::test::Fail;
 
-// Opens a device and takes steps, and returns how many of all that were done. `None` where the
-// device is refused for another reason than that it failed.
-fn run<D: Device>(alloc: Global, device: D, steps: &[Step]) -> (Option<usize>, D) {
-    match Rig::open(alloc, device) {
+// Opens a device and takes steps, up to a stop after `calls` calls and a power cut. Returns how many
+// of all that were done, or `None` if the device is refused for another reason than that it failed.
+fn stopped<D: Device>(alloc: Global, device: D, steps: &[Step], calls: u64) -> (Option<usize>, D) {
+    let (done, device) = match Rig::open(alloc, Fuse::new(device, calls)) {
         Ok(rig) => {
             let mut rig = rig;
-            let done = answered(alloc, &mut rig, steps);
+            let done = answered(&mut rig, steps);
             (done.checked_add(1), rig.into_device())
         }
         Err(OpenRefused { fault, device }) => match fault {
             OpenFault::Failed => (Some(0), device),
             _ => (None, device),
         },
-    }
-}
-
-// The same on a device that stops after `calls` calls, with a power cut behind.
-fn stopped(alloc: Global, device: Memory, steps: &[Step], calls: u64) -> (Option<usize>, Memory) {
-    let (done, device) = run(alloc, Fuse::new(device, calls), steps);
+    };
     let mut device = device;
     device.power_cut();
     (done, device.into_inner())
@@ -110,8 +105,7 @@ fn left(writing: Writing, calls: u64, opened: bool) -> (Step<'static>, [Values; 
 
 // Stops at each call.
 fn stop_at_each(
-    rt: &impl Abort,
-    alloc: Global,
+    rt: &(impl Abort + AllocGlobal),
     writing: Writing,
     outcome: Outcome,
     opened: bool,
@@ -124,11 +118,11 @@ fn stop_at_each(
         Step::Migrate(size, Ok(0)),
     ];
     for calls in 0..ends[4].wrapping_add(2) {
-        let device = image(rt, alloc, outcome, past)?;
-        let (done, device) = stopped(alloc, device, &steps, calls);
+        let device = image(rt, outcome, past)?;
+        let (done, device) = stopped(rt.alloc(), device, &steps, calls);
         assert!(rt; done == Some(done_at(ends, calls)), "at {calls}");
         let (saved, values) = left(writing, calls, opened);
-        take_from(rt, alloc, device, &[saved, Step::Hold(&values)], 0)?;
+        take_from(rt, device, &[saved, Step::Hold(&values)], 0)?;
     }
     Ok(())
 }
@@ -137,7 +131,7 @@ fn stop_at_each(
 fn a_stop_leaves_the_old_or_the_new(rt: HostRuntime) -> Result<(), Fail> {
     for (outcome, opened) in OUTCOMES {
         for writing in WRITINGS {
-            stop_at_each(&rt, rt.alloc(), writing, outcome, opened)?;
+            stop_at_each(&rt, writing, outcome, opened)?;
         }
     }
     Ok(())
@@ -151,7 +145,7 @@ const JOURNALED: u64 = OPENING + 10;
 fn a_stop_leaves_the_page_or_not(rt: HostRuntime) -> Result<(), Fail> {
     for (outcome, opened) in OUTCOMES {
         for calls in OPENING..JOURNALED + 2 {
-            let device = image(&rt, rt.alloc(), outcome, AT_HOME)?;
+            let device = image(&rt, outcome, AT_HOME)?;
             let steps = [Step::Journal(17, 317, 3, Ok(2))];
             let (done, device) = stopped(rt.alloc(), device, &steps, calls);
             assert_eq!(rt; done, Some(if calls < JOURNALED { 1 } else { 2 }));
@@ -162,7 +156,7 @@ fn a_stop_leaves_the_page_or_not(rt: HostRuntime) -> Result<(), Fail> {
                 Step::Saved(0, 0, 0)
             };
             let values = if is_saved { ONE } else { [NONE, NONE, NONE] };
-            take_from(&rt, rt.alloc(), device, &[saved, Step::Hold(&values)], 0)?;
+            take_from(&rt, device, &[saved, Step::Hold(&values)], 0)?;
         }
     }
     Ok(())
@@ -172,12 +166,12 @@ fn a_stop_leaves_the_page_or_not(rt: HostRuntime) -> Result<(), Fail> {
 // at the sync behind that: the cut leaves the gate open over the first header, which is less.
 #[test]
 fn a_gate_that_is_torn_open_again_commits_nothing(rt: HostRuntime) -> Result<(), Fail> {
-    let device = image(&rt, rt.alloc(), Outcome::Fill(1), SECOND)?;
+    let device = image(&rt, Outcome::Fill(1), SECOND)?;
     let steps = [Step::Freeze(0, Ok(())), Step::Commit(4, Ok(2))];
     let (done, device) = stopped(rt.alloc(), device, &steps, OPENING + 3);
     assert_eq!(rt; done, Some(2));
     let left = [Step::Saved(1, 2, 0), Step::Hold(&[BEFORE])];
-    take_from(&rt, rt.alloc(), device, &left, 0)?;
+    take_from(&rt, device, &left, 0)?;
     Ok(())
 }
 
@@ -185,10 +179,10 @@ fn a_gate_that_is_torn_open_again_commits_nothing(rt: HostRuntime) -> Result<(),
 #[test]
 fn a_device_that_fails_is_handed_back(rt: HostRuntime) -> Result<(), Fail> {
     for calls in 0..OPENING + 2 {
-        let device = image(&rt, rt.alloc(), Outcome::Fill(1), IN_LOG)?;
+        let device = image(&rt, Outcome::Fill(1), IN_LOG)?;
         let (done, device) = stopped(rt.alloc(), device, &[], calls);
         assert_eq!(rt; done, Some(if calls > OPENING { 1 } else { 0 }));
-        take_from(&rt, rt.alloc(), device, &[Step::Saved(1, 3, 3)], 0)?;
+        take_from(&rt, device, &[Step::Saved(1, 3, 3)], 0)?;
     }
     Ok(())
 }

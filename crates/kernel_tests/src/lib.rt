@@ -17,5 +17,6 @@ mod worlds;
 #[cfg(test)]
 mod writers;
 
-pub use images::{first_world, second_world, written};
+pub use images::written;
 pub use kernels::opened;
+pub use worlds::{first_world, second_world};

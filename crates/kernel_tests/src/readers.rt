@@ -1,11 +1,5 @@
 // Runs of scripts that come in pieces, or whose reader is interrupted or fails.
-ghost use Rattle.model.specs.Keepable.{AreKeepable};
-ghost use Rattle.capability.specs.Parts.{frames_of};
-ghost use Rattle.capability.specs.Plain.{parts_of};
-
-use crate::world_runs::{device_of, rewritten, run_over};
-use crate::{first_world, second_world};
-use capability::Plain;
+use crate::world_runs::{World, device_of, rewritten, run_over};
 use runs::ScriptReader;
 use script::{CountedWriter, RunFault};
 use std::alloc::{AllocError, Global};
@@ -71,18 +65,16 @@ impl Read for Pieces<'_> {
 
 // What a reader gives is answered so over a world, and the run ends so.
 fn is_answered(
-    rt: &impl Abort,
-    alloc: Global,
-    plain: &Plain,
+    rt: &(impl Abort + AllocGlobal),
+    world: World,
     reader: &mut Pieces<'_>,
     expected: &[u8],
     ends: Result<(), RunFault>,
-) -> Result<(), Fail>
-    requires { AreKeepable plain.now.geometry 0 (frames_of (parts_of plain.now)) }
-{
+) -> Result<(), Fail> {
+    let alloc = rt.alloc();
     let mut answers = CountedWriter::new(Vec::new(alloc));
     let mut script = ScriptReader::new(&mut *reader);
-    let outcome = run_over(alloc, device_of(alloc, plain)?, &mut script, &mut answers)?;
+    let outcome = run_over(alloc, device_of(alloc, world)?, &mut script, &mut answers)?;
     assert_eq!(rt; outcome, ends);
     assert_eq!(rt; answers.get_ref().as_slice(), expected);
     assert!(rt; !reader.requested_otherwise);
@@ -91,18 +83,15 @@ fn is_answered(
 
 // A script over a world is answered so, whatever pieces it comes in.
 fn is_answered_in_pieces(
-    rt: &impl Abort,
-    alloc: Global,
-    plain: &Plain,
+    rt: &(impl Abort + AllocGlobal),
+    world: World,
     script: &[u8],
     expected: &[u8],
-) -> Result<(), Fail>
-    requires { AreKeepable plain.now.geometry 0 (frames_of (parts_of plain.now)) }
-{
+) -> Result<(), Fail> {
     for width in WIDTHS {
         for interrupts in [false, true] {
             let mut reader = Pieces::new(script, width, interrupts);
-            is_answered(rt, alloc, plain, &mut reader, expected, Ok(()))?;
+            is_answered(rt, world, &mut reader, expected, Ok(()))?;
         }
     }
     Ok(())
@@ -153,39 +142,34 @@ const SCRIPTS: &[Parts] = &[
 ];
 
 // A script of parts over a world is answered so.
-fn are_answered(rt: &impl Abort, alloc: Global, plain: &Plain, parts: Parts) -> Result<(), Fail>
-    requires { AreKeepable plain.now.geometry 0 (frames_of (parts_of plain.now)) }
-{
+fn are_answered(rt: &(impl Abort + AllocGlobal), world: World, parts: Parts) -> Result<(), Fail> {
     let (script, expected, times) = parts;
-    let script = repeated(alloc, script, times)?;
-    let expected = repeated(alloc, expected, times)?;
-    is_answered_in_pieces(rt, alloc, plain, &script, &expected)
+    let script = repeated(rt.alloc(), script, times)?;
+    let expected = repeated(rt.alloc(), expected, times)?;
+    is_answered_in_pieces(rt, world, &script, &expected)
 }
 
 #[test]
 fn lines_are_taken_in_turn(rt: HostRuntime) -> Result<(), Fail> {
-    let plain = first_world(rt.alloc())?;
     for parts in SCRIPTS {
-        are_answered(&rt, rt.alloc(), &plain, *parts)?;
+        are_answered(&rt, World::First, *parts)?;
     }
     Ok(())
 }
 
 // A script over the second world is answered so, in pieces and wherever it is cut in two.
 fn may_be_cut_anywhere(
-    rt: &impl Abort,
-    alloc: Global,
+    rt: &(impl Abort + AllocGlobal),
     script: &[u8],
     expected: &[u8],
 ) -> Result<(), Fail> {
-    let plain = second_world(alloc)?;
-    is_answered_in_pieces(rt, alloc, &plain, script, expected)?;
+    is_answered_in_pieces(rt, World::Second, script, expected)?;
     for first in 1..script.len() {
         let mut reader = Pieces {
             next: first,
             ..Pieces::new(script, ASKED, false)
         };
-        is_answered(rt, alloc, &plain, &mut reader, expected, Ok(()))?;
+        is_answered(rt, World::Second, &mut reader, expected, Ok(()))?;
     }
     Ok(())
 }
@@ -196,7 +180,7 @@ fn a_commit_may_be_cut_anywhere(rt: HostRuntime) -> Result<(), Fail> {
 send 1 28 2 0 43 0 0 0 0 0\nstabilize 5\ncommit\ncut\nshow 16\n";
     let expected =
         b"done\ndone\nfrozen 3\ndone\nleft 0\ncommitted 1\nat 1 3\npage 16 owner 0\nword 0 42\nend\n";
-    may_be_cut_anywhere(&rt, rt.alloc(), script, expected)
+    may_be_cut_anywhere(&rt, script, expected)
 }
 
 #[test]
@@ -205,14 +189,14 @@ fn calls_may_be_cut_anywhere(rt: HostRuntime) -> Result<(), Fail> {
     let expected = b"done\n\
 process 3 owner 0 annex 4 running key 7 words 5 0 0 0 space void\n\
 register 28 bank 0\nregister 31 resume 1\nend\nnot running\n";
-    may_be_cut_anywhere(&rt, rt.alloc(), script, expected)
+    may_be_cut_anywhere(&rt, script, expected)
 }
 
 #[test]
 fn bad_lines_may_be_cut_anywhere(rt: HostRuntime) -> Result<(), Fail> {
     let script = repeated(rt.alloc(), &[&[b'a'; 257], b"\nshow 01\nshow 5"], 1)?;
     let expected = b"bad line\nbad line\nfree 5\nend\n";
-    may_be_cut_anywhere(&rt, rt.alloc(), script.as_slice(), expected)
+    may_be_cut_anywhere(&rt, script.as_slice(), expected)
 }
 
 #[test]
@@ -223,26 +207,23 @@ migrate 9\ncheckpoint\ncommit\ncut\n";
     let expected =
         b"done\ndone\nfrozen 3\ndone\nleft 0\ncommitted 1\nmigration pending\nleft 1\nat 1 3\n\
 left 2\nleft 0\nfrozen 0\ncommitted 2\nat 2 4\n";
-    may_be_cut_anywhere(&rt, rt.alloc(), script, expected)
+    may_be_cut_anywhere(&rt, script, expected)
 }
 
 // Where the reader fails behind a script, the lines that end are answered so.
 fn is_answered_before_the_end(
-    rt: &impl Abort,
-    alloc: Global,
-    plain: &Plain,
+    rt: &(impl Abort + AllocGlobal),
+    world: World,
     script: &[u8],
     expected: &[u8],
-) -> Result<(), Fail>
-    requires { AreKeepable plain.now.geometry 0 (frames_of (parts_of plain.now)) }
-{
+) -> Result<(), Fail> {
     for width in WIDTHS {
         let mut reader = Pieces {
             at_end: Some(ErrorKind::BrokenPipe),
             ..Pieces::new(script, width, true)
         };
         let ends = Err(RunFault::Read);
-        is_answered(rt, alloc, plain, &mut reader, expected, ends)?;
+        is_answered(rt, world, &mut reader, expected, ends)?;
     }
     Ok(())
 }
@@ -258,16 +239,15 @@ const FAILING: &[(&[u8], &[u8])] = &[
 
 #[test]
 fn a_failing_reader_ends_the_run(rt: HostRuntime) -> Result<(), Fail> {
-    let plain = first_world(rt.alloc())?;
     for (script, expected) in FAILING {
-        is_answered_before_the_end(&rt, rt.alloc(), &plain, script, expected)?;
+        is_answered_before_the_end(&rt, World::First, script, expected)?;
     }
     Ok(())
 }
 
 #[test]
 fn an_image_takes_the_place_of_one_of_a_greater_age(rt: HostRuntime) -> Result<(), Fail> {
-    let device = rewritten(rt.alloc(), &second_world(rt.alloc())?)?;
+    let device = rewritten(rt.alloc())?;
     let mut reader = ScriptReader::new(b"cut\nshow 5\n".as_slice());
     let mut answers = CountedWriter::new(Vec::new(rt.alloc()));
     assert_eq!(rt;

@@ -7,7 +7,6 @@ use model::{
     ObjectHeader, Operation, Refusal, Register, Role, Root, Shown, State,
 };
 use script::{CountedWriter, RunFault, parse_line, print_answer};
-use std::alloc::Global;
 use std::process::Abort;
 use std::test::Fail;
 
@@ -54,8 +53,8 @@ fn lines_say_one_thing(rt: HostRuntime) {
 }
 
 // An answer has this text.
-fn has_text(rt: &impl Abort, alloc: Global, answer: &Answer, expected: &[u8]) {
-    let mut text = CountedWriter::new(Vec::new(alloc));
+fn has_text(rt: &(impl Abort + AllocGlobal), answer: &Answer, expected: &[u8]) {
+    let mut text = CountedWriter::new(Vec::new(rt.alloc()));
     assert_eq!(rt; print_answer(answer, &mut text), Ok(()));
     assert_eq!(rt; text.get_ref().as_slice(), expected);
 }
@@ -91,7 +90,7 @@ available key 65535 words 18446744073709551615 18446744073709551615 184467440737
 #[test]
 fn the_longest_line_is_printed(rt: HostRuntime) -> Result<(), Fail> {
     let shown = Answer::Shown(Shown::new(rt.alloc(), longest_root())?);
-    has_text(&rt, rt.alloc(), &shown, LONGEST);
+    has_text(&rt, &shown, LONGEST);
     Ok(())
 }
 
@@ -105,7 +104,7 @@ const REFUSALS: &[(Refusal, &[u8])] = &[
 #[test]
 fn refusals_have_texts(rt: HostRuntime) {
     for (refusal, expected) in REFUSALS {
-        has_text(&rt, rt.alloc(), &Answer::Refused(*refusal), expected);
+        has_text(&rt, &Answer::Refused(*refusal), expected);
     }
 }
 

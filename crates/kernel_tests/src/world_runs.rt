@@ -1,10 +1,5 @@
 // Runs over a device in memory that holds a world.
-ghost use Rattle.model.specs.Keepable.{AreKeepable};
-ghost use Rattle.capability.specs.Parts.{frames_of};
-ghost use Rattle.capability.specs.Plain.{parts_of};
-
-use crate::{opened, written};
-use capability::Plain;
+use crate::{first_world, opened, second_world, written};
 use device::Device;
 use devices::{Memory, Outcome};
 use runs::{Script, run};
@@ -12,21 +7,27 @@ use script::{Output, RunFault};
 use std::alloc::Global;
 use std::test::Fail;
 
-/// A device in memory that holds a world.
-pub fn device_of(alloc: Global, plain: &Plain) -> Result<Memory, Fail>
-    requires { AreKeepable plain.now.geometry 0 (frames_of (parts_of plain.now)) }
-{
-    let device = Memory::new(alloc, 399, 4000, Outcome::Drop)?;
-    written(alloc, device, plain, 0)
+/// A world that a test begins with.
+#[derive(Clone, Copy)]
+pub enum World {
+    First,
+    Second,
 }
 
-/// One on which it is written over an image of a greater age.
-pub fn rewritten(alloc: Global, plain: &Plain) -> Result<Memory, Fail>
-    requires { AreKeepable plain.now.geometry 0 (frames_of (parts_of plain.now)) }
-{
+/// A device in memory that holds a world.
+pub fn device_of(alloc: Global, world: World) -> Result<Memory, Fail> {
     let device = Memory::new(alloc, 399, 4000, Outcome::Drop)?;
-    let device = written(alloc, device, plain, 9)?;
-    written(alloc, device, plain, 0)
+    match world {
+        World::First => written(device, first_world(alloc)?, 0),
+        World::Second => written(device, second_world(alloc)?, 0),
+    }
+}
+
+/// A device in memory that holds the second world, written over the first one at a greater age.
+pub fn rewritten(alloc: Global) -> Result<Memory, Fail> {
+    let device = Memory::new(alloc, 399, 4000, Outcome::Drop)?;
+    let device = written(device, first_world(alloc)?, 9)?;
+    written(device, second_world(alloc)?, 0)
 }
 
 /// How a run over a device ends.

@@ -6,7 +6,7 @@ ghost use Rattle.model.specs.declared.object.State.TheVariants as states;
 ghost use Rattle.model.specs.Capability.{full};
 ghost use Rattle.model.specs.Object.{all_slots, free};
 ghost use Rattle.model.specs.Worlds.{small, f0, i0, prime_bank, fresh_root};
-ghost use Rattle.model.specs.Keepable.{world_at};
+ghost use Rattle.model.specs.Keepable.{AreKeepable, IsSoundFrames, world_at};
 ghost use Rattle.capability.specs.Parts.{frames_of};
 ghost use Rattle.capability.specs.Plain.{parts_of, fresh_cap};
 ghost use Rattle.kernel_tests.specs.Fresh.{fresh_header, fresh_held, prime_header};
@@ -25,24 +25,28 @@ const SMALL: Geometry = Geometry {
 // How many objects they have.
 const SMALL_COUNT: usize = 24;
 
-/// A world of one running process, which holds a node and a page. Fails only where memory runs
-/// out.
-pub fn f0(alloc: Global) -> Result<Plain, AllocError>
+/// World `f0`: process 1 runs, and holds node 5 in register 5 and page 16 in register 6. Fails only
+/// if memory runs out.
+pub fn first_world(alloc: Global) -> Result<Plain, AllocError>
     ensures world { IfOk result (λ p. world_at 0 (frames_of (parts_of p)) ≡ f0) }
     ensures headers { IfOk result (λ p. p.headers ≡ map fresh_header f0.objects) }
     ensures contents { IfOk result (λ p. p.contents ≡ map fresh_held f0.objects) }
     ensures geometry { IfOk result (λ p. p.geometry ≡ small) }
+    ensures sound { IfOk result (λ p. IsSoundFrames p.geometry 0 (frames_of (parts_of p))) }
+    ensures keepable { IfOk result (λ p. AreKeepable p.geometry 0 (frames_of (parts_of p))) }
 {
     prime_world(alloc, f0_contents(alloc)?)
 }
 
-/// A world of two processes: one runs, and holds itself, the prime bank, the other and the
-/// right to start it. Fails only where memory runs out.
-pub fn i0(alloc: Global) -> Result<Plain, AllocError>
+/// World `i0`: process 1 runs, and holds itself, the prime bank, the right to start process 3 with
+/// key 7 and that process, which is available, in registers 1 to 4. Fails only if memory runs out.
+pub fn second_world(alloc: Global) -> Result<Plain, AllocError>
     ensures world { IfOk result (λ p. world_at 0 (frames_of (parts_of p)) ≡ i0) }
     ensures headers { IfOk result (λ p. p.headers ≡ map fresh_header i0.objects) }
     ensures contents { IfOk result (λ p. p.contents ≡ map fresh_held i0.objects) }
     ensures geometry { IfOk result (λ p. p.geometry ≡ small) }
+    ensures sound { IfOk result (λ p. IsSoundFrames p.geometry 0 (frames_of (parts_of p))) }
+    ensures keepable { IfOk result (λ p. AreKeepable p.geometry 0 (frames_of (parts_of p))) }
 {
     prime_world(alloc, i0_contents(alloc)?)
 }

@@ -1,11 +1,5 @@
 // Answers to writers that take little, are interrupted, or fail.
-ghost use Rattle.model.specs.Keepable.{AreKeepable};
-ghost use Rattle.capability.specs.Parts.{frames_of};
-ghost use Rattle.capability.specs.Plain.{parts_of};
-
-use crate::first_world;
-use crate::world_runs::{device_of, run_over};
-use capability::Plain;
+use crate::world_runs::{World, device_of, run_over};
 use model::{Answer, Content, Description, Object, Shown, Words};
 use runs::ScriptReader;
 use script::{BufferedOutput, CountedWriter, RunFault, print_answer};
@@ -76,10 +70,10 @@ fn has_taken(
 }
 
 // An answer is written to writers with more and more capacity, which take `width` bytes at a time.
-fn is_written(rt: &impl Abort, alloc: Global, answer: &Answer, text: &[u8], width: usize) {
+fn is_written(rt: &(impl Abort + AllocGlobal), answer: &Answer, text: &[u8], width: usize) {
     for fails in [false, true] {
         for room in 0..text.len() + 2 {
-            let mut writer = CountedWriter::new(Narrow::new(alloc, width, room, fails));
+            let mut writer = CountedWriter::new(Narrow::new(rt.alloc(), width, room, fails));
             let outcome = print_answer(answer, &mut writer);
             has_taken(rt, writer.get_ref(), room, text, outcome);
         }
@@ -92,7 +86,7 @@ fn narrow_writers_take_an_answer(rt: HostRuntime) -> Result<(), Fail> {
         generation: 12,
         age: 345,
     };
-    is_written(&rt, rt.alloc(), &at, b"at 12 345\n", 1);
+    is_written(&rt, &at, b"at 12 345\n", 1);
     let mut words = Words::new(rt.alloc())?;
     words.set(0, 42);
     let page = Description {
@@ -105,30 +99,26 @@ fn narrow_writers_take_an_answer(rt: HostRuntime) -> Result<(), Fail> {
         used: 0,
     };
     let shown = Answer::Shown(Shown::new(rt.alloc(), page)?);
-    is_written(
-        &rt,
-        rt.alloc(),
-        &shown,
-        b"page 16 owner 0\nword 0 42\nend\n",
-        7,
-    );
+    is_written(&rt, &shown, b"page 16 owner 0\nword 0 42\nend\n", 7);
     Ok(())
 }
 
-// A script over a world is written so to a writer with this capacity.
+// A script over the first world is written so to a writer with this capacity.
 fn is_answered(
-    rt: &impl Abort,
-    alloc: Global,
-    plain: &Plain,
+    rt: &(impl Abort + AllocGlobal),
     script: &[u8],
     expected: &[u8],
     room: usize,
-) -> Result<(), Fail>
-    requires { AreKeepable plain.now.geometry 0 (frames_of (parts_of plain.now)) }
-{
+) -> Result<(), Fail> {
+    let alloc = rt.alloc();
     let mut reader = ScriptReader::new(script);
     let mut writer = CountedWriter::new(Narrow::new(alloc, 4096, room, true));
-    let outcome = run_over(alloc, device_of(alloc, plain)?, &mut reader, &mut writer)?;
+    let outcome = run_over(
+        alloc,
+        device_of(alloc, World::First)?,
+        &mut reader,
+        &mut writer,
+    )?;
     has_taken(rt, writer.get_ref(), room, expected, outcome);
     Ok(())
 }
@@ -136,11 +126,10 @@ fn is_answered(
 // Whatever byte of the answers a writer fails at, it has taken those before it.
 #[test]
 fn a_failing_writer_ends_the_run(rt: HostRuntime) -> Result<(), Fail> {
-    let plain = first_world(rt.alloc())?;
     let script = b"show 5\nshow 01\nshow 16\n";
     let expected = b"node 5 owner 0\nend\nbad line\npage 16 owner 0\nend\n";
     for room in 0..=expected.len() {
-        is_answered(&rt, rt.alloc(), &plain, script, expected, room)?;
+        is_answered(&rt, script, expected, room)?;
     }
     Ok(())
 }
@@ -149,12 +138,16 @@ fn a_failing_writer_ends_the_run(rt: HostRuntime) -> Result<(), Fail> {
 #[test]
 fn what_is_not_passed_on_ends_the_run(rt: HostRuntime) -> Result<(), Fail> {
     let alloc = rt.alloc();
-    let plain = first_world(alloc)?;
     for (room, ends) in [(19, Ok(())), (18, Err(RunFault::Write))] {
         let buffer = BufWriter::new(alloc, Narrow::new(alloc, 4096, room, true))?;
         let mut writer = BufferedOutput::new(buffer);
         let mut reader = ScriptReader::new(b"show 5\n".as_slice());
-        let outcome = run_over(alloc, device_of(alloc, &plain)?, &mut reader, &mut writer)?;
+        let outcome = run_over(
+            alloc,
+            device_of(alloc, World::First)?,
+            &mut reader,
+            &mut writer,
+        )?;
         assert_eq!(rt; outcome, ends);
         assert_eq!(rt; writer.get_ref().taken.len(), room);
     }

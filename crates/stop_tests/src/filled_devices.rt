@@ -1,7 +1,7 @@
 // Devices that hold an image.
+use crate::task::Task;
 use device::{Device, MAX_SECTORS, SECTOR_SIZE};
 use devices::{Fuse, Memory, Outcome};
-use std::alloc::Global;
 
 // How many sectors may be written and syncs made, with those of the image.
 const ROOM: usize = 10_000;
@@ -23,16 +23,22 @@ fn fused<D: Device>(device: D, image: &[u8], calls: u64) -> anyhow::Result<Fuse<
     Ok(Fuse::new(device, calls))
 }
 
-/// A device in memory with these sectors that passes `calls` calls.
-pub(crate) fn device_with(
-    alloc: Global,
-    image: &[u8],
-    outcome: Outcome,
-    calls: u64,
-) -> anyhow::Result<Fuse<Memory>> {
-    let sectors = (image.len() / SECTOR_SIZE) as u64;
-    if sectors > MAX_SECTORS {
-        anyhow::bail!("too many sectors");
+impl Task<'_> {
+    /// A device in memory with these sectors that passes `calls` calls.
+    pub(crate) fn device_with(
+        &self,
+        image: &[u8],
+        outcome: Outcome,
+        calls: u64,
+    ) -> anyhow::Result<Fuse<Memory>> {
+        let sectors = (image.len() / SECTOR_SIZE) as u64;
+        if sectors > MAX_SECTORS {
+            anyhow::bail!("too many sectors");
+        }
+        fused(
+            Memory::new(self.alloc, sectors, ROOM, outcome)?,
+            image,
+            calls,
+        )
     }
-    fused(Memory::new(alloc, sectors, ROOM, outcome)?, image, calls)
 }

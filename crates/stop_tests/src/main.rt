@@ -9,7 +9,6 @@ mod stops;
 mod task;
 mod upgrades;
 
-use deeds::{do_whole, stop_at_each, try_outcomes};
 use devices::Outcome;
 use object_cache::Capacity;
 use std::fs;
@@ -31,15 +30,17 @@ fn read_all(rt: &HostRuntime, files: &[String]) -> anyhow::Result<Vec<Vec<u8>>> 
 }
 
 // The task that these files are, of a script or of an upgrade.
-fn task_of(texts: &[Vec<u8>]) -> anyhow::Result<Task<'_>> {
+fn task_of<'a>(rt: &HostRuntime, texts: &'a [Vec<u8>]) -> anyhow::Result<Task<'a>> {
     match texts {
         [image, script, tail, last] => Ok(Task {
+            alloc: rt.alloc(),
             image,
             script,
             tail,
             last,
         }),
         [image, script, last] => Ok(Task {
+            alloc: rt.alloc(),
             image,
             script,
             tail: b"",
@@ -61,11 +62,11 @@ fn run_script<W: Write>(
     };
     let deed = Deed::Run(Capacity::new(capacity.as_str().parse::<u64>()?));
     let texts = read_all(rt, files)?;
-    let task = task_of(&texts)?;
+    let task = task_of(rt, &texts)?;
     if outcomes.is_empty() {
-        return do_whole(rt.alloc(), &deed, &task, writer);
+        return task.do_whole(&deed, writer);
     }
-    try_outcomes(rt.alloc(), &deed, outcomes, &task, writer)
+    task.try_outcomes(&deed, outcomes, writer)
 }
 
 // Upgrades the image that words name, with a stop at each call of the old device, and with each
@@ -77,10 +78,10 @@ fn run_upgrades<W: Write>(
     writer: &mut W,
 ) -> anyhow::Result<()> {
     let texts = read_all(rt, files)?;
-    let task = task_of(&texts)?;
+    let task = task_of(rt, &texts)?;
     writeln!(writer, "= old")?;
-    stop_at_each(rt.alloc(), &Deed::StopOld, Outcome::Drop, &task, writer)?;
-    try_outcomes(rt.alloc(), &Deed::StopNew, outcomes, &task, writer)
+    task.stop_at_each(&Deed::StopOld, Outcome::Drop, writer)?;
+    task.try_outcomes(&Deed::StopNew, outcomes, writer)
 }
 
 // Does what words ask. The first four may be files.

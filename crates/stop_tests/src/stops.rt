@@ -6,7 +6,6 @@ use kernel::Kernel;
 use object_cache::PlainStore;
 use runs::{ScriptReader, run};
 use script::{CountedWriter, RunFault};
-use std::alloc::Global;
 use std::io::Write;
 
 const FAULT: &[u8] = b"fault\n";
@@ -28,121 +27,104 @@ fn tell_stop(stop: Option<usize>, reported: &mut Vec<u8>) -> Result<(), RunFault
     writeln!(reported, "= stopped {line}").or(Err(RunFault::Write))
 }
 
-// Reports what is answered to a script.
-fn tell_run<D: Device, S: ObjectStore<D>>(
-    alloc: Global,
-    kernel: &mut Kernel<D, S>,
-    script: &[u8],
-    reported: &mut Vec<u8>,
-) -> Result<(), RunFault> {
-    let mut reader = ScriptReader::new(script);
-    let mut writer = CountedWriter::new(reported);
-    run(alloc, kernel, &mut reader, &mut writer)
-}
+impl Task<'_> {
+    // Reports what is answered to some lines, and returns whether that is one fault.
+    fn tell_run<D: Device, S: ObjectStore<D>>(
+        &self,
+        kernel: &mut Kernel<D, S>,
+        lines: &[u8],
+        reported: &mut Vec<u8>,
+    ) -> Result<bool, RunFault> {
+        let before = reported.len();
+        let mut reader = ScriptReader::new(lines);
+        let mut writer = CountedWriter::new(&mut *reported);
+        run(self.alloc, kernel, &mut reader, &mut writer)?;
+        Ok(reported.get(before..) == Some(FAULT))
+    }
 
-// Reports what is answered to a line, and answers whether that is a fault.
-fn tell_line<D: Device, S: ObjectStore<D>>(
-    alloc: Global,
-    kernel: &mut Kernel<D, S>,
-    line: &[u8],
-    reported: &mut Vec<u8>,
-) -> Result<bool, RunFault> {
-    let before = reported.len();
-    tell_run(alloc, kernel, line, reported)?;
-    Ok(reported.get(before..) == Some(FAULT))
-}
+    // Reports what is answered to the script up to the first fault, and gives the number of its line.
+    fn tell_to_fault<D: Device, S: ObjectStore<D>>(
+        &self,
+        kernel: &mut Kernel<D, S>,
+        reported: &mut Vec<u8>,
+    ) -> Result<Option<usize>, RunFault> {
+        for (number, line) in self
+            .script
+            .split_inclusive(|byte| *byte == b'\n')
+            .enumerate()
+        {
+            if self.tell_run(kernel, line, reported)? {
+                return Ok(Some(number));
+            }
+        }
+        Ok(None)
+    }
 
-// Reports what is answered to a script up to the first fault, and gives the number of its line.
-fn tell_to_fault<D: Device, S: ObjectStore<D>>(
-    alloc: Global,
-    kernel: &mut Kernel<D, S>,
-    script: &[u8],
-    reported: &mut Vec<u8>,
-) -> Result<Option<usize>, RunFault> {
-    for (number, line) in script.split_inclusive(|byte| *byte == b'\n').enumerate() {
-        if tell_line(alloc, kernel, line, reported)? {
-            return Ok(Some(number));
+    // Reports where a kernel stands, and what it answers to some lines.
+    fn tell_standing<D: Device, S: ObjectStore<D>>(
+        &self,
+        kernel: &mut Kernel<D, S>,
+        lines: &[u8],
+        reported: &mut Vec<u8>,
+    ) -> Result<(), RunFault> {
+        tell_saved(kernel.saved(), reported)?;
+        self.tell_run(kernel, lines, reported)?;
+        Ok(())
+    }
+
+    /// Reports what a power cut leaves of a device, and what a kernel that opens it answers.
+    pub(crate) fn tell_left<D: Device>(
+        &self,
+        device: D,
+        reported: &mut Vec<u8>,
+    ) -> Result<(), RunFault> {
+        let mut device = device;
+        device.power_cut();
+        match Kernel::<D, PlainStore<D>>::open(self.alloc, device, ()) {
+            Ok(kernel) => {
+                let mut kernel = kernel;
+                self.tell_standing(&mut kernel, self.last, reported)
+            }
+            Err(refused) => {
+                let fault = refused.fault;
+                writeln!(reported, "= refused {fault}").or(Err(RunFault::Write))
+            }
         }
     }
-    Ok(None)
-}
 
-// Reports where a kernel stands, and what it answers to a script.
-fn tell_standing<D: Device, S: ObjectStore<D>>(
-    alloc: Global,
-    kernel: &mut Kernel<D, S>,
-    script: &[u8],
-    reported: &mut Vec<u8>,
-) -> Result<(), RunFault> {
-    tell_saved(kernel.saved(), reported)?;
-    tell_run(alloc, kernel, script, reported)
-}
-
-/// Reports what a power cut leaves of a device, and what a kernel answers that opens it.
-pub(crate) fn tell_left<D: Device>(
-    alloc: Global,
-    device: D,
-    last: &[u8],
-    reported: &mut Vec<u8>,
-) -> Result<(), RunFault> {
-    let mut device = device;
-    device.power_cut();
-    match Kernel::<D, PlainStore<D>>::open(alloc, device, ()) {
-        Ok(kernel) => {
-            let mut kernel = kernel;
-            tell_standing(alloc, &mut kernel, last, reported)
-        }
-        Err(refused) => {
-            let fault = refused.fault;
-            writeln!(reported, "= refused {fault}").or(Err(RunFault::Write))
-        }
+    // Runs the script over a kernel, reports what it answers and what its device then holds, and
+    // returns whether the device stopped.
+    fn tell_all<D: Device, S: ObjectStore<D>>(
+        &self,
+        kernel: Kernel<D, S>,
+        reported: &mut Vec<u8>,
+    ) -> Result<bool, RunFault> {
+        let mut kernel = kernel;
+        let stop = self.tell_to_fault(&mut kernel, reported)?;
+        tell_stop(stop, reported)?;
+        self.tell_standing(&mut kernel, self.tail, reported)?;
+        self.tell_left(kernel.into_device(), reported)?;
+        Ok(stop.is_some())
     }
-}
 
-// Runs a task over a kernel, and returns whether its device stopped.
-fn tell_task<D: Device, S: ObjectStore<D>>(
-    alloc: Global,
-    kernel: &mut Kernel<D, S>,
-    task: &Task<'_>,
-    reported: &mut Vec<u8>,
-) -> Result<bool, RunFault> {
-    let stop = tell_to_fault(alloc, kernel, task.script, reported)?;
-    tell_stop(stop, reported)?;
-    tell_standing(alloc, kernel, task.tail, reported)?;
-    Ok(stop.is_some())
-}
-
-// The same, and then reports the bytes that the device holds.
-fn tell_all<D: Device, S: ObjectStore<D>>(
-    alloc: Global,
-    kernel: Kernel<D, S>,
-    task: &Task<'_>,
-    reported: &mut Vec<u8>,
-) -> Result<bool, RunFault> {
-    let mut kernel = kernel;
-    let is_stopped = tell_task(alloc, &mut kernel, task, reported)?;
-    tell_left(alloc, kernel.into_device(), task.last, reported)?;
-    Ok(is_stopped)
-}
-
-/// Runs a task over a device that passes some calls, and answers whether it stopped. If it
-/// stopped before it was opened, nothing is printed.
-pub(crate) fn run_task<D: Device, S: ObjectStore<D>>(
-    alloc: Global,
-    device: D,
-    setting: S::Setting,
-    calls: u64,
-    task: &Task<'_>,
-    reported: &mut Vec<u8>,
-) -> anyhow::Result<bool> {
-    match Kernel::<D, S>::open(alloc, device, setting) {
-        Ok(kernel) => {
-            writeln!(reported, "= calls {calls}")?;
-            Ok(tell_all(alloc, kernel, task, reported)?)
+    /// Runs the script over a device that passes some calls, and returns whether it stopped. If it
+    /// stopped before it was opened, nothing is printed.
+    pub(crate) fn run_script<D: Device, S: ObjectStore<D>>(
+        &self,
+        device: D,
+        setting: S::Setting,
+        calls: u64,
+        reported: &mut Vec<u8>,
+    ) -> anyhow::Result<bool> {
+        match Kernel::<D, S>::open(self.alloc, device, setting) {
+            Ok(kernel) => {
+                writeln!(reported, "= calls {calls}")?;
+                Ok(self.tell_all(kernel, reported)?)
+            }
+            Err(refused) => match refused.fault {
+                OpenFault::Failed => Ok(true),
+                fault => anyhow::bail!("not opened: {fault}"),
+            },
         }
-        Err(refused) => match refused.fault {
-            OpenFault::Failed => Ok(true),
-            fault => anyhow::bail!("not opened: {fault}"),
-        },
     }
 }

@@ -1,6 +1,7 @@
 // What a run of the program is to do.
 use devices::Outcome;
 use object_cache::Capacity;
+use std::alloc::Global;
 
 /// What is done over a device that stops after some calls.
 #[derive(Clone, Copy)]
@@ -16,6 +17,7 @@ pub(crate) enum Deed {
 /// What it is done with.
 #[derive(Clone, Copy)]
 pub(crate) struct Task<'a> {
+    pub(crate) alloc: Global,
     /// The sectors that the device has at first.
     pub(crate) image: &'a [u8],
     /// The script that the device stops in, or the sectors that the new device of an upgrade has.

@@ -1,9 +1,8 @@
 // Upgrades of an image over devices that stop.
-use crate::stops::tell_left;
+use crate::task::Task;
 use device::Device;
 use image_builder::{UpgradeFault, upgrade};
 use script::RunFault;
-use std::alloc::Global;
 use std::io::Write;
 
 // Reports the outcome of an upgrade.
@@ -14,18 +13,19 @@ fn tell_outcome(outcome: Result<(), UpgradeFault>, reported: &mut Vec<u8>) -> Re
     writeln!(reported, "= {fault}").or(Err(RunFault::Write))
 }
 
-/// Upgrades the image of one device to another one. Reports its outcome and what a power cut leaves
-/// of the new one, and answers whether a device stopped.
-pub(crate) fn run_upgrade<D: Device, E: Device>(
-    alloc: Global,
-    old: D,
-    new: E,
-    last: &[u8],
-    reported: &mut Vec<u8>,
-) -> Result<bool, RunFault> {
-    let mut new = new;
-    let outcome = upgrade(alloc, old, &mut new);
-    tell_outcome(outcome, reported)?;
-    tell_left(alloc, new, last, reported)?;
-    Ok(outcome.is_err())
+impl Task<'_> {
+    /// Upgrades the image of one device to another one. Reports its outcome and what a power cut
+    /// leaves of the new one, and answers whether a device stopped.
+    pub(crate) fn run_upgrade<D: Device, E: Device>(
+        &self,
+        old: D,
+        new: E,
+        reported: &mut Vec<u8>,
+    ) -> Result<bool, RunFault> {
+        let mut new = new;
+        let outcome = upgrade(self.alloc, old, &mut new);
+        tell_outcome(outcome, reported)?;
+        self.tell_left(new, reported)?;
+        Ok(outcome.is_err())
+    }
 }

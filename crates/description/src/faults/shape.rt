@@ -58,21 +58,6 @@ fn fits(alloc: Global, table: &Table, key: Key) -> Result<bool, AllocError>
     }
 }
 
-// The first of these keys where nothing fits, if there is one.
-fn first_misfit(alloc: Global, table: &Table, keys: &[Key]) -> Result<Option<Key>, AllocError>
-    ensures { IfOk result (λ found. MatchOption found
-        (All (λ key. Fits key (table_view table.now)) keys.now)
-        (λ key. Contains keys.now key × (Fits key (table_view table.now) → ⊥))) }
-{
-    for key in keys {
-        let is_fit = fits(alloc, table, *key)?;
-        if !is_fit {
-            return Ok(Some(*key));
-        }
-    }
-    Ok(None)
-}
-
 // The keys of a table.
 fn keys_of(name: TableName) -> &'static [Key]
     ensures { result.now ≡ keys_of name }
@@ -107,12 +92,19 @@ fn keys_of(name: TableName) -> &'static [Key]
 }
 
 // The first key of a table where nothing fits, if there is one.
-fn misfit_in(alloc: Global, table: &Table, name: TableName) -> Result<Option<Key>, AllocError>
+fn first_misfit(alloc: Global, table: &Table, name: TableName) -> Result<Option<Key>, AllocError>
     ensures { IfOk result (λ found. MatchOption found
         (All (λ key. Fits key (table_view table.now)) (keys_of name))
         (λ key. Contains (keys_of name) key × (Fits key (table_view table.now) → ⊥))) }
 {
-    first_misfit(alloc, table, keys_of(name))
+    let keys = keys_of(name);
+    for key in keys {
+        let is_fit = fits(alloc, table, *key)?;
+        if !is_fit {
+            return Ok(Some(*key));
+        }
+    }
+    Ok(None)
 }
 
 // A key that is none of the table's, if there is one.
@@ -234,7 +226,7 @@ fn misfit_flaw<'a>(alloc: Global, table: &Table, name: TableName) -> Result<Flaw
     requires refused { IsTableOf name (table_view table.now) → ⊥ }
     ensures { IfOk result (λ flaw. IsFlaw (keys_of name) (table_view table.now) flaw) }
 {
-    let misfit = misfit_in(alloc, table, name)?;
+    let misfit = first_misfit(alloc, table, name)?;
     match misfit {
         Some(key) => flaw_at(alloc, table, key),
         None => unreachable!(),
@@ -306,7 +298,7 @@ fn misfit_place<'a>(alloc: Global, table: &'a Table) -> Result<ShapePlace<'a>, A
     requires refused { (d : Description) → IsDescription (table_view table.now) d → ⊥ }
     ensures { IfOk result (BreaksShape (table_view table.entry.now)) }
 {
-    let misfit = misfit_in(alloc, table, TableName::Whole)?;
+    let misfit = first_misfit(alloc, table, TableName::Whole)?;
     match misfit {
         Some(key) => place_at_key(alloc, table, key),
         None => unreachable!(),
