@@ -30,6 +30,17 @@ fn copy_out(bytes: &[u8], buffer: &mut [u8], size: &mut usize) -> bool
     true
 }
 
+// Moves a value to the heap, or drops it if memory runs out. Any type has a short proof: a session's
+// own has all that it drops.
+fn boxed<T: Drop>(alloc: Global, value: T) -> Option<Box<T>>
+    ensures { IfSome result (λ boxed. boxed.value ≡ value) }
+{
+    match Box::new(alloc, value) {
+        Ok(boxed) => Some(boxed),
+        Err(_) => None,
+    }
+}
+
 impl Session {
     /// Opens a session on storage that holds these bytes, as `HostKernel::open` does.
     pub fn open(alloc: Global, image: &[u8], cache: u64) -> Result<Session, Status>
@@ -51,10 +62,7 @@ impl Session {
     pub fn boxed(self) -> Option<Box<Session>>
         ensures { IfSome result (λ session. session.value ≡ self) }
     {
-        match Box::new(self.alloc, self) {
-            Ok(session) => Some(session),
-            Err(_) => None,
-        }
+        boxed(self.alloc, self)
     }
 
     /// Drops the session, with the image and the calls that it keeps. Returns nothing.
