@@ -1,4 +1,4 @@
--- An invocation of which a line's first words say all but the registers that it sends.
+-- An invocation, put together from how its line begins and the registers that it sends.
 use Rattle.script.specs.Names.{ℕ, List, Command}
 use Rattle.model.specs.declared.command.Command.TheVariants as command
 use Rattle.script.specs.declared.short.Order.{Order}
