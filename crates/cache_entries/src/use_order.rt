@@ -52,6 +52,29 @@ fn place_of(numbers: &[u64], number: u64) -> Option<usize>
     None
 }
 
+// Moves the number at index `place` to the end, and those behind it one index forward.
+fn shift_to_end(numbers: &mut [u64], place: usize, number: u64)
+    requires there { slice_get numbers.old place ≡ Some number }
+    requires once { AllDiffer numbers.old }
+    ensures { numbers.new ≡ without number numbers.old ++ number ∷ [] }
+{
+    let last = numbers.len() - 1;
+    for i in place..last {
+        numbers[i] = numbers[i + 1];
+    }
+    numbers[last] = number;
+}
+
+// The same in a `Vec`.
+fn move_place_to_end(numbers: &mut Vec<u64>, place: usize, number: u64)
+    requires there { slice_get numbers.old.items place ≡ Some number }
+    requires once { AllDiffer numbers.old.items }
+    ensures moved { numbers.new.items ≡ without number numbers.old.items ++ number ∷ [] }
+    ensures capacity { vec_capacity numbers.new ≡ vec_capacity numbers.old }
+{
+    shift_to_end(numbers, place, number);
+}
+
 // Moves a number to the end of the latest, if it is one of them. Returns whether it is.
 fn move_to_end(latest: &mut Vec<u64>, number: u64) -> bool
     requires { AllDiffer latest.old.items }
@@ -67,8 +90,7 @@ fn move_to_end(latest: &mut Vec<u64>, number: u64) -> bool
     let Some(place) = place_of(latest, number) else {
         return false;
     };
-    latest.remove(place);
-    latest.push_reserved(number);
+    move_place_to_end(latest, place, number);
     true
 }
 

@@ -1,0 +1,20 @@
+use Rattle.cache_entries.proofs.Names.{[], length, set, subst, arith, without, slice_get_within}
+use Rattle.std.proofs.Common.{◌≡◌, ◌∷◌, ◌++◌, ◌+◌, ◌<◌, ◌-◌}
+use Rattle.cache_entries.proofs.Moves.{move_begun, moved_up, moved_last}
+use Rattle.cache_entries.proofs.use_order.shift_to_end.Goals as goal
+
+pub loop-i-init : goal.loop-i-init
+loop-i-init c = move_begun c.args.number c.args.numbers.now c.args.place c.requires.there c.requires.once
+
+pub loop-i-preserved : goal.loop-i-preserved
+loop-i-preserved c =
+    moved_up c.args.number c.loop-i.numbers c.args.numbers.now c.args.place c.loop-i.i (c.loop-i.i + 1) c.requires.there c.requires.once
+    c.loop-i.auto.i (omega arith) (omega (arith, c.loop-i-test.true)) c.loop-i.invariant
+
+pub returns : goal.returns
+returns c =
+    let within : c.args.place < length c.args.numbers.now = slice_get_within c.args.numbers.now c.args.place c.args.number c.requires.there in
+    let last : c.loop-i.i ≡ length c.args.numbers.now - 1 = omega (arith, within, c.loop-i-test.false, c.loop-i.auto.i-end (omega (arith, within))) in
+    subst (λ k. set c.loop-i.numbers k c.args.number ≡ without c.args.number c.args.numbers.now ++ c.args.number ∷ []) last
+    (moved_last c.args.number c.loop-i.numbers c.args.numbers.now c.args.place c.loop-i.i c.requires.there c.requires.once c.loop-i.auto.i
+    (omega (arith, last, within)) c.loop-i.invariant)
