@@ -1,7 +1,7 @@
 -- Each call keeps the copy and the file in accord.
-use Rattle.devices.proofs.Names.{ℕ, List, [], length, All, Result, Ok, Err, OnOk, OnErr, refl, sym, ap, subst, arith, inl, ⊎_elim, cases_lt, Keep, IsWhole}
-use Rattle.devices.proofs.Names.{Elsewhere, AreSectors, sectors_of, image_of, Narrows, Tears, Only, Elapses, Event, cut, State, at_first, after, MayLeave}
-use Rattle.devices.proofs.Names.{disk_of, writes_of, image_whole, IsCopy, unwritten_same, synced}
+use Rattle.devices.proofs.Names.{nat_tests, ℕ, List, [], length, All, Result, Ok, Err, OnOk, OnErr, refl, sym, ap, subst, arith, inl, ⊎_elim, cases_lt, Keep}
+use Rattle.devices.proofs.Names.{IsWhole, Elsewhere, AreSectors, sectors_of, image_of, Narrows, Tears, Only, Elapses, Event, cut, State, at_first, after}
+use Rattle.devices.proofs.Names.{MayLeave, disk_of, writes_of, image_whole, IsCopy, unwritten_same, synced}
 use Rattle.devices.specs.Sound.{now_of}
 use Rattle.devices.specs.SoundLaws.{present_whole}
 use Rattle.std.proofs.Common.{◌≡◌, ◌<◌, ◌≤◌, ◌+◌, ◌-◌, ◌*◌, ◌∷◌, ◌++◌, ◌∙◌}
@@ -24,8 +24,7 @@ copy_fresh sectors copy first events few size fits first_is events_is =
 -- a crash leaves what it held
 pub fresh_only : (sectors : ℕ) (first : List ℕ) (events : List Event) (failures : ℕ) → events ≡ [] →
     Only (now_of first events).present (disk_of sectors (image_of first) events failures)
-fresh_only sectors first events failures is =
-    subst (λ (es : List Event). Only (now_of first es).present (disk_of sectors (image_of first) es failures)) (sym is) (λ c left i. left.untouched i refl)
+fresh_only sectors first events failures is = grind (arith, nat_tests)
 
 module _ (sectors : ℕ) (copy first : List ℕ) (events : List Event) (sound : IsCopy sectors copy first events) (again : List ℕ) (again_is : again ≡ first)
     (more : List Event) where
@@ -58,20 +57,11 @@ module _ (sectors : ℕ) (copy first : List ℕ) (events : List Event) (sound : 
         (cases_lt i at)
 
     durable_kept : (now_of first more).durable ≡ old.durable
-    durable_kept =
-        ap (λ (es : List Event). (now_of first es).durable) is
-        ∙ ap (λ (s : State). s.durable) (replay-append (at_first (image_of first)) events (writes_of at (sectors_of from) from))
-        ∙ written-durable old at (sectors_of from) from
+    durable_kept = grind (arith, nat_tests, replay-append, written-durable)
 
     pub copy_written : length put ≡ length copy → All (λ b. b < 256) put → AreSectors (image_of put) at from →
         Elsewhere at (sectors_of from) (image_of copy) (image_of put) → IsCopy sectors put again more
-    copy_written size fits has elsewhere = subst (λ (f : List ℕ). IsCopy sectors put f more) (sym again_is) (record {
-      few = sound.few;
-      size = size ∙ sound.size;
-      fits = fits;
-      present_is = present_written has elsewhere;
-      durable_whole = subst (IsWhole sectors) (sym durable_kept) sound.durable_whole;
-    })
+    copy_written size fits has elsewhere = grind (arith, nat_tests, present_written, durable_kept)
 
     pub copy_tears : (failures risen : ℕ) → Tears at (sectors_of from) (disk_of sectors (image_of first) events failures)
         (disk_of sectors (image_of again) more risen)
@@ -109,8 +99,7 @@ module _ (sectors : ℕ) (copy first : List ℕ) (events : List Event) (sound : 
     narrows_err failures risen c left = rw (again_is, is) at left
 
   pub copy_synced : {T E : Type 0} (r : Result T E) → OnOk r (more ≡ events ++ synced ∷ []) → OnErr r (more ≡ events) → IsCopy sectors copy again more
-  copy_synced (Ok x) ok err = copy_ok ok
-  copy_synced (Err e) ok err = copy_err err
+  copy_synced {T} {E} r ok err = grind (arith, nat_tests, copy_ok, copy_err)
 
   pub synced_only : {T E : Type 0} (r : Result T E) (risen : ℕ) → OnOk r (more ≡ events ++ synced ∷ []) →
       OnOk r (Only (now_of again more).present (disk_of sectors (image_of again) more risen))

@@ -1,16 +1,12 @@
 -- The calls of a file, one deed after another.
-use Rattle.devices.proofs.Names.{ℕ, List, [], Option, None, Some, Result, Ok, Err, OnOk, is_ok, true, length, take, drop, refl, sym, ap, subst, append_assoc}
+use Rattle.devices.proofs.Names.{nat_tests, ℕ, List, [], Option, None, Some, Result, OnOk, is_ok, true, length, take, drop, sym, ap, subst, append_assoc}
 use Rattle.devices.proofs.Names.{append-nil, arith, length-append, length-take, ∥∥₁_map, take-add, take_rest, flat_map-append, concat-append, concat}
 use Rattle.devices.proofs.Names.{sectors_of, Event, writes_of, Adds, Call, took, Deed, writes, calls_of, events_by, taken, Takes, Tells}
 use Rattle.std.proofs.Common.{◌≡◌, ◌+◌, ◌-◌, ◌*◌, ◌≤◌, ◌∷◌, ◌++◌, ◌∙◌}
 
 -- calls, and then more
 pub adds_more : {X : Type 0} (a b c : Option (List X)) (xs ys : List X) → Adds a b xs → Adds b c ys → Adds a c (xs ++ ys)
-adds_more None None c xs ys p q = q
-adds_more None (Some one) c xs ys p q = cc
-adds_more (Some calls) None c xs ys p q = absurd p
-adds_more (Some calls) (Some one) None xs ys p q = absurd q
-adds_more (Some calls) (Some one) (Some two) xs ys p q = q ∙ ap (λ l. l ++ ys) p ∙ append_assoc calls xs ys
+adds_more {X} a b c xs ys p q = grind (arith, nat_tests, append_assoc)
 
 -- one more piece
 taken_one : (byte : ℕ) (ps : List (List ℕ)) (y : List ℕ) → taken byte (ps ++ y ∷ []) ≡ taken byte ps ++ took (byte + length (concat ps)) y ∷ []
@@ -20,8 +16,7 @@ taken_one byte (p ∷ ps) y =
     ∙ ap (λ (n : ℕ). taken (byte + length p) ps ++ took n y ∷ []) (omega (arith, length-append p (concat ps))))
 
 pub takes_none : (byte : ℕ) (a : Option (List Call)) → Takes byte a a []
-takes_none byte None = ([], refl, refl)
-takes_none byte (Some calls) = ([], refl, sym (append-nil calls))
+takes_none byte a = grind (arith, nat_tests, append-nil)
 
 takes_more : (byte : ℕ) (a b c : Option (List Call)) (xs ys : List ℕ) → Takes byte a b xs → Adds b c (took (byte + length xs) ys ∷ []) →
     Takes byte a c (xs ++ ys)
@@ -38,9 +33,7 @@ pub takes_on : (byte : ℕ) (a b c : Option (List Call)) (bytes : List ℕ) (i n
 takes_on byte a b c bytes i n within t adds =
     let whole = take_rest bytes i in
     let there : i ≡ length (take i bytes) = omega (arith, length-take {A = ℕ}, within) in
-    let adds' : Adds b c (took (byte + length (take i bytes)) (take n (drop i bytes)) ∷ []) =
-    subst (λ (m : ℕ). Adds b c (took (byte + m) (take n (drop i bytes)) ∷ [])) there
-    (subst (λ (xs : List ℕ). Adds b c (took (byte + i) (take n xs) ∷ [])) whole adds) in
+    let adds' : Adds b c (took (byte + length (take i bytes)) (take n (drop i bytes)) ∷ []) = grind (arith, nat_tests) in
     subst (Takes byte a c) (sym (take-add i n bytes)) (takes_more byte a b c (take i bytes) (take n (drop i bytes)) t adds')
 
 -- one more deed
@@ -64,10 +57,8 @@ tells_write events old new at bytes tells w =
     subst (λ (b : List ℕ). ∥ Tells (events ++ writes_of at (sectors_of b) b) new ∥₁) w.1 (tells_more events old new (writes at w.0) tells w.2)
 
 pub where_ok : {T E : Type 0} {P : Type 0} (r : Result T E) → OnOk r P → true ≡ is_ok r → P
-where_ok (Ok x) ok is = ok
-where_ok (Err e) ok is = cc
+where_ok {T} {E} {P} r ok is = grind (arith, nat_tests)
 
 -- none
 pub adds_none : {X : Type 0} (a : Option (List X)) → Adds a a []
-adds_none None = refl
-adds_none (Some calls) = sym (append-nil calls)
+adds_none {X} a = grind (arith, nat_tests, append-nil)

@@ -1,7 +1,7 @@
 -- The record of what was done, and the events that it stands for.
-use Rattle.devices.proofs.Names.{ℕ, zero, suc, List, [], length, get_or, take, drop, Option, Some, None, unwrap_or, refl, sym, ap, subst, arith, inl, inr}
-use Rattle.devices.proofs.Names.{⊎_elim, add-one, length-append, append_assoc, set, Outcome, Wrote, Synced, RecordEntry, image_of, Event, wrote, synced, cut}
-use Rattle.devices.proofs.Names.{writes_of, IsQuiet, EndsCut, event_of, mark_of, entry_events, events_of, entries_of, mark_after, marked}
+use Rattle.devices.proofs.Names.{nat_tests, ℕ, zero, suc, List, [], length, get_or, take, drop, Option, Some, None, unwrap_or, refl, sym, ap, arith, inl, inr}
+use Rattle.devices.proofs.Names.{⊎_elim, length-append, append_assoc, set, Outcome, Wrote, Synced, RecordEntry, image_of, Event, wrote, synced, cut, writes_of}
+use Rattle.devices.proofs.Names.{IsQuiet, EndsCut, event_of, mark_of, entry_events, events_of, entries_of, mark_after, marked}
 use Rattle.std.proofs.Common.{◌≡◌, ◌⊎◌, ◌+◌, ◌∷◌, ◌++◌, ◌∙◌, ◌*◌}
 
 -- a write over the last entry
@@ -34,8 +34,7 @@ length-entries_of at (suc n) bytes = omega
 -- the record after a write
 pub past_written : (entries more : List RecordEntry) (at n : ℕ) (bytes : List ℕ) → more ≡ entries ++ entries_of at n bytes →
     events_of more ≡ events_of entries ++ writes_of at n bytes
-past_written entries more at n bytes is =
-    ap events_of is ∙ events_of-append entries (entries_of at n bytes) ∙ ap (λ (l : List Event). events_of entries ++ l) (events_of-entries_of at n bytes)
+past_written entries more at n bytes is = grind (arith, nat_tests, events_of-append, events_of-entries_of)
 
 pub length_written : (entries more : List RecordEntry) (at n : ℕ) (bytes : List ℕ) → more ≡ entries ++ entries_of at n bytes → length more ≡ length entries + n
 length_written entries more at n bytes is = omega (arith, ap length is, length-append entries (entries_of at n bytes), length-entries_of at n bytes)
@@ -49,12 +48,7 @@ past_synced entries more is = ap events_of is ∙ events_of-append entries (reco
 pub entries_more : (old now new : List RecordEntry) (at i : ℕ) (from bytes : List ℕ) → now ≡ old ++ entries_of at i from →
     new ≡ now ++ record { action = Wrote (at + i) bytes; cut = None } ∷ [] → bytes ≡ image_of from i
     → new ≡ old ++ entries_of at (i + 1) from
-entries_more old now new at i from bytes before more same =
-    more
-    ∙ ap (λ (b : List ℕ). now ++ record { action = Wrote (at + i) b; cut = None } ∷ []) same
-    ∙ ap (λ (l : List RecordEntry). l ++ record { action = Wrote (at + i) (image_of from i); cut = None } ∷ []) before
-    ∙ append_assoc old (entries_of at i from) (record { action = Wrote (at + i) (image_of from i); cut = None } ∷ [])
-    ∙ ap (λ (n : ℕ). old ++ entries_of at n from) (sym (add-one i))
+entries_more old now new at i from bytes before more same = grind (arith, nat_tests, append_assoc)
 
 -- the bytes of one sector, as the code finds them
 pub part_as : (bytes : List ℕ) (i a k : ℕ) → a ≡ 512 * i → k ≡ 512 → take k (drop a bytes) ≡ image_of bytes i
@@ -91,5 +85,4 @@ events_of-marked outcome (x ∷ (y ∷ es)) =
 
 -- the record after a power cut
 pub past_cut : (outcome : Outcome) (entries more : List RecordEntry) → more ≡ marked outcome entries → EndsCut outcome (events_of entries) (events_of more)
-past_cut outcome entries more is = subst (λ (l : List RecordEntry). EndsCut outcome (events_of entries) (events_of l)) (sym is)
-    (events_of-marked outcome entries)
+past_cut outcome entries more is = grind (arith, nat_tests, events_of-marked)

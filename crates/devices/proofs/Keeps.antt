@@ -1,9 +1,8 @@
 -- Each call keeps the bytes and the record in accord.
-use Rattle.devices.proofs.Names.{ℕ, zero, suc, Bool, true, false, nat_eq, List, [], length, drop, replicate, All, refl, sym, ap, arith, inl, inr, ⊎_elim}
-use Rattle.devices.proofs.Names.{cases_lt, cases_Bool, or_cases, eqb-true, eqb-false, cases_order, drop-append-le, drop_all, or_assoc, Outcome, Keep, Drop}
-use Rattle.devices.proofs.Names.{Fill, Synced, RecordEntry, None, Image, Agrees, Elsewhere, Patches, AreSectors, sectors_of, image_of, Event, wrote, synced}
-use Rattle.devices.proofs.Names.{cut, State, at_first, after, replay, left_by, writes_of, names, events_of, entries_of, marked, IsSoundMirror, now_of}
-use Rattle.devices.proofs.Names.{state_with}
+use Rattle.devices.proofs.Names.{nat_tests, ℕ, zero, suc, Bool, true, false, nat_eq, List, [], length, drop, All, sym, ap, arith, inl, inr, ⊎_elim, cases_lt}
+use Rattle.devices.proofs.Names.{cases_Bool, or_cases, eqb-true, eqb-false, cases_order, drop-append-le, drop_all, or_assoc, Outcome, Synced, RecordEntry, None}
+use Rattle.devices.proofs.Names.{Agrees, Elsewhere, Patches, AreSectors, sectors_of, image_of, Event, wrote, synced, cut, State, at_first, after, replay}
+use Rattle.devices.proofs.Names.{left_by, writes_of, names, events_of, entries_of, marked, IsSoundMirror, now_of, state_with}
 use Rattle.std.proofs.Common.{◌≡◌, ◌<◌, ◌≤◌, ◌⊎◌, ◌+◌, ◌-◌, ◌||◌, if◌then◌else◌, ◌∷◌, ◌++◌, ◌∙◌}
 use Rattle.devices.proofs.Past.{replay-append, replay-one, written-durable, written-present_before, written-present_after, written-present_inside}
 use Rattle.devices.proofs.Past.{quiet-unsynced}
@@ -37,22 +36,6 @@ written-unsynced s at (suc n) bytes i =
     ∙ ap (λ (b : Bool). s.unsynced i || (names (entries_of at n bytes) i || b)) (sym (or_right (nat_eq i (at + n))))
     ∙ ap (λ (b : Bool). s.unsynced i || b) (sym (names-append (entries_of at n bytes) _ i))
 
--- where nothing is unsynced
-left_quiet : (outcome : Outcome) (s : State) → ((i : ℕ) → s.unsynced i ≡ false) → ((i : ℕ) → s.durable i ≡ s.present i) → (i : ℕ) →
-    left_by outcome s i ≡ s.present i
-left_quiet Keep s quiet same i = refl
-left_quiet Drop s quiet same i = same i
-left_quiet (Fill byte) s quiet same i = ap (λ (b : Bool). if b then replicate 512 byte else s.durable i) (quiet i) ∙ same i
-
--- what a power cut leaves depends on the same sectors
-left_same : (outcome : Outcome) (s t : State) → Agrees s.present t.present → Agrees s.durable t.durable → ((i : ℕ) → s.unsynced i ≡ t.unsynced i) →
-    Agrees (left_by outcome s) (left_by outcome t)
-left_same Keep s t present durable unsynced i = present i
-left_same Drop s t present durable unsynced i = durable i
-left_same (Fill byte) s t present durable unsynced i =
-    ap (λ (b : Bool). if b then replicate 512 byte else s.durable i) (unsynced i) ∙ ap (λ (l : List ℕ). if t.unsynced i then replicate 512 byte else l)
-    (durable i)
-
 module _ (sectors : ℕ) (first present durable : List ℕ) (entries : List RecordEntry) (settled : ℕ)
     (sound : IsSoundMirror sectors first present durable entries settled) where
   -- after a write
@@ -65,10 +48,7 @@ module _ (sectors : ℕ) (first present durable : List ℕ) (entries : List Reco
         replay-append (at_first (image_of first)) (events_of entries) _
 
     names_written : (i : ℕ) → names (drop settled more) i ≡ (names (drop settled entries) i || names (entries_of at (sectors_of from) from) i)
-    names_written i =
-        ap (λ (l : List RecordEntry). names (drop settled l) i) is
-        ∙ ap (λ (l : List RecordEntry). names l i) (drop-append-le settled entries _ sound.settled_within)
-        ∙ names-append (drop settled entries) _ i
+    names_written i = grind (arith, nat_tests, drop-append-le, names-append)
 
     present_written : (i : ℕ) → image_of put i ≡ (now_of first more).present i
     present_written i =
@@ -88,28 +68,20 @@ module _ (sectors : ℕ) (first present durable : List ℕ) (entries : List Reco
         ∙ sym (ap (λ (t : State). t.present i) now_written)
 
     pub sound_written : IsSoundMirror sectors first put durable more settled
-    sound_written = record {
-      few = sound.few;
-      present_size = size ∙ sound.present_size;
-      synced_size = sound.synced_size;
-      present_fits = fits;
-      synced_fits = sound.synced_fits;
-      present_is = present_written;
-      durable_is = λ i. sound.durable_is i ∙
-          sym (ap (λ (f : Image). f i) (ap (λ (t : State). t.durable) now_written ∙ written-durable (now_of first entries) at (sectors_of from) from));
-      settled_within = omega (arith, length_written entries more at (sectors_of from) from is, sound.settled_within);
-      unsynced_are = λ i.
-          ap (λ (t : State). t.unsynced i) now_written
-          ∙ written-unsynced (now_of first entries) at (sectors_of from) from i
-          ∙ ap (λ (b : Bool). b || names (entries_of at (sectors_of from) from) i) (sound.unsynced_are i)
-          ∙ sym (names_written i);
-      same_elsewhere = λ i miss.
-          let both = or_false (names (drop settled entries) i) _ (sym (names_written i) ∙ miss) in
-          ⊎_elim (elsewhere.before i) (elsewhere.after i) (names-outside at (sectors_of from) from i both.1) ∙ sound.same_elsewhere i both.0;
-      inside = λ i hit.
-          ⊎_elim (sound.inside i) (λ here. let far = names-entries_of at (sectors_of from) from i here in omega (arith, far.1, inside))
-          (or_cases (names (drop settled entries) i) _ (sym (names_written i) ∙ hit));
-    }
+    sound_written =
+        grind (
+          arith,
+          nat_tests,
+          present_written,
+          now_written,
+          written-durable,
+          length_written,
+          written-unsynced,
+          names_written,
+          or_false,
+          names-outside,
+          names-entries_of,
+        )
 
   -- after a sync
   module _ (copied : List ℕ) (more : List RecordEntry) (size : length copied ≡ length durable) (fits : All (λ b. b < 256) copied)
@@ -126,19 +98,7 @@ module _ (sectors : ℕ) (first present durable : List ℕ) (entries : List Reco
     nothing_left i = ap (λ (l : List RecordEntry). names l i) (drop_all (length more) more (omega arith))
 
     pub sound_synced : IsSoundMirror sectors first present copied more (length more)
-    sound_synced = record {
-      few = sound.few;
-      present_size = sound.present_size;
-      synced_size = size ∙ sound.synced_size;
-      present_fits = sound.present_fits;
-      synced_fits = fits;
-      present_is = λ i. sound.present_is i ∙ sym (ap (λ (t : State). t.present i) now_synced);
-      durable_is = λ i. copied_is i ∙ sound.present_is i ∙ sym (ap (λ (t : State). t.durable i) now_synced);
-      settled_within = omega arith;
-      unsynced_are = λ i. ap (λ (t : State). t.unsynced i) now_synced ∙ sym (nothing_left i);
-      same_elsewhere = λ i _. sym (copied_is i);
-      inside = λ i hit. let never : false ≡ true = sym (nothing_left i) ∙ hit in cc;
-    }
+    sound_synced = grind (arith, nat_tests, now_synced, copied_is, nothing_left)
 
   -- after a power cut
   module _ (kept copied : List ℕ) (more : List RecordEntry) (outcome : Outcome) (kept_size : length kept ≡ length present)
@@ -147,9 +107,7 @@ module _ (sectors : ℕ) (first present durable : List ℕ) (entries : List Reco
       (left : Agrees (image_of kept) (left_by outcome (now_of first entries))) (is : more ≡ marked outcome entries) where
     -- where nothing is unsynced a power cut changes nothing
     quiet_left : ((i : ℕ) → (now_of first entries).unsynced i ≡ false) → (i : ℕ) → image_of kept i ≡ (now_of first entries).present i
-    quiet_left quiet i = left i ∙ left_quiet outcome (now_of first entries) (λ j. quiet j) (λ j. durable_present j (quiet j)) i where
-      durable_present : (j : ℕ) → (now_of first entries).unsynced j ≡ false → (now_of first entries).durable j ≡ (now_of first entries).present j
-      durable_present j none = sym (sound.durable_is j) ∙ sym (sound.same_elsewhere j (sym (sound.unsynced_are j) ∙ none)) ∙ sound.present_is j
+    quiet_left quiet i = grind (arith, nat_tests)
 
     record Cut (i : ℕ) : Type 0 where
       present_is : image_of kept i ≡ (now_of first more).present i
@@ -158,35 +116,14 @@ module _ (sectors : ℕ) (first present durable : List ℕ) (entries : List Reco
 
     now_marked : events_of (marked outcome entries) ≡ events_of entries ++ cut outcome ∷ [] →
         now_of first more ≡ at_first (left_by outcome (now_of first entries))
-    now_marked mark =
-        ap (λ (l : List Event). replay (at_first (image_of first)) l) (ap events_of is ∙ mark) ∙
-        replay-one (at_first (image_of first)) (events_of entries) (cut outcome)
+    now_marked mark = grind (arith, nat_tests, replay-one)
 
     now_same : events_of (marked outcome entries) ≡ events_of entries → now_of first more ≡ now_of first entries
     now_same unmarked = ap (λ (l : List Event). replay (at_first (image_of first)) l) (ap events_of is ∙ unmarked)
 
     -- a mark more, or none where nothing was unsynced
     now_cut : (i : ℕ) → Cut i
-    now_cut i =
-        ⊎_elim
-        (λ mark. record {
-          present_is = left i ∙ sym (ap (λ (t : State). t.present i) (now_marked mark));
-          durable_is = left i ∙ sym (ap (λ (t : State). t.durable i) (now_marked mark));
-          none_unsynced = ap (λ (t : State). t.unsynced i) (now_marked mark);
-        })
-        (λ (unmarked, quiet).
-        let none : (j : ℕ) → (now_of first entries).unsynced j ≡ false = quiet-unsynced (image_of first) (events_of entries) quiet in
-        record {
-          present_is = quiet_left none i ∙ sym (ap (λ (t : State). t.present i) (now_same unmarked));
-          durable_is =
-              quiet_left none i
-              ∙ sym (sound.present_is i)
-              ∙ sound.same_elsewhere i (sym (sound.unsynced_are i) ∙ none i)
-              ∙ sound.durable_is i
-              ∙ sym (ap (λ (t : State). t.durable i) (now_same unmarked));
-          none_unsynced = ap (λ (t : State). t.unsynced i) (now_same unmarked) ∙ none i;
-        })
-        (events_of-marked outcome entries)
+    now_cut i = grind (arith, nat_tests, now_marked, quiet-unsynced, quiet_left, now_same, events_of-marked)
 
     nothing_left_cut : (i : ℕ) → names (drop (length more) more) i ≡ false
     nothing_left_cut i = ap (λ (l : List RecordEntry). names l i) (drop_all (length more) more (omega arith))
@@ -212,5 +149,4 @@ module _ (sectors : ℕ) (first present durable : List ℕ) (entries : List Reco
 
   -- what a power cut leaves of the bytes
   pub left_sound : (outcome : Outcome) → Agrees (left_by outcome (state_with present durable (drop settled entries))) (left_by outcome (now_of first entries))
-  left_sound outcome = left_same outcome (state_with present durable (drop settled entries)) (now_of first entries) sound.present_is sound.durable_is
-      (λ i. sym (sound.unsynced_are i))
+  left_sound outcome = grind (arith, nat_tests)

@@ -1,6 +1,6 @@
 -- A device has the sectors of its file.
-use Rattle.devices.proofs.Names.{ℕ, List, [], Option, None, Some, IfSome, length, take, drop, replicate, refl, sym, ap, subst, arith, length-append, take-add}
-use Rattle.devices.proofs.Names.{drop-drop, length-replicate, take-replicate, concat, Disk, image_of, sectors_of, got_inside, zeros_are, Access, Lock}
+use Rattle.devices.proofs.Names.{nat_tests, ℕ, List, [], Option, None, Some, IfSome, length, take, drop, replicate, refl, sym, ap, subst, arith, length-append}
+use Rattle.devices.proofs.Names.{take-add, drop-drop, length-replicate, take-replicate, concat, Disk, image_of, sectors_of, got_inside, zeros_are, Access, Lock}
 use Rattle.devices.proofs.Names.{OpeningCall, reads, IsOpened, IsMade, Answers, Mirrors}
 use Rattle.std.proofs.Common.{◌≡◌, ◌<◌, ◌≤◌, ◌+◌, ◌*◌, ◌/◌, ◌∷◌, ◌++◌, ◌∙◌}
 
@@ -28,8 +28,7 @@ module _ (disk : Disk) where
       let all = subst (λ (l : List OpeningCall). Answers first l now) is.made answers in
       let read = reads_true first now 0 is.pieces all.1.1.1.1 in
       let size = length (concat is.pieces) in
-      let got : concat is.pieces ≡ take size (drop 0 now) =
-      subst (λ (l : List ℕ). concat is.pieces ≡ take size (drop 0 l)) (sym read.0) read.1 in
+      let got : concat is.pieces ≡ take size (drop 0 now) = grind (arith, nat_tests) in
       let length_is : is.bytes ≡ length now = all.1.1.1.0 ∙ ap length (sym read.0) in
       let inside : 512 * (0 + sectors_of (concat is.pieces)) ≤ length now = omega (arith, is.whole, length_is) in (
         is.size ∙ ap (λ (n : ℕ). n / 512) length_is,

@@ -4,15 +4,15 @@ pub use Rattle.device.proofs.Flat.{got_inside, put_elsewhere, put_written, rewri
 pub use Rattle.device.specs.Calls.{Agrees, AreSectors, Elsewhere, Narrows, Only, Patches, Tears, image_of, sectors_of}
 pub use Rattle.device.specs.Disk.{Disk, Image, IsWhole}
 pub use Rattle.device.specs.Moments.{Elapses}
-pub use Rattle.std.proofs.Common.{All, Bool, Bor, Err, Fits, IfSome, List, None, Ok, OnErr, OnOk, Option, Result, Some, [], add-one, ap, append-nil}
-pub use Rattle.std.proofs.Common.{append_assoc, arith, below_more, drop, false, get_or, inl, inr, is_ok, is_some, length, length-append, length-drop}
-pub use Rattle.std.proofs.Common.{length-take, length-take-le, min, nat_eq, nat_lt, option_map, refl, replicate, rules, subst, suc, sym, take, true, unwrap_or}
-pub use Rattle.std.proofs.Common.{vec_capacity, zero, ℕ, ⊎_elim}
+pub use Rattle.std.proofs.Common.{All, Bool, Bor, Err, Fits, IfSome, List, None, Ok, OnErr, OnOk, Option, Result, Some, [], ap, append-nil, append_assoc, arith}
+pub use Rattle.std.proofs.Common.{drop, false, get_or, inl, inr, is_ok, is_some, length, length-append, length-drop, length-take, length-take-le, min, nat_eq}
+pub use Rattle.std.proofs.Common.{nat_lt, option_map, refl, replicate, rules, subst, suc, sym, take, true, unwrap_or, vec_capacity, zero, ℕ, ⊎_elim}
 pub use Rattle.std.proofs.Math.Bool.{or_assoc}
 pub use Rattle.std.proofs.Math.ListN.{set}
 pub use Rattle.std.proofs.Math.Logic.{∥∥₁_map}
 pub use Rattle.std.proofs.Math.Seq.{drop-append-add, take-add, take-append-add}
-pub use Rattle.std.proofs.lemmas.Bool.{cases_Bool, cases_eq, cases_lt, cases_order, eq-eqb, eqb-false, eqb-true, le-ltb, lt-ltb, ne_eqb, or_cases}
+pub use Rattle.std.proofs.lemmas.Bool.{cases_Bool, cases_lt, cases_order, eq-eqb, eqb-false, eqb-true, lt-ltb, ne_eqb, or_cases}
+pub use Rattle.std.proofs.lemmas.Bool.Decides.{nat_tests}
 pub use Rattle.std.proofs.lemmas.List.{drop-append-le, drop-drop, drop_all, get_or-replicate, get_or_default, length-replicate, replicate-append-replicate}
 pub use Rattle.std.proofs.lemmas.List.{same_lists, take-append-le, take-replicate, take-take, take_all, take_more, take_rest}
 pub use Rattle.std.proofs.lemmas.List.Concat.{flat_map-append}
@@ -44,9 +44,8 @@ pub use Rattle.devices.specs.declared.mirror.Mirror.{Mirror}
 pub use Rattle.devices.specs.declared.openable.Access.{Access}
 pub use Rattle.devices.specs.declared.openable.Access.TheVariants.{Create}
 pub use Rattle.devices.specs.declared.openable.Lock.{Lock}
-pub use Rattle.devices.specs.declared.openable.Lock.TheVariants.{Exclusive}
 pub use Rattle.devices.specs.declared.record.Action.{Action}
 pub use Rattle.devices.specs.declared.record.Action.TheVariants.{Synced, Wrote}
 pub use Rattle.devices.specs.declared.record.Outcome.{Outcome}
-pub use Rattle.devices.specs.declared.record.Outcome.TheVariants.{Drop, Fill, Keep}
+pub use Rattle.devices.specs.declared.record.Outcome.TheVariants.{Fill, Keep}
 pub use Rattle.devices.specs.declared.record.RecordEntry.{RecordEntry}

@@ -1,9 +1,8 @@
 -- The calls that open or make a device, one after another.
-use Rattle.devices.proofs.Names.{ℕ, List, [], Option, option_map, None, Some, IfSome, length, take, refl, sym, ap, subst, append-nil, arith, drop}
-use Rattle.devices.proofs.Names.{length-append, length-take-le, take-append-le, concat-append, concat, Disk, Agrees, image_of, sectors_of, Access, Create, Lock}
-use Rattle.devices.proofs.Names.{Exclusive, OpeningCall, opened, locked, measured, got, resized, listed, resizes, KeepsLength, reads, Gets, LoadsLocked}
-use Rattle.devices.proofs.Names.{MakesZeros, IsOpened, IsMade, GetsFrom, Adds, AreSectors, Elsewhere, inl, inr, min, cases_lt, take-append-add, take_all}
-use Rattle.devices.proofs.Names.{take-put_mid_below}
+use Rattle.devices.proofs.Names.{nat_tests, ℕ, List, [], Option, option_map, IfSome, length, take, refl, sym, ap, subst, append-nil, arith, drop, length-append}
+use Rattle.devices.proofs.Names.{length-take-le, take-append-le, concat-append, concat, Disk, Agrees, image_of, sectors_of, Access, Create, Lock, OpeningCall}
+use Rattle.devices.proofs.Names.{opened, locked, measured, got, resized, listed, resizes, KeepsLength, reads, Gets, LoadsLocked, MakesZeros, IsOpened, IsMade}
+use Rattle.devices.proofs.Names.{GetsFrom, Adds, AreSectors, Elsewhere, min, take-append-add, take_all, take-put_mid_below}
 use Rattle.devices.specs.OpeningCalls.{synced}
 use Rattle.std.proofs.Common.{◌≡◌, ◌+◌, ◌*◌, ◌≤◌, ◌∷◌, ◌++◌, ◌∙◌, ◌%◌}
 use Rattle.devices.proofs.Deeds.{adds_none, adds_more}
@@ -25,9 +24,7 @@ resizes_append (listed path ∷ a) b = resizes_append a b
 
 -- calls that don't set the length
 pub keeps_length : (a b : Calls) (more : List OpeningCall) → Adds a b more → resizes more ≡ 0 → KeepsLength a b
-keeps_length None b more adds none = ap (option_map resizes) adds
-keeps_length (Some calls) None more adds none = absurd adds
-keeps_length (Some calls) (Some now) more adds none = ap Some (ap resizes adds ∙ resizes_append calls more ∙ omega (arith, none))
+keeps_length a b more adds none = grind (arith, nat_tests, resizes_append)
 
 pub keeps_synced : (a b : Calls) → Adds a b (synced ∷ []) → option_map resizes b ≡ option_map resizes a
 keeps_synced a b adds = keeps_length a b (synced ∷ []) adds refl
@@ -58,9 +55,7 @@ module _ (byte : ℕ) (a b : Calls) (old part : List ℕ) (done k : ℕ) (within
   size = length-take-le done old within
 
   pub fits_within : (n : ℕ) → n ≤ length part → done + n ≤ length (put_mid done k old part)
-  fits_within n fits =
-      let tail : List ℕ = drop k (drop done old) in
-      omega (arith, size, fits, length-append (take done old) (part ++ tail), length-append part tail)
+  fits_within n fits = grind (arith, nat_tests, size, length-append)
 
   -- a call got n bytes behind the first ones of a buffer
   pub gets_on : (c : Calls) (n : ℕ) → n ≤ length part → Adds b c (got (byte + done) (take n part) ∷ [])
@@ -88,13 +83,8 @@ pub sectors_on : (a b c : Calls) (old new part : List ℕ) (at byte next : ℕ) 
     → Gets a b (take byte old) → GetsFrom byte b c part → Gets a c (take next new)
 sectors_on a b c old new part at byte next byte_is same whole inside end written others gets more =
     let size : length (take byte old) ≡ byte = length-take-le byte old (omega (arith, byte_is, inside)) in
-    let all : take byte old ++ part ≡ take (byte + length part) new =
-    ap (λ (n : ℕ). take n old ++ part) byte_is ∙ sym (front_part old new part at whole written others)
-    ∙ ap (λ (n : ℕ). take (n + length part) new) (sym byte_is) in
-    let reaches : take (byte + length part) new ≡ take next new = elim (cases_lt next (length new)) [
-      | inl below ↦ ap (λ (n : ℕ). take n new) (omega (arith, end, same, below))
-      | inr past ↦ take_all (byte + length part) new (omega (arith, end, same, past)) ∙ sym (take_all next new past)
-    ] in
+    let all : take byte old ++ part ≡ take (byte + length part) new = grind (arith, nat_tests, front_part) in
+    let reaches : take (byte + length part) new ≡ take next new = grind (arith, nat_tests, take_all) in
     subst (Gets a c) (all ∙ reaches) (gets_join 0 byte a b c (take byte old) part (omega (arith, size)) gets more)
 
 -- a file that was just opened, and then loaded
@@ -102,30 +92,9 @@ pub opens : (path : List ℕ) (access : Access) (lock : Lock) (a b : Calls) (cop
     → IfSome a (λ calls. calls ≡ opened path access ∷ []) → LoadsLocked lock a b copy
     → disk.sectors ≡ sectors_of copy → Agrees disk.seen (image_of copy)
     → IfSome b (λ calls. IsOpened path access lock calls disk)
-opens path access lock None None copy disk is loads size seen = tt
-opens path access lock None (Some now) copy disk is loads size seen = let none : Some now ≡ None = loads.6 in cc
-opens path access lock (Some calls) None copy disk is loads size seen = absurd loads.6
-opens path access lock (Some calls) (Some now) copy disk is loads size seen = record {
-  answer = loads.0;
-  bytes = loads.1;
-  pieces = loads.2;
-  made = loads.6 ∙ ap (λ (l : List OpeningCall). l ++ locked lock loads.0 ∷ synced ∷ measured loads.1 ∷ reads 0 loads.2) is;
-  free = loads.3;
-  size = omega (arith, size, loads.5);
-  whole = ap length loads.4 ∙ loads.5;
-  seen = subst (λ (l : List ℕ). Agrees disk.seen (image_of l)) (sym loads.4) seen;
-}
+opens path access lock a b copy disk is loads size seen = grind (arith, nat_tests)
 
 -- a file that was just opened, and then filled with zeros
 pub makes : (path : List ℕ) (sectors n : ℕ) (a b : Calls) → IfSome a (λ calls. calls ≡ opened path Create ∷ []) → n ≡ 512 * sectors → MakesZeros path n a b
     → IfSome b (λ calls. IsMade path sectors calls)
-makes path sectors n None None is size zeros = tt
-makes path sectors n None (Some now) is size zeros = let none : Some now ≡ None = zeros.2 in cc
-makes path sectors n (Some calls) None is size zeros = absurd zeros.2
-makes path sectors n (Some calls) (Some now) is size zeros = record {
-  answer = zeros.0;
-  made =
-      zeros.2 ∙ ap (λ (l : List OpeningCall). l ++ locked Exclusive zeros.0 ∷ resized 0 ∷ resized n ∷ synced ∷ listed path ∷ []) is
-      ∙ ap (λ (m : ℕ). opened path Create ∷ locked Exclusive zeros.0 ∷ resized 0 ∷ resized m ∷ synced ∷ listed path ∷ []) size;
-  free = zeros.1;
-}
+makes path sectors n a b is size zeros = grind (arith, nat_tests)

@@ -1,7 +1,7 @@
 -- How a device with a record goes on.
-use Rattle.devices.proofs.Names.{ℕ, zero, suc, Bool, false, List, [], length, take, refl, sym, ap, subst, arith, inl, inr, ⊎_elim, length-append}
-use Rattle.devices.proofs.Names.{take-append-le, take_all, cases_lt, eq-eqb, ne_eqb, Image, image_of, Elapses, Event, wrote, cut, State, at_first, after}
-use Rattle.devices.proofs.Names.{replay, MayLeave, disk_of, writes_of, IsQuiet}
+use Rattle.devices.proofs.Names.{nat_tests, ℕ, zero, suc, Bool, false, List, [], take, refl, sym, ap, arith, inl, ⊎_elim, length-append, take-append-le}
+use Rattle.devices.proofs.Names.{take_all, cases_lt, eq-eqb, ne_eqb, Image, image_of, Elapses, Event, wrote, State, at_first, after, replay, disk_of, writes_of}
+use Rattle.devices.proofs.Names.{IsQuiet}
 use Rattle.std.proofs.Common.{◌≡◌, ◌<◌, ◌≤◌, ◌+◌, if◌then◌else◌, ◌∷◌, ◌++◌, ◌∙◌}
 
 -- events after events
@@ -21,29 +21,7 @@ module _ (sectors : ℕ) (first : Image) where
   -- one event more
   pub elapses_one : (past : List Event) (e : Event) (failures risen : ℕ) →
       Elapses (disk_of sectors first past failures) (disk_of sectors first (past ++ e ∷ []) risen)
-  elapses_one past e failures risen =
-      let longer : length (past ++ e ∷ []) ≡ length past + 1 = length-append past (e ∷ []) in
-      record {
-        later = omega (arith, longer);
-        nothing_else = λ t c le left.
-            ⊎_elim
-            (λ lt. inr (subst (λ (es : List Event). MayLeave sectors (replay (at_first first) es) c)
-            (take_all left.0 (past ++ e ∷ []) (omega (arith, longer, lt))) left.3))
-            (λ here. inl (
-              left.0,
-              left.1,
-              here,
-              subst (λ (es : List Event). MayLeave sectors (replay (at_first first) es) c)
-                  (take-append-le left.0 past (e ∷ []) here) left.3,
-            ))
-            (cases_lt (length past) left.0);
-        keeps = λ t c le left. (
-          left.0,
-          left.1,
-          omega (arith, longer, left.2),
-          subst (λ (es : List Event). MayLeave sectors (replay (at_first first) es) c) (sym (take-append-le left.0 past (e ∷ []) left.2)) left.3,
-        );
-      }
+  elapses_one past e failures risen = grind (arith, nat_tests, length-append, take_all, take-append-le)
 
 -- the state after one event more
 pub replay-one : (s : State) (xs : List Event) (e : Event) → replay s (xs ++ e ∷ []) ≡ after (replay s xs) e
@@ -86,7 +64,4 @@ written-present_inside s at (suc n) bytes j lt =
 
 -- where all is quiet nothing is unsynced
 pub quiet-unsynced : (first : Image) (past : List Event) → IsQuiet past → (i : ℕ) → (replay (at_first first) past).unsynced i ≡ false
-quiet-unsynced first past (inl is) i = ap (λ (l : List Event). (replay (at_first first) l).unsynced i) is
-quiet-unsynced first past (inr last) i =
-    ap (λ (l : List Event). (replay (at_first first) l).unsynced i) last.2
-    ∙ ap (λ (t : State). t.unsynced i) (replay-one (at_first first) last.0 (cut last.1))
+quiet-unsynced first past is i = grind (arith, nat_tests, replay-one)

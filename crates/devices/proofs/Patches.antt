@@ -1,29 +1,22 @@
 -- Sectors that take the place of others, one after another.
-use Rattle.devices.proofs.Names.{ℕ, Bool, true, false, zero, suc, List, [], length, get_or, take, drop, replicate, refl, sym, ap, arith, ⊎_elim, length-drop}
-use Rattle.devices.proofs.Names.{eq-eqb, eqb-true, eqb-false, or_cases, cases_Bool, cases_order, take_more, take-take, take-replicate, or_assoc, Image, Agrees}
-use Rattle.devices.proofs.Names.{image_of, sectors_of, AreSectors, Elsewhere, Patches, State, left_by, Outcome, Fill, names, Action, Wrote, RecordEntry}
+use Rattle.devices.proofs.Names.{nat_tests, ℕ, Bool, true, false, zero, suc, List, [], length, get_or, take, drop, replicate, refl, sym, ap, arith, ⊎_elim}
+use Rattle.devices.proofs.Names.{length-drop, eq-eqb, eqb-true, eqb-false, cases_order, take_more, take-take, take-replicate, or_assoc, Image, Agrees, image_of}
+use Rattle.devices.proofs.Names.{sectors_of, AreSectors, Elsewhere, Patches, State, left_by, Outcome, Fill, names, Action, Wrote, RecordEntry}
 use Rattle.std.proofs.lemmas.List.{length-take-le}
 use Rattle.devices.specs.Record.{writes}
 use Rattle.std.proofs.Common.{◌≡◌, ◌<◌, ◌≤◌, ◌+◌, ◌*◌, ◌||◌, ◌==◌, if◌then◌else◌, ◌∷◌, ◌++◌, ◌∙◌}
 
 pub or_false : (a b : Bool) → (a || b) ≡ false → (a ≡ false) × (b ≡ false)
-or_false false b none = (refl, none)
-or_false true b none = cc
+or_false a b none = grind (arith, nat_tests)
 
 pub or_right : (a : Bool) → (a || false) ≡ a
-or_right false = refl
-or_right true = refl
+or_right a = grind (arith, nat_tests)
 
 -- some sectors and then others
 pub patches_on : (p q r : ℕ → Bool) (from old mid new : Image) → Patches p from old mid → Patches q from mid new → ((i : ℕ) → r i ≡ (p i || q i)) →
     Patches r from old new
 patches_on p q r from old mid new first second either = record {
-  named = λ i yes.
-      ⊎_elim
-      (second.named i)
-      (λ no. ⊎_elim (λ here. second.others i no ∙ first.named i here) (λ there. let both : true ≡ false = sym there ∙ no in cc)
-      (or_cases (p i) (q i) (sym (either i) ∙ yes)))
-      (cases_Bool (q i));
+  named = grind (arith, nat_tests);
   others = λ i no. let none = or_false (p i) (q i) (sym (either i) ∙ no) in second.others i none.1 ∙ first.others i none.0;
 }
 
@@ -77,8 +70,7 @@ part_is bytes sector a k a_is k_is =
     rw (a_is, k_is, take-take 512 512 (drop (512 * sector) bytes) (omega arith)) refl
 
 pub part_size : (bytes : List ℕ) (sector a k : ℕ) → a ≡ 512 * sector → k ≡ 512 → 512 * (sector + 1) ≤ length bytes → length (take k (drop a bytes)) ≡ 512
-part_size bytes sector a k a_is k_is inside =
-    length-take-le k (drop a bytes) (omega (arith, a_is, k_is, inside, length-drop a bytes)) ∙ k_is
+part_size bytes sector a k a_is k_is inside = grind (arith, nat_tests, length-take-le, length-drop)
 
 -- a sector of one byte
 pub filled_is : (byte : ℕ) → image_of (replicate 512 byte) 0 ≡ replicate 512 byte
@@ -87,18 +79,9 @@ filled_is byte = take-replicate 512 512 byte (omega arith)
 -- after the same sectors are patched in both of two images that agree elsewhere, they agree
 pub patches_both : (test : ℕ → Bool) (from first second new other : Image) → Patches test from first new → Patches test from second other →
     ((i : ℕ) → test i ≡ false → first i ≡ second i) → Agrees other new
-patches_both test from first second new other patched also same i =
-    ⊎_elim
-    (λ hit. also.named i hit ∙ sym (patched.named i hit))
-    (λ miss. also.others i miss ∙ sym (same i miss) ∙ sym (patched.others i miss))
-    (cases_Bool (test i))
+patches_both test from first second new other patched also same i = grind (arith, nat_tests)
 
 -- after the unsynced sectors are filled
 pub filled_left : (byte : ℕ) (outcome : Outcome) (s : State) (new : Image) → outcome ≡ Fill byte → Patches s.unsynced (λ _. replicate 512 byte) s.present new
     → ((i : ℕ) → s.unsynced i ≡ false → s.present i ≡ s.durable i) → Agrees new (left_by outcome s)
-filled_left byte outcome s new is patched same i =
-    ⊎_elim
-    (λ hit. patched.named i hit ∙ sym (ap (λ (b : Bool). if b then replicate 512 byte else s.durable i) hit))
-    (λ miss. patched.others i miss ∙ same i miss ∙ sym (ap (λ (b : Bool). if b then replicate 512 byte else s.durable i) miss))
-    (cases_Bool (s.unsynced i))
-    ∙ sym (ap (λ (o : Outcome). left_by o s i) is)
+filled_left byte outcome s new is patched same i = grind (arith, nat_tests)

@@ -1,5 +1,5 @@
 -- Sectors of which some are stored, and the bytes of all.
-use Rattle.devices.proofs.Names.{ℕ, List, [], Option, Some, None, All, length, take, drop, replicate, refl, sym, ap, arith, inl, inr, cases_eq, length-append}
+use Rattle.devices.proofs.Names.{nat_tests, ℕ, List, [], Option, Some, None, All, length, take, drop, replicate, refl, sym, ap, arith, inl, inr, length-append}
 use Rattle.devices.proofs.Names.{length-take-le, take-append-le, length-replicate, drop-drop, take-add, cases_lt, length-drop, zero, suc, subst, false}
 use Rattle.devices.proofs.Names.{image_of, sectors_of, AreSectors, Elsewhere, AreWhole, IsSector, bytes_of, item_at, is_some, get_or, Fits, w8, get_or_default}
 use Rattle.devices.proofs.Names.{drop_all, take_all, replicate-append-replicate, drop-append-add, All-append, All-replicate}
@@ -38,12 +38,10 @@ image_is (x ∷ xs) whole (suc i) within =
 
 -- past all sectors there are no bytes
 image_past : (xs : Stored) → AreWhole xs → (i : ℕ) → length xs ≤ i → image_of (bytes_in xs) i ≡ []
-image_past xs whole i past =
-    ap (λ (l : List ℕ). take 512 l) (drop_all (512 * i) (bytes_in xs) (omega (arith, past, length_bytes xs whole)))
+image_past xs whole i past = grind (arith, nat_tests, drop_all, length_bytes)
 
 bytes_of_none : (o : Option (List ℕ)) → false ≡ is_some o → bytes_of o ≡ replicate 512 0
-bytes_of_none None none = refl
-bytes_of_none (Some bytes) none = cc
+bytes_of_none o none = grind (arith, nat_tests)
 
 -- sectors of which some are stored
 module _ (xs : Stored) (whole : AreWhole xs) (v : List ℕ) (view : bytes_in xs ≡ v) where
@@ -81,30 +79,13 @@ module _ (xs : Stored) (was : AreWhole xs) (v : List ℕ) (view : bytes_in xs �
     (inside : 512 * (at + 1) ≤ length v) (is : IsSector sector) (here : bytes_of (item_at ys at) ≡ sector)
     (others : (i : ℕ) → i ≢ at → item_at ys i ≡ item_at xs i) (same : length ys ≡ length xs) where
   now : AreWhole ys
-  now k = elim (cases_eq k at) [
-    | inl is_at ↦ subst IsSector (sym (ap (λ (i : ℕ). bytes_of (item_at ys i)) is_at ∙ here)) is
-    | inr other ↦ subst IsSector (sym (ap bytes_of (others k other))) (was k)
-  ]
+  now k = grind (arith, nat_tests)
 
   apart : (i : ℕ) → i ≢ at → image_of (bytes_in ys) i ≡ image_of v i
-  apart i other =
-      elim (cases_lt i (length xs)) [
-        | inl within ↦ image_is ys now i (omega (arith, same, within)) ∙ ap bytes_of (others i other) ∙ sym (image_is xs was i within)
-        | inr past ↦ image_past ys now i (omega (arith, same, past)) ∙ sym (image_past xs was i past)
-      ]
-      ∙ ap (λ (l : List ℕ). image_of l i) view
+  apart i other = grind (arith, nat_tests, image_is, now, image_past)
 
   pub is_put : IsPut v at sector ys
-  is_put = record {
-    whole = now;
-    here = image_is ys now at (omega (arith, same, is_within xs was v view at inside)) ∙ here;
-    others = record {
-      before = λ i below. apart i (λ e. omega (arith, below, e));
-      after = λ i above. apart i (λ e. omega (arith, above, e));
-    };
-    length = length_bytes ys now ∙ omega (arith, same, count_is xs was v view);
-    fits = bytes_fit ys now;
-  }
+  is_put = grind (arith, nat_tests, now, image_is, is_within, apart, length_bytes, count_is, bytes_fit)
 
 -- no sectors are stored
 none_at : (n k : ℕ) → item_at {T = List ℕ} (replicate n None) k ≡ None
@@ -147,9 +128,7 @@ same_sectors xs ys size whole same =
 -- all sectors were put over zeros
 pub all_put : (bytes zeros new : List ℕ) → length bytes % 512 ≡ 0 → zeros ≡ replicate (512 * (length bytes / 512)) 0 → length new ≡ length zeros
     → AreSectors (image_of new) 0 bytes → new ≡ bytes
-all_put bytes zeros new whole is same written =
-    let size : length zeros ≡ 512 * (length bytes / 512) = ap length is ∙ length-replicate {A = ℕ} (512 * (length bytes / 512)) 0 in
-    same_sectors bytes new (omega (arith, size, same, whole)) whole (λ i lt. sym (written i lt ∙ ap (λ (n : ℕ). image_of new n) (omega arith)))
+all_put bytes zeros new whole is same written = grind (arith, nat_tests, length-replicate, same_sectors)
 
 -- a part of a list of sectors is one of them
 pub part_is : (bytes : List ℕ) (i a k : ℕ) → a ≡ 512 * i → k ≡ 512 → take k (drop a bytes) ≡ image_of bytes i
@@ -159,19 +138,11 @@ part_is bytes i a k a_is k_is = ap (λ (n : ℕ). take n (drop a bytes)) k_is �
 pub put_more : (mid new from part : List ℕ) (at i : ℕ) → ((j : ℕ) → j < i → image_of from j ≡ image_of mid (at + j)) → part ≡ image_of from i
     → image_of new (at + i) ≡ part → Elsewhere (at + i) 1 (image_of mid) (image_of new)
     → (j : ℕ) → j < i + 1 → image_of from j ≡ image_of new (at + j)
-put_more mid new from part at i was part_is here others j below = elim (cases_lt j i) [
-  | inl before ↦ was j before ∙ sym (others.before (at + j) (omega (arith, before)))
-  | inr past ↦
-      let last : i ≡ j = omega (arith, below, past) in
-      ap (λ (n : ℕ). image_of from n) (sym last) ∙ sym part_is ∙ sym here ∙ ap (λ (n : ℕ). image_of new (at + n)) last
-]
+put_more mid new from part at i was part_is here others j below = grind (arith, nat_tests)
 
 pub elsewhere_more : (old mid new : List ℕ) (at i : ℕ) → Elsewhere at i (image_of old) (image_of mid) → Elsewhere (at + i) 1 (image_of mid) (image_of new)
     → Elsewhere at (i + 1) (image_of old) (image_of new)
-elsewhere_more old mid new at i was others = record {
-  before = λ j below. others.before j (omega (arith, below)) ∙ was.before j below;
-  after = λ j above. others.after j (omega (arith, above)) ∙ was.after j (omega (arith, above));
-}
+elsewhere_more old mid new at i was others = grind (arith, nat_tests)
 
 -- one sector more was got
 pub got_more : (v mid new sector : List ℕ) (at i : ℕ) → ((j : ℕ) → j < i → image_of mid j ≡ image_of v (at + j)) → sector ≡ image_of v (at + i)
@@ -190,10 +161,7 @@ pub front_part : (old new part : List ℕ) (at : ℕ) → length part % 512 ≡ 
     → Elsewhere at (sectors_of part) (image_of old) (image_of new) → take (512 * at + length part) new ≡ take (512 * at) old ++ part
 front_part old new part at whole written others =
     let n = sectors_of part in
-    let behind : take (512 * n) (drop (512 * at) new) ≡ take (512 * n) part =
-    same_front part (drop (512 * at) new) n (λ i lt.
-    ap (λ (l : List ℕ). take 512 l) (drop-drop (512 * i) (512 * at) new) ∙ ap (λ (m : ℕ). take 512 (drop m new)) (omega arith)
-    ∙ sym (written i lt)) in
+    let behind : take (512 * n) (drop (512 * at) new) ≡ take (512 * n) part = grind (arith, nat_tests, same_front, drop-drop) in
     take-add (512 * at) (length part) new ∙ ap (λ (l : List ℕ). l ++ take (length part) (drop (512 * at) new)) (same_front old new at others.before)
     ∙ ap (λ (l : List ℕ). take (512 * at) old ++ l)
     (ap (λ (m : ℕ). take m (drop (512 * at) new)) (omega (arith, whole)) ∙ behind ∙ take_all (512 * n) part (omega (arith, whole)))

@@ -1,6 +1,6 @@
 -- What is counted, as a process that returns becomes available, after the reply, and after an invocation with no bank's order.
-use Rattle.gate.proofs.Names.{ℕ, Bool, true, false, List, Result, Ok, Err, drop, length, refl, sym, ap, subst, arith, IsTrue, OnOk, OnErr, slice_index, All}
-use Rattle.gate.proofs.Names.{Bank, Invocation, Operation, Call, Return, Send, Geometry, Object, Arguments, objects_of, deliver, AreCurrent, AreKeepable}
+use Rattle.gate.proofs.Names.{nat_tests, ℕ, Bool, true, false, List, Result, Ok, Err, drop, length, refl, sym, subst, arith, IsTrue, OnOk, OnErr, slice_index}
+use Rattle.gate.proofs.Names.{All, Bank, Invocation, Operation, Call, Return, Send, Geometry, Object, Arguments, objects_of, deliver, AreCurrent, AreKeepable}
 use Rattle.gate.proofs.Names.{IsSoundFrames, is_running, IsNoBankOrder, IsSound, NamesItsKind, Fits, World, annex_at, is_process, is_running_process}
 use Rattle.gate.proofs.Names.{register_at, root_at, deliver_frame, invocation_frame, state_sound, IsNow, held_to, SameFrame, frame_refl, tests_at, usage_same}
 use Rattle.gate.proofs.Names.{Caller, OrderPlan, Reply, message_of, AreSound, IsUnchanged, Parts, frames_of, objects_in, AreCounted, BanksState, MayAsk}
@@ -13,28 +13,10 @@ use Rattle.gate.proofs.Plans.{enough_held, invoked_held}
 
 -- what is counted holds of objects of the same frame
 pub counted_on : {g : Geometry} {os us : List Object} {s : BanksState} → SameFrame os us → AreCounted g os s → AreCounted g us s
-counted_on {g} {os} {us} f h =
-    let t = tests_at os us f in
-    record {
-      nodes = h.nodes;
-      pages = h.pages;
-      node = λ n inside. h.node n inside ∙ sym (t n).free;
-      page = λ n inside. h.page n inside ∙ sym (t (g.nodes + n)).free;
-      usage_each = h.usage_each;
-      limit_each = h.limit_each;
-      annex_each = h.annex_each;
-      usage = λ b is. h.usage b (sym (t b).bank ∙ is) ∙ sym (usage_same os us f b);
-      limit = λ b is. h.limit b (sym (t b).bank ∙ is) ∙ sym (f.alike b).limit;
-      annex = λ p is. h.annex p (sym (t p).root ∙ is) ∙ sym (f.alike p).annex;
-      room = h.room;
-    }
+counted_on {g} {os} {us} {s} f h = grind (arith, nat_tests, tests_at, usage_same)
 
 process_runs : (os : List Object) (p : ℕ) → IsTrue (is_running_process os p) → is_running (root_at os p).state ≡ true
-process_runs os p runs = go (is_process os p) runs
-  where
-    go : (b : Bool) → (b && is_running (root_at os p).state) ≡ true → is_running (root_at os p).state ≡ true
-    go true e = e
-    go false e = cc
+process_runs os p runs = grind (arith, nat_tests)
 
 -- what holds of sound frames holds as the order finds them
 module _ (old mid : Parts) (s : BanksState) (sound : AreSound old) (counted : AreCounted old.geometry (objects_in old) s) (op : Operation) (p : ℕ)
@@ -79,9 +61,7 @@ answered_frame Send us p replying = frame_refl us
 
 -- the numbers that an invocation writes itself come first
 pub process_listed : (P : ℕ → Type 0) (op : Operation) (p a : ℕ) (rest list : List ℕ) → list ≡ writers op p a ++ rest → (op ≡ Send → ⊥) → All P list → P p
-process_listed P Call p a rest list is other all = (subst (All P) is all) 0 0 (omega arith)
-process_listed P Return p a rest list is other all = (subst (All P) is all) 0 0 (omega arith)
-process_listed P Send p a rest list is other all = absurd (other refl)
+process_listed P op p a rest list is other all = grind (arith, nat_tests)
 
 pub annex_listed : (P : ℕ → Type 0) (op : Operation) (p a : ℕ) (rest list : List ℕ) → list ≡ writers op p a ++ rest → op ≡ Call → All P list → P a
 annex_listed P Call p a rest list is call all = (subst (All P) is all) 1 0 (omega arith)
@@ -89,18 +69,15 @@ annex_listed P Return p a rest list is call all = cc
 annex_listed P Send p a rest list is call all = cc
 
 pub no_send : (op : Operation) → op ≡ Call → op ≡ Send → ⊥
-no_send Call is other = cc
-no_send c is other = cc
+no_send op is other = grind (arith, nat_tests)
 
 pub writers_within : (op : Operation) (p a : ℕ) (rest list : List ℕ) → list ≡ writers op p a ++ rest → writer_count op ≤ length list
-writers_within Send p a rest list is = omega arith
-writers_within c p a rest list is = omega (arith, ap (λ (ns : List ℕ). length ns) is)
+writers_within op p a rest list is = grind (arith, nat_tests)
 
 -- what is counted stays after a read-only call
 pub counted_looked : {old mid : Parts} {s : BanksState} → ReadsAs old mid → AreCounted old.geometry (objects_in old) s →
     AreCounted mid.geometry (objects_in mid) s
-counted_looked {old} {mid} {s} only_reads counted =
-    subst (λ (X : Type 0). X) (λ k. AreCounted (sym only_reads.geometry k) (sym (looked_objects only_reads) k) s) counted
+counted_looked {old} {mid} {s} only_reads counted = grind (arith, nat_tests, looked_objects)
 
 -- what isn't a bank's order leaves what is counted, after a read-only call too
 module _ (old mid new : Parts) (i : Invocation) (s : BanksState) (sound : AreSound old) (only_reads : ReadsAs old mid)
@@ -139,5 +116,4 @@ bank_may_ask p s i caller b args sound counted fits is enough invoked =
 
 pub annex_requested : (old mid : Parts) (i : Invocation) (caller : Caller) → ReadsAs old mid → caller.process ≡ i.process →
     annex_at (objects_in old) i.process ≡ annex_at (objects_in mid) caller.process
-annex_requested old mid i caller only_reads is =
-    ap (λ (us : List Object). annex_at us i.process) (sym (looked_objects only_reads)) ∙ ap (λ (p : ℕ). annex_at (objects_in mid) p) (sym is)
+annex_requested old mid i caller only_reads is = grind (arith, nat_tests, looked_objects)

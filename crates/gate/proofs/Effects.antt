@@ -1,13 +1,13 @@
 -- The effect and the outcome of an invocation, through a gate too, from what each part of it reported. What follows of the numbers listed.
-use Rattle.gate.proofs.Names.{ℕ, zero, suc, Bool, List, Option, None, Some, drop, length, refl, sym, ap, subst, arith, IsTrue, slice_index, All, Capability}
-use Rattle.gate.proofs.Names.{Start, Resume, Invocation, Operation, Call, Return, Send, Frame, Geometry, Object, Available, Arguments, ResultCode, objects_of}
-use Rattle.gate.proofs.Names.{Effect, can_start, invoke, on_kernel_object, ordered, through_gate, AreCurrent, AreKeepable, IsSoundFrames, world_at, touching}
-use Rattle.gate.proofs.Names.{touched_count, order, OrderOutcome, consume, IsSound, object_count, Fits, World, annex_at, is_process, is_running_process}
-use Rattle.gate.proofs.Names.{register_at, with_state, state_frame, invocation_keeps, ordered_keeps, order_keeps, IsNow, held_to, SameFrame, frame_refl, Caller}
-use Rattle.gate.proofs.Names.{OrderPlan, Reply, changed, writer_count, writers, Invokes, IsRequested, IsKernelObject, Overfills, result_code, IsPlanned}
-use Rattle.gate.proofs.Names.{answered, arguments_of, finished, ordered_by, state_before, FitsCap, fetched_of, true, false, slice_set, All-map, All-set}
-use Rattle.gate.proofs.Names.{sent_by, NamesItsKind, AreSound, Parts, objects_in, Gate, entered, gate_capability, received, written_through, rules, [], Result}
-use Rattle.gate.proofs.Names.{Ok, Err, OnOk, Contains, inl, inr, IfOk, IsErrOf, OnErr, IsUnchanged, IsUnprepared, Prepares, Renews, frames_of, Invoked}
+use Rattle.gate.proofs.Names.{nat_tests, ℕ, zero, suc, Bool, List, Option, None, Some, drop, length, refl, sym, ap, subst, arith, IsTrue, slice_index, All}
+use Rattle.gate.proofs.Names.{Capability, Start, Resume, Invocation, Operation, Call, Return, Send, Frame, Geometry, Object, Available, Arguments, ResultCode}
+use Rattle.gate.proofs.Names.{objects_of, Effect, can_start, invoke, on_kernel_object, ordered, through_gate, AreCurrent, AreKeepable, IsSoundFrames, world_at}
+use Rattle.gate.proofs.Names.{touching, touched_count, order, OrderOutcome, consume, IsSound, object_count, Fits, World, annex_at, is_process}
+use Rattle.gate.proofs.Names.{is_running_process, register_at, with_state, state_frame, invocation_keeps, ordered_keeps, order_keeps, IsNow, held_to, SameFrame}
+use Rattle.gate.proofs.Names.{frame_refl, Caller, OrderPlan, Reply, changed, writer_count, writers, Invokes, IsRequested, IsKernelObject, Overfills}
+use Rattle.gate.proofs.Names.{result_code, IsPlanned, answered, arguments_of, finished, ordered_by, state_before, FitsCap, fetched_of, true, false, slice_set}
+use Rattle.gate.proofs.Names.{All-map, All-set, sent_by, NamesItsKind, AreSound, Parts, objects_in, Gate, entered, gate_capability, received, written_through}
+use Rattle.gate.proofs.Names.{[], Result, Ok, Err, OnOk, Contains, IfOk, IsErrOf, OnErr, IsUnchanged, IsUnprepared, Prepares, Renews, frames_of, Invoked}
 use Rattle.gate.proofs.Names.{FetchesOrFails, Failed, IsErr, IsOfGate, Refusal, unrisen}
 use Rattle.std.proofs.Common.{◌≡◌, ◌+◌, ◌++◌, ◌^◌, ◌<◌, ◌≤◌, ◌∙◌, if◌then◌else◌, ◌||◌, ◌∷◌, ◌⊎◌}
 use Rattle.model.specs.declared.command.Command.TheVariants as command
@@ -29,18 +29,14 @@ unfolding invoke
 invoke_is g os i = refl
 
 object_by : (g : Geometry) (os : List Object) (i : Invocation) (c : Capability) → IsKernelObject c → invoked_by g os i c ≡ Some (on_kernel_object g os i)
-object_by g os i (Start p key) object = absurd object
-object_by g os i (Resume p) object = absurd object
-object_by g os i c object = refl
+object_by g os i c object = grind (arith, nat_tests)
 
 -- the result code of an invocation by the capability that is invoked
 abbrev pub code_by : Geometry → List Object → Invocation → Capability → Option ResultCode
 code_by g os i c = elim c [ Start q key ↦ None | Resume q ↦ None | _ ↦ Some (ordered g os i).code ]
 
 object_code : (g : Geometry) (os : List Object) (i : Invocation) (c : Capability) → IsKernelObject c → code_by g os i c ≡ Some (ordered g os i).code
-object_code g os i (Start p key) object = absurd object
-object_code g os i (Resume p) object = absurd object
-object_code g os i c object = refl
+object_code g os i c object = grind (arith, nat_tests)
 
 pub object_invoked : (g : Geometry) (os : List Object) (i : Invocation) (caller : Caller) → IsRequested os i caller → IsKernelObject caller.invoked →
     invoke g os i ≡ Some (on_kernel_object g os i)
@@ -85,8 +81,7 @@ module _ {g : Geometry} {os : List Object} {i : Invocation} {caller : Caller} {p
   effect_requested : on_kernel_object g os i ≡ effect_by caller.operation caller.process caller.annex
       (order g (state_before caller.operation os caller.process) caller.invoked word args)
   unfolding on_kernel_object
-  effect_requested = λ k. effect_by (sym is.operation k) (sym is.process k) (sym is.annex k)
-      (order g (state_before (sym is.operation k) os (sym is.process k)) (sym is.invoked k) word args)
+  effect_requested = grind (arith, nat_tests)
 
   effect_planned : (op : Operation) → effect_by op caller.process caller.annex (order g (state_before op os caller.process) caller.invoked word args)
       ≡ record {
@@ -108,16 +103,7 @@ module _ {g : Geometry} {os : List Object} {i : Invocation} {caller : Caller} {p
 
   -- all that is written is among the objects
   pub listed_known : (P : ℕ → Type 0) → P caller.process → P caller.annex → ((n : ℕ) → n < length os → P n) → All P list
-  listed_known P of_process of_annex known =
-      subst (All P) (sym planned.listed) (go caller.operation rest (λ k d inside. known _ (planned.plans.known k d inside)))
-    where
-      go : (op : Operation) (ns : List ℕ) → All P ns → All P (writers op caller.process caller.annex ++ ns)
-      go Call ns all zero d inside = of_process
-      go Call ns all (suc zero) d inside = of_annex
-      go Call ns all (suc (suc k)) d inside = all k d (omega arith)
-      go Return ns all zero d inside = of_process
-      go Return ns all (suc k) d inside = all k d (omega arith)
-      go Send ns all k d inside = all k d inside
+  listed_known P of_process of_annex known = grind (arith, nat_tests)
 
   pub fetched_known : (P : ℕ → Type 0) → IsNow g os → ((n : ℕ) → n < length os → P n) → All P (fetched_of plan.change)
   fetched_known P now known =
@@ -142,10 +128,7 @@ module _ {g : Geometry} {os : List Object} {i : Invocation} {caller : Caller} {p
 
     -- the code of the plan is the order's
     pub order_code : IsKernelObject caller.invoked → result_code g os i ≡ Some plan.reply.code
-    order_code object =
-        ap (code_by g os i) (sym is.invoked) ∙ object_code g os i caller.invoked object
-        ∙ ap Some (ap (λ (o : OrderOutcome). o.code) ordered_requested ∙ planned.plans.code (state_before caller.operation os caller.process)
-        (frame_before caller.operation os caller.process process))
+    order_code object = grind (arith, nat_tests, object_code, ordered_requested, frame_before)
 
 -- its effect
 abbrev pub effect_through : List Object → Invocation → Gate → Effect
@@ -160,31 +143,26 @@ made q key b = record { process = q; key = key; is_resume = b }
 gate_by : (g : Geometry) (os : List Object) (i : Invocation) (q key : ℕ) (b : Bool) → (b ≡ true → key ≡ 0) → (b || can_start os i q) ≡ true →
     invoked_by g os i (gate_capability (made q key b)) ≡ Some (effect_through os i (made q key b))
 unfolding through_gate
-gate_by g os i q key true zeroth can = ap (λ (k : ℕ). Some (effect_through os i (made q k true))) (sym (zeroth refl))
-gate_by g os i q key false zeroth can = ap (λ (b : Bool). if b then Some (through_gate os i q key) else None) can
+gate_by g os i q key b zeroth can = grind (arith, nat_tests)
 
 -- it is carried out where the gate can be entered
 pub gate_invoked : (g : Geometry) (os : List Object) (i : Invocation) (caller : Caller) (gate : Gate) → IsRequested os i caller →
     caller.invoked ≡ gate_capability gate →
     (gate.is_resume ≡ true → gate.key ≡ 0) → (gate.is_resume || can_start os i gate.process) ≡ true → invoke g os i ≡ Some (effect_through os i gate)
-gate_invoked g os i caller gate is same zeroth can =
-    invoke_is g os i ∙ ap (invoked_by g os i) (sym is.invoked ∙ same) ∙ gate_by g os i gate.process gate.key gate.is_resume zeroth can
+gate_invoked g os i caller gate is same zeroth can = grind (arith, nat_tests, invoke_is, gate_by)
 
 -- and else stalls
 stalled_by : (g : Geometry) (os : List Object) (i : Invocation) (q key : ℕ) (b : Bool) → (b || can_start os i q) ≡ false →
     invoked_by g os i (gate_capability (made q key b)) ≡ None
-stalled_by g os i q key true can = cc
-stalled_by g os i q key false can = ap (λ (b : Bool). if b then Some (through_gate os i q key) else None) can
+stalled_by g os i q key b can = grind (arith, nat_tests)
 
 pub gate_stalled : (g : Geometry) (os : List Object) (i : Invocation) (caller : Caller) (gate : Gate) → IsRequested os i caller →
     caller.invoked ≡ gate_capability gate → (gate.is_resume || can_start os i gate.process) ≡ false → invoke g os i ≡ None
-gate_stalled g os i caller gate is same can =
-    invoke_is g os i ∙ ap (invoked_by g os i) (sym is.invoked ∙ same) ∙ stalled_by g os i gate.process gate.key gate.is_resume can
+gate_stalled g os i caller gate is same can = grind (arith, nat_tests, invoke_is, stalled_by)
 
 -- it has no result code
 no_code : (g : Geometry) (os : List Object) (i : Invocation) (q key : ℕ) (b : Bool) → code_by g os i (gate_capability (made q key b)) ≡ None
-no_code g os i q key true = refl
-no_code g os i q key false = refl
+no_code g os i q key b = grind (arith, nat_tests)
 
 pub gate_code : (g : Geometry) (os : List Object) (i : Invocation) (caller : Caller) (gate : Gate) → IsRequested os i caller →
     caller.invoked ≡ gate_capability gate → result_code g os i ≡ None
@@ -192,14 +170,11 @@ gate_code g os i caller gate is same = ap (code_by g os i) (sym is.invoked ∙ s
 
 -- a gate is that of a process
 gate_names : (os : List Object) (q key : ℕ) (b : Bool) → NamesItsKind os (gate_capability (made q key b)) → IsTrue (is_process os q)
-gate_names os q key true kind = kind.0
-gate_names os q key false kind = kind
+gate_names os q key b kind = grind (arith, nat_tests)
 
 pub gate_process : (p : Parts) (sound : AreSound p) {i : Invocation} {caller : Caller} (gate : Gate) → IsRequested (objects_in p) i caller →
     caller.invoked ≡ gate_capability gate → IsTrue (is_process (objects_in p) gate.process)
-gate_process p sound {i} {caller} gate requested same =
-    gate_names (objects_in p) gate.process gate.key gate.is_resume
-    (subst (NamesItsKind (objects_in p)) same (register_kind p sound i.process i.register caller.invoked requested.invoked))
+gate_process p sound {i} {caller} gate requested same = grind (arith, nat_tests, gate_names, register_kind)
 
 -- what is received fits
 pub received_fits : (g : Geometry) (os : List Object) (i : Invocation) (sent : List Capability) → IsNow g os → object_count g < 2 ^ 64 →
@@ -216,8 +191,7 @@ received_fits g os i sent now few is same = go i.operation
     go c = all
 
 pub on_ok : {T E : Type 0} (r : Result T E) {P Q : Type 0} → (P → Q) → OnOk r P → OnOk r Q
-on_ok (Ok x) f p = f p
-on_ok (Err e) f p = tt
+on_ok {T} {E} r {P} {Q} f p = grind (arith, nat_tests)
 
 -- what stands at an index is contained
 pub contained : (xs : List ℕ) (i x : ℕ) → i < length xs → slice_index xs i ≡ x → Contains xs x
@@ -232,38 +206,25 @@ abbrev asking : Operation → ℕ → List ℕ
 asking operation p = elim operation [ Send ↦ [] | _ ↦ p ∷ [] ]
 
 asking_in : (operation : Operation) (p q a : ℕ) → (operation ≡ Send → ⊥) → Contains (written_through operation p q a) p
-asking_in Send p q a other = absurd (other refl)
-asking_in c p q a other = (2, omega arith, refl)
+asking_in operation p q a other = grind (arith, nat_tests)
 
 pub announced_through : (Announced : ℕ → Type 0) (operation : Operation) (p q a : ℕ) → ((n : ℕ) → Contains (written_through operation p q a) n → Announced n)
     → Announced q × Announced a × ((operation ≡ Send → ⊥) → Announced p)
-announced_through Announced operation p q a replying =
-    (replying q (0, omega arith, refl), replying a (1, omega arith, refl), λ other. replying p (asking_in operation p q a other))
+announced_through Announced operation p q a replying = grind (arith, nat_tests, asking_in)
 
 pub all_through : (P : ℕ → Type 0) (operation : Operation) (p q a : ℕ) → P p → P q → P a → All P (written_through operation p q a)
-all_through P Call p q a of_p of_q of_a = search rules
-all_through P c p q a of_p of_q of_a = search rules
+all_through P operation p q a of_p of_q of_a = grind (arith, nat_tests)
 
 -- four capabilities, one after the other
 pub all_four : {X : Type 0} (P : X → Type 0) (a b c d : X) → P a → P b → P c → P d → All P (a ∷ b ∷ c ∷ d ∷ [])
-all_four P a b c d x y z w zero e inside = x
-all_four P a b c d x y z w (suc zero) e inside = y
-all_four P a b c d x y z w (suc (suc zero)) e inside = z
-all_four P a b c d x y z w (suc (suc (suc zero))) e inside = w
-all_four P a b c d x y z w (suc (suc (suc (suc k)))) e inside = absurd (omega arith)
+all_four {X} P a b c d x y z w is e inside = grind (arith, nat_tests)
 
 -- a refusal to prepare is one of the gate, and none of the process
 of_gate : (why : Refusal) → IsUnprepared why → IsOfGate why
-of_gate refusal.LogFull of = tt
-of_gate refusal.Fault of = tt
-of_gate c of = absurd of
+of_gate why of = grind (arith, nat_tests)
 
 of_process : (why : Refusal) → IsUnprepared why → (why ≡ refusal.Stalled) ⊎ (why ≡ refusal.NotRunning) → ⊥
-of_process refusal.LogFull of (inl is) = cc
-of_process refusal.LogFull of (inr is) = cc
-of_process refusal.Fault of (inl is) = cc
-of_process refusal.Fault of (inr is) = cc
-of_process c of is = absurd of
+of_process why of is = grind (arith, nat_tests)
 
 pub ok_no_failure : {T : Type 0} (x : T) → (let r : Result T Refusal = Ok x in IsErrOf r refusal.Fault) → ⊥
 ok_no_failure x is = cc
@@ -272,12 +233,10 @@ pub ok_no_err : {T : Type 0} (x : T) → IsErr {T = T} {E = Failed} (Ok x) → �
 ok_no_err x is = cc
 
 on_err : {T E : Type 0} (r : Result T E) {P Q : Type 0} → (P → Q) → OnErr r P → OnErr r Q
-on_err (Ok x) f p = tt
-on_err (Err e) f p = f p
+on_err {T} {E} r {P} {Q} f p = grind (arith, nat_tests)
 
 if_ok : {T E : Type 0} (r : Result T E) {P Q : T → Type 0} → ((x : T) → P x → Q x) → IfOk r P → IfOk r Q
-if_ok (Ok x) f p = f x p
-if_ok (Err e) f p = tt
+if_ok {T} {E} r {P} {Q} f p = grind (arith, nat_tests)
 
 module _ {S : Type 0} {parts : S → Parts} {Continues : S → S → Type 0} (i : Invocation) where
   -- an invocation after a read-only call
@@ -288,8 +247,7 @@ module _ {S : Type 0} {parts : S → Parts} {Continues : S → S → Type 0} (i 
 
     before : (P : Geometry → List Object → List Bool → Type 0) → P (parts t).geometry (objects_in (parts t)) (parts t).touched →
         P (parts s).geometry (objects_in (parts s)) (parts s).touched
-    before P p = subst (λ (X : Type 0). X)
-        (λ k. P (only_reads.snapshots.geometry k) (looked_objects (looked_as only_reads.snapshots) k) (only_reads.snapshots.touched k)) p
+    before P p = grind (arith, nat_tests, looked_objects, looked_as)
 
     -- a refusal that only a read reported
     found : (k : Refusal) → IsOfGate k → (IsErrOf {T = Option ResultCode} (Err k) refusal.LogFull → ⊥) →
@@ -297,21 +255,7 @@ module _ {S : Type 0} {parts : S → Parts} {Continues : S → S → Type 0} (i 
         (IsErrOf {T = Option ResultCode} (Err k) refusal.NotRunning → is_running_process (objects_in (parts s)) i.process ≡ false) →
         (IsErrOf {T = Option ResultCode} (Err k) refusal.Stalled → invoke (parts s).geometry (objects_in (parts s)) i ≡ None) →
         Invoked parts Continues s t i (Err k)
-    found k is_of_gate not_full not_failed stopped stalled = record {
-      done = tt;
-      code = tt;
-      refusals = is_of_gate;
-      runs = stopped;
-      stalled = stalled;
-      full = λ is. absurd (not_full is);
-      sound = tt;
-      renews = tt;
-      unchanged = record { headers = only_reads.snapshots.headers; contents = only_reads.snapshots.contents; touched = only_reads.snapshots.touched };
-      cause = (λ is. absurd (not_failed is), λ rose. absurd (ok_no_err x (only_reads.cause.1 rose)));
-      later = only_reads.later;
-      geometry = only_reads.snapshots.geometry;
-      continues = only_reads.snapshots.continues;
-    }
+    found k is_of_gate not_full not_failed stopped stalled = grind (arith, nat_tests, ok_no_err)
 
     pub found_stalled : invoke (parts s).geometry (objects_in (parts s)) i ≡ None → Invoked parts Continues s t i (Err refusal.Stalled)
     found_stalled none = found refusal.Stalled tt (λ is. cc) (λ is. cc) (λ is. cc) (λ is. none)
@@ -344,33 +288,7 @@ module _ {S : Type 0} {parts : S → Parts} {Continues : S → S → Type 0} (i 
     module _ (ns : List ℕ) (e : Effect) (invoked : invoke (parts s).geometry (objects_in (parts s)) i ≡ Some e) (written : ns ≡ e.written) where
       -- numbers that couldn't be announced
       pub unannounced : {U : Type 0} (f : Refusal) → Prepares {T = U} parts Continues t u ns (Err f) → Invoked parts Continues s u i (Err f)
-      unannounced f replying = record {
-        done = tt;
-        code = tt;
-        refusals = of_gate f replying.refusals;
-        runs = λ is. absurd (of_process f replying.refusals (inr cc));
-        stalled = λ is. absurd (of_process f replying.refusals (inl cc));
-        full = λ is. (
-          e,
-          invoked,
-          subst (λ (ms : List ℕ). (parts s).geometry.log < touched_count (touching (parts s).touched ms)) written
-              (before (λ g os ts. g.log < touched_count (touching ts ns)) (replying.full cc)),
-        );
-        sound = tt;
-        renews = tt;
-        unchanged = record {
-          headers = replying.headers ∙ only_reads.snapshots.headers;
-          contents = replying.contents ∙ only_reads.snapshots.contents;
-          touched = replying.untouched ∙ only_reads.snapshots.touched;
-        };
-        cause = (
-          λ is. subst (λ (n : ℕ). n < (parts u).failures) still (replying.cause.0 cc),
-          λ rose. let failed = replying.cause.1 (subst (λ (n : ℕ). n < (parts u).failures) (sym still) rose) in cc,
-        );
-        later = subst (λ (n : ℕ). n ≤ (parts u).failures) still replying.later;
-        geometry = replying.geometry ∙ only_reads.snapshots.geometry;
-        continues = twice s t u only_reads.snapshots.continues replying.continues;
-      }
+      unannounced {U} f replying = grind (arith, nat_tests, of_gate, of_process, before, still)
 
       -- and numbers that were, and then written
       module _ {U : Type 0} (m : S) (y : U) (replying : Prepares {T = U} parts Continues t m ns (Ok y)) (failures : (parts u).failures ≡ (parts m).failures)

@@ -22,7 +22,7 @@ unfoldable pub use Rattle.model.specs.Invoke.{deliver, invoke, on_kernel_object,
 pub use Rattle.model.specs.Keepable.{AreCurrent, AreKeepable, IsCount, IsKeptCap, IsNodeNumber, IsSoundFrames, world_at}
 pub use Rattle.model.specs.Machine.{touched_count, touching}
 pub use Rattle.model.specs.Object.{free, is_annex, is_bank, is_free, is_node, is_root, is_running, map_content, root_in, with_slot_in, with_word_in}
-pub use Rattle.model.specs.Order.{IsNoBankOrder, bank_order, node_order, page_order, with_root_word, with_space}
+pub use Rattle.model.specs.Order.{IsNoBankOrder, bank_order, node_order, with_root_word, with_space}
 unfoldable pub use Rattle.model.specs.Order.{on_node, on_page, order}
 pub use Rattle.model.specs.OrderOutcome.{OrderOutcome, refused}
 pub use Rattle.model.specs.Revoke.{resumes, void_where, without}
@@ -35,7 +35,7 @@ pub use Rattle.model.specs.declared.access.Access.{Access}
 pub use Rattle.model.specs.declared.answer.Refusal.{Refusal}
 pub use Rattle.model.specs.declared.capability.Cap.{Cap}
 pub use Rattle.model.specs.declared.capability.Capability.{Capability}
-pub use Rattle.model.specs.declared.capability.Capability.TheVariants.{Bank, Node, Number, Page, Process, Resume, Space, Start, Void}
+pub use Rattle.model.specs.declared.capability.Capability.TheVariants.{Bank, Node, Page, Resume, Start, Void}
 pub use Rattle.model.specs.declared.command.Invocation.{Invocation}
 pub use Rattle.model.specs.declared.command.Message.{Message}
 pub use Rattle.model.specs.declared.command.Operation.{Operation}
@@ -46,7 +46,7 @@ pub use Rattle.model.specs.declared.geometry.Geometry.{Geometry}
 pub use Rattle.model.specs.declared.object.Content.{Content}
 pub use Rattle.model.specs.declared.object.Object.{Object}
 pub use Rattle.model.specs.declared.object.State.{State}
-pub use Rattle.model.specs.declared.object.State.TheVariants.{Available, Waiting}
+pub use Rattle.model.specs.declared.object.State.TheVariants.{Available}
 pub use Rattle.model.specs.declared.order.Arguments.{Arguments}
 pub use Rattle.model.specs.declared.order.BankOrder.{BankOrder}
 pub use Rattle.model.specs.declared.order.NodeOrder.{NodeOrder}
@@ -66,10 +66,11 @@ pub use Rattle.space_bank.specs.Allocating.{numbers_of}
 pub use Rattle.space_bank.specs.Banks.{AreCounted, BanksState, MayAsk}
 pub use Rattle.space_bank.specs.Carrying.{IsForBank, MayMake, PlansAs}
 pub use Rattle.space_bank.specs.Planning.{writer_count, writers}
-pub use Rattle.std.proofs.Common.{Bool, Err, List, None, Ok, Option, Result, Some, [], ap, arith, drop, false, get_or, inl, inr, length, refl, rules, subst}
-pub use Rattle.std.proofs.Common.{suc, sym, true, zero, ℕ, ⊎_elim}
+pub use Rattle.std.proofs.Common.{Bool, Err, List, None, Ok, Option, Result, Some, [], ap, arith, drop, false, get_or, length, refl, rules, subst, suc, sym}
+pub use Rattle.std.proofs.Common.{true, zero, ℕ, ⊎_elim}
 pub use Rattle.std.proofs.Math.ListN.{get_or-map}
 pub use Rattle.std.proofs.Math.Seq.{map-set_same}
+pub use Rattle.std.proofs.lemmas.Bool.Decides.{nat_tests}
 pub use Rattle.std.proofs.lemmas.List.Elements.{All-drop, All-map, All-set}
 pub use Rattle.std.proofs.lemmas.Result.{err_from_is_err_and}
 pub use Rattle.std.specs.List.{All, Contains}

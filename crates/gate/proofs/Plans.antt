@@ -1,25 +1,22 @@
 -- What stays of processes while one of them changes. Orders that look only at the words of their arguments, and orders carried out as planned.
-use Rattle.gate.proofs.Names.{ℕ, List, [], refl, sym, ap, IsTrue, slice_index_or, get_or-map, map-set_same, Capability, Invocation, Operation, Call, Return}
-use Rattle.gate.proofs.Names.{Send, Content, Object, State, Available, Waiting, after_gate, free, is_root, map_content, root_in, with_slot_in, with_word_in}
-use Rattle.gate.proofs.Names.{with_root_word, with_space, consume, resumes, void_where, without, annex_at, content_at, is_process, root_at, with_content}
-use Rattle.gate.proofs.Names.{with_root, with_slot, with_state, with_word, root_frame, set_frame, slot_frame, word_frame, SameFrame, frame_refl, Change}
-use Rattle.gate.proofs.Names.{changed, IsOfProcess, IsWithinObject, Bool, true, false, Option, None, Some, Access, Bank, Node, Page, Geometry, Arguments}
-use Rattle.gate.proofs.Names.{BankOrder, on_bank, NodeOrder, PageOrder, OrderOutcome, refused, bank_order, node_order, on_node, on_page, order, page_order}
-use Rattle.gate.proofs.Names.{LooksAtWords, ⊎_elim, zero, suc, drop, length, subst, arith, slice_index, All, option_to_list, Number, Process, is_annex, is_bank}
-use Rattle.gate.proofs.Names.{is_node, NamesItsKind, object_count, Fits, register_at, used_within, annex_kept, written_within, all_words, held_sent}
-use Rattle.gate.proofs.Names.{AreArguments, IsNow, IsHeld, Waits, held_to, tests_at, BankChange, Caller, OrderPlan, outcome_by, target_of, written_of}
-use Rattle.gate.proofs.Names.{numbers_of, IsForBank, MayMake, PlansAs, writer_count, writers, IsRequested, IsPlanned, Plans, arguments_of, ChangesAs, FitsCap}
-use Rattle.gate.proofs.Names.{HaveAnnexesOf, IsFor, MayChange, MayEdit, MayHold, fetched_of, node_named, outcome_of, process_named, annex_used, node_used}
-use Rattle.gate.proofs.Names.{root_used, Void, AreEnough, held_void}
+use Rattle.gate.proofs.Names.{nat_tests, ℕ, List, [], refl, sym, ap, IsTrue, slice_index_or, get_or-map, map-set_same, Capability, Invocation, Operation}
+use Rattle.gate.proofs.Names.{Content, Object, State, after_gate, free, is_root, map_content, root_in, with_slot_in, with_word_in, with_root_word, with_space}
+use Rattle.gate.proofs.Names.{consume, resumes, void_where, without, annex_at, content_at, is_process, root_at, with_content, with_root, with_slot, with_state}
+use Rattle.gate.proofs.Names.{with_word, root_frame, set_frame, slot_frame, word_frame, SameFrame, frame_refl, Change, changed, IsOfProcess, IsWithinObject}
+use Rattle.gate.proofs.Names.{Bool, true, false, Option, None, Some, Access, Bank, Node, Page, Geometry, Arguments, BankOrder, on_bank, NodeOrder, PageOrder}
+use Rattle.gate.proofs.Names.{OrderOutcome, refused, bank_order, node_order, on_node, on_page, order, LooksAtWords, ⊎_elim, drop, length, subst, arith}
+use Rattle.gate.proofs.Names.{slice_index, All, option_to_list, is_annex, is_bank, is_node, NamesItsKind, object_count, Fits, register_at, used_within}
+use Rattle.gate.proofs.Names.{annex_kept, written_within, all_words, held_sent, AreArguments, IsNow, IsHeld, Waits, held_to, tests_at, BankChange, Caller}
+use Rattle.gate.proofs.Names.{OrderPlan, outcome_by, target_of, written_of, numbers_of, IsForBank, MayMake, PlansAs, writer_count, writers, IsRequested}
+use Rattle.gate.proofs.Names.{IsPlanned, Plans, arguments_of, ChangesAs, FitsCap, HaveAnnexesOf, IsFor, MayChange, MayEdit, MayHold, fetched_of, node_named}
+use Rattle.gate.proofs.Names.{outcome_of, process_named, annex_used, node_used, root_used, AreEnough, held_void}
 use Rattle.std.proofs.Common.{◌≡◌, ◌∙◌, ◌^◌, ◌<◌, ◌++◌}
 use Rattle.model.specs.declared.object.Content.TheVariants as content
 use Rattle.capability.specs.declared.order.Change.TheVariants as change
 use Rattle.model.specs.declared.order.BankOrder.TheVariants as bank
 use Rattle.model.specs.declared.order.NodeOrder.TheVariants as node
-use Rattle.model.specs.declared.order.PageOrder.TheVariants as page
 use Rattle.model.specs.declared.order.ResultCode.TheVariants as code
 use Rattle.model.specs.declared.command.Command.TheVariants as command
-use Rattle.capability.specs.declared.order.BankChange.TheVariants as bank_edit
 use Rattle.gate.proofs.Standing.{held_fits, named_used}
 
 -- a field of all contents that one edit leaves
@@ -50,35 +47,20 @@ state_annex os p s q = field_kept annex_in os p (content.Root (record (root_at o
 
 -- the process that invokes through a gate
 pub after_process : (os : List Object) (i : Invocation) → IsTrue (is_process os i.process) → (q : ℕ) → is_process (after_gate os i) q ≡ is_process os q
-after_process os i is q = go i.operation
-  where
-    go : (o : Operation) → is_process (elim o [ Call ↦ with_state os i.process Waiting | Return ↦ with_state os i.process Available | Send ↦ os ]) q ≡
-        is_process os q
-    go Call = state_process os i.process Waiting is q
-    go Return = state_process os i.process Available is q
-    go Send = refl
+after_process os i is q = grind (arith, nat_tests, state_process)
 
 pub after_annex : (os : List Object) (i : Invocation) (q : ℕ) → annex_at (after_gate os i) q ≡ annex_at os q
-after_annex os i q = go i.operation
-  where
-    go : (o : Operation) → annex_at (elim o [ Call ↦ with_state os i.process Waiting | Return ↦ with_state os i.process Available | Send ↦ os ]) q ≡ annex_at os
-        q
-    go Call = state_annex os i.process Waiting q
-    go Return = state_annex os i.process Available q
-    go Send = refl
+after_annex os i q = grind (arith, nat_tests, state_annex)
 
 -- a slot, a word and what goes void leave annexes
 word_annex : (c : Content Capability) (i word : ℕ) → annex_in (with_word_in c i word) ≡ annex_in c
-word_annex content.Free i word = refl
-word_annex c i word = refl
+word_annex c i word = grind (arith, nat_tests)
 
 slot_annex : (c : Content Capability) (i : ℕ) (held : Capability) → annex_in (with_slot_in c i held) ≡ annex_in c
-slot_annex content.Free i held = refl
-slot_annex c i held = refl
+slot_annex c i held = grind (arith, nat_tests)
 
 void_annex : (f : Capability → Capability) (c : Content Capability) → annex_in (map_content f c) ≡ annex_in c
-void_annex f content.Free = refl
-void_annex f c = refl
+void_annex f c = grind (arith, nat_tests)
 
 consume_annex : (p : ℕ) (os : List Object) (q : ℕ) → annex_at (consume p os) q ≡ annex_at os q
 unfolding consume
@@ -100,8 +82,7 @@ changed_annex os list (change.Bank made) within q = absurd within
 
 -- an edit that a list doesn't have is the same with another list, and leaves the frame
 pub changed_any : (os : List Object) (list : List ℕ) (c : Change) → IsWithinObject c → changed os [] c ≡ changed os list c
-changed_any os list (change.Bank made) within = absurd within
-changed_any os list c within = refl
+changed_any os list c within = grind (arith, nat_tests)
 
 pub changed_frame : (os : List Object) (c : Change) → IsWithinObject c → IsOfProcess os c → SameFrame os (changed os [] c)
 changed_frame os change.Nothing within of = frame_refl os
@@ -114,8 +95,7 @@ changed_frame os (change.Space process held) within of = root_frame os process _
 changed_frame os (change.Bank made) within of = absurd within
 
 pub not_both : (b : Bool) → b ≡ false → b ≡ true → ⊥
-not_both true is other = cc
-not_both false is other = cc
+not_both b is other = grind (arith, nat_tests)
 
 -- arguments with the words of others, and another capability
 abbrev with_sent : Arguments → Capability → Arguments
@@ -124,10 +104,7 @@ with_sent a sent = record { first = a.first; second = a.second; capability = sen
 -- an order that stays with another capability looks at the words alone
 by_words : (c : Capability) (w : ℕ) → ((g : Geometry) (us : List Object) (a : Arguments) (sent : Capability) →
     order g us c w a ≡ order g us c w (with_sent a sent)) → LooksAtWords c w
-by_words c w same g us a b first second =
-    same g us a b.capability
-    ∙ ap (λ (n : ℕ). order g us c w (record { first = n; second = a.second; capability = b.capability })) first
-    ∙ ap (λ (n : ℕ). order g us c w (record { first = b.first; second = n; capability = b.capability })) second
+by_words c w same g us a b first second = grind (arith, nat_tests)
 
 -- an outcome by the order that is found stays if that of each found order does
 abbrev found_or : {R : Type 0} → OrderOutcome → (R → OrderOutcome) → Option R → OrderOutcome
@@ -135,76 +112,51 @@ found_or other on found = elim found [ None ↦ other | Some requested ↦ on re
 
 same_found : {R : Type 0} (other : OrderOutcome) (on by : R → OrderOutcome) (found : Option R) → ((r : R) → found ≡ Some r → on r ≡ by r) →
     found_or other on found ≡ found_or other by found
-same_found other on by None each = refl
-same_found other on by (Some r) each = each r refl
+same_found {R} other on by found each = grind (arith, nat_tests)
 
 page_found : (us : List Object) (o : ℕ) (access : Access) (a : Arguments) (sent : Capability) (requested : PageOrder) →
     on_page us o access requested a ≡ on_page us o access requested (with_sent a sent)
 unfolding on_page
-page_found us o access a sent page.Read = refl
-page_found us o access a sent c = refl
+page_found us o access a sent requested = grind (arith, nat_tests)
 
 pub page_words : (o : ℕ) (access : Access) (w : ℕ) → LooksAtWords (Page o access) w
 unfolding order
-page_words o access w = by_words (Page o access) w (λ g us a sent. same_found (refused us code.NoOrder) (λ r. on_page us o access r a)
-    (λ r. on_page us o access r (with_sent a sent)) (page_order w) (λ r is. page_found us o access a sent r))
+page_words o access w = grind (arith, nat_tests, by_words, same_found, page_found)
 
 node_found : (us : List Object) (o : ℕ) (access : Access) (a : Arguments) (sent : Capability) (requested : NodeOrder) → (requested ≡ node.Store → ⊥) →
     on_node us o access requested a ≡ on_node us o access requested (with_sent a sent)
 unfolding on_node
-node_found us o access a sent node.Store other = absurd (other refl)
-node_found us o access a sent c other = refl
+node_found us o access a sent requested other = grind (arith, nat_tests)
 
 pub node_words : (o : ℕ) (access : Access) (w : ℕ) → (node_order w ≡ Some node.Store → ⊥) → LooksAtWords (Node o access) w
 unfolding order
-node_words o access w other = by_words (Node o access) w (λ g us a sent. same_found (refused us code.NoOrder) (λ r. on_node us o access r a)
-    (λ r. on_node us o access r (with_sent a sent)) (node_order w) (λ r is. node_found us o access a sent r (λ e. other (is ∙ ap Some e))))
+node_words o access w other = grind (arith, nat_tests, by_words, same_found, node_found)
 
 bank_found : (g : Geometry) (us : List Object) (b : ℕ) (a : Arguments) (sent : Capability) (requested : BankOrder) → (requested ≡ bank.Free → ⊥) →
     on_bank g us b requested a ≡ on_bank g us b requested (with_sent a sent)
 unfolding on_bank
-bank_found g us b a sent bank.Free other = absurd (other refl)
-bank_found g us b a sent c other = refl
+bank_found g us b a sent requested other = grind (arith, nat_tests)
 
 pub bank_words : (b w : ℕ) → (bank_order w ≡ Some bank.Free → ⊥) → LooksAtWords (Bank b) w
 unfolding order
-bank_words b w other = by_words (Bank b) w (λ g us a sent. same_found (refused us code.NoOrder) (λ r. on_bank g us b r a)
-    (λ r. on_bank g us b r (with_sent a sent)) (bank_order w) (λ r is. bank_found g us b a sent r (λ e. other (is ∙ ap Some e))))
+bank_words b w other = grind (arith, nat_tests, by_words, same_found, bank_found)
 
 -- the process and the node that a capability names that may be held
 pub process_there : (os : List Object) (c : Capability) → NamesItsKind os c → (p : ℕ) → process_named c ≡ Some p → IsTrue (is_process os p)
-process_there os (Process q) kind p is = let e : q ≡ p = cc in subst (λ (n : ℕ). IsTrue (is_process os n)) e kind
-process_there os c kind p is = cc
+process_there os c kind p is = grind (arith, nat_tests)
 
 node_there : (os : List Object) (c : Capability) → NamesItsKind os c → (n : ℕ) → node_named c ≡ Some n → IsTrue (is_node (content_at os n))
-node_there os (Node o a) kind n is = let e : o ≡ n = cc in subst (λ (m : ℕ). IsTrue (is_node (content_at os m))) e kind
-node_there os c kind n is = cc
+node_there os c kind n is = grind (arith, nat_tests)
 
 module _ (os : List Object) (c : Capability) (args : Arguments) (kind : NamesItsKind os c) where
   for_within : (x : Change) → IsFor os c args x → IsWithinObject x
-  for_within (change.Word page index word) for = for.0
-  for_within (change.Slot node slot held) for = for.0
-  for_within (change.Register process annex register held) for = (for.0, for.1)
-  for_within (change.RootWord process index word) for = for.0
-  for_within (change.Bank made) for = for
-  for_within x for = tt
+  for_within x for = grind (arith, nat_tests)
 
   for_process : (x : Change) → IsFor os c args x → IsOfProcess os x
-  for_process (change.RootWord process index word) for = process_there os c kind process for.1
-  for_process (change.SetState process state) for = process_there os c kind process for
-  for_process (change.Space process held) for = process_there os c kind process for.0
-  for_process (change.Bank made) for = absurd for
-  for_process x for = tt
+  for_process x for = grind (arith, nat_tests, process_there)
 
   for_holds : (g : Geometry) → FitsCap g args.capability → args.second < 2 ^ 64 → (x : Change) → IsFor os c args x → MayHold g os x
-  for_holds g fits small (change.Slot node slot held) for = (
-    ⊎_elim (λ (e : held ≡ args.capability). subst (FitsCap g) (sym e) fits) (λ (e : held ≡ Number args.second). subst (FitsCap g) (sym e) (small, refl)) for.2,
-    node_there os c kind node for.1,
-  )
-  for_holds g fits small (change.Register process annex register held) for = subst (FitsCap g) (sym for.4) fits
-  for_holds g fits small (change.Space process held) for = (subst (FitsCap g) (sym for.1) fits, for.2)
-  for_holds g fits small (change.Bank made) for = absurd for
-  for_holds g fits small x for = tt
+  for_holds g fits small x for = grind (arith, nat_tests, node_there)
 
   -- what it writes is one of the objects
   for_target : ((p : ℕ) → IsTrue (is_process os p) → IsTrue (is_annex (content_at os (annex_at os p)))) → (x : Change) → IsFor os c args x → (n : ℕ) →
@@ -232,86 +184,54 @@ module _ (os : List Object) (c : Capability) (args : Arguments) (kind : NamesIts
 -- an edit that may be made may be made also where the frame is the same
 module _ (g : Geometry) (os us : List Object) (frame : SameFrame os us) where
   process_alike : (x : Change) → IsOfProcess os x → IsOfProcess us x
-  process_alike (change.RootWord process index word) of = (tests_at os us frame process).root ∙ of
-  process_alike (change.SetState process state) of = (tests_at os us frame process).root ∙ of
-  process_alike (change.Space process held) of = (tests_at os us frame process).root ∙ of
-  process_alike c of = tt
+  process_alike x of = grind (arith, nat_tests, tests_at)
 
   holds_alike : (x : Change) → MayHold g os x → MayHold g us x
-  holds_alike (change.Slot node slot held) holds = (holds.0, (tests_at os us frame node).node ∙ holds.1)
-  holds_alike c holds = holds
+  holds_alike x holds = grind (arith, nat_tests, tests_at)
 
   edit_alike : (list : List ℕ) (x : Change) → MayEdit g os list x → MayEdit g us list x
   edit_alike list x may = record { within = may.within; process = process_alike x may.process; holds = holds_alike x may.holds; listed = may.listed }
 
 module _ (g : Geometry) (os : List Object) (list : List ℕ) where
   pub edit_change : (x : Change) → MayEdit g os list x → MayChange g os list x
-  edit_change (change.Bank made) may = absurd may.within
-  edit_change c may = may
+  edit_change x may = grind (arith, nat_tests)
 
   pub change_edit : (x : Change) → ((made : BankChange) → x ≡ change.Bank made → ⊥) → MayChange g os list x → MayEdit g os list x
-  change_edit (change.Bank made) other may = absurd (other made refl)
-  change_edit c other may = may
+  change_edit x other may = grind (arith, nat_tests)
 
   pub bank_change : (x : Change) → IsForBank g os list x → MayChange g os list x
-  bank_change change.Nothing may = record { within = tt; process = tt; holds = tt; listed = may }
-  bank_change (change.Bank made) may = may
-  bank_change c may = absurd may
+  bank_change x may = grind (arith, nat_tests)
 
   -- what holds of all that is written holds of what is to be fetched
   made_fetched : (P : ℕ → Type 0) (made : BankChange) → MayMake g os list made → All P list → All P (numbers_of made)
-  made_fetched P (bank_edit.Make n f b) may all = subst (All P) may.listed all
-  made_fetched P (bank_edit.MakeProcess r a b) may all = subst (All P) may.listed all
-  made_fetched P c may all = λ k d inside. absurd (omega arith)
+  made_fetched P made may all = grind (arith, nat_tests)
 
   pub change_fetched : (P : ℕ → Type 0) (x : Change) → MayChange g os list x → All P list → All P (fetched_of x)
-  change_fetched P (change.Bank made) may all = made_fetched P made may all
-  change_fetched P c may all = subst (All P) may.listed all
+  change_fetched P x may all = grind (arith, nat_tests, made_fetched)
 
 pub edit_fetched : (x : Change) → ((made : BankChange) → x ≡ change.Bank made → ⊥) → fetched_of x ≡ written_of x
-edit_fetched (change.Bank made) other = absurd (other made refl)
-edit_fetched c other = refl
+edit_fetched x other = grind (arith, nat_tests)
 
 pub target_all : (P : ℕ → Type 0) (o : Option ℕ) → All P (option_to_list o) → (n : ℕ) → o ≡ Some n → P n
-target_all P None all n is = cc
-target_all P (Some m) all n is = let e : m ≡ n = cc in subst P e (all 0 0 (omega arith))
+target_all P o all n is = grind (arith, nat_tests)
 
 all_target : (P : ℕ → Type 0) (o : Option ℕ) → ((n : ℕ) → o ≡ Some n → P n) → All P (option_to_list o)
-all_target P None each k d inside = absurd (omega arith)
-all_target P (Some m) each zero d inside = each m refl
-all_target P (Some m) each (suc k) d inside = absurd (omega arith)
+all_target P o each k d inside = grind (arith, nat_tests)
 
 -- behind the numbers that the invocation writes itself
 pub behind_writers : (op : Operation) (p annex : ℕ) (ns : List ℕ) → drop (writer_count op) (writers op p annex ++ ns) ≡ ns
-behind_writers Call p annex ns = refl
-behind_writers c p annex ns = refl
+behind_writers op p annex ns = grind (arith, nat_tests)
 
 -- a plan by some arguments is one by others with which the order does the same
 plans_with : (g : Geometry) (os : List Object) (c : Capability) (w : ℕ) (args others : Arguments) (list : List ℕ) (plan : OrderPlan) →
     ((us : List Object) → order g us c w args ≡ order g us c w others) → Plans g os c w args list plan → Plans g os c w others list plan
-plans_with g os c w args others list plan same plans = record {
-  here = sym (same os) ∙ plans.here;
-  code = λ us frame. ap (λ (o : OrderOutcome). o.code) (sym (same us)) ∙ plans.code us frame;
-  objects = λ us frame. ap (λ (o : OrderOutcome). o.objects) (sym (same us)) ∙ plans.objects us frame;
-  written = λ us frame. ap (λ (o : OrderOutcome). o.written) (sym (same us)) ∙ plans.written us frame;
-  may = plans.may;
-  annex = plans.annex;
-  known = plans.known;
-}
+plans_with g os c w args others list plan same plans = grind (arith, nat_tests)
 
 pub planned_by : (g : Geometry) (os : List Object) (i : Invocation) (caller : Caller) (plan : OrderPlan) (args : Arguments) (first list rest : List ℕ) →
     AreEnough os i caller.invoked args
     → first ≡ writers caller.operation caller.process caller.annex → list ≡ first ++ rest → Plans g os caller.invoked (slice_index i.words 0) args rest plan →
     IsPlanned g os i caller plan list
-planned_by g os i caller plan args first list rest enough first_is is plans =
-    let all : list ≡ writers caller.operation caller.process caller.annex ++ rest = is ∙ ap (λ (ns : List ℕ). ns ++ rest) first_is in
-    let behind : drop (writer_count caller.operation) list ≡ rest =
-    ap (λ (ns : List ℕ). drop (writer_count caller.operation) ns) all ∙ behind_writers caller.operation caller.process caller.annex rest in
-    record {
-      plans = subst (λ (ns : List ℕ). Plans g os caller.invoked (slice_index i.words 0) (arguments_of os i) ns plan) (sym behind)
-          (plans_with g os caller.invoked (slice_index i.words 0) args (arguments_of os i) rest plan (enough.orders g) plans);
-      listed = all ∙ ap (λ (ns : List ℕ). writers caller.operation caller.process caller.annex ++ ns) (sym behind);
-    }
+planned_by g os i caller plan args first list rest enough first_is is plans = grind (arith, nat_tests, behind_writers, plans_with)
 
 -- what is invoked, and what is sent, may be held
 module _ (g : Geometry) (os : List Object) (i : Invocation) (now : IsNow g os) where
@@ -322,14 +242,7 @@ module _ (g : Geometry) (os : List Object) (i : Invocation) (now : IsNow g os) w
   arguments_held fits = record { first = all_words i.words fits.3 1; second = all_words i.words fits.3 2; held = held_sent g os i 0 now }
 
   pub enough_held : (c : Capability) (args : Arguments) → Fits (command.Invoke i) → AreEnough os i c args → AreArguments os args
-  enough_held c args fits enough =
-      let sent = arguments_held fits in
-      record {
-        first = subst (λ (n : ℕ). n < 2 ^ 64) (sym enough.first) sent.first;
-        second = subst (λ (n : ℕ). n < 2 ^ 64) (sym enough.second) sent.second;
-        held = ⊎_elim (λ (e : args.capability ≡ (arguments_of os i).capability). subst (IsHeld os (Waits os)) (sym e) sent.held)
-            (λ (e : args.capability ≡ Void). subst (IsHeld os (Waits os)) (sym e) (held_void os (Waits os))) enough.sent;
-      }
+  enough_held c args fits enough = grind (arith, nat_tests, arguments_held, held_void)
 
 -- an order that isn't a bank's is planned
 pub object_planned : (g : Geometry) (os us : List Object) (i : Invocation) (caller : Caller) (plan : OrderPlan) (args : Arguments) (first list : List ℕ) →

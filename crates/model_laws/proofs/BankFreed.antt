@@ -1,25 +1,20 @@
 -- What a bank frees or destroys, and what that leaves of the usage of each bank.
-use Rattle.model_laws.proofs.Names.{inl, inr, ℕ, zero, suc, nat_eq, Bool, true, false, not, List, [], length, get_or, All, refl, sym, ap, subst, arith, IsTrue}
-use Rattle.model_laws.proofs.Names.{false≢true, cases_Bool, cases_eq, cases_lt, and_parts, false_from_ne_true, eq-eqb, eqb-true, not-true, or_cases, or_left}
-use Rattle.model_laws.proofs.Names.{or_right, get_or_past, Capability, Page, Node, Process, Geometry, Content, Object, free, is_free, is_page, is_node, is_root}
-use Rattle.model_laws.proofs.Names.{is_annex, is_bank, object_at, content_at, owner_at, annex_at, is_process, chain, is_under, usage, freed_by, under, owned_by}
-use Rattle.model_laws.proofs.Names.{is_member, rescind, NamesItsKind}
+use Rattle.model_laws.proofs.Names.{nat_tests, inl, inr, ℕ, zero, suc, Bool, true, false, not, List, [], length, get_or, All, refl, sym, ap, subst, arith}
+use Rattle.model_laws.proofs.Names.{IsTrue, false≢true, cases_Bool, cases_eq, and_parts, false_from_ne_true, eqb-true, not-true, or_cases, get_or_past}
+use Rattle.model_laws.proofs.Names.{Capability, Page, Node, Process, Geometry, Content, Object, is_free, is_root, is_annex, is_bank, object_at, content_at}
+use Rattle.model_laws.proofs.Names.{owner_at, annex_at, is_process, chain, is_under, usage, freed_by, under, owned_by, is_member, rescind, NamesItsKind}
 use Rattle.std.proofs.Common.{◌≡◌, ◌≢◌, ◌+◌, ◌-◌, ◌==◌, ◌<◌, ◌≤◌, ◌&&◌, ◌||◌, ◌∷◌, ◌∙◌}
 use Rattle.std.specs.Prelude.{if◌then◌else◌}
-use Rattle.model.specs.declared.object.Content.TheVariants as content
 use Rattle.model_laws.proofs.SoundParts.{IsFramed}
 use Rattle.model_laws.proofs.SoundOrders.{IsNow}
-use Rattle.model_laws.proofs.BankTree.{IsTree, tree_of, member_head, member_tail, chain_zero, chain_unfolds, chain_longer, chain_itself, chain_nonempty}
+use Rattle.model_laws.proofs.BankTree.{IsTree, tree_of, member_tail, chain_zero, chain_unfolds, chain_longer, chain_itself, chain_nonempty}
 use Rattle.model_laws.proofs.BankTree.{owner_bank}
 use Rattle.model_laws.proofs.NumberLists.{AllDiffer, member_cases, no_member, only_member, all_members, found_in, stands_in, filter_once}
 use Rattle.model_laws.proofs.BankRescind.{IsClosedSet, lost_together, used_owner, used_where, usage_rescinded}
 
 -- what isn't free is one of the objects
 pub used_within : (os : List Object) (n : ℕ) → is_free (content_at os n) ≡ false → n < length os
-used_within os n used = elim (cases_lt n (length os)) [
-  | inl lt ↦ lt
-  | inr past ↦ let f : true ≡ false = sym (ap (λ (o : Object). is_free o.content) (get_or_past os n free past)) ∙ used in absurd (false≢true (sym f))
-]
+used_within os n used = grind (arith, nat_tests, get_or_past)
 
 -- a set of objects that goes together, each once
 pub record IsGivenUp (os : List Object) (set : List ℕ) : Type 0 where
@@ -34,9 +29,7 @@ given_up_within os set h n member = used_within os n (h.used n member)
 pub usage_given_up : (os : List Object) (set : List ℕ) → IsTree os → IsGivenUp os set → (x : ℕ) → is_member set x ≡ false
     → (above : Bool) → ((n : ℕ) → is_member set n ≡ true → is_under os x (object_at os n) ≡ above)
     → usage (rescind set os) x + (if above then length set else 0) ≡ usage os x
-usage_given_up os set tree h x stays above each =
-    subst (λ k. usage (rescind set os) x + k ≡ usage os x) (lost_together os set x above h.once (given_up_within os set h) each)
-    (usage_rescinded os set tree h.closed x stays)
+usage_given_up os set tree h x stays above each = grind (arith, nat_tests, lost_together, given_up_within, usage_rescinded)
 
 -- two numbers where a test differs
 pub differ_where : (test : Content Capability → Bool) (os : List Object) (m n : ℕ) → test (content_at os m) ≡ true → test (content_at os n) ≡ false → m ≢ n
@@ -45,24 +38,13 @@ differ_where test os m n is isnt same = false≢true (sym isnt ∙ (ap (λ (k : 
 -- what one kind of content isn't
 
 root_no_annex : (c : Content Capability) → is_root c ≡ true → is_annex c ≡ false
-root_no_annex (content.Annex r) e = absurd (false≢true e)
-root_no_annex c e = refl
+root_no_annex c e = grind (arith, nat_tests)
 
 root_no_bank : (c : Content Capability) → is_root c ≡ true → is_bank c ≡ false
-root_no_bank (content.Bank l) e = absurd (false≢true e)
-root_no_bank c e = refl
+root_no_bank c e = grind (arith, nat_tests)
 
 annex_no_bank : (c : Content Capability) → is_annex c ≡ true → is_bank c ≡ false
-annex_no_bank (content.Bank l) e = absurd (false≢true e)
-annex_no_bank c e = refl
-
-page_no_other : (c : Content Capability) → is_page c ≡ true → (is_bank c ≡ false) × (is_root c ≡ false) × (is_annex c ≡ false)
-page_no_other (content.Page w) e = (refl, refl, refl)
-page_no_other c e = cc
-
-node_no_other : (c : Content Capability) → is_node c ≡ true → (is_bank c ≡ false) × (is_root c ≡ false) × (is_annex c ≡ false)
-node_no_other (content.Node w) e = (refl, refl, refl)
-node_no_other c e = cc
+annex_no_bank c e = grind (arith, nat_tests)
 
 -- the objects that a bank frees: its own, and none of them a bank
 pub record IsFreedSet (os : List Object) (b : ℕ) (set : List ℕ) : Type 0 where
@@ -71,35 +53,11 @@ pub record IsFreedSet (os : List Object) (b : ℕ) (set : List ℕ) : Type 0 whe
   pub no_bank : (n : ℕ) → is_member set n ≡ true → is_bank (content_at os n) ≡ false
 
 module _ (g : Geometry) (os : List Object) (h : IsFramed g os) where
-  -- a number that isn't a bank's is no member's owner, nor 0
-  no_bank_closed : (set : List ℕ) → ((n : ℕ) → is_member set n ≡ true → is_bank (content_at os n) ≡ false)
-      → ((p : ℕ) → IsTrue (is_process os p) → is_member set (annex_at os p) ≡ is_member set p) → IsClosedSet os set
-  no_bank_closed set none annexes = record {
-    prime = false_from_ne_true (is_member set 0) (λ e. false≢true (sym (none 0 e) ∙ h.prime.0));
-    annexes = annexes;
-    owned = λ n used e. absurd (false≢true (sym (none (owner_at os n) e) ∙ h.owners n (λ gone. false≢true (sym used ∙ gone))));
-  }
-
   only : (P : ℕ → Type 0) (o n : ℕ) → P o → is_member (o ∷ []) n ≡ true → P n
   only P o n here e = subst P (sym (only_member o n e)) here
 
   pair : (P : ℕ → Type 0) (o a n : ℕ) → P o → P a → is_member (o ∷ a ∷ []) n ≡ true → P n
   pair P o a n first second e = elim (member_cases o (a ∷ []) n e) [ inl same ↦ subst P (sym same) first | inr later ↦ only P a n second later ]
-
-  -- a page or a node
-  single_freed : (o : ℕ) → is_free (content_at os o) ≡ false → is_bank (content_at os o) ≡ false → is_root (content_at os o) ≡ false
-      → is_annex (content_at os o) ≡ false → IsFreedSet os (owner_at os o) (o ∷ [])
-  single_freed o used no_bank no_root no_annex = record {
-    given_up = record {
-      closed = no_bank_closed (o ∷ []) (λ n e. only (λ m. is_bank (content_at os m) ≡ false) o n no_bank e)
-          (λ p is. no_member o [] (annex_at os p) (differ_where is_annex os (annex_at os p) o (h.annexes p is).0 no_annex) refl
-          ∙ sym (no_member o [] p (differ_where is_root os p o is no_root) refl));
-      once = (refl, tt);
-      used = λ n e. only (λ m. is_free (content_at os m) ≡ false) o n used e;
-    };
-    owner = λ n e. only (λ m. owner_at os m ≡ owner_at os o) o n refl e;
-    no_bank = λ n e. only (λ m. is_bank (content_at os m) ≡ false) o n no_bank e;
-  }
 
   -- a process and its annex are two
   pub annex_differs : (p : ℕ) → IsTrue (is_process os p) → annex_at os p ≢ p
@@ -112,55 +70,21 @@ module _ (g : Geometry) (os : List Object) (h : IsFramed g os) where
       let none = λ (n : ℕ) (e : is_member (p ∷ a ∷ []) n ≡ true). pair (λ m. is_bank (content_at os m) ≡ false) p a n (root_no_bank (content_at os p) is)
       (annex_no_bank (content_at os a) known.0) e in
       record {
-        given_up = record {
-          closed = no_bank_closed (p ∷ a ∷ []) none both;
-          once = (no_member a [] p (λ e. annex_differs p is (sym e)) refl, (refl, tt));
-          used = λ n e. pair (λ m. is_free (content_at os m) ≡ false) p a n (used_where is_root refl (content_at os p) is)
-              (used_where is_annex refl (content_at os a) known.0) e;
-        };
+        given_up = grind (arith, nat_tests, no_member, annex_differs, pair, used_where);
         owner = λ n e. pair (λ m. owner_at os m ≡ owner_at os p) p a n refl known.1 e;
         no_bank = none;
       }
-    where
-      both : (q : ℕ) → IsTrue (is_process os q) → is_member (p ∷ annex_at os p ∷ []) (annex_at os q) ≡ is_member (p ∷ annex_at os p ∷ []) q
-      both q iq = elim (cases_eq q p) [
-        | inl same ↦
-            rw same (or_right (nat_eq (annex_at os p) p) (is_member (annex_at os p ∷ []) (annex_at os p)) (member_head (annex_at os p) (annex_at os p) [] refl)
-            ∙ sym (member_head p p (annex_at os p ∷ []) refl))
-        | inr other ↦
-            no_member p (annex_at os p ∷ []) (annex_at os q)
-            (differ_where is_annex os (annex_at os q) p (h.annexes q iq).0 (root_no_annex (content_at os p) is))
-            (no_member (annex_at os p) [] (annex_at os q) (λ e. other (h.one_root q p iq is e)) refl)
-            ∙ sym (no_member p (annex_at os p ∷ []) q other (no_member (annex_at os p) [] q
-            (λ e. differ_where is_annex os (annex_at os p) q (h.annexes p is).0 (root_no_annex (content_at os q) iq) (sym e)) refl))
-      ]
-
-  -- it is the one that is freed, where one is
-  one_set : (o n : ℕ) (ns : List ℕ) (t : Bool) → IsFreedSet os (owner_at os o) (o ∷ []) → (if t then o ∷ [] else []) ≡ n ∷ ns →
-      IsFreedSet os (owner_at os n) (n ∷ ns)
-  one_set o n ns false freed e = cc
-  one_set o n ns true freed e = subst (λ xs. IsFreedSet os (owner_at os (get_or xs 0 0)) xs) e freed
 
   -- what a capability frees is given up together
   pub freed_set : (c : Capability) (n : ℕ) (ns : List ℕ) → NamesItsKind os c → freed_by os c ≡ n ∷ ns → IsFreedSet os (owner_at os n) (n ∷ ns)
-  freed_set (Page o a) n ns names e =
-      let others = page_no_other (content_at os o) names in
-      one_set o n ns (a.0 == 0) (single_freed o (used_where is_page refl (content_at os o) names) others.0 others.1 others.2) e
-  freed_set (Node o a) n ns names e =
-      let others = node_no_other (content_at os o) names in
-      one_set o n ns (a.0 == 0) (single_freed o (used_where is_node refl (content_at os o) names) others.0 others.1 others.2) e
+  freed_set (Page o a) n ns names e = grind (arith, nat_tests, used_where)
+  freed_set (Node o a) n ns names e = grind (arith, nat_tests, used_where)
   freed_set (Process p) n ns names e = subst (λ xs. IsFreedSet os (owner_at os (get_or xs 0 0)) xs) e (process_freed p names)
   freed_set c n ns names e = cc
 
 -- what isn't free is under a bank where the chain of its owner passes through it
 pub under_owner : (os : List Object) (x n : ℕ) → is_free (content_at os n) ≡ false → is_under os x (object_at os n) ≡ is_member (chain os (owner_at os n)) x
 under_owner os x n used = rw used refl
-
--- what is freed is among the objects, each number once
-pub freed_within : (g : Geometry) (os : List Object) (c : Capability) (n : ℕ) (ns : List ℕ) → IsNow g os → freed_by os c ≡ n ∷ ns → NamesItsKind os c
-    → All (λ m. m < length os) (n ∷ ns)
-freed_within g os c n ns h frees names =
-    all_members (λ m. m < length os) (n ∷ ns) (given_up_within os (n ∷ ns) (freed_set g os h.frame c n ns names frees).given_up)
 
 -- what is left of a bank's usage after a free, with what is freed, is what it was
 usage_freed_both : (g : Geometry) (os : List Object) (c : Capability) (b n : ℕ) (ns : List ℕ) → IsNow g os → owner_at os n ≡ b → freed_by os c ≡ n ∷ ns
@@ -202,10 +126,7 @@ under_stands os b n below passes = stands_in (λ n. (n == b) || is_under os b (o
 pub owned_found : (os : List Object) (b n : ℕ) → is_member (owned_by os b) n ≡ true →
     (n < length os) × (is_free (content_at os n) ≡ false) × (owner_at os n ≡ b)
 unfolding owned_by
-owned_found os b n e =
-    let found = found_in (λ n. not (is_free (content_at os n)) && (owner_at os n == b)) 0 (length os) n e in
-    let parts = and_parts (not (is_free (content_at os n))) (owner_at os n == b) found.2 in
-    (omega (arith, found.1), not-true (is_free (content_at os n)) parts.0, eqb-true (owner_at os n) b parts.1)
+owned_found os b n e = grind (arith, nat_tests, found_in)
 
 pub under_within : (os : List Object) (b : ℕ) → All (λ n. n < length os) (under os b)
 under_within os b = all_members (λ n. n < length os) (under os b) (λ n e. (under_found os b n e).0)
@@ -238,22 +159,11 @@ module _ (g : Geometry) (os : List Object) (h : IsFramed g os) (b : ℕ) (is : I
 
   -- what isn't free and has the bank in its owner's chain is under it
   under_chain : (n : ℕ) → is_free (content_at os n) ≡ false → is_member (chain os (owner_at os n)) b ≡ true → is_member (under os b) n ≡ true
-  under_chain n used passes =
-      under_stands os b n (used_within os n used) (or_right (n == b) (is_under os b (object_at os n)) (under_owner os b n used ∙ passes))
+  under_chain n used passes = grind (arith, nat_tests, under_stands, used_within, under_owner)
 
   -- a bank with it in its chain is it or under it
   under_bank : (c : ℕ) → IsTrue (is_bank (content_at os c)) → is_member (chain os c) b ≡ true → is_member (under os b) c ≡ true
-  under_bank c bank passes = elim (cases_eq c b) [
-    | inl same ↦
-        under_stands os b c (used_within os c (used_where is_bank refl (content_at os c) bank))
-        (or_left (c == b) (is_under os b (object_at os c)) (eq-eqb c b same))
-    | inr other ↦ elim (cases_eq c 0) [
-      | inl end ↦ absurd (false≢true (sym (ap (λ xs. is_member xs b) (chain_zero os c end) ∙ member_tail b c [] (λ e. other (sym e))) ∙ passes))
-      | inr far ↦
-          under_chain c (used_where is_bank refl (content_at os c) bank)
-          (sym (ap (λ xs. is_member xs b) (chain_unfolds os tree c bank far) ∙ member_tail b c (chain os (owner_at os c)) (λ e. other (sym e))) ∙ passes)
-    ]
-  ]
+  under_bank c bank passes = grind (arith, nat_tests, under_stands, used_within, used_where, chain_zero, member_tail, under_chain, chain_unfolds, tree)
 
   -- and one that is it or under it has it in its chain
   bank_under : (c : ℕ) → IsTrue (is_bank (content_at os c)) → is_member (under os b) c ≡ true → is_member (chain os c) b ≡ true
@@ -283,9 +193,7 @@ module _ (g : Geometry) (os : List Object) (h : IsFramed g os) (b : ℕ) (is : I
       let other : x ≢ c = λ e. false≢true (sym stays ∙ (ap (λ (k : ℕ). is_member (under os b) k) e ∙ under_bank c bank passes)) in
       ap (λ xs. is_member xs x) (chain_unfolds os tree c bank far) ∙ (member_tail x c (chain os (owner_at os c)) other ∙ elim (cases_eq c b) [
         | inl same ↦ ap (λ (k : ℕ). is_member (chain os (owner_at os k)) x) same
-        | inr differ ↦
-            above (sym (ap (λ xs. is_member xs b) (chain_unfolds os tree c bank far) ∙ member_tail b c (chain os (owner_at os c)) (λ e. differ (sym e))) ∙
-            passes)
+        | inr differ ↦ grind (arith, nat_tests, chain_unfolds, tree, member_tail)
       ]))
 
   under_alike : (x n : ℕ) → is_member (under os b) x ≡ false → is_member (under os b) n ≡ true
@@ -294,8 +202,7 @@ module _ (g : Geometry) (os : List Object) (h : IsFramed g os) (b : ℕ) (is : I
       let used = under_used n e in
       under_owner os x n used ∙ elim (or_cases (n == b) (is_under os b (object_at os n)) (under_found os b n e).1) [
         | inl same ↦ ap (λ (k : ℕ). is_member (chain os (owner_at os k)) x) (eqb-true n b same)
-        | inr below ↦
-            above_alike x stays (owner_at os n) (used_owner os tree n used) (sym (under_owner os b n used) ∙ below)
+        | inr below ↦ grind (arith, nat_tests, above_alike, used_owner, tree, under_owner)
       ]
 
   -- what is no bank is under it where the chain of its owner passes through it
@@ -330,8 +237,7 @@ module _ (g : Geometry) (os : List Object) (h : IsFramed g os) (b : ℕ) (is : I
 
   usage_destroyed_both : (x : ℕ) → is_member (under os b) x ≡ false
       → usage (rescind (under os b) os) x + (if is_member (chain os (owner_at os b)) x then length (under os b) else 0) ≡ usage os x
-  usage_destroyed_both x stays =
-      usage_given_up os (under os b) tree under_given_up x stays (is_member (chain os (owner_at os b)) x) (λ n e. under_alike x n stays e)
+  usage_destroyed_both x stays = grind (arith, nat_tests, usage_given_up, tree, under_given_up, under_alike)
 
 -- the usage of a bank that stays where another is destroyed
 pub usage_destroyed : (g : Geometry) (os : List Object) (b : ℕ) → IsNow g os → IsTrue (is_bank (content_at os b)) → b ≢ 0

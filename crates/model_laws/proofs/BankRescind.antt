@@ -1,17 +1,16 @@
 -- What banks give up: sets of objects that can go together, and the usage that goes with them.
-use Rattle.model_laws.proofs.Names.{inl, inr, ℕ, zero, suc, nat_eq, Bool, true, false, not, cond, Option, None, Some, List, [], length, refl, sym, ap, subst}
-use Rattle.model_laws.proofs.Names.{arith, zero-add, add-zero, IsTrue, count_by, enumerate_from, false≢true, cases_Bool, cases_eq, false_from_ne_true, eq-eqb}
-use Rattle.model_laws.proofs.Names.{ne_eqb, not_from_false, or_left, or_right, length-map, length-enumerate_from, Capability, Void, Geometry, Content, Object}
-use Rattle.model_laws.proofs.Names.{free, is_free, is_root, is_annex, is_bank, is_waiting, role_of, root_in, map_content, named, object_at, content_at}
-use Rattle.model_laws.proofs.Names.{owner_at, annex_at, is_process, chain, chain_within, is_under, usage, void_where, without, is_member, names_member, rescind}
-use Rattle.model_laws.proofs.Names.{IsOfKind, IsSpace}
+use Rattle.model_laws.proofs.Names.{nat_tests, inl, inr, ℕ, zero, suc, nat_eq, Bool, true, false, not, cond, Option, None, Some, List, [], length, refl, sym}
+use Rattle.model_laws.proofs.Names.{ap, subst, arith, IsTrue, count_by, enumerate_from, false≢true, cases_Bool, cases_eq, false_from_ne_true, eq-eqb, ne_eqb}
+use Rattle.model_laws.proofs.Names.{not_from_false, or_left, or_right, length-map, length-enumerate_from, Capability, Void, Geometry, Content, Object, free}
+use Rattle.model_laws.proofs.Names.{is_free, is_root, is_annex, is_bank, role_of, map_content, named, object_at, content_at, owner_at, annex_at, is_process}
+use Rattle.model_laws.proofs.Names.{chain, chain_within, is_under, usage, void_where, without, is_member, names_member, rescind, IsOfKind, IsSpace}
 use Rattle.std.proofs.Common.{◌≡◌, ◌≢◌, ◌⊎◌, ◌+◌, ◌==◌, ◌<◌, ◌≤◌, ◌&&◌, ◌∷◌, ◌∙◌}
 use Rattle.std.specs.Prelude.{if◌then◌else◌}
 use Rattle.model.specs.declared.object.Content.TheVariants as content
 use Rattle.model_laws.proofs.Cases.{chosen, one_of}
 use Rattle.model_laws.proofs.Counts.{count_alike, count_both, count_none, one_within}
 use Rattle.model_laws.proofs.Usage.{AreAlike, SameTests, same_tests}
-use Rattle.model_laws.proofs.SoundParts.{IsHeld, IsFilled, IsFramed, Waits, state_at, held_alike, held_void}
+use Rattle.model_laws.proofs.SoundParts.{IsHeld, IsFilled, IsFramed, Waits, state_at, held_void}
 use Rattle.model_laws.proofs.Mapped.{alike_without, mapped, void_void}
 use Rattle.model_laws.proofs.SoundEdits.{filled_map}
 use Rattle.model_laws.proofs.SoundOrders.{IsNow}
@@ -27,8 +26,7 @@ pub record IsClosedSet (os : List Object) (set : List ℕ) : Type 0 where
 
 -- a test that a free content fails, where it is passed
 pub used_where : (test : Content Capability → Bool) → test content.Free ≡ false → (c : Content Capability) → test c ≡ true → is_free c ≡ false
-used_where test fails content.Free is = absurd (false≢true (sym fails ∙ is))
-used_where test fails c is = refl
+used_where test fails c is = grind (arith, nat_tests)
 
 -- what isn't free is owned by a bank
 pub used_owner : (os : List Object) → IsTree os → (n : ℕ) → is_free (content_at os n) ≡ false → IsTrue (is_bank (content_at os (owner_at os n)))
@@ -51,8 +49,7 @@ module _ (os : List Object) (set : List ℕ) where
 
   -- what isn't free afterwards is no member
   stays_where : (test : Content Capability → Bool) → test content.Free ≡ false → (n : ℕ) → test (content_at (rescind set os) n) ≡ true → is_member set n ≡ false
-  stays_where test fails n is =
-      false_from_ne_true (is_member set n) (λ e. false≢true (sym fails ∙ (sym (ap (λ (o : Object). test o.content) (went_object n e)) ∙ is)))
+  stays_where test fails n is = grind (arith, nat_tests, went_object)
 
   pub length_rescind : length (rescind set os) ≡ length os
   unfolding rescind
@@ -79,15 +76,7 @@ module _ (os : List Object) (set : List ℕ) (tree : IsTree os) (closed : IsClos
 
   -- what stays is under the banks that it was under, and what goes under none
   under_kept : (x n : ℕ) → is_member set n ≡ false → is_under (rescind set os) x (object_at (rescind set os) n) ≡ is_under os x (object_at os n)
-  under_kept x n stays = elim (cases_Bool (is_free (content_at os n))) [
-    | inl gone ↦ rw ((kept_tests os set n stays).free, gone) refl
-    | inr used ↦ rw (
-      (kept_tests os set n stays).free,
-      used,
-      (kept_alike os set n stays).owner,
-      chain_kept (owner_at os n) (used_owner os tree n used) (owner_stays n used stays),
-    ) refl
-  ]
+  under_kept x n stays = grind (arith, nat_tests, kept_tests, kept_alike, chain_kept, used_owner, owner_stays)
 
   under_went : (x n : ℕ) → is_member set n ≡ true → is_under (rescind set os) x (object_at (rescind set os) n) ≡ false
   under_went x n goes = rw (went_object os set n goes) refl
@@ -95,8 +84,7 @@ module _ (os : List Object) (set : List ℕ) (tree : IsTree os) (closed : IsClos
   -- at each number what stays and what goes add up to what was
   sums_up : (itself now before goes : Bool) → (goes ≡ false → now ≡ before) → (goes ≡ true → now ≡ false) → (goes ≡ true → itself ≡ false)
       → cond (not itself && now) 1 0 + cond (goes && before) 1 0 ≡ cond (not itself && before) 1 0
-  sums_up itself now before true same none other = rw (none refl, other refl) (zero-add _)
-  sums_up itself now before false same none other = rw (same refl) (add-zero _)
+  sums_up itself now before goes same none other = grind (arith, nat_tests)
 
   -- what is left of a bank's usage, with what goes, is what it was
   pub usage_rescinded : (x : ℕ) → is_member set x ≡ false → usage (rescind set os) x + lost os set x ≡ usage os x
@@ -143,10 +131,7 @@ framed_rescind g os set h closed =
           let found = h.some_root a (sym (t a kept).annex ∙ is) in
           let with_it : is_member set found.0 ≡ false = sym (closed.annexes found.0 found.1) ∙ (ap (λ (m : ℕ). is_member set m) found.2 ∙ kept) in
           (found.0, (t found.0 with_it).root ∙ found.1, (alike found.0 with_it).annex ∙ found.2);
-      unowned = λ n is. elim (cases_Bool (is_member set n)) [
-        | inl goes ↦ ap (λ (o : Object). o.owner) (went_object os set n goes)
-        | inr kept ↦ (alike n kept).owner ∙ h.unowned n (sym (t n kept).free ∙ is)
-      ];
+      unowned = λ n is. grind (arith, nat_tests, went_object);
       owners = λ n is.
           let used = false_from_ne_true (is_free (content_at (rescind set os) n)) is in
           let kept = stays (λ c. not (is_free c)) refl n (not_from_false _ used) in
@@ -173,15 +158,11 @@ pub record IsAsBefore (os us : List Object) (n : ℕ) : Type 0 where
 -- a capability may be held still where what it names is as before
 pub held_as_before : (os us : List Object) (c : Capability) → ((n : ℕ) → named c ≡ Some n → IsAsBefore os us n) → IsHeld os (Waits os) c →
     IsHeld us (Waits us) c
-held_as_before os us c f =
-    held_alike os us (Waits os) (Waits us) c (λ n e. (f n e).role) (λ p e waits. ap is_waiting (f p e).state ∙ waits)
+held_as_before os us c f is = grind (arith, nat_tests)
 
 module _ (os : List Object) (set : List ℕ) where
   kept_as_before : (n : ℕ) → is_member set n ≡ false → IsAsBefore os (rescind set os) n
-  kept_as_before n e = record {
-    role = (kept_alike os set n e).role;
-    state = ap (λ (o : Object). (root_in o.content).state) (kept_object os set n e) ∙ (mapped (void_where (names_member set)) (content_at os n)).state;
-  }
+  kept_as_before n e = grind (arith, nat_tests, kept_alike, kept_object, mapped)
 
   abbrev Holds : Capability → Type 0
   Holds c = IsHeld (rescind set os) (Waits (rescind set os)) c
@@ -204,11 +185,7 @@ module _ (os : List Object) (set : List ℕ) where
   filled_free = record { shape = tt; words = λ i. omega arith; slots = λ i. held_void _ _; register_0 = λ e. refl; space = held_void _ _; is_space = tt }
 
   filled_rescind : (n : ℕ) → IsFilled os (Waits os) (content_at os n) → IsFilled (rescind set os) (Waits (rescind set os)) (content_at (rescind set os) n)
-  filled_rescind n h = elim (cases_Bool (is_member set n)) [
-    | inl goes ↦ subst (λ o. IsFilled (rescind set os) (Waits (rescind set os)) o.content) (sym (went_object os set n goes)) filled_free
-    | inr kept ↦ subst (λ o. IsFilled (rescind set os) (Waits (rescind set os)) o.content) (sym (kept_object os set n kept))
-        (filled_cleared (content_at os n) h)
-  ]
+  filled_rescind n h = grind (arith, nat_tests, went_object, filled_free, kept_object, filled_cleared)
 
 -- sound objects are sound where a closed set is given up
 pub rescinded_now : (g : Geometry) (os : List Object) (set : List ℕ) → IsNow g os → IsClosedSet os set → IsNow g (rescind set os)
@@ -230,8 +207,7 @@ count_members os (m ∷ ms) once below =
     omega (arith, first, rest, both)
   where
     apart : (j : ℕ) → (j ≡ m) ⊎ (j ≢ m) → cond (j == m) 1 0 + cond (is_member ms j) 1 0 ≡ cond (is_member (m ∷ ms) j) 1 0
-    apart j (inl same) = rw (same, once.0, eq-eqb m m refl) refl
-    apart j (inr other) = rw (ne_eqb j m other) (zero-add _)
+    apart j is = grind (arith, nat_tests)
 
 -- where a bank is above all of a set or above none of it, so much of its usage goes
 pub lost_together : (os : List Object) (set : List ℕ) (x : ℕ) (above : Bool) → AllDiffer set → ((n : ℕ) → is_member set n ≡ true → n < length os)
@@ -242,11 +218,9 @@ lost_together os set x true once below each =
     count_members os set once below
   where
     go : (i : ℕ) (b : Bool) → is_member set i ≡ b → (b && is_under os x (object_at os i)) ≡ b
-    go i true e = each i e
-    go i false e = refl
+    go i b e = grind (arith, nat_tests)
 lost_together os set x false once below each =
     count_none (λ p. is_member set p.0 && is_under os x p.1) os free (λ i. go i (is_member set i) refl)
   where
     go : (i : ℕ) (b : Bool) → is_member set i ≡ b → (b && is_under os x (object_at os i)) ≡ false
-    go i true e = each i e
-    go i false e = refl
+    go i b e = grind (arith, nat_tests)

@@ -1,23 +1,22 @@
 -- A bank that is returned to its parent, and that what banks give up leaves objects sound.
-use Rattle.model_laws.proofs.Names.{inl, inr, ℕ, zero, suc, nat_eq, Bool, true, false, not, List, [], length, refl, sym, ap, subst, arith, IsTrue, false≢true}
-use Rattle.model_laws.proofs.Names.{cases_Bool, cases_eq, and_right, or_right, false_from_ne_true, eq-eqb, ne_eqb, eqb-true, eqb-false, length-map}
-use Rattle.model_laws.proofs.Names.{Contains-from_any, Capability, Void, Geometry, Content, Object, Arguments, free, is_free, is_root, is_annex, is_bank}
-use Rattle.model_laws.proofs.Names.{role_of, root_in, limit_in, made, object_at, content_at, owner_at, slot_at, root_at, annex_at, chain, chain_within}
-use Rattle.model_laws.proofs.Names.{is_under, usage, freed_by, under, owned_by, transferred, inherited, freed, on_bank, is_member, rescind, IsOfKind}
+use Rattle.model_laws.proofs.Names.{nat_tests, inl, inr, ℕ, zero, suc, nat_eq, Bool, true, false, not, List, [], length, refl, sym, ap, subst, arith, IsTrue}
+use Rattle.model_laws.proofs.Names.{false≢true, cases_eq, and_right, or_right, eq-eqb, ne_eqb, eqb-true, eqb-false, length-map, Contains-from_any, Capability}
+use Rattle.model_laws.proofs.Names.{Void, Geometry, Content, Object, Arguments, free, is_free, is_root, is_annex, is_bank, role_of, root_in, made, object_at}
+use Rattle.model_laws.proofs.Names.{content_at, owner_at, slot_at, root_at, annex_at, chain, chain_within, is_under, usage, freed_by, under, transferred}
+use Rattle.model_laws.proofs.Names.{inherited, freed, on_bank, is_member, rescind, IsOfKind}
 use Rattle.std.proofs.Common.{◌≡◌, ◌≢◌, ◌+◌, ◌-◌, ◌==◌, ◌≤◌, ◌&&◌, ◌||◌, ◌∷◌, ◌∙◌}
 use Rattle.std.specs.Prelude.{if◌then◌else◌}
-use Rattle.model.specs.declared.object.Content.TheVariants as content
 use Rattle.model.specs.declared.order.BankOrder.TheVariants as bank
-use Rattle.model_laws.proofs.SoundParts.{IsHeld, IsFilled, IsFramed, Waits, held_to, held_void}
+use Rattle.model_laws.proofs.SoundParts.{IsHeld, IsFilled, IsFramed, Waits, held_to}
 use Rattle.model_laws.proofs.Mapped.{at_map}
-use Rattle.model_laws.proofs.SoundOrders.{IsNow, IsOutcome, AreArguments, three_words, refused_keeps}
+use Rattle.model_laws.proofs.SoundOrders.{IsNow, IsOutcome, AreArguments, refused_keeps}
 use Rattle.model_laws.proofs.Cases.{chosen, one_of}
 use Rattle.model_laws.proofs.Counts.{count_alike, count_none}
 use Rattle.model_laws.proofs.BankTree.{IsTree, tree_of, member_tail, chain_prime, chain_unfolds, chain_longer, chain_once, chain_itself, chain_nonempty}
 use Rattle.model_laws.proofs.BankTree.{chain_length, chain_owner_length, owner_bank}
-use Rattle.model_laws.proofs.NumberLists.{AllDiffer, no_member, only_member}
+use Rattle.model_laws.proofs.NumberLists.{no_member, only_member}
 use Rattle.model_laws.proofs.BankRescind.{held_as_before, rescinded_now, used_owner, used_where}
-use Rattle.model_laws.proofs.BankFreed.{IsGivenUp, differ_where, freed_set, owned_found, tree_induction, under_given_up, under_owner}
+use Rattle.model_laws.proofs.BankFreed.{IsGivenUp, differ_where, freed_set, tree_induction, under_given_up, under_owner}
 use Rattle.model_laws.proofs.BankFreed.{usage_given_up}
 
 -- who owns what a bank owned
@@ -34,16 +33,7 @@ pub transferred_content : (b parent : ℕ) (o : Object) → (transferred b paren
 transferred_content b parent o = one_of (λ x. x.content ≡ o.content) (not (is_free o.content) && (o.owner == b)) _ o refl refl
 
 transferred_owner : (b parent : ℕ) (o : Object) → b ≢ 0 → (is_free o.content ≡ true → o.owner ≡ 0) → (transferred b parent o).owner ≡ heir b parent o.owner
-transferred_owner b parent o on unowned = go (is_free o.content) refl
-  where
-    go : (t : Bool) → is_free o.content ≡ t → (if not t && (o.owner == b) then record { owner = parent; content = o.content } else o).owner ≡ heir b parent
-        o.owner
-    go true gone = sym (heir_other b parent o.owner (λ e. on (sym e ∙ unowned gone)))
-    go false used = kept (o.owner == b)
-      where
-        kept : (t : Bool) → (if t then record { owner = parent; content = o.content } else o).owner ≡ (if t then parent else o.owner)
-        kept true = refl
-        kept false = refl
+transferred_owner b parent o on unowned = grind (arith, nat_tests)
 
 -- the objects after a bank's are transferred
 module _ (os : List Object) (t : IsTree os) (b : ℕ) (is : IsTrue (is_bank (content_at os b))) (on : b ≢ 0) where
@@ -67,16 +57,7 @@ module _ (os : List Object) (t : IsTree os) (b : ℕ) (is : IsTrue (is_bank (con
       false≢true (sym (chain_once os t b is on) ∙ (ap (λ (k : ℕ). is_member (chain os k) b) e ∙ chain_itself os t b is))
 
   heir_differs : (n : ℕ) → heir b (owner_at os b) n ≢ b
-  heir_differs n e = elim (cases_eq n b) [
-    | inl same ↦ parent_other (sym (heir_of b (owner_at os b) n same) ∙ e)
-    | inr other ↦ other (sym (heir_other b (owner_at os b) n other) ∙ e)
-  ]
-
-  heir_bank : (n : ℕ) → IsTrue (is_bank (content_at os n)) → IsTrue (is_bank (content_at os (heir b (owner_at os b) n)))
-  heir_bank n bank = elim (cases_eq n b) [
-    | inl same ↦ rw (heir_of b (owner_at os b) n same) (owner_bank os t b is)
-    | inr other ↦ rw (heir_other b (owner_at os b) n other) bank
-  ]
+  heir_differs n e = grind (arith, nat_tests, parent_other, heir_of, heir_other)
 
   -- the bank is in no chain but its own
   no_heir_within : (k n : ℕ) → is_member (chain_within k (inherited os b) (heir b (owner_at os b) n)) b ≡ false
@@ -150,10 +131,7 @@ module _ (os : List Object) (t : IsTree os) (b : ℕ) (is : IsTrue (is_bank (con
 
   -- the others' usage is as it was, and the bank has none
   under_heir : (x n : ℕ) → x ≢ b → is_under (inherited os b) x (object_at (inherited os b) n) ≡ is_under os x (object_at os n)
-  under_heir x n differ = elim (cases_Bool (is_free (content_at os n))) [
-    | inl gone ↦ rw (inherited_content n, gone) refl
-    | inr used ↦ rw (inherited_content n, inherited_owner n, used) (chain_heir x (owner_at os n) differ (used_owner os t n used))
-  ]
+  under_heir x n differ = grind (arith, nat_tests, inherited_content, inherited_owner, chain_heir, used_owner)
 
   no_under : (n : ℕ) → is_under (inherited os b) b (object_at (inherited os b) n) ≡ false
   no_under n = rw (inherited_owner n) (and_right (not (is_free (content_at (inherited os b) n))) _ (no_heir (owner_at os n)))
@@ -185,28 +163,14 @@ framed_inherited g os b h is on =
             ap is_annex (same (annex_at os p)) ∙ known.0,
             owner (annex_at os p) ∙ (ap (λ (k : ℕ). heir b (owner_at os b) k) known.1 ∙ sym (owner p)),
           );
-      one_root = λ p q first second e.
-          h.one_root p q (ap is_root (sym (same p)) ∙ first) (ap is_root (sym (same q)) ∙ second) (sym (annex p) ∙ (e ∙ annex q));
-      some_root = λ a e.
-          let found = h.some_root a (ap is_annex (sym (same a)) ∙ e) in
-          (found.0, ap is_root (same found.0) ∙ found.1, annex found.0 ∙ found.2);
-      unowned = λ n e.
-          owner n ∙ (ap (λ (k : ℕ). heir b (owner_at os b) k) (h.unowned n (ap is_free (sym (same n)) ∙ e)) ∙ heir_other b (owner_at os b) 0 (λ z. on (sym z)));
-      owners = λ n e.
-          rw (owner n) (ap is_bank (same (heir b (owner_at os b) (owner_at os n))) ∙
-          heir_bank os t b is on (owner_at os n) (h.owners n (λ z. e (ap is_free (same n) ∙ z))));
-      prime = (
-        ap is_bank (same 0) ∙ h.prime.0,
-        owner 0 ∙ (ap (λ (k : ℕ). heir b (owner_at os b) k) h.prime.1 ∙ heir_other b (owner_at os b) 0 (λ z. on (sym z))),
-      );
+      one_root = grind (arith, nat_tests);
+      some_root = grind (arith, nat_tests);
+      unowned = grind (arith, nat_tests, heir_other);
+      owners = grind (arith, nat_tests);
+      prime = grind (arith, nat_tests, heir_other);
       chains = λ c bank.
           Contains-from_any (λ x y e. eqb-true x y e) 0 (chain (inherited os b) c) (inherited_chain os t b is on c (ap is_bank (sym (same c)) ∙ bank));
-      limits = λ c bank. elim (cases_eq c b) [
-        | inl own ↦ rw own (omega (arith, usage_none os t b is on))
-        | inr other ↦
-            let limit : limit_in (content_at (inherited os b) c) ≡ limit_in (content_at os c) = ap limit_in (same c) in
-            rw limit (omega (arith, usage_inherited os t b is on c other, h.limits c (ap is_bank (sym (same c)) ∙ bank)))
-      ];
+      limits = λ c bank. grind (arith, nat_tests, usage_none, usage_inherited);
     }
 
 -- sound objects are sound where a bank's are transferred
@@ -232,32 +196,7 @@ inherited_now g os b h is on =
 -- then the bank can be given up alone
 alone_given_up : (g : Geometry) (os : List Object) (b : ℕ) → IsFramed g os → IsTrue (is_bank (content_at os b)) → b ≢ 0 → IsGivenUp (inherited os b) (b ∷ [])
 alone_given_up g os b h is on =
-    let t = tree_of g os h in
-    let after = framed_inherited g os b h is on in
-    let bank : is_bank (content_at (inherited os b) b) ≡ true = ap is_bank (inherited_content os t b is on b) ∙ is in
-    record {
-      closed = record {
-        prime = no_member b [] 0 (λ e. on (sym e)) refl;
-        annexes = λ p process.
-            no_member b [] (annex_at (inherited os b) p)
-            (differ_where is_annex (inherited os b) (annex_at (inherited os b) p) b (after.annexes p process).0
-            (bank_no_annex (content_at (inherited os b) b) bank)) refl
-            ∙ sym (no_member b [] p (differ_where is_root (inherited os b) p b process (bank_no_root (content_at (inherited os b) b) bank)) refl);
-        owned = λ n used e.
-            absurd (heir_differs os t b is on (owner_at os n) (sym (inherited_owner os t b is on n) ∙ only_member b (owner_at (inherited os b) n) e));
-      };
-      once = (refl, tt);
-      used = λ n e.
-          subst (λ k. is_free (content_at (inherited os b) k) ≡ false) (sym (only_member b n e)) (used_where is_bank refl (content_at (inherited os b) b) bank);
-    }
-  where
-    bank_no_annex : (c : Content Capability) → is_bank c ≡ true → is_annex c ≡ false
-    bank_no_annex (content.Annex r) e = absurd (false≢true e)
-    bank_no_annex c e = refl
-
-    bank_no_root : (c : Content Capability) → is_bank c ≡ true → is_root c ≡ false
-    bank_no_root (content.Root r) e = absurd (false≢true e)
-    bank_no_root c e = refl
+    grind (arith, nat_tests, tree_of, framed_inherited, inherited_content, no_member, differ_where, heir_differs, inherited_owner, only_member, used_where)
 
 -- sound objects are sound where a bank is returned
 pub returned_now : (g : Geometry) (os : List Object) (b : ℕ) → IsNow g os → IsTrue (is_bank (content_at os b)) → b ≢ 0 →
@@ -294,8 +233,7 @@ returned_fits g os b h is on x differ = omega (arith, usage_returned_both g os b
 
 -- an outcome that gives nothing
 void_keeps : (g : Geometry) (os : List Object) (written : List ℕ) → IsNow g os → IsOutcome g (made os written Void)
-void_keeps g os written h =
-    record { now = h; count = refl; words = three_words 0 0 0 (omega arith) (omega arith) (omega arith); held = held_void os (Waits os) }
+void_keeps g os written h = grind (arith, nat_tests)
 
 module _ (g : Geometry) (os : List Object) (b : ℕ) (args : Arguments) (h : IsNow g os) (is : IsTrue (is_bank (content_at os b))) (fits : AreArguments os args)
   where

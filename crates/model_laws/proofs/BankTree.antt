@@ -1,9 +1,8 @@
 -- The tree of banks: chains and what is in them.
-use Rattle.model_laws.proofs.Names.{inl, inr, ℕ, zero, suc, true, false, List, [], length, refl, sym, ap, subst, arith, IsTrue, slice_index_or, Contains}
-use Rattle.model_laws.proofs.Names.{cases_eq, eq-eqb, ne_eqb, false_from_ne_true, get_or-set_same, get_or-set_other, length-set, Capability, Geometry, Content}
-use Rattle.model_laws.proofs.Names.{Object, free, is_bank, is_free, object_at, content_at, owner_at, chain, chain_within, with_new, is_member}
+use Rattle.model_laws.proofs.Names.{nat_tests, inl, inr, ℕ, zero, suc, true, false, List, [], length, refl, sym, ap, subst, arith, IsTrue, Contains, cases_eq}
+use Rattle.model_laws.proofs.Names.{eq-eqb, ne_eqb, get_or-set_same, get_or-set_other, length-set, Capability, Geometry, Content, Object, free, is_bank}
+use Rattle.model_laws.proofs.Names.{is_free, object_at, content_at, owner_at, chain, chain_within, with_new, is_member}
 use Rattle.std.proofs.Common.{◌≡◌, ◌≢◌, ◌<◌, ◌≤◌, ◌||◌, ◌∷◌, ◌∙◌}
-use Rattle.model.specs.declared.object.Content.TheVariants as content
 use Rattle.model_laws.proofs.SoundParts.{IsFramed}
 
 -- every object that isn't free is owned by a bank, and every bank's chain ends in the prime bank
@@ -19,17 +18,9 @@ tree_of g os h = record { unowned = h.unowned; owners = h.owners; prime = h.prim
 
 -- a bank isn't free
 pub bank_used : (c : Content Capability) → IsTrue (is_bank c) → is_free c ≢ true
-bank_used (content.Bank limit) is gone = cc
-bank_used c is gone = cc
+bank_used c is gone = grind (arith, nat_tests)
 
 -- lists of numbers
-
-contains_tail : (x y : ℕ) (xs : List ℕ) → x ≢ y → Contains (x ∷ xs) y → Contains xs y
-contains_tail x y xs differ h = go h.0 h.1 h.2
-  where
-    go : (k : ℕ) → k < length (x ∷ xs) → slice_index_or (x ∷ xs) k y ≡ y → Contains xs y
-    go zero lt e = absurd (differ e)
-    go (suc k) lt e = (k, omega arith, e)
 
 contains_more : (x y : ℕ) (xs : List ℕ) → Contains xs y → Contains (x ∷ xs) y
 contains_more x y xs h = (suc h.0, omega (arith, h.1), h.2)
@@ -50,25 +41,6 @@ within_end os k b end = rw (eq-eqb b 0 end) refl
 within_on : (os : List Object) (k b : ℕ) → b ≢ 0 → chain_within (suc k) os b ≡ b ∷ chain_within k os (owner_at os b)
 within_on os k b on = rw (ne_eqb b 0 on) refl
 
-within_stays : (os : List Object) (k b : ℕ) → Contains (chain_within k os b) 0 → chain_within (suc k) os b ≡ chain_within k os b
-within_stays os zero b ends = absurd (omega (arith, ends.1))
-within_stays os (suc k) b ends = elim (cases_eq b 0) [
-  | inl end ↦ within_end os (suc k) b end ∙ sym (within_end os k b end)
-  | inr on ↦
-      let above = contains_tail b 0 (chain_within k os (owner_at os b)) on (subst (λ xs. Contains xs 0) (within_on os k b on) ends) in
-      within_on os (suc k) b on ∙ (ap (λ xs. b ∷ xs) (within_stays os k (owner_at os b) above) ∙ sym (within_on os k b on))
-]
-
-within_short : (os : List Object) (k b : ℕ) → length (chain_within (suc k) os b) ≤ k → chain_within (suc k) os b ≡ chain_within k os b
-within_short os zero b short = absurd (omega arith)
-within_short os (suc k) b short = elim (cases_eq b 0) [
-  | inl end ↦ within_end os (suc k) b end ∙ sym (within_end os k b end)
-  | inr on ↦
-      let long = ap (λ (xs : List ℕ). length xs) (within_on os (suc k) b on) in
-      let above : length (chain_within (suc k) os (owner_at os b)) ≤ k = omega (arith, short, long) in
-      within_on os (suc k) b on ∙ (ap (λ xs. b ∷ xs) (within_short os k (owner_at os b) above) ∙ sym (within_on os k b on))
-]
-
 within_length : (os : List Object) (k b : ℕ) → length (chain_within k os b) ≤ k
 within_length os zero b = omega arith
 within_length os (suc k) b = elim (cases_eq b 0) [
@@ -82,14 +54,8 @@ within_on_same os us zero b same = refl
 within_on_same os us (suc k) b same = elim (cases_eq b 0) [
   | inl end ↦ within_end us k b end ∙ sym (within_end os k b end)
   | inr on ↦
-      let here : owner_at us b ≡ owner_at os b = same b
-      (ap (λ xs. is_member xs b) (within_on os k b on) ∙ member_head b b (chain_within k os (owner_at os b)) refl) in
-      let above : (x : ℕ) → is_member (chain_within k os (owner_at os b)) x ≡ true → owner_at us x ≡ owner_at os x =
-      λ x in_rest. elim (cases_eq x b) [
-        | inl e ↦ rw e here
-        | inr differ ↦ same x (ap (λ xs. is_member xs x) (within_on os k b on) ∙ (member_tail x b (chain_within k os (owner_at os b)) differ ∙ in_rest))
-      ]
-      in
+      let here : owner_at us b ≡ owner_at os b = grind (arith, nat_tests) in
+      let above : (x : ℕ) → is_member (chain_within k os (owner_at os b)) x ≡ true → owner_at us x ≡ owner_at os x = grind (arith, nat_tests) in
       within_on us k b on ∙ (ap (λ c. b ∷ chain_within k us c) here
       ∙ (ap (λ xs. b ∷ xs) (within_on_same os us k (owner_at os b) above) ∙ sym (within_on os k b on)))
 ]
@@ -117,9 +83,7 @@ chain_zero os b end = within_end os 15 b end
 -- a chain that isn't as long as it may be goes on from what the bank owns
 chain_below : (os us : List Object) (n b : ℕ) → n ≢ 0 → owner_at us n ≡ b → chain us b ≡ chain os b → length (chain os b) < 16 → chain us n ≡ n ∷ chain os b
 unfolding chain
-chain_below os us n b on is same short =
-    let fits : length (chain_within 16 us b) ≤ 15 = omega (arith, short, ap (λ (xs : List ℕ). length xs) same) in
-    within_on us 15 n on ∙ (ap (λ c. n ∷ chain_within 15 us c) is ∙ ap (λ xs. n ∷ xs) (sym (within_short us 15 b fits) ∙ same))
+chain_below os us n b on is same short = grind (arith, nat_tests)
 
 module _ (os : List Object) (t : IsTree os) where
   -- the owner of a bank is a bank
@@ -129,9 +93,7 @@ module _ (os : List Object) (t : IsTree os) where
   -- the chain of a bank is the bank and the chain of its owner
   pub chain_unfolds : (b : ℕ) → IsTrue (is_bank (content_at os b)) → b ≢ 0 → chain os b ≡ b ∷ chain os (owner_at os b)
   unfolding chain
-  chain_unfolds b is on =
-      let above = contains_tail b 0 (chain_within 15 os (owner_at os b)) on (subst (λ xs. Contains xs 0) (within_on os 15 b on) (t.chains b is)) in
-      within_on os 15 b on ∙ ap (λ xs. b ∷ xs) (sym (within_stays os 15 (owner_at os b) above))
+  chain_unfolds b is on = grind (arith, nat_tests)
 
   -- what holds of a bank, and of the owner of each bank that it holds of, holds all along the chain
   pub chain_climbs : (P : ℕ → Type 0) → ((c : ℕ) → IsTrue (is_bank (content_at os c)) → c ≢ 0 → P c → P (owner_at os c))
@@ -144,9 +106,7 @@ module _ (os : List Object) (t : IsTree os) where
       go (suc k) c is here member = elim (cases_eq x c) [
         | inl e ↦ subst P (sym e) here
         | inr differ ↦ elim (cases_eq c 0) [
-          | inl end ↦
-              let none : false ≡ true = sym (ap (λ xs. is_member xs x) (within_end os k c end) ∙ member_tail x c [] differ) ∙ member in
-              cc
+          | inl end ↦ grind (arith, nat_tests, within_end, member_tail)
           | inr on ↦
               go k (owner_at os c) (owner_bank c is) (climbs c is on here)
               (sym (ap (λ xs. is_member xs x) (within_on os k c on) ∙ member_tail x c (chain_within k os (owner_at os c)) differ) ∙ member)
@@ -163,10 +123,7 @@ module _ (os : List Object) (t : IsTree os) where
 
   -- a chain has a bank
   pub chain_nonempty : (b : ℕ) → IsTrue (is_bank (content_at os b)) → 1 ≤ length (chain os b)
-  chain_nonempty b is = elim (cases_eq b 0) [
-    | inl end ↦ omega (arith, ap (λ (xs : List ℕ). length xs) (chain_zero os b end))
-    | inr on ↦ omega (arith, chain_longer b is on)
-  ]
+  chain_nonempty b is = grind (arith, nat_tests)
 
   -- the chain of an owner is shorter than the longest
   pub chain_owner_length : (b : ℕ) → IsTrue (is_bank (content_at os b)) → b ≢ 0 → length (chain os (owner_at os b)) < 16
@@ -179,16 +136,11 @@ module _ (os : List Object) (t : IsTree os) where
 
   -- no bank is twice in a chain
   pub chain_once : (b : ℕ) → IsTrue (is_bank (content_at os b)) → b ≢ 0 → is_member (chain os (owner_at os b)) b ≡ false
-  chain_once b is on =
-      false_from_ne_true (is_member (chain os (owner_at os b)) b)
-      (λ twice. omega (arith, chain_longer b is on, chain_shorter (owner_at os b) b (owner_bank b is) twice))
+  chain_once b is on = grind (arith, nat_tests, chain_longer, chain_shorter, owner_bank)
 
   -- a bank is in its own chain
   pub chain_itself : (b : ℕ) → IsTrue (is_bank (content_at os b)) → is_member (chain os b) b ≡ true
-  chain_itself b is = elim (cases_eq b 0) [
-    | inl end ↦ ap (λ xs. is_member xs b) (chain_zero os b end) ∙ member_head b b [] refl
-    | inr on ↦ ap (λ xs. is_member xs b) (chain_unfolds b is on) ∙ member_head b b (chain os (owner_at os b)) refl
-  ]
+  chain_itself b is = grind (arith, nat_tests, chain_zero, member_head, chain_unfolds)
 
 -- a new object at a free number
 
@@ -223,27 +175,16 @@ module _ (os : List Object) (n b : ℕ) (c : Content Capability) (t : IsTree os)
 
   -- the chains of the banks that were there are the same
   pub chain_new : (x : ℕ) → IsTrue (is_bank (content_at os x)) → chain (with_new os n b c) x ≡ chain os x
-  chain_new x is =
-      chain_on os (with_new os n b c) x (λ y member. ap (λ (o : Object). o.owner) (bank_kept y (chain_banks os t x y is member)))
+  chain_new x is = grind (arith, nat_tests, chain_on, bank_kept, chain_banks)
 
   -- that of a new bank goes on from its owner
   pub chain_new_bank : IsTrue (is_bank c) → chain (with_new os n b c) n ≡ n ∷ chain os b
-  chain_new_bank is =
-      chain_below os (with_new os n b c) n b (λ e. bank_not_free os 0 n t.prime.0 unused (sym e))
-      (ap (λ (o : Object). o.owner) (at_new os n b c inside)) (chain_new b bank) (short is)
+  chain_new_bank is = grind (arith, nat_tests, chain_below, bank_not_free, at_new, chain_new)
 
   -- the banks are a tree still
   pub tree_new : IsTree (with_new os n b c)
   tree_new = record {
-    unowned = λ x gone. elim (cases_eq x n) [
-      | inl e ↦
-          let no_more : true ≡ false = sym gone ∙ (ap (λ (m : ℕ). is_free (content_at (with_new os n b c) m)) e
-          ∙ (ap (λ (o : Object). is_free o.content) (at_new os n b c inside) ∙ used)) in
-          cc
-      | inr differ ↦
-          let same = at_other os n b c x differ in
-          ap (λ (o : Object). o.owner) same ∙ t.unowned x (sym (ap (λ (o : Object). is_free o.content) same) ∙ gone)
-    ];
+    unowned = λ x gone. grind (arith, nat_tests, at_new, at_other);
     owners = λ x is. elim (cases_eq x n) [
       | inl e ↦
           let owner : owner_at (with_new os n b c) x ≡ b = ap (λ (m : ℕ). owner_at (with_new os n b c) m) e ∙

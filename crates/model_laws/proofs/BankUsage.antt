@@ -1,15 +1,10 @@
 -- Usage after a new object, and the order of a bank where the frame is the same.
-use Rattle.model_laws.proofs.Names.{inl, inr, ℕ, Bool, true, false, not, add-zero, zero-add, List, [], length, map, refl, sym, ap, subst, arith, IsTrue, nat_le}
-use Rattle.model_laws.proofs.Names.{nat_lt, filter, list_any, list_all, range_with_len, cases_eq, eq-eqb, ne_eqb, and_right, false_from_ne_true, Capability}
-use Rattle.model_laws.proofs.Names.{Void, Page, Node, Process, Bank, Geometry, Content, Object, Arguments, BankOrder, ResultCode, full, free, is_bank, is_free}
-use Rattle.model_laws.proofs.Names.{object_at, content_at, owner_at, chain, is_under, usage, refused, made, are_free, free_nodes, free_pages, has_quota}
-use Rattle.model_laws.proofs.Names.{with_new, new_page, new_node, allocated, process_allocated, bank_allocated, freed_by, freed, under, owned_by, left_of}
-use Rattle.model_laws.proofs.Names.{least, remaining, on_bank, is_member, rescind}
+use Rattle.model_laws.proofs.Names.{nat_tests, inl, inr, ℕ, false, not, add-zero, zero-add, List, [], length, map, refl, sym, arith, IsTrue, filter, list_all}
+use Rattle.model_laws.proofs.Names.{range_with_len, cases_eq, eq-eqb, ne_eqb, and_right, Capability, Geometry, Content, Object, free, is_bank, is_free}
+use Rattle.model_laws.proofs.Names.{object_at, content_at, chain, is_under, usage, are_free, free_nodes, free_pages, has_quota, with_new, freed_by, under}
+use Rattle.model_laws.proofs.Names.{owned_by, left_of, least, remaining, is_member}
+use Rattle.std.specs.Prelude.{nat_le, if◌then◌else◌}
 use Rattle.std.proofs.Common.{◌≡◌, ◌≢◌, ◌+◌, ◌==◌, ◌<◌, ◌&&◌, ◌||◌, ◌∷◌, ◌∙◌}
-use Rattle.std.specs.Prelude.{if◌then◌else◌, nat_eq}
-use Rattle.model.specs.declared.object.Content.TheVariants as content
-use Rattle.model.specs.declared.order.BankOrder.TheVariants as bank
-use Rattle.model.specs.declared.order.ResultCode.TheVariants as code
 use Rattle.model_laws.proofs.Counts.{count_both, count_none, count_where}
 use Rattle.model_laws.proofs.Usage.{SameFrame, tests_at, chain_same, under_same, usage_same}
 use Rattle.model_laws.proofs.BankTree.{IsTree, bank_not_free, chain_banks, chain_new, at_new, at_other, length_new}
@@ -22,29 +17,15 @@ module _ (os : List Object) (n b : ℕ) (c : Content Capability) (t : IsTree os)
 
   -- what was there is under the same banks
   under_kept : (x y : ℕ) → y ≢ n → is_under (with_new os n b c) x (object_at (with_new os n b c) y) ≡ is_under os x (object_at os y)
-  under_kept x y differ = ap (is_under (with_new os n b c) x) (at_other os n b c y differ) ∙ go (is_free (content_at os y)) refl
-    where
-      go : (gone : Bool) → is_free (content_at os y) ≡ gone → is_under (with_new os n b c) x (object_at os y) ≡ is_under os x (object_at os y)
-      go true e = rw e refl
-      go false e = rw (kept_chain (owner_at os y) (t.owners y (λ f. let no_more : false ≡ true = sym e ∙ f in cc))) refl
+  under_kept x y differ = grind (arith, nat_tests, at_other, kept_chain)
 
   -- nothing is under a free number
   under_none : (y : ℕ) → is_under os n (object_at os y) ≡ false
-  under_none y = go (is_free (content_at os y)) refl
-    where
-      go : (gone : Bool) → is_free (content_at os y) ≡ gone → is_under os n (object_at os y) ≡ false
-      go true e = rw e refl
-      go false e =
-          let owner = t.owners y (λ f. let no_more : false ≡ true = sym e ∙ f in cc) in
-          rw e (false_from_ne_true (is_member (chain os (owner_at os y)) n)
-          (λ member. bank_not_free os n n (chain_banks os t (owner_at os y) n owner member) unused refl))
+  under_none y = grind (arith, nat_tests, bank_not_free, chain_banks)
 
   -- a new object is under its bank and what that is under
   under_new : (x : ℕ) → is_under (with_new os n b c) x (object_at (with_new os n b c) n) ≡ is_member (chain os b) x
-  under_new x =
-      ap (is_under (with_new os n b c) x) (at_new os n b c inside)
-      ∙ (ap (λ gone. not gone && list_any (nat_eq x) (chain (with_new os n b c) b)) used
-      ∙ ap (λ xs. is_member xs x) (kept_chain b bank))
+  under_new x = grind (arith, nat_tests, at_new, kept_chain)
 
   -- a new object counts once more at its bank and at each that this is under
   pub usage_new : (x : ℕ) → IsTrue (is_bank (content_at os x)) → usage (with_new os n b c) x ≡ usage os x + (if is_member (chain os b) x then 1 else 0)
@@ -90,13 +71,11 @@ module _ (os us : List Object) (s : SameFrame os us) where
   room_alike b count = λ k. list_all (λ c. nat_le (usage_same os us s c k + count) ((s.alike c).limit k)) (chain_same os us s b k)
 
   pub freed_alike : (c : Capability) → freed_by us c ≡ freed_by os c
-  freed_alike (Process p) = rw (s.alike p).annex refl
-  freed_alike c = refl
+  freed_alike c = grind (arith, nat_tests)
 
   pub under_alike : (b : ℕ) → under us b ≡ under os b
   unfolding under
-  under_alike b =
-      λ k. filter (λ n. (n == b) || under_same os us s b (object_at os n) (object_at us n) (s.alike n) k) (range_with_len 0 (s.size k))
+  under_alike b = grind (arith, nat_tests, under_same)
 
   pub owned_alike : (b : ℕ) → owned_by us b ≡ owned_by os b
   unfolding owned_by

@@ -1,21 +1,19 @@
 -- What an order of a bank writes, and the annex of a process that outlives it.
-use Rattle.model_laws.proofs.Names.{ℕ, Bool, true, false, List, [], refl, sym, ap, subst, arith, IsTrue, nat_lt, range_with_len, All-cons, All-filter, All-nil}
+use Rattle.model_laws.proofs.Names.{nat_tests, ℕ, Bool, true, false, List, [], refl, ap, subst, arith, IsTrue, range_with_len, All-cons, All-filter, All-nil}
 use Rattle.model_laws.proofs.Names.{filter_passes, get_or-range_with_len, length-range_with_len, Capability, Geometry, Content, Object, Arguments, BankOrder}
-use Rattle.model_laws.proofs.Names.{chain, allocated, are_free, bank_allocated, freed, freed_by, free_nodes, free_pages, transferred, has_quota, inherited}
-use Rattle.model_laws.proofs.Names.{new_annex, new_root, on_bank, owned_by, process_allocated, under, with_new, free, is_bank, is_free, is_root, root_in}
-use Rattle.model_laws.proofs.Names.{OrderOutcome, is_member, names_member, rescind, without, NamesItsKind, annex_at, content_at, is_process, object_at}
-use Rattle.model_laws.proofs.Names.{owner_at}
+use Rattle.model_laws.proofs.Names.{allocated, are_free, bank_allocated, freed, freed_by, free_nodes, free_pages, has_quota, inherited, new_annex, new_root}
+use Rattle.model_laws.proofs.Names.{on_bank, owned_by, process_allocated, with_new, free, is_bank, is_free, is_root, root_in, OrderOutcome, names_member}
+use Rattle.model_laws.proofs.Names.{rescind, without, NamesItsKind, annex_at, content_at, is_process}
 use Rattle.std.proofs.Common.{◌≡◌, ◌≢◌, ◌+◌, ◌<◌, ◌≤◌, ◌==◌, ◌∷◌, ◌∙◌, if◌then◌else◌}
 use Rattle.std.specs.Prelude.{length}
 use Rattle.std.specs.List.{All}
-use Rattle.model.specs.declared.object.Content.TheVariants as content
 use Rattle.model.specs.declared.order.BankOrder.TheVariants as bank
 use Rattle.model_laws.proofs.Cases.{one_of}
-use Rattle.model_laws.proofs.BankFreed.{freed_within, owned_within, under_within, used_within}
+use Rattle.model_laws.proofs.BankFreed.{owned_within, under_within, used_within}
 use Rattle.model_laws.proofs.BankReturn.{transferred_content}
 use Rattle.model_laws.proofs.BankTree.{at_other}
 use Rattle.model_laws.proofs.Revoking.{at_rescind}
-use Rattle.model_laws.proofs.Mapped.{at_map, without_mapped}
+use Rattle.model_laws.proofs.Mapped.{at_map}
 use Rattle.model_laws.proofs.SoundOrders.{IsNow}
 
 -- what is a process before and after has the same annex
@@ -23,28 +21,21 @@ abbrev KeepsAnnexes : List Object → List Object → Type 0
 KeepsAnnexes os us = (p : ℕ) → is_process os p ≡ true → is_process us p ≡ true → annex_at us p ≡ annex_at os p
 
 root_not_free : (c : Content Capability) → is_root c ≡ true → is_free c ≡ true → ⊥
-root_not_free (content.Root root) r f = cc
-root_not_free c r f = cc
+root_not_free c r f = grind (arith, nat_tests)
 
 after : (set : List ℕ) (b : Bool) (o : Object) → is_root (if b then free else without (names_member set) o).content ≡ true →
     (root_in (if b then free else without (names_member set) o).content).annex ≡ (root_in o.content).annex
-after set true o is = cc
-after set false o is = (without_mapped (names_member set) o).annex
+after set b o is = grind (arith, nat_tests)
 
 rescind_annexes : (set : List ℕ) (os : List Object) → KeepsAnnexes os (rescind set os)
-rescind_annexes set os p before is =
-    ap (λ (o : Object). (root_in o.content).annex) (at_rescind set os p)
-    ∙ after set (is_member set p) (object_at os p) (subst (λ (o : Object). is_root o.content ≡ true) (at_rescind set os p) is)
+rescind_annexes set os p before is = grind (arith, nat_tests, at_rescind, after)
 
 inherited_content : (os : List Object) (b n : ℕ) → content_at (inherited os b) n ≡ content_at os n
 unfolding inherited
-inherited_content os b n = ap (λ (o : Object). o.content) (at_map (transferred b (owner_at os b)) os n free refl) ∙
-    transferred_content b (owner_at os b) (object_at os n)
+inherited_content os b n = grind (arith, nat_tests, at_map, transferred_content)
 
 inherited_annexes : (b : ℕ) (os : List Object) → KeepsAnnexes os (rescind (b ∷ []) (inherited os b))
-inherited_annexes b os p before is =
-    rescind_annexes (b ∷ []) (inherited os b) p (subst (λ (c : Content Capability). is_root c ≡ true) (sym (inherited_content os b p)) before) is
-    ∙ ap (λ (c : Content Capability). (root_in c).annex) (inherited_content os b p)
+inherited_annexes b os p before is = grind (arith, nat_tests, rescind_annexes, inherited_content)
 
 module _ (os : List Object) (b : ℕ) where
   -- a process isn't at a free number
@@ -56,9 +47,7 @@ module _ (os : List Object) (b : ℕ) where
 
   two_annexes : (n m : ℕ) (c d : Content Capability) → is_free (content_at os n) ≡ true → is_free (content_at os m) ≡ true →
       KeepsAnnexes os (with_new (with_new os n b c) m b d)
-  two_annexes n m c d first second p before is =
-      ap (λ (o : Object). (root_in o.content).annex)
-      (at_other (with_new os n b c) m b d p (apart p m before second) ∙ at_other os n b c p (apart p n before first))
+  two_annexes n m c d first second p before is = grind (arith, nat_tests, at_other, apart)
 
   abbrev Kept : OrderOutcome → Type 0
   Kept o = KeepsAnnexes os o.objects
@@ -68,8 +57,7 @@ module _ (os : List Object) (b : ℕ) where
 
   allocated_annexes : (ns : List ℕ) (c : Content Capability) (named : ℕ → Capability) → All (λ n. is_free (content_at os n) ≡ true) ns →
       Kept (allocated os b ns c named)
-  allocated_annexes [] c named unused = same
-  allocated_annexes (n ∷ ns) c named unused = new_annexes n c (unused 0 0 (omega arith))
+  allocated_annexes ns c named unused = grind (arith, nat_tests, same, new_annexes)
 
   process_annexes : (ns : List ℕ) → All (λ n. is_free (content_at os n) ≡ true) ns → Kept (process_allocated os b ns)
   process_annexes [] unused = same
@@ -77,12 +65,10 @@ module _ (os : List Object) (b : ℕ) where
   process_annexes (p ∷ a ∷ ns) unused = two_annexes p a (new_root a) new_annex (unused 0 0 (omega arith)) (unused 1 0 (omega arith))
 
   bank_annexes : (ns : List ℕ) (limit : ℕ) → All (λ n. is_free (content_at os n) ≡ true) ns → Kept (bank_allocated os b ns limit)
-  bank_annexes [] limit unused = same
-  bank_annexes (n ∷ ns) limit unused = one_of Kept (nat_lt (length (chain os b)) 16) _ _ (new_annexes n (content.Bank limit) (unused 0 0 (omega arith))) same
+  bank_annexes ns limit unused = grind (arith, nat_tests, same, one_of, new_annexes)
 
   freed_annexes : (ns : List ℕ) → Kept (freed os b ns)
-  freed_annexes [] = same
-  freed_annexes (n ∷ ns) = one_of Kept (owner_at os n == b) _ _ (rescind_annexes (n ∷ ns) os) same
+  freed_annexes ns = grind (arith, nat_tests, same, one_of, rescind_annexes)
 
   nodes_unused : (g : Geometry) → All (λ n. is_free (content_at os n) ≡ true) (free_nodes g os)
   unfolding free_nodes
@@ -96,20 +82,11 @@ pub annex_kept : (g : Geometry) (os : List Object) (b : ℕ) (requested : BankOr
     is_process (on_bank g os b requested args).objects p ≡ true →
     annex_at (on_bank g os b requested args).objects p ≡ annex_at os p
 unfolding on_bank
-annex_kept g os b bank.NewPage args = one_of (Kept os b) (has_quota os b 1) _ _ (allocated_annexes os b (free_pages g os) _ _ (pages_unused os b g)) (same os b)
-annex_kept g os b bank.NewNode args = one_of (Kept os b) (has_quota os b 1) _ _ (allocated_annexes os b (free_nodes g os) _ _ (nodes_unused os b g)) (same os b)
-annex_kept g os b bank.NewProcess args = one_of (Kept os b) (has_quota os b 2) _ _ (process_annexes os b (free_nodes g os) (nodes_unused os b g)) (same os b)
-annex_kept g os b bank.NewBank args = one_of (Kept os b) (has_quota os b 1) _ _ (bank_annexes os b (free_nodes g os) args.first (nodes_unused os b g))
-    (same os b)
-annex_kept g os b bank.Free args = freed_annexes os b (freed_by os args.capability)
-annex_kept g os b bank.Destroy args = one_of (Kept os b) (b == 0) _ _ (same os b) (rescind_annexes (under os b) os)
-annex_kept g os b bank.ReturnToParent args = one_of (Kept os b) (b == 0) _ _ (same os b) (inherited_annexes b os)
-annex_kept g os b bank.Remaining args = same os b
+annex_kept g os b requested args p is has =
+    grind (arith, nat_tests, allocated_annexes, pages_unused, nodes_unused, process_annexes, bank_annexes, freed_annexes, rescind_annexes, inherited_annexes)
 
 bank_is_used : (c : Content Capability) → IsTrue (is_bank c) → is_free c ≡ false
-bank_is_used content.Free is = cc
-bank_is_used (content.Bank limit) is = refl
-bank_is_used c is = cc
+bank_is_used c is = grind (arith, nat_tests)
 
 -- every number that is written is one of the objects
 abbrev Within : List Object → OrderOutcome → Type 0
@@ -123,8 +100,7 @@ one_within os n inside = All-cons (λ n. n < length os) n [] inside (none_within
 
 allocated_within : (os : List Object) (b : ℕ) (ns : List ℕ) (c : Content Capability) (named : ℕ → Capability) → All (λ n. n < length os) ns →
     Within os (allocated os b ns c named)
-allocated_within os b [] c named inside = none_within os
-allocated_within os b (n ∷ ns) c named inside = one_within os n (inside 0 0 (omega arith))
+allocated_within os b ns c named inside = grind (arith, nat_tests)
 
 process_within : (os : List Object) (b : ℕ) (ns : List ℕ) → All (λ n. n < length os) ns → Within os (process_allocated os b ns)
 process_within os b [] inside = none_within os
@@ -132,8 +108,7 @@ process_within os b (p ∷ []) inside = none_within os
 process_within os b (p ∷ a ∷ ns) inside = All-cons (λ n. n < length os) p (a ∷ []) (inside 0 0 (omega arith)) (one_within os a (inside 1 0 (omega arith)))
 
 bank_within : (os : List Object) (b : ℕ) (ns : List ℕ) (limit : ℕ) → All (λ n. n < length os) ns → Within os (bank_allocated os b ns limit)
-bank_within os b [] limit inside = none_within os
-bank_within os b (n ∷ ns) limit inside = one_of (Within os) (nat_lt (length (chain os b)) 16) _ _ (one_within os n (inside 0 0 (omega arith))) (none_within os)
+bank_within os b ns limit inside = grind (arith, nat_tests)
 
 range_within : (os : List Object) (from count : ℕ) → from + count ≤ length os → All (λ n. n < length os) (are_free os (range_with_len from count))
 range_within os from count fits =
@@ -143,8 +118,7 @@ range_within os from count fits =
 
 freed_inside : (g : Geometry) (os : List Object) (b : ℕ) (c : Capability) (ns : List ℕ) → IsNow g os → NamesItsKind os c → freed_by os c ≡ ns →
     Within os (freed os b ns)
-freed_inside g os b c [] h kind is = none_within os
-freed_inside g os b c (n ∷ ns) h kind is = one_of (Within os) (owner_at os n == b) _ _ (freed_within g os c n ns h is kind) (none_within os)
+freed_inside g os b c ns h kind is = grind (arith, nat_tests)
 
 pub written_within : (g : Geometry) (os : List Object) (b : ℕ) (requested : BankOrder) (args : Arguments) → IsNow g os → IsTrue (is_bank (content_at os b)) →
     NamesItsKind os args.capability →

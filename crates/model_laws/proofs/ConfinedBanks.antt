@@ -1,10 +1,10 @@
 -- The order of a bank of a closed set stays in the set.
-use Rattle.model_laws.proofs.Names.{inl, inr, ℕ, nat_eq, Bool, true, false, not, List, [], length, refl, sym, ap, subst, arith, IsTrue, slice_index_or}
-use Rattle.model_laws.proofs.Names.{range_with_len, false≢true, cases_eq, and_parts, or_cases, or_right, not-true, eqb-true, eqb-false, Capability, Void, Page}
-use Rattle.model_laws.proofs.Names.{Node, Process, Bank, Geometry, Content, Object, Arguments, BankOrder, ResultCode, chain, is_under, allocated, are_free}
-use Rattle.model_laws.proofs.Names.{bank_allocated, free_nodes, free_pages, freed, freed_by, has_quota, inherited, new_annex, new_node, new_page, new_root}
-use Rattle.model_laws.proofs.Names.{on_bank, process_allocated, under, with_new, StaysInside, is_bank, is_free, is_root, root_in, slots_in, OrderOutcome}
-use Rattle.model_laws.proofs.Names.{refused, is_member, rescind, NamesItsKind, annex_at, content_at, object_at, owner_at, Encloses, IsKept, StaysWithin}
+use Rattle.model_laws.proofs.Names.{nat_tests, inl, inr, ℕ, nat_eq, Bool, true, false, List, [], length, refl, sym, ap, subst, arith, IsTrue, slice_index_or}
+use Rattle.model_laws.proofs.Names.{range_with_len, false≢true, cases_eq, or_cases, or_right, eqb-true, eqb-false, Capability, Void, Bank, Geometry, Content}
+use Rattle.model_laws.proofs.Names.{Object, Arguments, BankOrder, ResultCode, chain, is_under, allocated, are_free, bank_allocated, free_nodes, free_pages}
+use Rattle.model_laws.proofs.Names.{freed, freed_by, has_quota, inherited, new_annex, new_node, new_page, new_root, on_bank, process_allocated, under, with_new}
+use Rattle.model_laws.proofs.Names.{StaysInside, is_bank, is_free, is_root, root_in, slots_in, OrderOutcome, refused, is_member, rescind, NamesItsKind}
+use Rattle.model_laws.proofs.Names.{content_at, object_at, owner_at, Encloses, IsKept, StaysWithin}
 use Rattle.std.proofs.Common.{◌≡◌, ◌≢◌, ◌⊎◌, ◌+◌, ◌==◌, ◌<◌, ◌≤◌, ◌&&◌, if◌then◌else◌, ◌∷◌, ◌∙◌, nat_lt}
 use Rattle.model_laws.proofs.Cases.{chosen}
 use Rattle.model_laws.proofs.BankFreed.{tree_induction, under_found}
@@ -101,9 +101,7 @@ module _ (g : Geometry) (inside : ℕ → Bool) (os : List Object) (h : IsNow g 
   -- each free number of a range of objects is one
   unused_at : (from count : ℕ) → from + count ≤ length os → (ns : List ℕ) → are_free os (range_with_len from count) ≡ ns → (n : ℕ) → is_member ns n ≡ true →
       IsUnused n
-  unused_at from count fits ns e n member =
-      let found = found_in (λ n. is_free (content_at os n)) from count n (subst (λ xs. is_member xs n ≡ true) (sym e) member) in
-      (omega (arith, fits, found.1), found.2)
+  unused_at from count fits ns e n member = grind (arith, nat_tests, found_in)
 
   -- one new object
   new_stays : (n b : ℕ) (c : Content Capability) → IsUnused n → IsFresh inside c → StaysWithin inside os (with_new os n b c)
@@ -125,18 +123,11 @@ module _ (g : Geometry) (inside : ℕ → Bool) (os : List Object) (h : IsNow g 
   process_stays p a b apart root annex =
       let rooted = with_new os p b (new_root a) in
       let whole = with_new rooted a b new_annex in
-      let root_there : object_at whole p ≡ record { owner = b; content = new_root a } =
-      at_other rooted a b new_annex p apart ∙ at_new os p b (new_root a) root.0
-      in
-      let annex_there : object_at whole a ≡ record { owner = b; content = new_annex } =
-      at_new rooted a b new_annex (omega (arith, length_new os p b (new_root a), annex.0))
-      in
+      let root_there : object_at whole p ≡ record { owner = b; content = new_root a } = grind (arith, nat_tests, at_other, at_new) in
+      let annex_there : object_at whole a ≡ record { owner = b; content = new_annex } = grind (arith, nat_tests, at_new, length_new) in
       changed_stays whole (λ x. elim (cases_eq x a) [
         | inl e ↦ rw e (inr (k.free a annex.1, subst (λ (o : Object). IsFresh inside o.content) (sym annex_there) (fresh_annex inside)))
-        | inr no_annex ↦ elim (cases_eq x p) [
-          | inl e ↦ rw e (inr (k.free p root.1, subst (λ (o : Object). IsFresh inside o.content) (sym root_there) (fresh_root inside a (k.free a annex.1))))
-          | inr no_root ↦ inl (at_other rooted a b new_annex x no_annex ∙ at_other os p b (new_root a) x no_root)
-        ]
+        | inr no_annex ↦ grind (arith, nat_tests, fresh_root, at_other)
       ])
 
   -- what a bank gives up
@@ -150,27 +141,9 @@ module _ (g : Geometry) (inside : ℕ → Bool) (os : List Object) (h : IsNow g 
   freed_stays b (n ∷ ns) within = chosen (OutcomeStays inside os) (owner_at os n == b) _ _ (λ _. (gone_stays (n ∷ ns) within, inl tt))
       (λ _. refused_stays code.NotFromThisBank)
 
-  -- what a capability with full access names that stays inside is inside
-  full_inside : (a o n : ℕ) → (a ≡ 3) ⊎ IsTrue (inside o) → is_member (if a == 0 then o ∷ [] else []) n ≡ true → IsTrue (inside n)
-  full_inside a o n within member = go (a == 0) refl member
-    where
-      go : (t : Bool) → (a == 0) ≡ t → is_member (if t then o ∷ [] else []) n ≡ true → IsTrue (inside n)
-      go true e found = elim within [
-        | inl weak ↦ absurd (omega (arith, weak, eqb-true a 0 e))
-        | inr is ↦ ap inside (only_member o n found) ∙ is
-      ]
-      go false e found = cc
-
   -- what a capability frees that stays inside is inside
   freed_inside : (c : Capability) → NamesItsKind os c → StaysInside inside c → (n : ℕ) → is_member (freed_by os c) n ≡ true → IsTrue (inside n)
-  freed_inside (Page o a) names within n member = full_inside a.0 o n within member
-  freed_inside (Node o a) names within n member = full_inside a.0 o n within member
-  freed_inside (Process p) names (inl weak) n member = absurd weak
-  freed_inside (Process p) names (inr is) n member = elim (member_cases p (annex_at os p ∷ []) n member) [
-    | inl same ↦ ap inside same ∙ is
-    | inr later ↦ ap inside (only_member (annex_at os p) n later) ∙ k.closed.annexes p is names
-  ]
-  freed_inside c names within n member = cc
+  freed_inside c names within n member = grind (arith, nat_tests)
 
   -- a bank whose chain passes through one inside is inside
   above_inside : (b : ℕ) → IsTrue (inside b) → (c : ℕ) → IsTrue (is_bank (content_at os c)) → is_member (chain os c) b ≡ true → IsTrue (inside c)
@@ -187,24 +160,13 @@ module _ (g : Geometry) (inside : ℕ → Bool) (os : List Object) (h : IsNow g 
   under_inside : (b : ℕ) → IsTrue (inside b) → (n : ℕ) → is_member (under os b) n ≡ true → IsTrue (inside n)
   under_inside b is n e = elim (or_cases (n == b) (is_under os b (object_at os n)) (under_found os b n e).1) [
     | inl same ↦ ap inside (eqb-true n b same) ∙ is
-    | inr below ↦
-        let parts = and_parts (not (is_free (content_at os n))) (is_member (chain os (owner_at os n)) b) below in
-        let used = not-true (is_free (content_at os n)) parts.0 in
-        owner_inside n used (above_inside b is (owner_at os n) (tree.owners n (λ gone. false≢true (sym used ∙ gone))) parts.1)
+    | inr below ↦ grind (arith, nat_tests, owner_inside, above_inside, tree)
   ]
 
   -- what a bank owned is transferred, and nothing else changes
   module _ (b : ℕ) (kind : IsTrue (is_bank (content_at os b))) (on : b ≢ 0) (is : IsTrue (inside b)) where
     transferred : (n : ℕ) → (object_at (inherited os b) n ≡ object_at os n) ⊎ IsTrue (inside n)
-    transferred n = go (not (is_free (content_at os n)) && (owner_at os n == b)) refl (inherited_object os tree b kind on n)
-      where
-        go : (t : Bool) → (not (is_free (content_at os n)) && (owner_at os n == b)) ≡ t
-            → object_at (inherited os b) n ≡ (if t then record { owner = owner_at os b; content = content_at os n } else object_at os n)
-            → (object_at (inherited os b) n ≡ object_at os n) ⊎ IsTrue (inside n)
-        go true e stands =
-            let parts = and_parts (not (is_free (content_at os n))) (owner_at os n == b) e in
-            inr (owner_inside n (not-true (is_free (content_at os n)) parts.0) (ap inside (eqb-true (owner_at os n) b parts.1) ∙ is))
-        go false e stands = inl stands
+    transferred n = grind (arith, nat_tests, inherited_object, tree, owner_inside)
 
     inherited_stays : StaysWithin inside os (inherited os b)
     inherited_stays = changed_stays (inherited os b) (λ n. elim (transferred n) [

@@ -1,12 +1,11 @@
 -- Invocations by a process of a set that encloses its members.
-use Rattle.model_laws.proofs.Names.{inl, inr, ℕ, zero, suc, Bool, Some, List, [], map, IsTrue, slice_index, slice_index_or, slice_set, and_parts, Capability}
-use Rattle.model_laws.proofs.Names.{Void, Resume, Invocation, Message, Operation, Call, Geometry, Object, Root, State, Running, StaysInside, Effect, after_gate}
-use Rattle.model_laws.proofs.Names.{after_order, deliver, invoke, on_kernel_object, ordered, replied, reply_of, sent_by, sent_to_gate, through_gate, is_running}
-use Rattle.model_laws.proofs.Names.{OrderOutcome, consume, annex_at, is_process, is_running_process, register_at, root_at, with_root, with_slots_from}
-use Rattle.model_laws.proofs.Names.{with_state, Encloses, InvocationIsConfined, StaysWithin}
+use Rattle.model_laws.proofs.Names.{arith, nat_tests, inl, inr, ℕ, zero, suc, Bool, Some, List, [], map, IsTrue, slice_index, slice_index_or, slice_set}
+use Rattle.model_laws.proofs.Names.{and_parts, Capability, Void, Resume, Invocation, Message, Operation, Call, Geometry, Object, Root, State, Running}
+use Rattle.model_laws.proofs.Names.{StaysInside, Effect, after_gate, after_order, deliver, invoke, on_kernel_object, ordered, replied, reply_of, sent_by}
+use Rattle.model_laws.proofs.Names.{sent_to_gate, through_gate, is_running, OrderOutcome, consume, annex_at, is_process, is_running_process, register_at}
+use Rattle.model_laws.proofs.Names.{root_at, with_root, with_slots_from, with_state, Encloses, InvocationIsConfined, StaysWithin}
 use Rattle.std.proofs.Common.{◌≡◌, ◌∷◌, ◌∙◌}
 use Rattle.model_laws.proofs.Cases.{after_gate_by, after_order_by, invoked_by, replied_by}
-use Rattle.model_laws.proofs.SoundWorlds.{holds_replicate}
 use Rattle.model_laws.proofs.SoundEdits.{at_set}
 use Rattle.model_laws.proofs.SoundGates.{IsAfter}
 use Rattle.model_laws.proofs.SoundGates.{after_state, held_sent}
@@ -49,8 +48,7 @@ root_of : (inside : ℕ → Bool) (os : List Object) (p : ℕ) → IsInvoker ins
 root_of inside os p by = (and_parts (is_process os p) (is_running (state_at os p)) by.runs).0
 
 register_stays : (inside : ℕ → Bool) (os : List Object) (p r : ℕ) → IsInvoker inside os p → StaysInside inside (register_at os p r)
-register_stays inside os p r by =
-    by.encloses.closed.slots (annex_at os p) r (by.encloses.closed.annexes p by.member (root_of inside os p by))
+register_stays inside os p r by = grind (arith, nat_tests)
 
 sent_stays : (inside : ℕ → Bool) (os : List Object) (i : Invocation) (j : ℕ) → IsInvoker inside os i.process
     → StaysInside inside (slice_index_or (sent_by os i) j Void)
@@ -73,16 +71,10 @@ record IsReady (g : Geometry) (inside : ℕ → Bool) (os us : List Object) : Ty
 
 state_ready : (g : Geometry) (inside : ℕ → Bool) (os : List Object) (p : ℕ) (s : State) → IsNow g os → IsInvoker inside os p
     → IsReady g inside os (with_state os p s)
-state_ready g inside os p s h by = record {
-  stays = stays_state inside os p s by.encloses by.member (root_of inside os p by);
-  after = after_state g os p s h by.runs;
-}
+state_ready g inside os p s h by = search (arith, nat_tests, stays_state, root_of, after_state)
 
 none_ready : (g : Geometry) (inside : ℕ → Bool) (os : List Object) (p : ℕ) → IsNow g os → IsInvoker inside os p → IsReady g inside os os
-none_ready g inside os p h by = record {
-  stays = stays_refl inside os by.encloses;
-  after = record { frame = frame_refl os; now = h; waits = λ x w. w };
-}
+none_ready g inside os p h by = grind (arith, nat_tests, stays_refl, frame_refl)
 
 gate_ready : (g : Geometry) (inside : ℕ → Bool) (os : List Object) (i : Invocation) → IsNow g os → IsInvoker inside os i.process
     → IsReady g inside os (after_gate os i)
@@ -117,8 +109,7 @@ resume_stays g inside os i q h by is root =
 
 reply_stays : (inside : ℕ → Bool) (o : OrderOutcome) (j : ℕ) → StaysInside inside o.capability →
     StaysInside inside (slice_index_or (reply_of o).capabilities j Void)
-reply_stays inside o zero h = h
-reply_stays inside o (suc j) h = holds_replicate (StaysInside inside) 3 Void Void (inl tt) (inl tt) j
+reply_stays inside o j h = grind (arith, nat_tests)
 
 replied_stays : (inside : ℕ → Bool) (i : Invocation) (o : OrderOutcome) → Encloses inside o.objects → IsTrue (inside i.process)
     → StaysInside inside o.capability → StaysWithin inside o.objects (replied o.objects i o)
@@ -169,5 +160,4 @@ invoked_stays g inside os i e h by =
 
 -- an invocation by a process of a set that encloses its members stays in it
 pub invocation_confined : InvocationIsConfined
-invocation_confined g w i e inside sound fits runs h is done =
-    invoked_stays g inside w.objects i e (nearly_from g w sound) (record { encloses = h; member = is; runs = runs }) done
+invocation_confined g w i e inside sound fits runs h is done = search (arith, nat_tests, invoked_stays, nearly_from)

@@ -1,9 +1,8 @@
 -- Orders on what stays inside a set that encloses its members.
-use Rattle.model_laws.proofs.Names.{inl, inr, ℕ, Bool, true, false, not, List, refl, arith, IsTrue, nat_lt, bit_or, eqb-true, eqb-false, or_cases, not-false}
-use Rattle.model_laws.proofs.Names.{Access, Capability, Void, Number, Page, Node, Space, Process, Start, Bank, Discrim, Geometry, Object, State, Available}
-use Rattle.model_laws.proofs.Names.{Running, Arguments, NodeOrder, PageOrder, ProcessOrder, on_bank, IsWeak, diminished, union, StaysInside, bank_order}
-use Rattle.model_laws.proofs.Names.{fetched, is_space, node_order, on_node, on_page, on_process, order, page_order, process_order, reduces, stored}
-use Rattle.model_laws.proofs.Names.{with_root_word, with_space, consume, NamesItsKind, annex_at, is_process, root_at, slot_at, with_state, Encloses}
+use Rattle.model_laws.proofs.Names.{nat_tests, inl, ℕ, Bool, false, not, List, arith, IsTrue, nat_lt, Access, Capability, Void, Number, Page, Node, Space}
+use Rattle.model_laws.proofs.Names.{Process, Bank, Discrim, Geometry, Object, State, Available, Running, Arguments, NodeOrder, PageOrder, ProcessOrder, on_bank}
+use Rattle.model_laws.proofs.Names.{StaysInside, bank_order, fetched, is_space, node_order, on_node, on_page, on_process, order, page_order, process_order}
+use Rattle.model_laws.proofs.Names.{stored, with_root_word, with_space, consume, NamesItsKind, annex_at, is_process, root_at, slot_at, with_state, Encloses}
 use Rattle.model_laws.proofs.Names.{StaysWithin}
 use Rattle.std.proofs.Common.{◌≡◌, ◌⊎◌, ◌==◌, ◌||◌}
 use Rattle.model_laws.proofs.Cases.{chosen, found_or}
@@ -30,45 +29,23 @@ refused_stays inside os h = still inside os Void h (void_stays inside)
 
 -- what may be written through a capability that stays is a member
 writes : (inside : ℕ → Bool) (o : ℕ) (a : Access) → (a.0 ≡ 3) ⊎ IsTrue (inside o) → not (a.0 == 0) ≡ false → IsTrue (inside o)
-writes inside o a (inl weak) e =
-    let none : a.0 ≡ 0 = eqb-true a.0 0 (not-false (a.0 == 0) e) in
-    absurd (omega (arith, weak, none))
-writes inside o a (inr is) e = is
-
-weak_union : (x w : ℕ) → x ≡ 3 → reduces w ≡ true → bit_or x w ≡ 3
-weak_union x w p e = elim (or_cases (w == 1) (w == 3) e) [ inl f ↦ rw (p, eqb-true w 1 f) refl | inr f ↦ rw (p, eqb-true w 3 f) refl ]
-
-reduced_stays : (inside : ℕ → Bool) (o : ℕ) (a : Access) (w : ℕ) → (a.0 ≡ 3) ⊎ IsTrue (inside o) → reduces w ≡ true
-    → (bit_or a.0 w ≡ 3) ⊎ IsTrue (inside o)
-reduced_stays inside o a w (inl weak) e = inl (weak_union a.0 w weak e)
-reduced_stays inside o a w (inr is) e = inr is
-
-weak_diminished : (c : Capability) → IsWeak (diminished c)
-weak_diminished (Page o a) = refl
-weak_diminished (Node o a) = refl
-weak_diminished (Space o k a) = refl
-weak_diminished c = tt
+writes inside o a is e = grind (arith, nat_tests)
 
 fetched_stays : (inside : ℕ → Bool) (o : ℕ) (a : Access) (c : Capability) → (a.0 ≡ 3) ⊎ IsTrue (inside o) → (IsTrue (inside o) → StaysInside inside c)
     → StaysInside inside (fetched a c)
-fetched_stays inside o a c named held = chosen (StaysInside inside) (a.0 == 3) (diminished c) c (λ _. inl (weak_diminished c))
-    (λ e. elim named [ inl weak ↦ absurd (eqb-false a.0 3 e weak) | inr is ↦ held is ])
+fetched_stays inside o a c named held = grind (arith, nat_tests)
 
 -- orders
 
 page_stays : (inside : ℕ → Bool) (os : List Object) (o : ℕ) (a : Access) (requested : PageOrder) (args : Arguments) → Encloses inside os
     → StaysInside inside (Page o a) → OutcomeStays inside os (on_page os o a requested args)
 unfolding on_page
-page_stays inside os o a page.Read args h c = chosen (OutcomeStays inside os) (nat_lt args.first 512) _ _ (λ _. refused_stays inside os h)
-    (λ _. refused_stays inside os h)
 page_stays inside os o a page.Write args h c =
     chosen (OutcomeStays inside os) (not (a.0 == 0)) _ _ (λ _. refused_stays inside os h) (λ e.
     chosen (OutcomeStays inside os) (nat_lt args.first 512) _ _
     (λ _. (stays_word inside os o args.first args.second h (writes inside o a c e), void_stays inside))
     (λ _. refused_stays inside os h))
-page_stays inside os o a page.Reduce args h c =
-    chosen (OutcomeStays inside os) (reduces args.first) _ _
-    (λ e. still inside os (Page o (union a args.first)) h (reduced_stays inside o a args.first c e)) (λ _. refused_stays inside os h)
+page_stays inside os o a which args h c = grind (arith, nat_tests, chosen, refused_stays, still)
 
 stored_stays : (inside : ℕ → Bool) (os : List Object) (o : ℕ) (a : Access) (slot : ℕ) (c : Capability) → Encloses inside os
     → StaysInside inside (Node o a) → StaysInside inside c → OutcomeStays inside os (stored os o a slot c)
@@ -87,13 +64,8 @@ node_stays inside os o a node.Fetch args h c sent =
     (fetched_stays inside o a (slot_at os o args.first) c (λ is. h.closed.slots o args.first is)))
     (λ _. refused_stays inside os h)
 node_stays inside os o a node.Store args h c sent = stored_stays inside os o a args.first args.capability h c sent
-node_stays inside os o a node.Reduce args h c sent =
-    chosen (OutcomeStays inside os) (reduces args.first) _ _
-    (λ e. still inside os (Node o (union a args.first)) h (reduced_stays inside o a args.first c e)) (λ _. refused_stays inside os h)
-node_stays inside os o a node.MakeSpace args h c sent =
-    chosen (OutcomeStays inside os) ((args.first == 0) || not (nat_lt args.first 5)) _ _ (λ _. refused_stays inside os h)
-    (λ _. still inside os (Space o args.first a) h c)
 node_stays inside os o a node.PutNumber args h c sent = stored_stays inside os o a args.first (Number args.second) h c (inl tt)
+node_stays inside os o a which args h c sent = grind (arith, nat_tests, chosen, still, refused_stays)
 
 set_stays : (inside : ℕ → Bool) (os : List Object) (p : ℕ) (s : State) → Encloses inside os → IsTrue (inside p) → IsTrue (is_process os p)
     → StaysWithin inside os (consume p (with_state os p s))
@@ -105,15 +77,9 @@ set_stays inside os p s h is root =
 process_stays : (inside : ℕ → Bool) (os : List Object) (p : ℕ) (requested : ProcessOrder) (args : Arguments) → Encloses inside os
     → IsTrue (inside p) → IsTrue (is_process os p) → StaysInside inside args.capability → OutcomeStays inside os (on_process os p requested args)
 unfolding on_process
-process_stays inside os p process.GetRegister args h is root sent =
-    chosen (OutcomeStays inside os) (nat_lt args.first 32) _ _
-    (λ _. still inside os (slot_at os (annex_at os p) args.first) h (h.closed.slots (annex_at os p) args.first (h.closed.annexes p is root)))
-    (λ _. refused_stays inside os h)
 process_stays inside os p process.PutRegister args h is root sent =
     chosen (OutcomeStays inside os) ((args.first == 0) || not (nat_lt args.first 32)) _ _ (λ _. refused_stays inside os h)
     (λ _. (stays_slot inside os (annex_at os p) args.first args.capability h (h.closed.annexes p is root) sent, void_stays inside))
-process_stays inside os p process.GetWord args h is root sent =
-    chosen (OutcomeStays inside os) (nat_lt args.first 4) _ _ (λ _. refused_stays inside os h) (λ _. refused_stays inside os h)
 process_stays inside os p process.PutWord args h is root sent =
     chosen (OutcomeStays inside os) (nat_lt args.first 4) _ _
     (λ _. (
@@ -121,8 +87,6 @@ process_stays inside os p process.PutWord args h is root sent =
       void_stays inside,
     ))
     (λ _. refused_stays inside os h)
-process_stays inside os p process.MakeStart args h is root sent =
-    chosen (OutcomeStays inside os) (nat_lt args.first 65536) _ _ (λ _. still inside os (Start p args.first) h (inr is)) (λ _. refused_stays inside os h)
 process_stays inside os p process.GetState args h is root sent = refused_stays inside os h
 process_stays inside os p process.SetState args h is root sent =
     chosen (OutcomeStays inside os) (args.first == 0) _ _ (λ _. (set_stays inside os p Available h is root, void_stays inside)) (λ _.
@@ -132,37 +96,30 @@ process_stays inside os p process.SetSpace args h is root sent =
     chosen (OutcomeStays inside os) (is_space args.capability) _ _
     (λ _. (stays_root inside os p (with_space (root_at os p) args.capability) h is (h.closed.annexes p is root) sent, void_stays inside))
     (λ _. refused_stays inside os h)
+process_stays inside os p which args h is root sent = grind (arith, nat_tests, chosen, still, refused_stays)
 
 -- what can't be weak and stays inside names a member
 pub strong : (inside : ℕ → Bool) (n : ℕ) → ⊥ ⊎ IsTrue (inside n) → IsTrue (inside n)
-strong inside n (inl weak) = absurd weak
-strong inside n (inr is) = is
+strong inside n is = grind (arith, nat_tests)
 
 -- an order on what stays inside stays in the set
 pub order_stays : (g : Geometry) (inside : ℕ → Bool) (os : List Object) (c : Capability) (w : ℕ) (args : Arguments) → IsNow g os → Encloses inside os
     → IsHeld os (Waits os) c → StaysInside inside c → NamesItsKind os args.capability → StaysInside inside args.capability
     → OutcomeStays inside os (order g os c w args)
 unfolding order
-order_stays g inside os (Number n) w args now h held stays kind sent =
-    chosen (OutcomeStays inside os) (w == 1) _ _ (λ _. refused_stays inside os h) (λ _. refused_stays inside os h)
+order_stays g inside os (Number n) w args now h held stays kind sent = grind (arith, nat_tests, chosen, refused_stays)
 order_stays g inside os (Page o a) w args now h held stays kind sent =
     found_or (OutcomeStays inside os) (page_order w) _ (λ requested. on_page os o a requested args) (refused_stays inside os h)
     (λ requested. page_stays inside os o a requested args h stays)
 order_stays g inside os (Node o a) w args now h held stays kind sent =
     found_or (OutcomeStays inside os) (node_order w) _ (λ requested. on_node os o a requested args) (refused_stays inside os h)
     (λ requested. node_stays inside os o a requested args h stays sent)
-order_stays g inside os (Space o k a) w args now h held stays kind sent =
-    chosen (OutcomeStays inside os) (w == 3) _ _
-    (λ _. chosen (OutcomeStays inside os) (reduces args.first) _ _
-    (λ e. still inside os (Space o k (union a args.first)) h (reduced_stays inside o a args.first stays e))
-    (λ _. refused_stays inside os h))
-    (λ _. refused_stays inside os h)
+order_stays g inside os (Space o k a) w args now h held stays kind sent = grind (arith, nat_tests, chosen, still, refused_stays)
 order_stays g inside os (Process p) w args now h held stays kind sent =
     found_or (OutcomeStays inside os) (process_order w) _ (λ requested. on_process os p requested args) (refused_stays inside os h)
     (λ requested. process_stays inside os p requested args h (strong inside p stays) held.names sent)
 order_stays g inside os (Bank b) w args now h held stays kind sent =
     found_or (OutcomeStays inside os) (bank_order w) _ (λ requested. on_bank g os b requested args) (refused_stays inside os h)
     (λ requested. bank_stays g inside os b requested args now held.names (strong inside b stays) kind sent h)
-order_stays g inside os Discrim w args now h held stays kind sent =
-    chosen (OutcomeStays inside os) (w == 1) _ _ (λ _. refused_stays inside os h) (λ _. refused_stays inside os h)
+order_stays g inside os Discrim w args now h held stays kind sent = grind (arith, nat_tests, chosen, refused_stays)
 order_stays g inside os c w args now h held stays kind sent = refused_stays inside os h

@@ -1,98 +1,40 @@
 -- Runs by processes of a closed set: each step stays in the set, with what was free.
-use Rattle.model_laws.proofs.Names.{inl, inr, ℕ, suc, Bool, true, false, Option, None, Some, Result, Ok, Err, List, [], map, refl, sym, ap, subst, arith}
-use Rattle.model_laws.proofs.Names.{IsTrue, nat_lt, bit_or, slice_index_or, and_parts, eqb-true, ltb-true, or_cases, or_left, or_right, All-head, All-tail}
-use Rattle.model_laws.proofs.Names.{le_or_l, le_or_r, Access, Answer, MemoryFault, Malformed, ReadOnly, Refusal, Capability, Void, Number, Page, Node, Space}
-use Rattle.model_laws.proofs.Names.{Process, Start, Resume, Bank, Discrim, Command, Invocation, Geometry, Line, Content, Object, named, union, IsClosed}
-use Rattle.model_laws.proofs.Names.{StaysInside, Effect, invoke, Machine, Saved, Up, Down, renewing, is_bank, is_free, is_node, is_page, is_root, is_waiting}
-use Rattle.model_laws.proofs.Names.{map_content, root_in, slots_in, void_where, IsRun, IsTurn, Replies, Turn, IsSound, NamesItsKind, Answers, Outcome, Step}
-use Rattle.model_laws.proofs.Names.{carried_out, outcome, reached, refusal_of, opens, without_memory, writable, writing, Fits, Says, below, path, restricted}
-use Rattle.model_laws.proofs.Names.{walk, walk_along, content_at, is_running_process, object_at, owner_at, root_at, slot_at, with_word, word_at, AreBy}
-use Rattle.model_laws.proofs.Names.{Encloses, InvocationIsConfined, IsBy, IsKept, IsLineBy, NamesInside, RunIsConfined, StaysWithin, with_free}
+use Rattle.model_laws.proofs.Names.{nat_tests, inl, inr, ℕ, suc, Bool, true, false, Option, None, Some, Result, Ok, Err, List, [], map, refl, sym, ap, subst}
+use Rattle.model_laws.proofs.Names.{arith, IsTrue, nat_lt, bit_or, slice_index_or, and_parts, ltb-true, All-head, All-tail, le_or_l, le_or_r, Access, Answer}
+use Rattle.model_laws.proofs.Names.{MemoryFault, ReadOnly, Refusal, Capability, Void, Page, Node, Space, Command, Invocation, Geometry, Line, Content, Object}
+use Rattle.model_laws.proofs.Names.{named, IsClosed, StaysInside, Effect, invoke, Machine, Saved, Up, Down, renewing, is_waiting, map_content, root_in}
+use Rattle.model_laws.proofs.Names.{slots_in, void_where, IsRun, IsTurn, Turn, IsSound, NamesItsKind, Answers, Outcome, Step, carried_out, outcome, reached}
+use Rattle.model_laws.proofs.Names.{refusal_of, writable, writing, Fits, Says, below, path, walk, walk_along, content_at, is_running_process, object_at}
+use Rattle.model_laws.proofs.Names.{owner_at, root_at, slot_at, with_word, word_at, AreBy, Encloses, InvocationIsConfined, IsBy, IsKept, IsLineBy, NamesInside}
+use Rattle.model_laws.proofs.Names.{RunIsConfined, StaysWithin, with_free}
 use Rattle.std.proofs.Common.{◌≡◌, ◌⊎◌, ◌+◌, ◌/◌, ◌%◌, ◌^◌, ◌==◌, ◌<◌, ◌≤◌, ◌&&◌, if◌then◌else◌, ◌∷◌, ◌∙◌}
 use Rattle.model.specs.Machine.{Running}
-use Rattle.model_laws.proofs.BankRescind.{used_where}
 use Rattle.model_laws.proofs.Journaling.{unless_passes}
 use Rattle.model_laws.proofs.SoundEdits.{edited_word}
 use Rattle.model_laws.proofs.SoundGates.{invocation_keeps}
 use Rattle.model_laws.proofs.SoundParts.{Waits, nearly_from, nearly_to, nearly_weaken}
 use Rattle.model.specs.declared.answer.Answer.TheVariants as answer
 use Rattle.model.specs.declared.command.Command.TheVariants as command
-use Rattle.model.specs.declared.line.Line.TheVariants as line
 use Rattle.model.specs.declared.object.Content.TheVariants as content
 use Rattle.model_laws.proofs.ConfinedGates.{invocation_confined}
 use Rattle.model_laws.proofs.Kept.{stays_refl, stays_trans, stays_word}
 
 -- a closed set with what is free
 
--- a member with the free numbers that passes a test which nothing free passes is a member of the set itself
-lives : (inside : ℕ → Bool) (os : List Object) (n : ℕ) (test : Content Capability → Bool) → test content.Free ≡ false
-    → test (content_at os n) ≡ true → IsTrue (with_free os inside n) → IsTrue (inside n)
-lives inside os n test e f in_n = cases (or_cases (inside n) (is_free (content_at os n)) in_n)
-  where
-    cases : (inside n ≡ true) ⊎ (is_free (content_at os n) ≡ true) → IsTrue (inside n)
-    cases (inl g) = g
-    cases (inr g) = absurd (let both : false ≡ true = sym (used_where test e (content_at os n) f) ∙ g in cc)
-
 -- a number, if there is one, that is a member
 abbrev IsNoneOr : (ℕ → Bool) → Option ℕ → Type 0
 IsNoneOr inside o = elim o [ None ↦ Unit {0} | Some n ↦ IsTrue (inside n) ]
 
-stays_more : (inside : ℕ → Bool) (os : List Object) (c : Capability) → StaysInside inside c → StaysInside (with_free os inside) c
-stays_more inside os c (inl weak) = inl weak
-stays_more inside os c (inr h) = inr (more (named c) h)
-  where
-    more : (o : Option ℕ) → IsNoneOr inside o → IsNoneOr (with_free os inside) o
-    more None e = tt
-    more (Some n) e = or_left (inside n) (is_free (content_at os n)) e
-
-free_slots : (inside : ℕ → Bool) (c : Content Capability) (i : ℕ) → is_free c ≡ true → StaysInside inside (slice_index_or (slots_in c) i Void)
-free_slots inside content.Free i e = inl tt
-free_slots inside c i e = cc
-
-free_space : (inside : ℕ → Bool) (c : Content Capability) → is_free c ≡ true → StaysInside inside (root_in c).space
-free_space inside content.Free e = inl tt
-free_space inside c e = cc
-
 -- a closed set with what is free encloses it
 encloses_free : (inside : ℕ → Bool) (os : List Object) → IsClosed os inside → Encloses (with_free os inside) os
-encloses_free inside os h = record {
-  closed = record {
-    annexes = λ p in_p is. or_left _ _ (h.annexes p (lives inside os p (λ c. is_root c) refl is in_p) is);
-    owned = λ b n in_b is live own. or_left _ _ (h.owned b n (lives inside os b (λ c. is_bank c) refl is in_b) is live own);
-    slots = λ n i in_n. slot n i (or_cases (inside n) (is_free (content_at os n)) in_n);
-    spaces = λ p in_p. space p (or_cases (inside p) (is_free (content_at os p)) in_p);
-  };
-  free = λ n e. or_right (inside n) (is_free (content_at os n)) e;
-}
-  where
-    slot : (n i : ℕ) → (inside n ≡ true) ⊎ (is_free (content_at os n) ≡ true) → StaysInside (with_free os inside) (slot_at os n i)
-    slot n i (inl e) = stays_more inside os (slot_at os n i) (h.slots n i e)
-    slot n i (inr e) = free_slots (with_free os inside) (content_at os n) i e
-
-    space : (p : ℕ) → (inside p ≡ true) ⊎ (is_free (content_at os p) ≡ true) → StaysInside (with_free os inside) (root_at os p).space
-    space p (inl e) = stays_more inside os (root_at os p).space (h.spaces p e)
-    space p (inr e) = free_space (with_free os inside) (content_at os p) e
+encloses_free inside os h = grind (arith, nat_tests)
 
 -- whether a capability names a member
 abbrev names_inside : (ℕ → Bool) → Capability → Bool
 names_inside inside c = elim (named c) [ None ↦ false | Some n ↦ inside n ]
 
 names_from : (inside : ℕ → Bool) (c : Capability) → names_inside inside c ≡ true → NamesInside inside c
-names_from inside Void e = cc
-names_from inside (Number n) e = cc
-names_from inside Discrim e = cc
-names_from inside c e = e
-
--- a capability of a sound world names nothing free
-names_live : (inside : ℕ → Bool) (os : List Object) (c : Capability) → NamesItsKind os c → NamesInside (with_free os inside) c → names_inside inside c ≡ true
-names_live inside os (Page o a) kind h = lives inside os o (λ c. is_page c) refl kind h
-names_live inside os (Node o a) kind h = lives inside os o (λ c. is_node c) refl kind h
-names_live inside os (Space o k a) kind h = lives inside os o (λ c. is_node c) refl kind h
-names_live inside os (Process p) kind h = lives inside os p (λ c. is_root c) refl kind h
-names_live inside os (Start p key) kind h = lives inside os p (λ c. is_root c) refl kind h
-names_live inside os (Resume p) kind h = lives inside os p (λ c. is_root c) refl kind.0 h
-names_live inside os (Bank b) kind h = lives inside os b (λ c. is_bank c) refl kind h
-names_live inside os c kind h = absurd h
+names_from inside c e = grind (arith, nat_tests)
 
 map_alike : (f k : Capability → Capability) (cs : List Capability) → ((i : ℕ) → f (slice_index_or cs i Void) ≡ k (slice_index_or cs i Void)) →
     map f cs ≡ map k cs
@@ -103,8 +45,7 @@ content_alike : (f k : Capability → Capability) (c : Content Capability)
     → ((i : ℕ) → f (slice_index_or (slots_in c) i Void) ≡ k (slice_index_or (slots_in c) i Void)) → f (root_in c).space ≡ k (root_in c).space
     → map_content f c ≡ map_content k c
 content_alike f k (content.Node cs) slots space = ap content.Node (map_alike f k cs slots)
-content_alike f k (content.Root r) slots space =
-    ap (λ s. content.Root (record { state = r.state; words = r.words; key = r.key; annex = r.annex; space = s })) space
+content_alike f k (content.Root r) slots space = grind (arith, nat_tests)
 content_alike f k (content.Annex cs) slots space = ap content.Annex (map_alike f k cs slots)
 content_alike f k c slots space = refl
 
@@ -123,11 +64,7 @@ kept_inside g os age inside n new sound k = (
     goes c = k.0 c && names_inside inside c
 
     alike : (c : Capability) → NamesItsKind os c → void_where k.0 c ≡ void_where goes c
-    alike c kind = cases (k.0 c) refl
-      where
-        cases : (b : Bool) → k.0 c ≡ b → (if b then Void else c) ≡ (if b && names_inside inside c then Void else c)
-        cases true e = rw (names_live inside os c kind (k.1 c e)) refl
-        cases false e = refl
+    alike c kind = grind (arith, nat_tests)
 
 -- what a store reaches
 
@@ -138,39 +75,16 @@ record IsBelow (a : Access) (rest : Result (ℕ × Access) MemoryFault) (found :
   same : found.0 ≡ next.0
   bits : found.1.0 ≡ bit_or a.0 next.1.0
 
-restricted_ok : (a : Access) (rest : Result (ℕ × Access) MemoryFault) (found : ℕ × Access) → restricted a rest ≡ Ok found → IsBelow a rest found
-restricted_ok a (Ok r) found e =
-    let pair : found ≡ (r.0, union a r.1.0) = cc in
-    record { next = r; is = refl; same = ap (λ (x : ℕ × Access). x.0) pair; bits = ap (λ (x : ℕ × Access). x.1.0) pair }
-restricted_ok a (Err why) found e = cc
-
 below_ok : (height : ℕ) (a : Access) (c : Capability) (rest : Result (ℕ × Access) MemoryFault) (found : ℕ × Access)
     → below height a c rest ≡ Ok found → IsBelow a rest found
-below_ok height a c rest found = go c
-  where
-    if_ok : (b : Bool) → (if b then restricted a rest else Err Malformed) ≡ Ok found → IsBelow a rest found
-    if_ok true e = restricted_ok a rest found e
-    if_ok false e = cc
-
-    go : (c : Capability) → below height a c rest ≡ Ok found → IsBelow a rest found
-    go (Page o b) e = if_ok (height == 1) e
-    go (Space o h b) e = if_ok (height == h + 1) e
-    go c e = cc
-
--- a full capability that stays inside names a member
-full_page : (inside : ℕ → Bool) (o : ℕ) (a : Access) → StaysInside inside (Page o a) → a.0 ≡ 0 → IsTrue (inside o)
-full_page inside o a (inl weak) e = absurd (omega arith)
-full_page inside o a (inr in_o) e = in_o
+below_ok height a c rest found is = grind (arith, nat_tests)
 
 full_space : (inside : ℕ → Bool) (o h : ℕ) (a : Access) → StaysInside inside (Space o h a) → a.0 ≡ 0 → IsTrue (inside o)
-full_space inside o h a (inl weak) e = absurd (omega arith)
-full_space inside o h a (inr in_o) e = in_o
+full_space inside o h a is e = grind (arith, nat_tests)
 
 along_inside : (inside : ℕ → Bool) (os : List Object) → IsClosed os inside → (c : Capability) (slots : List ℕ) (found : ℕ × Access)
     → StaysInside inside c → walk_along os c slots ≡ Ok found → found.1.0 ≡ 0 → IsTrue (inside found.0)
-along_inside inside os h (Page o a) [] found stays e full =
-    let pair : (o, a) ≡ found = cc in
-    subst (λ (x : ℕ × Access). IsTrue (inside x.0)) pair (full_page inside o a stays (ap (λ (x : ℕ × Access). x.1.0) pair ∙ full))
+along_inside inside os h (Page o a) [] found stays e full = grind (arith, nat_tests)
 along_inside inside os h (Space o k a) (slot ∷ slots) found stays e full =
     let c = slot_at os o slot in
     let b = below_ok k a c (walk_along os c slots) found e in
@@ -185,15 +99,13 @@ along_inside inside os h c slots found stays e full = cc
 
 -- a test that is passed on the way to what is found
 if_found : (b : Bool) (r : Result (ℕ × Access) MemoryFault) (why : MemoryFault) (found : ℕ × Access) → (if b then r else Err why) ≡ Ok found → r ≡ Ok found
-if_found true r why found e = e
-if_found false r why found e = cc
+if_found b r why found e = grind (arith, nat_tests)
 
 -- a walk from what stays inside to a writable page ends at a member
 walk_inside : (inside : ℕ → Bool) (os : List Object) → IsClosed os inside → (c : Capability) (index : ℕ) (found : ℕ × Access)
     → StaysInside inside c → walk os c index ≡ Ok found → found.1.0 ≡ 0 → IsTrue (inside found.0)
 unfolding walk
-walk_inside inside os h (Page o a) index found stays e full =
-    along_inside inside os h (Page o a) [] found stays (if_found (index == 0) _ _ found e) full
+walk_inside inside os h (Page o a) index found stays e full = grind (arith, nat_tests, along_inside, if_found)
 walk_inside inside os h (Space o k a) index found stays e full =
     along_inside inside os h (Space o k a) (path k index) found stays (if_found (nat_lt index (32 ^ k)) _ _ found e) full
 walk_inside inside os h c index found stays e full = cc
@@ -204,15 +116,10 @@ writable_inside inside os p address page h in_p e = cases (reached os p address)
   where
     full : (found : ℕ × Access) (b : Bool) → (found.1.0 == 0) ≡ b → reached os p address ≡ Ok found
         → (if b then Ok found.0 else Err ReadOnly) ≡ Ok page → IsTrue (inside page)
-    full found true is at e =
-        let same : found.0 ≡ page = cc in
-        subst (λ n. IsTrue (inside n)) same
-        (walk_inside inside os h (root_at os p).space (address / 512) found (h.spaces p in_p) at (eqb-true found.1.0 0 is))
-    full found false is at e = cc
+    full found b is at e = grind (arith, nat_tests, walk_inside)
 
     cases : (r : Result (ℕ × Access) MemoryFault) → reached os p address ≡ r → writable r ≡ Ok page → IsTrue (inside page)
-    cases (Ok found) at e = full found (found.1.0 == 0) refl at e
-    cases (Err why) at e = cc
+    cases r at e = grind (arith, nat_tests, full)
 
 -- steps
 
@@ -255,8 +162,7 @@ word_sound g os age n i w sound fits =
 
 load_keeps : (g : Geometry) (inside : ℕ → Bool) (os : List Object) (s : Running) (address : ℕ) (found : Result (ℕ × Access) MemoryFault)
     → IsWithin g inside os s → IsWithin g inside os (loaded s address found).after
-load_keeps g inside os s address (Ok at) h = h
-load_keeps g inside os s address (Err why) h = h
+load_keeps g inside os s address found h = grind (arith, nat_tests)
 
 store_keeps : (g : Geometry) (inside : ℕ → Bool) (os : List Object) (s : Running) (p address value : ℕ) (found : Result ℕ MemoryFault)
     → writable (reached s.now.objects p address) ≡ found → IsTrue (inside p) → value < 2 ^ 64
@@ -282,28 +188,10 @@ IsAnswer g s c a after refused = elim refused [
   | None ↦ (a ≡ (carried_out g s c).answer) × (after ≡ Up (carried_out g s c).after)
 ]
 
--- such a command leaves a machine up where memory is wanting
-stays_up : (inside : ℕ → Bool) (s : Running) (c : Command) → IsBy inside c → without_memory (Up s) c ≡ Up s
-stays_up inside s (command.Invoke i) by = refl
-stays_up inside s (command.Load p address) by = refl
-stays_up inside s (command.Store p address value) by = refl
-stays_up inside s c by = absurd by
-
--- and opens none
-never : (inside : ℕ → Bool) (c : Command) → IsBy inside c → IsTrue (opens c) → ⊥
-never inside command.Restart by e = by
-never inside command.Cut by e = by
-never inside c by e = cc
-
 -- so that one that is down stays so
 down_keeps : (g : Geometry) (inside : ℕ → Bool) (os : List Object) (saved : List Saved) (c : Command) (a : Answer) (after : Machine)
     → IsBy inside c → Step g (Down saved) c a after → MachineWithin g inside os after
-down_keeps g inside os saved (command.Invoke i) a after by (inl down) = subst (λ m. MachineWithin g inside os m) (sym down.1) tt
-down_keeps g inside os saved (command.Load p address) a after by (inl down) = subst (λ m. MachineWithin g inside os m) (sym down.1) tt
-down_keeps g inside os saved (command.Store p address value) a after by (inl down) = subst (λ m. MachineWithin g inside os m) (sym down.1) tt
-down_keeps g inside os saved c a after by (inl down) = absurd by
-down_keeps g inside os saved c a after by (inr (inl wants)) = absurd (never inside c by wants.0)
-down_keeps g inside os saved c a after by (inr (inr fails)) = absurd (never inside c by fails.0)
+down_keeps g inside os saved c a after by is = grind (arith, nat_tests)
 
 module _ (by_invocation : InvocationIsConfined) where
   invoke_keeps : (g : Geometry) (inside : ℕ → Bool) (os : List Object) (s : Running) (i : Invocation) (found : Option Effect)
@@ -341,19 +229,13 @@ module _ (by_invocation : InvocationIsConfined) where
   step_keeps : (g : Geometry) (inside : ℕ → Bool) (os : List Object) (m : Machine) (c : Command) (a : Answer) (after : Machine) → IsBy inside c → Fits c
       → MachineWithin g inside os m → Step g m c a after → MachineWithin g inside os after
   step_keeps g inside os (Up s) c a after by fits h (inl answers) = answer_keeps g inside os s c a after by fits h answers
-  step_keeps g inside os (Up s) c a after by fits h (inr (inl wants)) =
-      subst (λ m. MachineWithin g inside os m) (sym (wants.2 ∙ stays_up inside s c by)) h
+  step_keeps g inside os (Up s) c a after by fits h (inr (inl wants)) = grind (arith, nat_tests)
   step_keeps g inside os (Up s) c a after by fits h (inr (inr fails)) = subst (λ m. MachineWithin g inside os m) (sym fails.2) tt
   step_keeps g inside os (Down saved) c a after by fits h step = down_keeps g inside os saved c a after by step
 
   turn_keeps : (g : Geometry) (inside : ℕ → Bool) (os : List Object) (t : Turn) → IsTurnBy inside t
       → MachineWithin g inside os t.before → IsTurn g t → MachineWithin g inside os t.after
-  turn_keeps g inside os t by h turn = cases turn.0 turn.1 turn.2
-    where
-      cases : (l : Line) → Says t.line l → Replies g l t.before t.reply t.after → MachineWithin g inside os t.after
-      cases line.Skip says replies = subst (λ m. MachineWithin g inside os m) (sym replies.1) h
-      cases line.Bad says replies = subst (λ m. MachineWithin g inside os m) (sym replies.1) h
-      cases (line.Command c) says replies = step_keeps g inside os t.before c replies.0 t.after (by (line.Command c) says) says.0 h replies.2
+  turn_keeps g inside os t by h turn = grind (arith, nat_tests, step_keeps)
 
   turns_keep : (g : Geometry) (inside : ℕ → Bool) (os : List Object) (m : Machine) (turns : List Turn) (last : Machine) → AreBy inside turns
       → MachineWithin g inside os m → IsRun g m turns last → MachineWithin g inside os last

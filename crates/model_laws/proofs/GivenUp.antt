@@ -1,17 +1,14 @@
 -- What is given up: exactly what is rescinded.
-use Rattle.model_laws.proofs.Names.{ℕ, Bool, true, false, not, List, [], inl, inr, refl, sym, ap, subst, arith, IsTrue, nat_lt, slice_index_or, slice_set}
-use Rattle.model_laws.proofs.Names.{range_with_len, cases_Bool, cases_eq, eqb-false, ext_get_or, get_or-set_other, get_or-set_same, get_or-map-range_with_len}
-use Rattle.model_laws.proofs.Names.{length-map-range_with_len, Capability, Bank, Process, Void, Geometry, Content, Object, Arguments, BankOrder, ResultCode}
-use Rattle.model_laws.proofs.Names.{chain, allocated, bank_allocated, freed, freed_by, free_nodes, free_pages, has_quota, inherited, new_annex, new_node}
-use Rattle.model_laws.proofs.Names.{new_page, new_root, on_bank, owned_by, process_allocated, under, with_new, renewing, free, is_bank, is_free, OrderOutcome}
-use Rattle.model_laws.proofs.Names.{made, refused, is_given_up, is_member, rescind, NamesItsKind, content_at, object_at, owner_at, GivesUpNothing}
+use Rattle.model_laws.proofs.Names.{nat_tests, ℕ, Bool, true, false, List, [], inl, inr, refl, ap, arith, IsTrue, slice_index_or, range_with_len, cases_Bool}
+use Rattle.model_laws.proofs.Names.{ext_get_or, get_or-set_other, get_or-set_same, get_or-map-range_with_len, length-map-range_with_len, Capability, Void}
+use Rattle.model_laws.proofs.Names.{Geometry, Content, Object, Arguments, BankOrder, ResultCode, freed, freed_by, on_bank, under, with_new, renewing, free}
+use Rattle.model_laws.proofs.Names.{is_bank, is_free, OrderOutcome, made, refused, is_given_up, is_member, rescind, NamesItsKind, content_at, GivesUpNothing}
 use Rattle.model_laws.proofs.Names.{GivesUpRescinded, rescinded_by, or-false}
 use Rattle.std.proofs.Common.{◌≡◌, ◌≢◌, ◌==◌, ◌<◌, ◌&&◌, ◌||◌, ◌∷◌, ◌∙◌}
 use Rattle.std.specs.Prelude.{if◌then◌else◌, length, map}
-use Rattle.model.specs.declared.object.Content.TheVariants as content
 use Rattle.model.specs.declared.order.BankOrder.TheVariants as bank
 use Rattle.model.specs.declared.order.ResultCode.TheVariants as code
-use Rattle.model_laws.proofs.BankFreed.{freed_set, under_given_up, used_within}
+use Rattle.model_laws.proofs.BankFreed.{under_given_up, used_within}
 use Rattle.model_laws.proofs.BankRescind.{kept_tests, used_where}
 use Rattle.model_laws.proofs.BankReturn.{inherited_content}
 use Rattle.model_laws.proofs.BankTree.{tree_of}
@@ -25,11 +22,7 @@ use Rattle.model_laws.proofs.Usage.{SameFrame, tests_at}
 
 -- where what was there stays there, nothing is given up
 pub none_given_up : (os us : List Object) (n : ℕ) → (is_free (content_at os n) ≡ false → is_free (content_at us n) ≡ false) → is_given_up os us n ≡ false
-none_given_up os us n stays = go (is_free (content_at os n)) (is_free (content_at us n)) stays
-  where
-    go : (was now : Bool) → (was ≡ false → now ≡ false) → (not was && now) ≡ false
-    go true now stays = refl
-    go false now stays = stays refl
+none_given_up os us n stays = grind (arith, nat_tests)
 
 -- what is rescinded is free, and all else as it was
 pub free_rescinded : (set : List ℕ) (os : List Object) (n : ℕ) →
@@ -42,26 +35,13 @@ free_rescinded set os n = elim (cases_Bool (is_member set n)) [
 -- what was there is given up where it is rescinded, and only there
 pub rescinded_given_up : (set : List ℕ) (os : List Object) → ((n : ℕ) → is_member set n ≡ true → is_free (content_at os n) ≡ false)
     → (n : ℕ) → is_given_up os (rescind set os) n ≡ is_member set n
-rescinded_given_up set os used n =
-    ap (λ (now : Bool). not (is_free (content_at os n)) && now) (free_rescinded set os n) ∙ go (is_member set n) (is_free (content_at os n)) (used n)
-  where
-    go : (member was : Bool) → (member ≡ true → was ≡ false) → (not was && (if member then true else was)) ≡ member
-    go true was used = ap (λ (b : Bool). not b && true) (used refl)
-    go false true used = refl
-    go false false used = refl
+rescinded_given_up set os used n = grind (arith, nat_tests, free_rescinded)
 
 -- a new object takes no place of another
 pub new_used : (os : List Object) (n b : ℕ) (c : Content Capability) → is_free c ≡ false → (m : ℕ) → is_free (content_at os m) ≡ false →
     is_free (content_at (with_new os n b c) m) ≡ false
 unfolding with_new
-new_used os n b c some m used = elim (cases_eq m n) [
-  | inr differ ↦ ap (λ (o : Object). is_free o.content) (get_or-set_other os n m (record { owner = b; content = c }) free differ) ∙ used
-  | inl e ↦
-      ap (λ (k : ℕ). is_free (object_at (slice_set os n (record { owner = b; content = c })) k).content) e
-      ∙ (ap (λ (o : Object). is_free o.content)
-      (get_or-set_same os n (record { owner = b; content = c }) free (used_within os n (subst (λ (k : ℕ). is_free (content_at os k) ≡ false) e used))) ∙
-      some)
-]
+new_used os n b c some m used = grind (arith, nat_tests, get_or-set_other, get_or-set_same, used_within)
 
 -- nothing is given up in the same frame
 pub none_in_frame : (os us : List Object) → SameFrame os us → (n : ℕ) → is_given_up os us n ≡ false
@@ -79,80 +59,38 @@ module _ (os : List Object) (n : ℕ) where
       GivesUp os n [] (made us written c)
   by_new us written c stays = (λ done. none_given_up os us n stays, λ undone. absurd (undone refl))
 
-  by_rescind : (vs : List Object) (set written : List ℕ) → ((m : ℕ) → content_at vs m ≡ content_at os m) →
-      ((m : ℕ) → is_member set m ≡ true → is_free (content_at os m) ≡ false)
-      → GivesUp os n set (made (rescind set vs) written Void)
-  by_rescind vs set written same used = (
-    λ done.
-        ap (λ (c : Content Capability). not (is_free c) && is_free (content_at (rescind set vs) n)) (sym (same n))
-        ∙ rescinded_given_up set vs (λ m member. ap (λ (c : Content Capability). is_free c) (same m) ∙ used m member) n,
-    λ undone. absurd (undone refl),
-  )
-
-  allocated_gives : (b : ℕ) (ns : List ℕ) (c : Content Capability) (named : ℕ → Capability) → is_free c ≡ false → GivesUp os n [] (allocated os b ns c named)
-  allocated_gives b [] c named some = by_none [] code.NoFrame (λ e. cc)
-  allocated_gives b (m ∷ ns) c named some = by_new (with_new os m b c) (m ∷ []) (named m) (new_used os m b c some n)
-
-  process_gives : (b : ℕ) (ns : List ℕ) → GivesUp os n [] (process_allocated os b ns)
-  process_gives b [] = by_none [] code.NoFrame (λ e. cc)
-  process_gives b (p ∷ []) = by_none [] code.NoFrame (λ e. cc)
-  process_gives b (p ∷ a ∷ ns) =
-      by_new (with_new (with_new os p b (new_root a)) a b new_annex) (p ∷ a ∷ []) (Process p)
-      (λ used. new_used (with_new os p b (new_root a)) a b new_annex refl n (new_used os p b (new_root a) refl n used))
-
-  bank_gives : (b : ℕ) (ns : List ℕ) (limit : ℕ) → GivesUp os n [] (bank_allocated os b ns limit)
-  bank_gives b [] limit = by_none [] code.NoFrame (λ e. cc)
-  bank_gives b (m ∷ ns) limit =
-      one_of (GivesUp os n []) (nat_lt (length (chain os b)) 16) _ _
-      (by_new (with_new os m b (content.Bank limit)) (m ∷ []) (Bank m) (new_used os m b (content.Bank limit) refl n)) (by_none [] code.TooDeep (λ e. cc))
-
   freed_gives : (b : ℕ) (list : List ℕ) → ((m : ℕ) → is_member list m ≡ true → is_free (content_at os m) ≡ false) → GivesUp os n list (freed os b list)
-  freed_gives b [] used = by_none [] code.BadCapability (λ e. cc)
-  freed_gives b (m ∷ ns) used =
-      one_of (GivesUp os n (m ∷ ns)) (owner_at os m == b) _ _ (by_rescind os (m ∷ ns) (m ∷ ns) (λ k. refl) used)
-      (by_none (m ∷ ns) code.NotFromThisBank (λ e. cc))
+  freed_gives b list used = grind (arith, nat_tests, by_none, one_of, rescinded_given_up)
 
   -- the end of another bank than the prime bank
   ended_gives : (b : ℕ) (vs : List Object) (set written : List ℕ) → (b ≢ 0 → (m : ℕ) → content_at vs m ≡ content_at os m)
       → (b ≢ 0 → (m : ℕ) → is_member set m ≡ true → is_free (content_at os m) ≡ false)
       → GivesUp os n set (if b == 0 then refused os code.PrimeBank else made (rescind set vs) written Void)
-  ended_gives b vs set written same used = chosen (GivesUp os n set) (b == 0) _ _ (λ e. by_none set code.PrimeBank (λ done. cc))
-      (λ e. by_rescind vs set written (same (eqb-false b 0 e)) (used (eqb-false b 0 e)))
+  ended_gives b vs set written same used = grind (arith, nat_tests, chosen, by_none, rescinded_given_up)
 
 -- what a capability frees was there
 freed_used : (g : Geometry) (os : List Object) (c : Capability) → IsNow g os → NamesItsKind os c → (list : List ℕ) → freed_by os c ≡ list
     → (n : ℕ) → is_member list n ≡ true → is_free (content_at os n) ≡ false
-freed_used g os c h names [] frees n member = cc
-freed_used g os c h names (m ∷ ns) frees n member = (freed_set g os h.frame c m ns names frees).given_up.used n member
+freed_used g os c h names list frees n member = grind (arith, nat_tests)
 
 -- what an order of a bank gives up
 pub order_gives_up : (g : Geometry) (os : List Object) (b : ℕ) (requested : BankOrder) (args : Arguments) (n : ℕ) → IsNow g os →
     IsTrue (is_bank (content_at os b)) → NamesItsKind os args.capability
     → GivesUp os n (rescinded_by os b requested args) (on_bank g os b requested args)
 unfolding on_bank
-order_gives_up g os b bank.NewPage args n h is names =
-    one_of (GivesUp os n []) (has_quota os b 1) _ _ (allocated_gives os n b (free_pages g os) new_page _ refl) (by_none os n [] code.Limit (λ e. cc))
-order_gives_up g os b bank.NewNode args n h is names =
-    one_of (GivesUp os n []) (has_quota os b 1) _ _ (allocated_gives os n b (free_nodes g os) new_node _ refl) (by_none os n [] code.Limit (λ e. cc))
-order_gives_up g os b bank.NewProcess args n h is names =
-    one_of (GivesUp os n []) (has_quota os b 2) _ _ (process_gives os n b (free_nodes g os)) (by_none os n [] code.Limit (λ e. cc))
-order_gives_up g os b bank.NewBank args n h is names =
-    one_of (GivesUp os n []) (has_quota os b 1) _ _ (bank_gives os n b (free_nodes g os) args.first) (by_none os n [] code.Limit (λ e. cc))
 order_gives_up g os b bank.Free args n h is names =
     freed_gives os n b (freed_by os args.capability) (freed_used g os args.capability h names (freed_by os args.capability) refl)
 order_gives_up g os b bank.Destroy args n h is names =
     ended_gives os n b os (under os b) (under os b) (λ on m. refl) (λ on. (under_given_up g os h.frame b is on).used)
-order_gives_up g os b bank.ReturnToParent args n h is names =
-    ended_gives os n b (inherited os b) (b ∷ []) (b ∷ owned_by os b) (λ on. inherited_content os (tree_of g os h.frame) b is on)
-    (λ on m member. subst (λ (k : ℕ). is_free (content_at os k) ≡ false) (sym (only_member b m member)) (used_where is_bank refl (content_at os b) is))
 order_gives_up g os b bank.Remaining args n h is names = (λ done. none_given_up os os n (λ used. used), λ undone. none_given_up os os n (λ used. used))
+order_gives_up g os b which args n h is names =
+    grind (arith, nat_tests, one_of, by_none, by_new, new_used, ended_gives, inherited_content, tree_of, only_member, used_where)
 
 pub gives_up_rescinded : GivesUpRescinded
 gives_up_rescinded g w b requested args n sound is held = order_gives_up g w.objects b requested args n (nearly_from g w sound) is held.1
 
 pub gives_up_nothing : GivesUpNothing
-gives_up_nothing g w i e n sound fits runs other done = none_in_frame w.objects e.objects
-    (invocation_frame g w.objects i e (nearly_from g w sound) fits runs other done) n
+gives_up_nothing g w i e n sound fits runs other done = search (arith, nat_tests, none_in_frame, invocation_frame, nearly_from)
 
 -- where nothing is given up no number is renewed
 pub renewing_none : (renewed : List Bool) (os us : List Object) → ((n : ℕ) → is_given_up os us n ≡ false) → renewing renewed os us ≡ renewed

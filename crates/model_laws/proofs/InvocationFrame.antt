@@ -1,9 +1,9 @@
 -- What invocations don't change: owners, roles, annexes, limits, and with them chains and usages.
-use Rattle.model_laws.proofs.Names.{ℕ, not, Option, None, Some, List, [], refl, sym, ap, subst, IsTrue, nat_lt, slice_index, slice_index_or, and_parts, Access}
-use Rattle.model_laws.proofs.Names.{Capability, Void, Number, Page, Node, Space, Process, Bank, Discrim, Invocation, Message, Geometry, Object, Root, State}
-use Rattle.model_laws.proofs.Names.{Available, Running, Arguments, BankOrder, NodeOrder, PageOrder, ProcessOrder, is_running, with_slot_in, with_word_in}
+use Rattle.model_laws.proofs.Names.{arith, nat_tests, ℕ, not, None, Some, List, [], refl, sym, subst, IsTrue, nat_lt, slice_index, slice_index_or, and_parts}
+use Rattle.model_laws.proofs.Names.{Access, Capability, Void, Number, Page, Node, Space, Process, Bank, Discrim, Invocation, Message, Geometry, Object, Root}
+use Rattle.model_laws.proofs.Names.{State, Available, Running, Arguments, NodeOrder, PageOrder, ProcessOrder, is_running, with_slot_in, with_word_in}
 use Rattle.model_laws.proofs.Names.{content_at, owner_at, root_at, annex_at, register_at, is_process, is_running_process, with_word, with_slot, with_root}
-use Rattle.model_laws.proofs.Names.{with_state, with_slots_from, consume, on_bank, OrderOutcome, refused, IsNoBankOrder, bank_order, page_order, node_order}
+use Rattle.model_laws.proofs.Names.{with_state, with_slots_from, consume, OrderOutcome, refused, IsNoBankOrder, bank_order, page_order, node_order}
 use Rattle.model_laws.proofs.Names.{process_order, reduces, is_space, stored, on_page, on_node, on_process, order, Effect, deliver, sent_by, sent_to_gate}
 use Rattle.model_laws.proofs.Names.{after_gate, after_order, through_gate, reply_of, replied, ordered, on_kernel_object, invoke, IsSound, Fits}
 use Rattle.std.proofs.Common.{◌≡◌, ◌+◌, ◌==◌, ◌||◌, ◌∷◌, ◌∙◌}
@@ -92,8 +92,7 @@ process_frame os p process.SetSpace args is = one_of (LeavesFrame os) (is_space 
 
 bank_refused : (g : Geometry) (os : List Object) (b w : ℕ) (args : Arguments) → bank_order w ≡ None → order g os (Bank b) w args ≡ refused os code.NoOrder
 unfolding order
-bank_refused g os b w args is = ap
-    (λ (found : Option BankOrder). elim found [ None ↦ refused os code.NoOrder | Some requested ↦ on_bank g os b requested args ]) is
+bank_refused g os b w args is = grind (arith, nat_tests)
 
 -- what isn't a bank's order: the frame stays
 pub order_frame : (g : Geometry) (W : ℕ → Type 0) (os : List Object) (c : Capability) (w : ℕ) (args : Arguments) → IsHeld os W c → IsNoBankOrder c w
@@ -104,8 +103,7 @@ order_frame g W os (Page o a) w args held other =
     found_or (LeavesFrame os) (page_order w) _ (λ requested. on_page os o a requested args) (frame_refl os) (λ requested. page_frame os o a requested args)
 order_frame g W os (Node o a) w args held other =
     found_or (LeavesFrame os) (node_order w) _ (λ requested. on_node os o a requested args) (frame_refl os) (λ requested. node_frame os o a requested args)
-order_frame g W os (Space o k a) w args held other =
-    one_of (LeavesFrame os) (w == 3) _ _ (one_of (LeavesFrame os) (reduces args.first) _ _ (frame_refl os) (frame_refl os)) (frame_refl os)
+order_frame g W os (Space o k a) w args held other = grind (arith, nat_tests, one_of, frame_refl)
 order_frame g W os (Process p) w args held other =
     found_or (LeavesFrame os) (process_order w) _ (λ requested. on_process os p requested args) (frame_refl os)
     (λ requested. process_frame os p requested args held.names)
@@ -168,5 +166,4 @@ state_now g os p h is runs = (after_state g os p Available h (rw (is, runs) refl
 -- and a sound world of the same age stays sound
 pub state_sound : (g : Geometry) (os : List Object) (p age : ℕ) → IsSound g (record { objects = os; age = age }) → IsTrue (is_process os p)
     → IsTrue (is_running (state_at os p)) → IsSound g (record { objects = with_state os p Available; age = age })
-state_sound g os p age h is runs =
-    nearly_to g (with_state os p Available) age (state_now g os p (nearly_from g (record { objects = os; age = age }) h) is runs) h.age
+state_sound g os p age h is runs = search (arith, nat_tests, nearly_to, state_now, nearly_from)

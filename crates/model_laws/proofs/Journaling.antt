@@ -1,38 +1,28 @@
 -- A saved world stays sound where a page of it has other words.
-use Rattle.model_laws.proofs.Names.{ℕ, Bool, true, false, Option, None, List, length, refl, sym, ap, subst, arith, and_parts, not-true, slice_index}
-use Rattle.model_laws.proofs.Names.{slice_index_or, Refusal, Capability, Geometry, Content, Object, Available, is_page, is_waiting, root_in, words_in, HasShape}
-use Rattle.model_laws.proofs.Names.{IsSound, unjournaled, unless, World, content_at, owner_at, with_content, JournalKeepsSound}
+use Rattle.model_laws.proofs.Names.{nat_tests, ℕ, Bool, true, false, Option, None, List, length, refl, sym, ap, subst, arith, slice_index, slice_index_or}
+use Rattle.model_laws.proofs.Names.{Refusal, Capability, Geometry, Content, Object, Available, is_page, is_waiting, root_in, words_in, HasShape, IsSound}
+use Rattle.model_laws.proofs.Names.{unjournaled, unless, World, content_at, owner_at, with_content, JournalKeepsSound}
 use Rattle.std.proofs.Common.{◌≡◌, ◌+◌, ◌^◌, ◌<◌, ◌≤◌, ◌∙◌}
 use Rattle.model.specs.Machine.{Running}
 use Rattle.model.specs.declared.object.Content.TheVariants as content
 use Rattle.model_laws.proofs.SoundEdits.{IsEdited, at_content, frame_content, nearly_content}
-use Rattle.model_laws.proofs.SoundParts.{IsFilled, IsNearlySound, Waits, held_void, nearly_from, nearly_to, nearly_weaken, state_at}
+use Rattle.model_laws.proofs.SoundParts.{IsFilled, IsNearlySound, Waits, nearly_from, nearly_to, nearly_weaken, state_at}
 use Rattle.model_laws.proofs.Usage.{AreAlike}
 
 alike_page : (b : ℕ) (words : List ℕ) (c : Content Capability) → is_page c ≡ true
     → AreAlike (record { owner = b; content = c }) (record { owner = b; content = content.Page words })
-alike_page b words (content.Page old) is = record { owner = refl; role = refl; annex = refl; limit = refl }
-alike_page b words c is = cc
+alike_page b words c is = grind (arith, nat_tests)
 
 -- a page is no process
 state_of_page : (c : Content Capability) → is_page c ≡ true → Available ≡ (root_in c).state
-state_of_page (content.Page words) is = refl
-state_of_page c is = cc
+state_of_page c is = grind (arith, nat_tests)
 
 pub page_is : {C : Type 0} (c : Content C) → is_page c ≡ true → c ≡ content.Page (words_in c)
-page_is (content.Page words) is = refl
-page_is c is = cc
+page_is {C} c is = grind (arith, nat_tests)
 
 filled_page : (os : List Object) (W : ℕ → Type 0) (words : List ℕ) → length words ≡ 512 → ((i : ℕ) → slice_index words i < 2 ^ 64) →
     IsFilled os W (content.Page words)
-filled_page os W words count fit = record {
-  shape = count;
-  words = fit;
-  slots = λ i. held_void os W;
-  register_0 = λ e. refl;
-  space = held_void os W;
-  is_space = tt;
-}
+filled_page os W words count fit = grind (arith, nat_tests)
 
 -- another page in place of one
 pub edited_page : (g : Geometry) (W : ℕ → Type 0) (os : List Object) (n : ℕ) (words : List ℕ) → IsNearlySound g W os → is_page (content_at os n) ≡ true
@@ -59,21 +49,16 @@ world_with_page g w n age words sound is count fit most =
 
 -- a check that does not refuse is passed, and so is the next
 pub unless_passes : (b : Bool) (why : Refusal) (next : Option Refusal) → unless b why next ≡ None → (b ≡ true) × (next ≡ None)
-unless_passes true why next e = (refl, e)
-unless_passes false why next e = cc
+unless_passes b why next e = grind (arith, nat_tests)
 
 -- where nothing refuses it, both are pages
 pub both_pages : (s : Running) (n : ℕ) → unjournaled s n ≡ None →
     (is_page (content_at s.now.objects n) ≡ true) × (is_page (content_at s.saved.world.objects n) ≡ true)
     × (slice_index_or s.renewed n false ≡ false)
-both_pages s n none =
-    let first = unless_passes _ _ _ none in
-    let saved = and_parts _ _ (unless_passes _ _ _ first.1).0 in
-    (first.0, saved.0, not-true _ saved.1)
+both_pages s n none = grind (arith, nat_tests)
 
 page_shape : (c : Content Capability) → is_page c ≡ true → HasShape c → length (words_in c) ≡ 512
-page_shape (content.Page words) is shape = shape
-page_shape c is shape = cc
+page_shape c is shape = grind (arith, nat_tests)
 
 pub journal_keeps_sound : JournalKeepsSound
 journal_keeps_sound g s n now saved young none =

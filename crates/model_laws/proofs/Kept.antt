@@ -1,9 +1,9 @@
 -- From some objects to others while everything outside a set is kept.
-use Rattle.model_laws.proofs.Names.{inl, inr, ℕ, suc, Bool, true, false, Option, None, Some, List, [], map, refl, sym, ap, subst, IsTrue, slice_index_or}
-use Rattle.model_laws.proofs.Names.{eqb-true, or_cases, Capability, Void, Resume, Content, Object, Root, State, named, StaysInside, free, is_bank, is_free}
-use Rattle.model_laws.proofs.Names.{is_root, map_content, root_in, slots_in, with_slot_in, with_word_in, consume, is_member, names_member, rescind, resumes}
-use Rattle.model_laws.proofs.Names.{void_where, without, content_at, is_process, object_at, owner_at, root_at, with_content, with_root, with_slot}
-use Rattle.model_laws.proofs.Names.{with_slots_from, with_state, with_word, Encloses, IsKept, NamesInside, StaysWithin}
+use Rattle.model_laws.proofs.Names.{arith, nat_tests, inl, ℕ, suc, Bool, true, false, Option, None, Some, List, [], map, refl, sym, ap, subst, IsTrue}
+use Rattle.model_laws.proofs.Names.{slice_index_or, Capability, Void, Content, Object, Root, State, named, StaysInside, free, is_bank, is_free, is_root}
+use Rattle.model_laws.proofs.Names.{map_content, root_in, slots_in, with_slot_in, with_word_in, consume, is_member, names_member, rescind, resumes, void_where}
+use Rattle.model_laws.proofs.Names.{without, content_at, is_process, object_at, owner_at, root_at, with_content, with_root, with_slot, with_slots_from}
+use Rattle.model_laws.proofs.Names.{with_state, with_word, Encloses, IsKept, NamesInside, StaysWithin}
 use Rattle.std.proofs.Common.{◌≡◌, ◌⊎◌, ◌+◌, ◌||◌, if◌then◌else◌, ◌∷◌, ◌∙◌}
 use Rattle.model_laws.proofs.Cases.{chosen, one_of}
 use Rattle.model_laws.proofs.Revoking.{at_rescind}
@@ -26,20 +26,14 @@ map_same [] = refl
 map_same (c ∷ cs) = ap (λ ds. c ∷ ds) (map_same cs)
 
 content_same : (c : Content Capability) → c ≡ map_content (void_where (λ c. false)) c
-content_same (content.Node slots) = ap content.Node (map_same slots)
-content_same (content.Annex slots) = ap content.Annex (map_same slots)
-content_same c = refl
+content_same c = grind (arith, nat_tests, map_same)
 
 -- what goes first or second
 abbrev either : (Capability → Bool) → (Capability → Bool) → Capability → Bool
 either first second c = first c || second c
 
 twice : (first second : Capability → Bool) (c : Capability) → void_where second (void_where first c) ≡ void_where (either first second) c
-twice first second c = go (first c)
-  where
-    go : (b : Bool) → void_where second (if b then Void else c) ≡ (if b || second c then Void else c)
-    go true = void_void second
-    go false = refl
+twice first second c = grind (arith, nat_tests)
 
 map_twice : (first second : Capability → Bool) (cs : List Capability)
     → map (void_where second) (map (void_where first) cs) ≡ map (void_where (either first second)) cs
@@ -48,11 +42,7 @@ map_twice first second (c ∷ cs) = rw (twice first second c, map_twice first se
 
 content_twice : (first second : Capability → Bool) (c : Content Capability)
     → map_content (void_where second) (map_content (void_where first) c) ≡ map_content (void_where (either first second)) c
-content_twice first second (content.Node slots) = ap content.Node (map_twice first second slots)
-content_twice first second (content.Root r) =
-    ap (λ s. content.Root (record { state = r.state; words = r.words; key = r.key; annex = r.annex; space = s })) (twice first second r.space)
-content_twice first second (content.Annex slots) = ap content.Annex (map_twice first second slots)
-content_twice first second c = refl
+content_twice first second c = grind (arith, nat_tests, map_twice, twice)
 
 -- an object is kept unchanged
 pub kept_refl : (inside : ℕ → Bool) (o : Object) → IsKept inside o o
@@ -60,15 +50,7 @@ kept_refl inside o = ((λ c. false), (λ c e. cc), ap (λ (c : Content Capabilit
 
 -- kept twice is kept
 pub kept_trans : (inside : ℕ → Bool) (o p q : Object) → IsKept inside o p → IsKept inside p q → IsKept inside o q
-kept_trans inside o p q a b = (
-  either a.0 b.0,
-  λ c e. cases c (or_cases (a.0 c) (b.0 c) e),
-  b.2 ∙ (ap (without b.0) a.2 ∙ ap (λ (c : Content Capability). record { owner = o.owner; content = c }) (content_twice a.0 b.0 o.content)),
-)
-  where
-    cases : (c : Capability) → (a.0 c ≡ true) ⊎ (b.0 c ≡ true) → NamesInside inside c
-    cases c (inl e) = a.1 c e
-    cases c (inr e) = b.1 c e
+kept_trans inside o p q a b = grind (arith, nat_tests, content_twice)
 
 -- nothing changes
 pub stays_refl : (inside : ℕ → Bool) (os : List Object) → Encloses inside os → StaysWithin inside os os
@@ -120,22 +102,15 @@ stays_content inside os n c h in_n may = record {
 
 -- what stands at a member may stand there
 may_stay : (inside : ℕ → Bool) (os : List Object) (n : ℕ) → Encloses inside os → IsTrue (inside n) → MayStand inside os n (content_at os n)
-may_stay inside os n h in_n = record {
-  annex = h.closed.annexes n in_n;
-  bank = λ e. e;
-  slots = λ i. h.closed.slots n i in_n;
-  space = h.closed.spaces n in_n;
-}
+may_stay inside os n h in_n = grind (arith, nat_tests)
 
 word_may : (inside : ℕ → Bool) (os : List Object) (n i w : ℕ) (c : Content Capability) → MayStand inside os n c → MayStand inside os n (with_word_in c i w)
-word_may inside os n i w (content.Page words) h = record { annex = h.annex; bank = h.bank; slots = h.slots; space = h.space }
-word_may inside os n i w c h = h
+word_may inside os n i w c h = grind (arith, nat_tests)
 
 -- a word of a member
 pub stays_word : (inside : ℕ → Bool) (os : List Object) (n i w : ℕ) → Encloses inside os → IsTrue (inside n) → StaysWithin inside os (with_word os n i w)
 unfolding with_word
-stays_word inside os n i w h in_n =
-    stays_content inside os n (with_word_in (content_at os n) i w) h in_n (word_may inside os n i w (content_at os n) (may_stay inside os n h in_n))
+stays_word inside os n i w h in_n = search (arith, nat_tests, stays_content, word_may, may_stay)
 
 slot_may : (inside : ℕ → Bool) (os : List Object) (n i : ℕ) (k : Capability) (c : Content Capability) → StaysInside inside k
     → MayStand inside os n c → MayStand inside os n (with_slot_in c i k)
@@ -157,8 +132,7 @@ slot_may inside os n i k c stays h = h
 pub stays_slot : (inside : ℕ → Bool) (os : List Object) (n i : ℕ) (c : Capability) → Encloses inside os → IsTrue (inside n) → StaysInside inside c
     → StaysWithin inside os (with_slot os n i c)
 unfolding with_slot
-stays_slot inside os n i c h in_n stays =
-    stays_content inside os n (with_slot_in (content_at os n) i c) h in_n (slot_may inside os n i c (content_at os n) stays (may_stay inside os n h in_n))
+stays_slot inside os n i c h in_n stays = search (arith, nat_tests, stays_content, slot_may, may_stay)
 
 -- slots of a member
 pub stays_slots : (inside : ℕ → Bool) (os : List Object) (n i : ℕ) (cs : List Capability) → Encloses inside os → IsTrue (inside n)
@@ -194,9 +168,7 @@ stays_void inside goes c stays = one_of (StaysInside inside) (goes c) Void c (in
 
 annex_without : (inside : ℕ → Bool) (goes : Capability → Bool) (o : Object) → (IsTrue (is_root o.content) → IsTrue (inside (root_in o.content).annex))
     → IsTrue (is_root (without goes o).content) → IsTrue (inside (root_in (without goes o).content).annex)
-annex_without inside goes o h is =
-    let m = without_mapped goes o in
-    subst (λ n. IsTrue (inside n)) (sym m.annex) (h (subst IsTrue m.root is))
+annex_without inside goes o h is = grind (arith, nat_tests)
 
 -- members are freed, and capabilities that name members put void
 pub stays_without : (inside : ℕ → Bool) (os us : List Object) (goes : Capability → Bool) (set : List ℕ) → Encloses inside os
@@ -223,25 +195,21 @@ stays_without inside os us goes set h members names at = record {
         at_us (λ o. is_free o.content ≡ true → IsTrue (inside n)) n (λ m e. members n m)
         (λ e. h.free n (sym (without_mapped goes (object_at os n)).free ∙ e));
   };
-  kept = λ n out.
-      at_us (λ o. IsKept inside (object_at os n) o) n (λ m. absurd (let both : false ≡ true = sym out ∙ members n m in cc)) (goes, names, refl);
+  kept = grind (arith, nat_tests);
 }
   where
     at_us : (P : Object → Type 0) (n : ℕ) → (is_member set n ≡ true → P free) → P (without goes (object_at os n)) → P (object_at us n)
     at_us P n on_member old = subst P (sym (at n)) (chosen P (is_member set n) free _ on_member (λ _. old))
 
     was_bank : (b : ℕ) → IsTrue (is_bank (content_at us b)) → IsTrue (is_bank (content_at os b))
-    was_bank b =
-        at_us (λ o. IsTrue (is_bank o.content) → IsTrue (is_bank (content_at os b))) b (λ m e. cc)
-        (λ e. sym (without_mapped goes (object_at os b)).bank ∙ e)
+    was_bank b is = grind (arith, nat_tests, at_us, without_mapped)
 
 -- a consumed resume capability of a member
 pub stays_consume : (inside : ℕ → Bool) (os : List Object) (p : ℕ) → Encloses inside os → IsTrue (inside p) → StaysWithin inside os (consume p os)
 stays_consume inside os p h in_p = stays_without inside os (consume p os) (resumes p) [] h (λ n m. cc) names (object_consume p os)
   where
     names : (c : Capability) → resumes p c ≡ true → NamesInside inside c
-    names (Resume q) e = subst (λ n. IsTrue (inside n)) (sym (eqb-true q p e)) in_p
-    names c e = cc
+    names c e = grind (arith, nat_tests)
 
 -- a number that is a member
 abbrev IsSomeInside : (ℕ → Bool) → Option ℕ → Type 0
@@ -254,5 +222,4 @@ stays_rescind inside os set h members =
     stays_without inside os (rescind set os) (names_member set) set h members (λ c. names (named c)) (at_rescind set os)
   where
     names : (o : Option ℕ) → (elim o [ None ↦ false | Some n ↦ is_member set n ]) ≡ true → IsSomeInside inside o
-    names None e = cc
-    names (Some n) e = members n e
+    names o e = grind (arith, nat_tests)

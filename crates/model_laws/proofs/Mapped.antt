@@ -1,8 +1,7 @@
 -- A content with each capability in it changed is as it was in all else.
-use Rattle.model_laws.proofs.Names.{ℕ, zero, suc, Bool, List, [], map, get_or, refl, sym, Capability, Void, Content, Object, is_bank, is_free, is_root}
-use Rattle.model_laws.proofs.Names.{limit_in, map_content, role_of, root_in, slots_in, void_where, without}
+use Rattle.model_laws.proofs.Names.{arith, nat_tests, ℕ, zero, suc, Bool, List, [], map, get_or, refl, sym, Capability, Void, Content, Object, is_bank, is_free}
+use Rattle.model_laws.proofs.Names.{is_root, limit_in, map_content, role_of, root_in, slots_in, void_where, without}
 use Rattle.std.proofs.Common.{◌≡◌, ◌∷◌}
-use Rattle.model.specs.declared.object.Content.TheVariants as content
 use Rattle.model_laws.proofs.Cases.{one_of}
 use Rattle.model_laws.proofs.Usage.{AreAlike}
 
@@ -26,39 +25,11 @@ pub record IsMapped (f : Capability → Capability) (c d : Content Capability) :
   pub slot : f Void ≡ Void → (i : ℕ) → get_or (slots_in d) i Void ≡ f (get_or (slots_in c) i Void)
 
 pub mapped : (f : Capability → Capability) (c : Content Capability) → IsMapped f c (map_content f c)
-mapped f (content.Node slots) =
-    record {
-      role = refl;
-      free = refl;
-      root = refl;
-      bank = refl;
-      limit = refl;
-      state = refl;
-      annex = refl;
-      space = λ e. sym e;
-      slot = λ e i. at_map f slots i Void e;
-    }
-mapped f (content.Root r) =
-    record { role = refl; free = refl; root = refl; bank = refl; limit = refl; state = refl; annex = refl; space = λ e. refl; slot = λ e i. sym e }
-mapped f (content.Annex registers) =
-    record {
-      role = refl;
-      free = refl;
-      root = refl;
-      bank = refl;
-      limit = refl;
-      state = refl;
-      annex = refl;
-      space = λ e. sym e;
-      slot = λ e i. at_map f registers i Void e;
-    }
-mapped f c = record { role = refl; free = refl; root = refl; bank = refl; limit = refl; state = refl; annex = refl; space = λ e. sym e; slot = λ e i. sym e }
+mapped f c = grind (arith, nat_tests, at_map)
 
 -- so is an object with some capabilities put void
 pub without_mapped : (goes : Capability → Bool) (o : Object) → IsMapped (void_where goes) o.content (without goes o).content
 without_mapped goes o = mapped (void_where goes) o.content
 
 pub alike_without : (goes : Capability → Bool) (o : Object) → AreAlike o (without goes o)
-alike_without goes o =
-    let m = without_mapped goes o in
-    record { owner = refl; role = m.role; annex = m.annex; limit = m.limit }
+alike_without goes o = grind (arith, nat_tests)

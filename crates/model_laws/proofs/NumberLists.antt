@@ -1,7 +1,6 @@
 -- Lists of numbers: their members, and the numbers of a range that pass a test.
-use Rattle.model_laws.proofs.Names.{inl, inr, ℕ, zero, suc, nat_eq, Bool, true, false, cond, List, [], get_or, All, refl, sym, ap, arith, filter}
-use Rattle.model_laws.proofs.Names.{range_with_len, false≢true, cases_eq, false_from_ne_true, eq-eqb, ne_eqb, eqb-true, or_cases, or_from, or_right}
-use Rattle.model_laws.proofs.Names.{list_any_at, length-range_with_len, get_or-range_with_len, is_member}
+use Rattle.model_laws.proofs.Names.{nat_tests, inl, inr, ℕ, zero, suc, nat_eq, Bool, true, false, cond, List, [], get_or, All, refl, sym, ap, arith, filter}
+use Rattle.model_laws.proofs.Names.{range_with_len, false≢true, cases_eq, eq-eqb, ne_eqb, eqb-true, or_cases, or_from, list_any_at, is_member}
 use Rattle.std.proofs.Common.{◌≡◌, ◌≢◌, ◌⊎◌, ◌+◌, ◌<◌, ◌≤◌, ◌∷◌, ◌∙◌}
 use Rattle.model_laws.proofs.BankTree.{member_head}
 
@@ -35,11 +34,7 @@ found_in f a (suc count) n e =
         → (is_member (filter f (range_with_len (a + 1) count)) n ≡ true → (a ≤ n) × (n < a + suc count) × (f n ≡ true))
         → is_member (cond t (a ∷ filter f (range_with_len (a + 1) count)) (filter f (range_with_len (a + 1) count))) n ≡ true
         → (a ≤ n) × (n < a + suc count) × (f n ≡ true)
-    go true passes later e = elim (member_cases a (filter f (range_with_len (a + 1) count)) n e) [
-      | inl same ↦ (omega (arith, same), omega (arith, same), ap f same ∙ passes)
-      | inr more ↦ later more
-    ]
-    go false fails later e = later e
+    go t passes later e = grind (arith, nat_tests)
 
 pub stands_in : (f : ℕ → Bool) (a count n : ℕ) → a ≤ n → n < a + count → f n ≡ true → is_member (filter f (range_with_len a count)) n ≡ true
 stands_in f a zero n from below passes = absurd (omega (arith, from, below))
@@ -50,8 +45,7 @@ stands_in f a (suc count) n from below passes = elim (cases_eq n a) [
   where
     go : (t : Bool) → is_member (filter f (range_with_len (a + 1) count)) n ≡ true
         → is_member (cond t (a ∷ filter f (range_with_len (a + 1) count)) (filter f (range_with_len (a + 1) count))) n ≡ true
-    go true e = or_right (nat_eq n a) (is_member (filter f (range_with_len (a + 1) count)) n) e
-    go false e = e
+    go t e = grind (arith, nat_tests)
 
 pub filter_once : (f : ℕ → Bool) (a count : ℕ) → AllDiffer (filter f (range_with_len a count))
 filter_once f a zero = tt
@@ -59,5 +53,4 @@ filter_once f a (suc count) = go (f a) (filter_once f (a + 1) count)
   where
     go : (t : Bool) → AllDiffer (filter f (range_with_len (a + 1) count)) →
         AllDiffer (cond t (a ∷ filter f (range_with_len (a + 1) count)) (filter f (range_with_len (a + 1) count)))
-    go true rest = (false_from_ne_true (is_member (filter f (range_with_len (a + 1) count)) a) (λ e. omega (arith, (found_in f (a + 1) count a e).0)), rest)
-    go false rest = rest
+    go t rest = grind (arith, nat_tests, found_in)

@@ -1,7 +1,7 @@
 -- What is rescinded or consumed is named nowhere any more.
-use Rattle.model_laws.proofs.Names.{ℕ, zero, suc, Bool, true, false, List, [], map, refl, sym, ap, subst, arith, add-zero, zero-add, enumerate_from, Capability}
-use Rattle.model_laws.proofs.Names.{Void, Object, free, is_free, slots_in, root_in, object_at, void_where, without, is_member, names_member, resumes, rescind}
-use Rattle.model_laws.proofs.Names.{RescindsAll, ConsumesAll}
+use Rattle.model_laws.proofs.Names.{nat_tests, ℕ, zero, suc, Bool, false, List, [], map, refl, sym, ap, arith, add-zero, zero-add, enumerate_from, Capability}
+use Rattle.model_laws.proofs.Names.{Void, Object, free, slots_in, root_in, object_at, void_where, without, is_member, names_member, rescind, RescindsAll}
+use Rattle.model_laws.proofs.Names.{ConsumesAll}
 use Rattle.std.proofs.Common.{◌≡◌, ◌+◌, ◌∷◌, ◌∙◌, if◌then◌else◌, slice_index_or}
 use Rattle.model_laws.proofs.Mapped.{void_void, without_mapped}
 use Rattle.model_laws.proofs.Cases.{chosen, one_of}
@@ -21,12 +21,7 @@ module _ (goes : Capability → Bool) (void_stays : goes Void ≡ false) where
 
 -- what stands at a number after a consume
 pub consumes_all : ConsumesAll
-consumes_all p os = (
-  λ n. object_consume p os n,
-  λ n i. subst (λ o. resumes p (slice_index_or (slots_in o.content) i Void) ≡ false) (sym (object_consume p os n))
-      (gone_from_slot (resumes p) refl (object_at os n) i),
-  λ q. subst (λ o. resumes p (root_in o.content).space ≡ false) (sym (object_consume p os q)) (gone_from_space (resumes p) refl (object_at os q)),
-)
+consumes_all p os = grind (arith, nat_tests, object_consume, gone_from_slot, gone_from_space)
 
 -- an object with its number, after a rescind
 abbrev after_rescind : List ℕ → ℕ × Object → Object
@@ -51,24 +46,4 @@ unfolding rescind
 at_rescind set os n = at_rescind_from set os 0 n ∙ ap (λ j. after_rescind set (j, object_at os n)) (zero-add n)
 
 pub rescinds_all : RescindsAll
-rescinds_all set os = (frees, λ n. stays n, λ n i. clears_slot n i, λ p. clears_space p)
-  where
-    frees : (n : ℕ) → is_member set n ≡ true → is_free (object_at (rescind set os) n).content ≡ true
-    frees n member =
-        subst (λ o. is_free o.content ≡ true)
-        (sym (at_rescind set os n ∙ ap (λ b. if b then free else without (names_member set) (object_at os n)) member)) refl
-
-    stays : (n : ℕ) → is_member set n ≡ false → object_at (rescind set os) n ≡ without (names_member set) (object_at os n)
-    stays n other = at_rescind set os n ∙ ap (λ b. if b then free else without (names_member set) (object_at os n)) other
-
-    clears_slot : (n i : ℕ) → names_member set (slice_index_or (slots_in (object_at (rescind set os) n).content) i Void) ≡ false
-    clears_slot n i =
-        subst (λ o. names_member set (slice_index_or (slots_in o.content) i Void) ≡ false) (sym (at_rescind set os n))
-        (one_of (λ o. names_member set (slice_index_or (slots_in o.content) i Void) ≡ false) (is_member set n) free _ refl
-        (gone_from_slot (names_member set) refl (object_at os n) i))
-
-    clears_space : (p : ℕ) → names_member set (root_in (object_at (rescind set os) p).content).space ≡ false
-    clears_space p =
-        subst (λ o. names_member set (root_in o.content).space ≡ false) (sym (at_rescind set os p))
-        (one_of (λ o. names_member set (root_in o.content).space ≡ false) (is_member set p) free _ refl
-        (gone_from_space (names_member set) refl (object_at os p)))
+rescinds_all set os = grind (arith, nat_tests, at_rescind, one_of, gone_from_slot, gone_from_space)

@@ -1,23 +1,22 @@
 -- An order of a bank keeps sound objects sound.
-use Rattle.model_laws.proofs.Names.{inl, inr, ℕ, Bool, true, false, Some, List, [], length, map, min, refl, sym, ap, subst, arith, IsTrue, nat_le, nat_lt}
+use Rattle.model_laws.proofs.Names.{nat_tests, inl, inr, ℕ, Bool, true, false, Some, List, [], length, min, refl, sym, ap, subst, arith, IsTrue, nat_lt}
 use Rattle.model_laws.proofs.Names.{slice_index, slice_index_or, AllPairs, list_all, range_with_len, cases_eq, cases_Bool, and_parts, ltb-true, All-filter}
-use Rattle.model_laws.proofs.Names.{All-head, All-get_or, All-from_get_or, filter_passes, length-range_with_len, get_or-range_with_len, AllPairs-filter}
-use Rattle.model_laws.proofs.Names.{Capability, Void, Page, Node, Space, Process, Start, Resume, Bank, Geometry, Content, Object, Arguments, BankOrder, full}
-use Rattle.model_laws.proofs.Names.{named, is_free, is_page, is_node, is_root, is_annex, is_bank, role_of, words_in, slots_in, limit_in, root_in, object_at}
-use Rattle.model_laws.proofs.Names.{content_at, owner_at, annex_at, root_at, is_process, chain, usage, made, are_free, free_nodes, free_pages, has_quota}
-use Rattle.model_laws.proofs.Names.{with_new, new_page, new_node, new_root, new_annex, allocated, process_allocated, bank_allocated, left_of, least, remaining}
-use Rattle.model_laws.proofs.Names.{on_bank, is_member, IsOfKind, HasShape}
+use Rattle.model_laws.proofs.Names.{All-head, All-get_or, filter_passes, length-range_with_len, get_or-range_with_len, AllPairs-filter, Capability, Void, Page}
+use Rattle.model_laws.proofs.Names.{Node, Space, Process, Start, Resume, Bank, Geometry, Content, Object, Arguments, BankOrder, full, named, is_free, is_page}
+use Rattle.model_laws.proofs.Names.{is_node, is_root, is_annex, is_bank, role_of, words_in, slots_in, limit_in, root_in, object_at, content_at, owner_at}
+use Rattle.model_laws.proofs.Names.{annex_at, root_at, is_process, chain, usage, made, are_free, free_nodes, free_pages, has_quota, with_new, new_page}
+use Rattle.model_laws.proofs.Names.{new_node, new_root, new_annex, allocated, process_allocated, bank_allocated, least, remaining, on_bank, is_member, IsOfKind}
+use Rattle.model_laws.proofs.Names.{HasShape}
 use Rattle.std.proofs.Common.{◌≡◌, ◌≢◌, ◌+◌, ◌^◌, ◌<◌, ◌≤◌, ◌∷◌, ◌∙◌}
 use Rattle.std.specs.Prelude.{if◌then◌else◌}
 use Rattle.std.specs.List.{All}
-use Rattle.std.proofs.lemmas.Bool.{leb-true}
 use Rattle.model.specs.declared.object.Content.TheVariants as content
 use Rattle.model.specs.declared.order.BankOrder.TheVariants as bank
 use Rattle.model.specs.declared.order.ResultCode.TheVariants as code
 use Rattle.model_laws.proofs.SoundParts.{IsHeld, IsFilled, Waits, held_void}
 use Rattle.model_laws.proofs.SoundOrders.{IsNow, IsOutcome, AreArguments, three_words, refused_keeps, given_keeps}
 use Rattle.model_laws.proofs.Cases.{chosen}
-use Rattle.model_laws.proofs.SoundWorlds.{holds_replicate, holds_void, zero_words_fit, zero_words_length, all_slots_length}
+use Rattle.model_laws.proofs.SoundWorlds.{holds_void, zero_words_fit, zero_words_length, all_slots_length}
 use Rattle.model_laws.proofs.BankTree.{IsTree, tree_of, member_tail, at_new, at_other, length_new, chain_new, new_bank_kept, tree_new}
 use Rattle.model_laws.proofs.BankUsage.{usage_new, usage_new_bank}
 use Rattle.model_laws.proofs.BankRescind.{IsAsBefore, held_as_before, used_where}
@@ -53,11 +52,7 @@ module _ (g : Geometry) (os us : List Object) (h : IsNow g os) (k : IsGrown g os
   -- an old and a new process have different annexes
   annexes_apart : (p q : ℕ) → IsTrue (is_free (content_at os p)) → is_free (content_at os q) ≡ false → IsTrue (is_process us p) → IsTrue (is_process us q)
       → annex_at us p ≢ annex_at us q
-  annexes_apart p q new old is iq same =
-      let was : IsTrue (is_process os q) = sym (ap (λ (o : Object). is_root o.content) (k.kept q old)) ∙ iq in
-      let its : annex_at us p ≡ annex_at os q = same ∙ ap (λ (o : Object). (root_in o.content).annex) (k.kept q old) in
-      let both : true ≡ false = sym (k.annexes p new is).0 ∙ (ap (λ (n : ℕ). is_free (content_at os n)) its ∙ annex_used q was) in
-      cc
+  annexes_apart p q new old is iq same = grind (arith, nat_tests)
 
   grown_one_root : (p q : ℕ) → IsTrue (is_process us p) → IsTrue (is_process us q) → annex_at us p ≡ annex_at us q → p ≡ q
   grown_one_root p q is iq same = elim (cases_Bool (is_free (content_at os p))) [
@@ -139,14 +134,7 @@ module _ (g : Geometry) (os us : List Object) (h : IsNow g os) (k : IsGrown g os
 -- a content that holds no capability
 filled_void : (us : List Object) (W : ℕ → Type 0) (c : Content Capability) → HasShape c → ((i : ℕ) → slice_index (words_in c) i < 2 ^ 64)
     → ((i : ℕ) → slice_index_or (slots_in c) i Void ≡ Void) → (root_in c).space ≡ Void → IsFilled us W c
-filled_void us W c shape words slots space = record {
-  shape = shape;
-  words = words;
-  slots = λ i. rw (slots i) (held_void us W);
-  register_0 = λ e. slots 0;
-  space = rw space (held_void us W);
-  is_space = rw space tt;
-}
+filled_void us W c shape words slots space = grind (arith, nat_tests)
 
 filled_page : (us : List Object) (W : ℕ → Type 0) → IsFilled us W new_page
 filled_page us W = filled_void us W new_page zero_words_length zero_words_fit (λ i. refl) refl
@@ -158,15 +146,13 @@ filled_annex : (us : List Object) (W : ℕ → Type 0) → IsFilled us W new_ann
 filled_annex us W = filled_void us W new_annex all_slots_length (λ i. omega arith) (holds_void (λ c. c ≡ Void) refl) refl
 
 filled_root : (us : List Object) (W : ℕ → Type 0) (a : ℕ) → IsFilled us W (new_root a)
-filled_root us W a = filled_void us W (new_root a) (refl, λ i. holds_replicate (λ n. n < 2 ^ 64) 4 0 0 (omega arith) (omega arith) i, omega arith)
-    (λ i. omega arith) (λ i. refl) refl
+filled_root us W a = grind (arith, nat_tests)
 
 filled_bank : (us : List Object) (W : ℕ → Type 0) (limit : ℕ) → limit < 2 ^ 64 → IsFilled us W (content.Bank limit)
 filled_bank us W limit fits = filled_void us W (content.Bank limit) fits (λ i. omega arith) (λ i. refl) refl
 
 free_filled : (us : List Object) (W : ℕ → Type 0) (c : Content Capability) → IsTrue (is_free c) → IsFilled us W c
-free_filled us W content.Free e = filled_void us W content.Free tt (λ i. omega arith) (λ i. refl) refl
-free_filled us W c e = cc
+free_filled us W c e = grind (arith, nat_tests)
 
 -- quotas and free numbers
 
@@ -184,9 +170,7 @@ member_passes test (y ∷ ys) x all member =
 spare_body_at : (os : List Object) (b count x : ℕ) → has_quota os b count ≡ true → is_member (chain os b) x ≡ true →
     usage os x + count ≤ limit_in (content_at os x)
 unfolding has_quota
-spare_body_at os b count x room member =
-    leb-true (usage os x + count) (limit_in (content_at os x))
-    (member_passes (λ c. nat_le (usage os c + count) (limit_in (content_at os c))) (chain os b) x room member)
+spare_body_at os b count x room member = grind (arith, nat_tests, member_passes)
 
 -- a number in a range that is free
 abbrev IsFreeWithin : List Object → ℕ → ℕ → ℕ → Type 0
@@ -194,14 +178,10 @@ IsFreeWithin os from count n = (from ≤ n) × (n < from + count) × IsTrue (is_
 
 module _ (os : List Object) (from count : ℕ) where
   in_range : All (λ n. (from ≤ n) × (n < from + count)) (range_with_len from count)
-  in_range = All-from_get_or (λ n. (from ≤ n) × (n < from + count)) (range_with_len from count) 0 (λ i lt.
-      let inside : i < count = omega (arith, lt, length-range_with_len from count) in
-      rw (get_or-range_with_len from count i 0 inside) (omega arith, omega arith))
+  in_range = grind (arith, nat_tests, length-range_with_len, get_or-range_with_len)
 
   range_rises : AllPairs (λ m n. m < n) (range_with_len from count)
-  range_rises i j d lt inside =
-      let right : j < count = omega (arith, inside, length-range_with_len from count) in
-      rw (get_or-range_with_len from count i d (omega arith), get_or-range_with_len from count j d right) (omega arith)
+  range_rises i j d lt inside = grind (arith, nat_tests, length-range_with_len, get_or-range_with_len)
 
   free_first : (n : ℕ) (ns : List ℕ) → are_free os (range_with_len from count) ≡ n ∷ ns → IsFreeWithin os from count n
   free_first n ns e =
@@ -229,10 +209,7 @@ module _ (g : Geometry) (os : List Object) (n b : ℕ) (c : Content Capability) 
   -- what holds of it and of the others where they stand holds of all
   one_at : (P : ℕ → Object → Type 0) → P n (record { owner = b; content = c }) → ((x : ℕ) → x ≢ n → P x (object_at os x)) → (x : ℕ) →
       P x (object_at (with_new os n b c) x)
-  one_at P new old x = elim (cases_eq x n) [
-    | inl e ↦ rw e (subst (P n) (sym (at_new os n b c inside)) new)
-    | inr differ ↦ subst (P x) (sym (at_other os n b c x differ)) (old x differ)
-  ]
+  one_at P new old x = grind (arith, nat_tests, at_new, at_other)
 
   one_limits : has_quota os b 1 ≡ true → (x : ℕ) → IsTrue (is_bank (content_at (with_new os n b c) x)) →
       usage (with_new os n b c) x ≤ limit_in (content_at (with_new os n b c) x)
@@ -241,8 +218,7 @@ module _ (g : Geometry) (os : List Object) (n b : ℕ) (c : Content Capability) 
       (λ x differ is. go x is (is_member (chain os b) x) refl)
     where
       go : (x : ℕ) → IsTrue (is_bank (content_at os x)) → (m : Bool) → is_member (chain os b) x ≡ m → usage (with_new os n b c) x ≤ limit_in (content_at os x)
-      go x is true e = rw (usage_new os n b c (tree_of g os h.frame) bank inside unused used short x is, e) (spare_body_at os b 1 x room e)
-      go x is false e = rw (usage_new os n b c (tree_of g os h.frame) bank inside unused used short x is, e) (omega (arith, h.frame.limits x is))
+      go x is m e = grind (arith, nat_tests, usage_new, tree_of, spare_body_at)
 
   one_now : has_quota os b 1 ≡ true → IsOfKind g n c → IsFilled (with_new os n b c) (Waits (with_new os n b c)) c → is_root c ≡ false → is_annex c ≡ false
       → IsNow g (with_new os n b c)
@@ -306,31 +282,14 @@ module _ (g : Geometry) (os : List Object) (p a b : ℕ) (h : IsNow g os) (bank 
   -- what holds of both where they stand, and of what was there, holds of all
   two_at : (P : ℕ → Object → Type 0) → P p (record { owner = b; content = new_root a }) → P a (record { owner = b; content = new_annex })
       → ((x : ℕ) → P x (object_at os x)) → (x : ℕ) → P x (object_at whole x)
-  two_at P root annex old x = elim (cases_eq x a) [
-    | inl e ↦ rw e (subst (P a) (sym annex_there) annex)
-    | inr no_annex ↦ elim (cases_eq x p) [
-      | inl e ↦ rw e (subst (P p) (sym root_there) root)
-      | inr no_root ↦ subst (P x) (sym (old_there x no_annex no_root)) (old x)
-    ]
-  ]
-
-  -- both count at the bank and at each that this is under
-  two_usage : (x : ℕ) → IsTrue (is_bank (content_at os x)) →
-      usage whole x ≡ usage os x + (if is_member (chain os b) x then 1 else 0) + (if is_member (chain os b) x then 1 else 0)
-  two_usage x is =
-      let first = usage_new os p b (new_root a) (tree_of g os h.frame) bank p_inside p_unused refl (λ e. cc) x is in
-      let stays = new_bank_kept os p b (new_root a) (tree_of g os h.frame) bank p_inside p_unused refl (λ e. cc) x is in
-      let second = usage_new rooted a b new_annex rooted_tree rooted_bank annex_inside annex_unused refl (λ e. cc) x stays in
-      let same = chain_new os p b (new_root a) (tree_of g os h.frame) bank p_inside p_unused refl (λ e. cc) b bank in
-      rw (second, first, same) refl
+  two_at P root annex old x = grind (arith, nat_tests, annex_there, root_there, old_there)
 
   two_limits : has_quota os b 2 ≡ true → (x : ℕ) → IsTrue (is_bank (content_at whole x)) → usage whole x ≤ limit_in (content_at whole x)
   two_limits room = two_at (λ x o. IsTrue (is_bank o.content) → usage whole x ≤ limit_in o.content) (λ is. cc) (λ is. cc)
       (λ x is. go x is (is_member (chain os b) x) refl)
     where
       go : (x : ℕ) → IsTrue (is_bank (content_at os x)) → (m : Bool) → is_member (chain os b) x ≡ m → usage whole x ≤ limit_in (content_at os x)
-      go x is true e = rw (two_usage x is, e) (omega (arith, spare_body_at os b 2 x room e))
-      go x is false e = rw (two_usage x is, e) (omega (arith, h.frame.limits x is))
+      go x is m e = grind (arith, nat_tests, usage_new, tree_of, new_bank_kept, rooted_tree, rooted_bank, annex_inside, annex_unused, chain_new, spare_body_at)
 
   -- the one new process
   only_process : (q : ℕ) → IsTrue (is_free (content_at os q)) → IsTrue (is_process whole q) → q ≡ p
@@ -458,22 +417,10 @@ module _ (g : Geometry) (os : List Object) (b : ℕ) (args : Arguments) (h : IsN
     least_below n [] = omega arith
     least_below n (m ∷ ms) = omega (arith, least_below (min n m) ms)
 
-    limit_fits : (c : Content Capability) → HasShape c → limit_in c < 2 ^ 64
-    limit_fits (content.Bank limit) shape = shape
-    limit_fits c shape = omega arith
-
     -- what is left
     pub remaining_keeps : IsOutcome g (on_bank g os b bank.Remaining args)
     unfolding on_bank remaining
-    remaining_keeps =
-        let limit : limit_in (content_at os b) < 2 ^ 64 = limit_fits (content_at os b) (h.filled b).shape in
-        record {
-          now = h;
-          count = refl;
-          words = three_words (remaining os b) (usage os b) (limit_in (content_at os b))
-              (omega (arith, limit, least_below (left_of os b) (map (left_of os) (chain os b)))) (omega (arith, limit, h.frame.limits b is)) limit;
-          held = held_void os (Waits os);
-        }
+    remaining_keeps = grind (arith, nat_tests, three_words, least_below, held_void)
 
 -- every order of a bank keeps sound objects sound
 pub on_bank_keeps : (g : Geometry) (os : List Object) (b : ℕ) (requested : BankOrder) (args : Arguments) → IsNow g os → IsTrue (is_bank (content_at os b))

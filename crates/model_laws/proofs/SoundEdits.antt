@@ -1,24 +1,17 @@
-use Rattle.model_laws.proofs.Names.{inl, inr, ℕ, true, false, List, map, length, get_or, set, refl, sym, ap, subst, arith, IsTrue, slice_index, cases_eq}
-use Rattle.model_laws.proofs.Names.{cases_lt, eqb-false, get_or-set_same, get_or-set_other, set_past, length-set, length-map, get_or_past, Capability, Void}
-use Rattle.model_laws.proofs.Names.{Resume, Geometry, Content, Object, Root, State, free, is_root, is_annex, root_in, with_word_in, with_slot_in, map_content}
-use Rattle.model_laws.proofs.Names.{object_at, content_at, owner_at, root_at, annex_at, is_process, with_content, with_word, with_slot, with_root, with_state}
-use Rattle.model_laws.proofs.Names.{void_where, without, resumes, consume, IsSpace}
+use Rattle.model_laws.proofs.Names.{nat_tests, inl, inr, ℕ, List, map, length, get_or, set, refl, sym, ap, subst, arith, IsTrue, slice_index, cases_eq}
+use Rattle.model_laws.proofs.Names.{get_or-set_same, get_or-set_other, set_past, length-set, length-map, get_or_past, Capability, Void, Geometry, Content}
+use Rattle.model_laws.proofs.Names.{Object, Root, State, free, is_root, is_annex, root_in, with_word_in, with_slot_in, map_content, object_at, content_at}
+use Rattle.model_laws.proofs.Names.{owner_at, root_at, annex_at, is_process, with_content, with_word, with_slot, with_root, with_state, void_where, without}
+use Rattle.model_laws.proofs.Names.{resumes, consume, IsSpace}
 use Rattle.std.proofs.Common.{◌≡◌, ◌≢◌, ◌^◌, ◌==◌, ◌<◌, ◌∙◌}
 use Rattle.model.specs.declared.object.Content.TheVariants as content
-use Rattle.model_laws.proofs.Cases.{chosen}
 use Rattle.model_laws.proofs.Usage.{AreAlike, SameFrame, alike_refl, frame_trans}
 use Rattle.model_laws.proofs.Mapped.{alike_without, at_map, mapped}
 use Rattle.model_laws.proofs.SoundParts.{IsHeld, IsFilled, IsNearlySound, state_at, nearly_on, held_void}
 
 -- what holds of the new item at its place and of an old item at another holds after a set
 pub at_set : {X : Type 0} (P : ℕ → X → Type 0) (xs : List X) (n m : ℕ) (x d : X) → P n x → P m (get_or xs m d) → P m (get_or (set xs n x) m d)
-at_set P xs n m x d new old = elim (cases_eq m n) [
-  | inr differ ↦ rw (get_or-set_other xs n m x d differ) old
-  | inl e ↦ elim (cases_lt n (length xs)) [
-    | inl lt ↦ rw (e, get_or-set_same xs n x d lt) new
-    | inr past ↦ rw (set_past xs n x past) old
-  ]
-]
+at_set {X} P xs n m x d new old = grind (arith, nat_tests, get_or-set_other, get_or-set_same, set_past)
 
 -- another content that is alike
 
@@ -47,22 +40,16 @@ pub record IsEdited (g : Geometry) (W : ℕ → Type 0) (os us : List Object) : 
   pub states : (q : ℕ) → state_at us q ≡ state_at os q
 
 pub edited_trans : (g : Geometry) (W : ℕ → Type 0) (os us vs : List Object) → IsEdited g W os us → IsEdited g W us vs → IsEdited g W os vs
-edited_trans g W os us vs a b = record {
-  frame = frame_trans os us vs a.frame b.frame;
-  sound = b.sound;
-  states = λ q. b.states q ∙ a.states q;
-}
+edited_trans g W os us vs a b = search (arith, nat_tests, frame_trans)
 
 -- a slot
 
 pub alike_slot : (b i : ℕ) (k : Capability) (c : Content Capability) →
     AreAlike (record { owner = b; content = c }) (record { owner = b; content = with_slot_in c i k })
-alike_slot b i k (content.Node slots) = record { owner = refl; role = refl; annex = refl; limit = refl }
-alike_slot b i k c = record { owner = refl; role = refl; annex = refl; limit = refl }
+alike_slot b i k c = grind (arith, nat_tests)
 
 root_slot : (i : ℕ) (k : Capability) (c : Content Capability) → root_in (with_slot_in c i k) ≡ root_in c
-root_slot i k (content.Node slots) = refl
-root_slot i k c = refl
+root_slot i k c = grind (arith, nat_tests)
 
 filled_slot : (os : List Object) (W : ℕ → Type 0) (i : ℕ) (k : Capability) (c : Content Capability) → IsFilled os W c → IsHeld os W k
     → (IsTrue (is_annex c) → i ≢ 0) → IsFilled os W (with_slot_in c i k)
@@ -100,12 +87,10 @@ edited_slot g W os n i k h held differ =
 -- a word
 
 pub alike_word : (b i w : ℕ) (c : Content Capability) → AreAlike (record { owner = b; content = c }) (record { owner = b; content = with_word_in c i w })
-alike_word b i w (content.Page words) = record { owner = refl; role = refl; annex = refl; limit = refl }
-alike_word b i w c = record { owner = refl; role = refl; annex = refl; limit = refl }
+alike_word b i w c = grind (arith, nat_tests)
 
 root_word : (i w : ℕ) (c : Content Capability) → root_in (with_word_in c i w) ≡ root_in c
-root_word i w (content.Page words) = refl
-root_word i w c = refl
+root_word i w c = grind (arith, nat_tests)
 
 filled_word : (os : List Object) (W : ℕ → Type 0) (i w : ℕ) (c : Content Capability) → IsFilled os W c → w < 2 ^ 64 → IsFilled os W (with_word_in c i w)
 filled_word os W i w (content.Page words) h fits = record {
@@ -134,8 +119,7 @@ edited_word g W os n i w h fits =
 
 pub alike_root : (b : ℕ) (r : Root Capability) (c : Content Capability) → IsTrue (is_root c) → r.annex ≡ (root_in c).annex
     → AreAlike (record { owner = b; content = c }) (record { owner = b; content = content.Root r })
-alike_root b r (content.Root old) is e = record { owner = refl; role = refl; annex = e; limit = refl }
-alike_root b r c is e = cc
+alike_root b r c is e = grind (arith, nat_tests)
 
 -- a root that fits a process
 pub record IsRootOf (os : List Object) (W : ℕ → Type 0) (p : ℕ) (r : Root Capability) : Type 0 where
@@ -148,14 +132,7 @@ pub record IsRootOf (os : List Object) (W : ℕ → Type 0) (p : ℕ) (r : Root 
   pub is_space : IsSpace r.space
 
 filled_root : (os : List Object) (W : ℕ → Type 0) (p : ℕ) (r : Root Capability) → IsRootOf os W p r → IsFilled os W (content.Root r)
-filled_root os W p r h = record {
-  shape = (h.count, h.words, h.key);
-  words = λ i. omega arith;
-  slots = λ i. held_void os W;
-  register_0 = λ e. refl;
-  space = h.space;
-  is_space = h.is_space;
-}
+filled_root os W p r h = grind (arith, nat_tests)
 
 pub root_frame : (os : List Object) (p : ℕ) (r : Root Capability) → IsTrue (is_process os p) → r.annex ≡ annex_at os p → SameFrame os (with_root os p r)
 unfolding with_root
@@ -172,21 +149,13 @@ unfolding with_root
 nearly_root g W os p r h fits =
     nearly_content g W os p (content.Root r) h (alike_root (owner_at os p) r (content_at os p) fits.is_process fits.annex) (filled_root os W p r fits)
 
-pub in_range : (os : List Object) (p : ℕ) → IsTrue (is_process os p) → p < length os
-in_range os p is = elim (cases_lt p (length os)) [
-  | inl lt ↦ lt
-  | inr past ↦ let f : false ≡ true = sym (ap (λ (o : Object). is_root o.content) (get_or_past os p free past)) ∙ is in cc
-]
-
 pub root_same : (os : List Object) (p : ℕ) (r : Root Capability) → IsTrue (is_process os p) → root_at (with_root os p r) p ≡ r
 unfolding with_root with_content
-root_same os p r is =
-    ap (λ (o : Object). root_in o.content) (get_or-set_same os p (record { owner = owner_at os p; content = content.Root r }) free (in_range os p is))
+root_same os p r is = grind (arith, nat_tests, get_or-set_same, get_or_past)
 
 pub root_other : (os : List Object) (p q : ℕ) (r : Root Capability) → q ≢ p → root_at (with_root os p r) q ≡ root_at os q
 unfolding with_root with_content
-root_other os p q r differ =
-    ap (λ (o : Object). root_in o.content) (get_or-set_other os p q (record { owner = owner_at os p; content = content.Root r }) free differ)
+root_other os p q r differ = grind (arith, nat_tests, get_or-set_other)
 
 -- a root of the same state
 pub edited_root : (g : Geometry) (W : ℕ → Type 0) (os : List Object) (p : ℕ) (r : Root Capability) → IsNearlySound g W os → IsRootOf os W p r
@@ -209,38 +178,7 @@ module _ (os us : List Object) (W V : ℕ → Type 0) (f : Capability → Capabi
   slots_map slots i h = rw (at_map f slots i Void void) (held (get_or slots i Void) h)
 
   pub filled_map : (c : Content Capability) → IsFilled os W c → IsFilled us V (map_content f c)
-  filled_map (content.Node s) h = record {
-    shape = length-map s f ∙ h.shape;
-    words = h.words;
-    slots = λ i. slots_map s i (h.slots i);
-    register_0 = λ e. cc;
-    space = held_void us V;
-    is_space = tt;
-  }
-  filled_map (content.Annex s) h = record {
-    shape = length-map s f ∙ h.shape;
-    words = h.words;
-    slots = λ i. slots_map s i (h.slots i);
-    register_0 = λ e. at_map f s 0 Void void ∙ (ap f (h.register_0 refl) ∙ void);
-    space = held_void us V;
-    is_space = tt;
-  }
-  filled_map (content.Root r) h = record {
-    shape = h.shape;
-    words = h.words;
-    slots = λ i. held_void us V;
-    register_0 = λ e. refl;
-    space = held r.space h.space;
-    is_space = space r.space h.is_space;
-  }
-  filled_map c h = record {
-    shape = h.shape;
-    words = h.words;
-    slots = λ i. held_void us V;
-    register_0 = λ e. refl;
-    space = held_void us V;
-    is_space = tt;
-  }
+  filled_map c h = grind (arith, nat_tests, length-map, slots_map, held_void, at_map)
 
 -- a consumed resume capability
 
@@ -259,13 +197,10 @@ abbrev pub But : (ℕ → Type 0) → ℕ → ℕ → Type 0
 But W p q = W q × (q ≢ p)
 
 held_consume : (os : List Object) (W : ℕ → Type 0) (p : ℕ) (c : Capability) → IsHeld os W c → IsHeld os (But W p) (void_where (resumes p) c)
-held_consume os W p (Resume q) h = chosen (IsHeld os (But W p)) (q == p) Void (Resume q) (λ _. held_void os (But W p))
-    (λ e. record { well_formed = h.well_formed; names = (h.names.0, (h.names.1, eqb-false q p e)) })
-held_consume os W p c h = record { well_formed = h.well_formed; names = h.names }
+held_consume os W p c h = grind (arith, nat_tests)
 
 space_consume : (p : ℕ) (c : Capability) → IsSpace c → IsSpace (void_where (resumes p) c)
-space_consume p (Resume q) h = absurd h
-space_consume p c h = h
+space_consume p c h = grind (arith, nat_tests)
 
 filled_consume : (os : List Object) (W : ℕ → Type 0) (p : ℕ) (c : Content Capability) → IsFilled os W c →
     IsFilled os (But W p) (map_content (void_where (resumes p)) c)

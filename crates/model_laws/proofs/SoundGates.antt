@@ -1,36 +1,24 @@
-use Rattle.model_laws.proofs.Names.{inl, inr, ℕ, zero, suc, true, false, Some, List, [], map, length, get_or, refl, sym, ap, subst, arith, IsTrue, slice_index}
-use Rattle.model_laws.proofs.Names.{slice_index_or, slice_set, cases_eq, cases_lt, eqb-true, and_parts, or_cases, get_or_past, Capability, Void, Resume}
-use Rattle.model_laws.proofs.Names.{Invocation, Operation, Call, Return, Send, Geometry, Object, Root, State, Available, Running, Waiting, ResultCode}
-use Rattle.model_laws.proofs.Names.{is_available, is_running, is_waiting, root_at, annex_at, register_at, is_process, is_running_process, with_slot, with_root}
-use Rattle.model_laws.proofs.Names.{with_state, with_slots_from, consume, OrderOutcome, code_number, Message, Effect, deliver, sent_by, is_return, sent_to_gate}
-use Rattle.model_laws.proofs.Names.{after_gate, after_order, through_gate, reply_of, replied, ordered, on_kernel_object, can_start, invoke, Fits}
-use Rattle.model_laws.proofs.Names.{InvocationKeepsSound}
+use Rattle.model_laws.proofs.Names.{nat_tests, ℕ, zero, suc, true, Some, List, [], map, length, get_or, refl, ap, subst, arith, IsTrue, slice_index}
+use Rattle.model_laws.proofs.Names.{slice_index_or, slice_set, and_parts, get_or_past, Capability, Void, Resume, Invocation, Operation, Call, Return, Send}
+use Rattle.model_laws.proofs.Names.{Geometry, Object, Root, State, Available, Running, Waiting, is_available, is_running, is_waiting, root_at, annex_at}
+use Rattle.model_laws.proofs.Names.{register_at, is_process, is_running_process, with_slot, with_root, with_state, with_slots_from, consume, OrderOutcome}
+use Rattle.model_laws.proofs.Names.{Message, Effect, deliver, sent_by, is_return, sent_to_gate, after_gate, after_order, through_gate, reply_of, replied}
+use Rattle.model_laws.proofs.Names.{ordered, on_kernel_object, can_start, invoke, Fits, InvocationKeepsSound}
 use Rattle.std.proofs.Common.{◌≡◌, ◌≢◌, ◌+◌, ◌^◌, ◌==◌, ◌<◌, ◌≤◌, ◌&&◌, ◌||◌, ◌∷◌, ◌∙◌}
 use Rattle.std.specs.List.{All}
 use Rattle.model.specs.declared.command.Command.TheVariants as command
-use Rattle.model.specs.declared.order.ResultCode.TheVariants as code
 use Rattle.model_laws.proofs.Cases.{after_gate_by, after_order_by, invoked_by, replied_by}
 use Rattle.model_laws.proofs.Usage.{SameFrame, frame_refl, tests_at}
 use Rattle.model_laws.proofs.SoundParts.{IsHeld, IsNearlySound, Waits, state_at, held_on, held_void, nearly_weaken, nearly_from, nearly_to}
 use Rattle.model_laws.proofs.SoundEdits.{IsEdited, IsRootOf, But, at_set, edited_slot, edited_trans, nearly_root, nearly_consume, root_frame, root_same}
 use Rattle.model_laws.proofs.SoundEdits.{root_other, state_consume, state_frame}
-use Rattle.model_laws.proofs.SoundWorlds.{holds_replicate}
 use Rattle.model_laws.proofs.SoundObjects.{order_keeps}
 use Rattle.model_laws.proofs.SoundOrders.{IsNow, IsOutcome, root_now, nearly_state, state_other}
 
 -- states
 
 running_is_not_waiting : (s : State) → is_running s ≡ true → is_waiting s ≡ true → ⊥
-running_is_not_waiting Running p q = cc
-running_is_not_waiting s p q = cc
-
-available_is_not_waiting : (s : State) → is_available s ≡ true → is_waiting s ≡ true → ⊥
-available_is_not_waiting Available p q = cc
-available_is_not_waiting s p q = cc
-
-running_is_not_available : (s : State) → is_running s ≡ true → is_available s ≡ true → ⊥
-running_is_not_available Running p q = cc
-running_is_not_available s p q = cc
+running_is_not_waiting s p q = grind (arith, nat_tests)
 
 -- one that waits is not one that runs
 other_than_running : (os : List Object) (p x : ℕ) → IsTrue (is_running (state_at os p)) → Waits os x → x ≢ p
@@ -101,8 +89,7 @@ deliver_keeps g W os p m h is fits =
     let old = root_at os p in
     let r = root_now g W os p h is in
     let new : Root Capability = record { state = Running; words = m.words; key = m.key; annex = old.annex; space = old.space } in
-    let root : IsRootOf os W p new =
-    record { is_process = is; annex = refl; count = fits.count; words = fits.words; key = fits.key; space = r.space; is_space = r.is_space } in
+    let root : IsRootOf os W p new = grind (arith, nat_tests) in
     let us = with_root os p new in
     let frame = root_frame os p new is refl in
     let e = slots_from g W us old.annex 28 m.capabilities (nearly_root g W os p new h root) (omega arith)
@@ -127,10 +114,7 @@ resumed_now g os p us s =
 
 -- each of words that fit is below 2^64
 pub all_words : (xs : List ℕ) → All (λ w. w < 2 ^ 64) xs → (i : ℕ) → slice_index xs i < 2 ^ 64
-all_words xs all i = elim (cases_lt i (length xs)) [
-  | inl lt ↦ all i 0 lt
-  | inr past ↦ rw (get_or_past xs i 0 past) (omega arith)
-]
+all_words xs all i = grind (arith, nat_tests, get_or_past)
 
 held_map : (os : List Object) (W : ℕ → Type 0) (f : ℕ → Capability) (rs : List ℕ) (j : ℕ) → ((r : ℕ) → IsHeld os W (f r)) →
     IsHeld os W (get_or (map f rs) j Void)
@@ -183,36 +167,10 @@ gate_keeps g os i q key h fits runs is small =
     deliver_keeps g (Waits (after_gate os i)) (after_gate os i) q (record { words = i.words; key = key; capabilities = sent_to_gate os i }) a.now
     ((tests_at os (after_gate os i) a.frame q).root ∙ is) (gate_message g os i key h fits runs small)
 
--- an available process doesn't wait when another one goes into some state
-available_idle : (os : List Object) (p q : ℕ) (s : State) → IsTrue (is_running (state_at os p)) → is_available (state_at os q) ≡ true →
-    Waits (with_state os p s) q → ⊥
-available_idle os p q s runs free waits = elim (cases_eq q p) [
-  | inl same ↦ running_is_not_available (state_at os p) runs (subst (λ k. is_available (state_at os k) ≡ true) same free)
-  | inr differ ↦ available_is_not_waiting (state_at os q) free (sym (ap is_waiting (state_other os p q s differ)) ∙ waits)
-]
-
 -- a process that can be started doesn't wait
 startable_idle : (os : List Object) (p q : ℕ) (o : Operation) → IsTrue (is_running_process os p)
     → (is_available (state_at os q) || (is_return o && (p == q))) ≡ true → Waits (gate_state os p o) q → ⊥
-startable_idle os p q Call runs can waits =
-    elim (or_cases (is_available (state_at os q)) false can) [
-      | inl free ↦ available_idle os p q Waiting (and_parts (is_process os p) (is_running (state_at os p)) runs).1 free waits
-      | inr never ↦ cc
-    ]
-startable_idle os p q Send runs can waits =
-    elim (or_cases (is_available (state_at os q)) false can) [
-      | inl free ↦ available_is_not_waiting (state_at os q) free waits
-      | inr never ↦ cc
-    ]
-startable_idle os p q Return runs can waits =
-    let parts = and_parts (is_process os p) (is_running (state_at os p)) runs in
-    elim (or_cases (is_available (state_at os q)) (p == q) can) [
-      | inl free ↦ available_idle os p q Available parts.1 free waits
-      | inr same ↦
-          let stands : false ≡ true = sym (ap is_waiting (state_same os p Available parts.0)) ∙
-          subst (λ k. Waits (with_state os p Available) k) (sym (eqb-true p q same)) waits in
-          cc
-    ]
+startable_idle os p q o runs can waits = grind (arith, nat_tests, state_other, state_same)
 
 start_keeps : (g : Geometry) (os : List Object) (i : Invocation) (q key : ℕ) → IsNow g os → Fits (command.Invoke i) → IsTrue (is_running_process os i.process)
     → IsTrue (is_process os q) → key < 2 ^ 16 → can_start os i q ≡ true → IsNow g (through_gate os i q key).objects
@@ -227,17 +185,8 @@ resume_keeps g os i q h fits runs is =
 
 -- kernel objects
 
-code_fits : (c : ResultCode) → code_number c < 2 ^ 64
-code_fits code.Done = omega arith
-code_fits c = omega arith
-
 reply_message : (g : Geometry) (o : OrderOutcome) → IsOutcome g o → IsMessage o.objects (Waits o.objects) (reply_of o)
-reply_message g o h = let none = held_void o.objects (Waits o.objects) in record {
-  count = ap suc h.count;
-  words = elim [ zero ↦ code_fits o.code | suc i ↦ h.words i ];
-  key = omega arith;
-  held = elim [ zero ↦ h.held | suc j ↦ holds_replicate (IsHeld o.objects (Waits o.objects)) 3 Void Void none none j ];
-}
+reply_message g o h = grind (arith, nat_tests)
 
 replied_keeps : (g : Geometry) (i : Invocation) (o : OrderOutcome) → IsOutcome g o → IsNow g (replied o.objects i o)
 replied_keeps g i o h = replied_by (IsNow g) o.objects i o h.now (λ runs.

@@ -1,11 +1,9 @@
-use Rattle.model_laws.proofs.Names.{inl, inr, ℕ, zero, suc, true, false, not, List, [], length, refl, ap, arith, IsTrue, nat_lt, slice_index, bit_or, eqb-true}
-use Rattle.model_laws.proofs.Names.{eqb-false, ltb-true, or_parts, or_cases, not-false, length-set, Access, Capability, Void, Number, Page, Node, Space, Start}
-use Rattle.model_laws.proofs.Names.{Geometry, Content, Object, Root, State, Available, Running, ResultCode, PageOrder, NodeOrder, ProcessOrder, IsAccess, union}
-use Rattle.model_laws.proofs.Names.{diminished, weak, is_root, is_node, is_annex, is_waiting, root_in, state_number, content_at, word_at, slot_at, root_at}
+use Rattle.model_laws.proofs.Names.{nat_tests, ℕ, true, not, List, [], length, refl, ap, arith, IsTrue, nat_lt, slice_index, eqb-false, or_parts, length-set}
+use Rattle.model_laws.proofs.Names.{Access, Capability, Number, Page, Node, Geometry, Content, Object, Root, State, Available, Running, ResultCode, PageOrder}
+use Rattle.model_laws.proofs.Names.{NodeOrder, ProcessOrder, diminished, is_root, is_node, is_annex, is_waiting, root_in, content_at, slot_at, root_at}
 use Rattle.model_laws.proofs.Names.{annex_at, register_at, is_process, with_state, consume, HasShape, IsSpace, Arguments, OrderOutcome, refused, replying}
-use Rattle.model_laws.proofs.Names.{given, wrote, reduces, fetched, stored, is_space, with_root_word, with_space, on_page, on_node, on_process}
+use Rattle.model_laws.proofs.Names.{given, wrote, fetched, stored, is_space, with_root_word, with_space, on_page, on_node, on_process}
 use Rattle.std.proofs.Common.{◌≡◌, ◌≢◌, ◌⊎◌, ◌^◌, ◌==◌, ◌<◌, ◌≤◌, ◌||◌, ◌∷◌, ◌∙◌}
-use Rattle.model.specs.declared.object.Content.TheVariants as content
 use Rattle.model.specs.declared.order.PageOrder.TheVariants as page
 use Rattle.model.specs.declared.order.NodeOrder.TheVariants as node
 use Rattle.model.specs.declared.order.ProcessOrder.TheVariants as process
@@ -32,10 +30,7 @@ pub record AreArguments (os : List Object) (args : Arguments) : Type 0 where
   pub held : IsHeld os (Waits os) args.capability
 
 pub three_words : (a b c : ℕ) → a < 2 ^ 64 → b < 2 ^ 64 → c < 2 ^ 64 → (i : ℕ) → slice_index (a ∷ b ∷ c ∷ []) i < 2 ^ 64
-three_words a b c p q r zero = p
-three_words a b c p q r (suc zero) = q
-three_words a b c p q r (suc (suc zero)) = r
-three_words a b c p q r (suc (suc (suc i))) = omega arith
+three_words a b c p q r i = grind (arith, nat_tests)
 
 pub refused_keeps : (g : Geometry) (os : List Object) (why : ResultCode) → IsNow g os → IsOutcome g (refused os why)
 refused_keeps g os why h = record { now = h; count = refl; words = three_words 0 0 0 (omega arith) (omega arith) (omega arith); held = held_void os (Waits os) }
@@ -54,32 +49,8 @@ edited_now g os us e = nearly_weaken g (Waits os) (Waits us) us (λ p w. ap is_w
 
 -- accesses
 
-one_of_two : (w : ℕ) → reduces w ≡ true → (w ≡ 1) ⊎ (w ≡ 3)
-one_of_two w e = elim (or_cases (w == 1) (w == 3) e) [ inl f ↦ inl (eqb-true w 1 f) | inr f ↦ inr (eqb-true w 3 f) ]
-
-pub access_union : (a : Access) (w : ℕ) → IsAccess a → reduces w ≡ true → IsAccess (union a w)
-access_union a w is e = go a.0 w is (one_of_two w e)
-  where
-    go : (x y : ℕ) → (x ≡ 0) ⊎ (x ≡ 1) ⊎ (x ≡ 3) → (y ≡ 1) ⊎ (y ≡ 3) → (bit_or x y ≡ 0) ⊎ (bit_or x y ≡ 1) ⊎ (bit_or x y ≡ 3)
-    go x y (inl p) (inl q) = rw (p, q) (inr (inl refl))
-    go x y (inl p) (inr q) = rw (p, q) (inr (inr refl))
-    go x y (inr (inl p)) (inl q) = rw (p, q) (inr (inl refl))
-    go x y (inr (inl p)) (inr q) = rw (p, q) (inr (inr refl))
-    go x y (inr (inr p)) (inl q) = rw (p, q) (inr (inr refl))
-    go x y (inr (inr p)) (inr q) = rw (p, q) (inr (inr refl))
-
-pub access_fits : (a : Access) → IsAccess a → a.0 < 2 ^ 64
-access_fits a is = grind arith
-
-weak_is_access : IsAccess weak
-weak_is_access = inr (inr refl)
-
 held_diminished : (os : List Object) (W : ℕ → Type 0) (c : Capability) → IsHeld os W c → IsHeld os W (diminished c)
-held_diminished os W (Number n) h = h
-held_diminished os W (Page o a) h = record { well_formed = weak_is_access; names = h.names }
-held_diminished os W (Node o a) h = record { well_formed = weak_is_access; names = h.names }
-held_diminished os W (Space o k a) h = record { well_formed = (h.well_formed.0, h.well_formed.1, weak_is_access); names = h.names }
-held_diminished os W c h = held_void os W
+held_diminished os W c h = grind (arith, nat_tests)
 
 held_fetched : (os : List Object) (W : ℕ → Type 0) (a : Access) (c : Capability) → IsHeld os W c → IsHeld os W (fetched a c)
 held_fetched os W a c h = one_of (IsHeld os W) (a.0 == 3) (diminished c) c (held_diminished os W c h) h
@@ -89,24 +60,17 @@ held_fetched os W a c h = one_of (IsHeld os W) (a.0 == 3) (diminished c) c (held
 pub on_page_keeps : (g : Geometry) (os : List Object) (o : ℕ) (a : Access) (requested : PageOrder) (args : Arguments) → IsNow g os
     → IsHeld os (Waits os) (Page o a) → AreArguments os args → IsOutcome g (on_page os o a requested args)
 unfolding on_page
-on_page_keeps g os o a page.Read args h held fits =
-    chosen (IsOutcome g) (nat_lt args.first 512) _ _ (λ _. replying_keeps g os (word_at os o args.first) 0 h ((h.filled o).words args.first) (omega arith))
-    (λ _. refused_keeps g os _ h)
 on_page_keeps g os o a page.Write args h held fits =
     chosen (IsOutcome g) (not (a.0 == 0)) _ _ (λ _. refused_keeps g os _ h) (λ _.
     chosen (IsOutcome g) (nat_lt args.first 512) _ _
     (λ _. wrote_keeps g _ o (edited_now g os _ (edited_word g (Waits os) os o args.first args.second h fits.second)))
     (λ _. refused_keeps g os _ h))
-on_page_keeps g os o a page.Reduce args h held fits =
-    chosen (IsOutcome g) (reduces args.first) _ _
-    (λ e. given_keeps g os (Page o (union a args.first)) h (record { well_formed = access_union a args.first held.well_formed e; names = held.names }))
-    (λ _. refused_keeps g os _ h)
+on_page_keeps g os o a which args h held fits = grind (arith, nat_tests, chosen, replying_keeps, refused_keeps, given_keeps)
 
 -- nodes
 
 node_is_no_annex : (c : Content Capability) → IsTrue (is_node c) → IsTrue (is_annex c) → ⊥
-node_is_no_annex (content.Node s) p q = cc
-node_is_no_annex c p q = cc
+node_is_no_annex c p q = grind (arith, nat_tests)
 
 stored_keeps : (g : Geometry) (os : List Object) (o : ℕ) (a : Access) (slot : ℕ) (c : Capability) → IsNow g os
     → IsTrue (is_node (content_at os o)) → IsHeld os (Waits os) c → IsOutcome g (stored os o a slot c)
@@ -116,13 +80,6 @@ stored_keeps g os o a slot c h is held =
     (λ _. wrote_keeps g _ o (edited_now g os _ (edited_slot g (Waits os) os o slot c h held (λ annex. absurd (node_is_no_annex (content_at os o) is annex)))))
     (λ _. refused_keeps g os _ h))
 
-height_fits : (k : ℕ) → ((k == 0) || not (nat_lt k 5)) ≡ false → (1 ≤ k) × (k ≤ 4)
-height_fits k e =
-    let parts = or_parts (k == 0) (not (nat_lt k 5)) e in
-    let positive = eqb-false k 0 parts.0 in
-    let below = ltb-true k 5 (not-false (nat_lt k 5) parts.1) in
-    (grind arith, omega arith)
-
 pub on_node_keeps : (g : Geometry) (os : List Object) (o : ℕ) (a : Access) (requested : NodeOrder) (args : Arguments) → IsNow g os
     → IsHeld os (Waits os) (Node o a) → AreArguments os args → IsOutcome g (on_node os o a requested args)
 unfolding on_node
@@ -131,25 +88,15 @@ on_node_keeps g os o a node.Fetch args h held fits =
     (λ _. given_keeps g os _ h (held_fetched os (Waits os) a (slot_at os o args.first) ((h.filled o).slots args.first)))
     (λ _. refused_keeps g os _ h)
 on_node_keeps g os o a node.Store args h held fits = stored_keeps g os o a args.first args.capability h held.names fits.held
-on_node_keeps g os o a node.Reduce args h held fits =
-    chosen (IsOutcome g) (reduces args.first) _ _
-    (λ e. given_keeps g os (Node o (union a args.first)) h (record { well_formed = access_union a args.first held.well_formed e; names = held.names }))
-    (λ _. refused_keeps g os _ h)
-on_node_keeps g os o a node.MakeSpace args h held fits =
-    chosen (IsOutcome g) ((args.first == 0) || not (nat_lt args.first 5)) _ _ (λ _. refused_keeps g os _ h)
-    (λ e. given_keeps g os (Space o args.first a) h (record {
-      well_formed = ((height_fits args.first e).0, (height_fits args.first e).1, held.well_formed);
-      names = held.names;
-    }))
 on_node_keeps g os o a node.PutNumber args h held fits =
     stored_keeps g os o a args.first (Number args.second) h held.names (record { well_formed = fits.second; names = tt })
+on_node_keeps g os o a which args h held fits = grind (arith, nat_tests, chosen, given_keeps, refused_keeps)
 
 -- processes
 
 root_shape : (c : Content Capability) → IsTrue (is_root c) → HasShape c
     → (length (root_in c).words ≡ 4) × ((i : ℕ) → slice_index (root_in c).words i < 2 ^ 64) × ((root_in c).key < 2 ^ 16)
-root_shape (content.Root r) is h = h
-root_shape c is h = cc
+root_shape c is h = grind (arith, nat_tests)
 
 -- the root of a process fits it
 pub root_now : (g : Geometry) (W : ℕ → Type 0) (os : List Object) (p : ℕ) → IsNearlySound g W os → IsTrue (is_process os p) → IsRootOf os W p (root_at os p)
@@ -176,15 +123,8 @@ consumed_now g os p s h is =
     (λ q w. ap is_waiting (state_consume p (with_state os p s) q ∙ state_other os p q s w.1) ∙ w.0)
     (nearly_consume g (Waits os) p (with_state os p s) (nearly_state g (Waits os) os p s h is))
 
-state_fits : (s : State) → state_number s < 2 ^ 64
-state_fits Available = omega arith
-state_fits s = omega arith
-
 space_fits : (c : Capability) → is_space c ≡ true → IsSpace c
-space_fits Void e = tt
-space_fits (Page o a) e = tt
-space_fits (Space o k a) e = tt
-space_fits c e = cc
+space_fits c e = grind (arith, nat_tests)
 
 pub on_process_keeps : (g : Geometry) (os : List Object) (p : ℕ) (requested : ProcessOrder) (args : Arguments) → IsNow g os
     → IsTrue (is_process os p) → AreArguments os args → IsOutcome g (on_process os p requested args)
@@ -197,10 +137,6 @@ on_process_keeps g os p process.PutRegister args h is fits =
     (λ e. wrote_keeps g _ (annex_at os p) (edited_now g os _
     (edited_slot g (Waits os) os (annex_at os p) args.first args.capability h fits.held
     (λ _. eqb-false args.first 0 (or_parts (args.first == 0) (not (nat_lt args.first 32)) e).0))))
-on_process_keeps g os p process.GetWord args h is fits =
-    chosen (IsOutcome g) (nat_lt args.first 4) _ _
-    (λ _. replying_keeps g os (slice_index (root_at os p).words args.first) 0 h ((root_now g (Waits os) os p h is).words args.first) (omega arith))
-    (λ _. refused_keeps g os _ h)
 on_process_keeps g os p process.PutWord args h is fits =
     let r = root_now g (Waits os) os p h is in
     chosen (IsOutcome g) (nat_lt args.first 4) _ _
@@ -215,13 +151,6 @@ on_process_keeps g os p process.PutWord args h is fits =
       is_space = r.is_space;
     }) refl)))
     (λ _. refused_keeps g os _ h)
-on_process_keeps g os p process.MakeStart args h is fits =
-    chosen (IsOutcome g) (nat_lt args.first 65536) _ _
-    (λ e. given_keeps g os (Start p args.first) h (record { well_formed = ltb-true args.first 65536 e; names = is }))
-    (λ _. refused_keeps g os _ h)
-on_process_keeps g os p process.GetState args h is fits =
-    let r = root_now g (Waits os) os p h is in
-    replying_keeps g os (state_number (root_at os p).state) (root_at os p).key h (state_fits (root_at os p).state) (omega (arith, r.key))
 on_process_keeps g os p process.SetState args h is fits =
     chosen (IsOutcome g) (args.first == 0) _ _ (λ _. wrote_keeps g _ p (consumed_now g os p Available h is)) (λ _.
     chosen (IsOutcome g) (args.first == 1) _ _ (λ _. wrote_keeps g _ p (consumed_now g os p Running h is)) (λ _. refused_keeps g os _ h))
@@ -240,3 +169,4 @@ on_process_keeps g os p process.SetSpace args h is fits =
       is_space = space_fits args.capability e;
     }) refl)))
     (λ _. refused_keeps g os _ h)
+on_process_keeps g os p which args h is fits = grind (arith, nat_tests, chosen, replying_keeps, root_now, refused_keeps, given_keeps)

@@ -1,9 +1,9 @@
-use Rattle.model_laws.proofs.Names.{ℕ, true, Some, List, length, refl, sym, IsTrue, slice_index, slice_index_or, Contains, Capability, Void, Page, Node, Space}
-use Rattle.model_laws.proofs.Names.{Process, Start, Resume, Bank, Geometry, Content, Object, State, IsWellFormed, named, is_free, is_annex, is_bank, is_waiting}
-use Rattle.model_laws.proofs.Names.{role_of, words_in, slots_in, limit_in, root_in, World, content_at, owner_at, root_at, annex_at, is_process, chain, usage}
-use Rattle.model_laws.proofs.Names.{IsOfKind, HasShape, IsSpace, NamesItsKind, MayBeHeld, IsSound, object_count}
+use Rattle.model_laws.proofs.Names.{arith, nat_tests, ℕ, true, Some, List, length, sym, IsTrue, slice_index, slice_index_or, Contains, Capability, Void, Resume}
+use Rattle.model_laws.proofs.Names.{Geometry, Content, Object, State, IsWellFormed, named, is_free, is_annex, is_bank, is_waiting, role_of, words_in, slots_in}
+use Rattle.model_laws.proofs.Names.{limit_in, root_in, World, content_at, owner_at, root_at, annex_at, is_process, chain, usage, IsOfKind, HasShape, IsSpace}
+use Rattle.model_laws.proofs.Names.{NamesItsKind, MayBeHeld, IsSound, object_count}
 use Rattle.std.proofs.Common.{◌≡◌, ◌≢◌, ◌^◌, ◌<◌, ◌≤◌, ◌∙◌}
-use Rattle.model_laws.proofs.Usage.{SameFrame, same_tests, tests_at, frame_refl, chain_same, usage_same}
+use Rattle.model_laws.proofs.Usage.{SameFrame, tests_at, frame_refl, chain_same, usage_same}
 
 -- what a process does
 abbrev pub state_at : List Object → ℕ → State
@@ -51,34 +51,16 @@ pub record IsNearlySound (g : Geometry) (W : ℕ → Type 0) (os : List Object) 
   pub filled : (n : ℕ) → IsFilled os W (content_at os n)
 
 pub held_from : (os : List Object) (c : Capability) → MayBeHeld os c → IsHeld os (Waits os) c
-held_from os (Resume p) h = record { well_formed = h.0; names = h.1 }
-held_from os c h = record { well_formed = h.0; names = h.1 }
+held_from os c h = grind (arith, nat_tests)
 
 pub held_to : (os : List Object) (c : Capability) → IsHeld os (Waits os) c → MayBeHeld os c
-held_to os (Resume p) h = (h.well_formed, h.names)
-held_to os c h = (h.well_formed, h.names)
+held_to os c h = grind (arith, nat_tests)
 
 -- a capability may be held where what it names is of the same role, and may be resumed if it could
 pub held_alike : (os us : List Object) (W V : ℕ → Type 0) (c : Capability) →
     ((n : ℕ) → named c ≡ Some n → role_of (content_at us n) ≡ role_of (content_at os n))
     → ((p : ℕ) → named c ≡ Some p → W p → V p) → IsHeld os W c → IsHeld us V c
-held_alike os us W V (Page o a) s f h =
-    record { well_formed = h.well_formed; names = rw (same_tests (content_at os o) (content_at us o) (s o refl)).page h.names }
-held_alike os us W V (Node o a) s f h =
-    record { well_formed = h.well_formed; names = rw (same_tests (content_at os o) (content_at us o) (s o refl)).node h.names }
-held_alike os us W V (Space o k a) s f h =
-    record { well_formed = h.well_formed; names = rw (same_tests (content_at os o) (content_at us o) (s o refl)).node h.names }
-held_alike os us W V (Process p) s f h =
-    record { well_formed = h.well_formed; names = rw (same_tests (content_at os p) (content_at us p) (s p refl)).root h.names }
-held_alike os us W V (Start p key) s f h =
-    record { well_formed = h.well_formed; names = rw (same_tests (content_at os p) (content_at us p) (s p refl)).root h.names }
-held_alike os us W V (Resume p) s f h = record {
-  well_formed = h.well_formed;
-  names = (rw (same_tests (content_at os p) (content_at us p) (s p refl)).root h.names.0, f p refl h.names.1);
-}
-held_alike os us W V (Bank b) s f h =
-    record { well_formed = h.well_formed; names = rw (same_tests (content_at os b) (content_at us b) (s b refl)).bank h.names }
-held_alike os us W V c s f h = record { well_formed = h.well_formed; names = h.names }
+held_alike os us W V c s f h = grind (arith, nat_tests)
 
 pub held_on : (os us : List Object) (W V : ℕ → Type 0) (c : Capability) → SameFrame os us → ((p : ℕ) → W p → V p) → IsHeld os W c → IsHeld us V c
 held_on os us W V c s f = held_alike os us W V c (λ n is. (s.alike n).role) (λ p is. f p)
@@ -87,14 +69,7 @@ pub held_void : (os : List Object) (W : ℕ → Type 0) → IsHeld os W Void
 held_void os W = record { well_formed = tt; names = tt }
 
 pub filled_on : (os us : List Object) (W V : ℕ → Type 0) (c : Content Capability) → SameFrame os us → ((p : ℕ) → W p → V p) → IsFilled os W c → IsFilled us V c
-filled_on os us W V c s f h = record {
-  shape = h.shape;
-  words = h.words;
-  slots = λ i. held_on os us W V (slice_index_or (slots_in c) i Void) s f (h.slots i);
-  register_0 = h.register_0;
-  space = held_on os us W V (root_in c).space s f h.space;
-  is_space = h.is_space;
-}
+filled_on os us W V c s f h = grind (arith, nat_tests)
 
 pub framed_on : (g : Geometry) (os us : List Object) → SameFrame os us → IsFramed g os → IsFramed g us
 framed_on g os us s h =
@@ -107,9 +82,7 @@ framed_on g os us s h =
           rw (s.alike p).annex ((t (annex_at os p)).annex ∙ known.0, (s.alike (annex_at os p)).owner ∙ (known.1 ∙ sym (s.alike p).owner));
       one_root = λ p q is iq same.
           h.one_root p q (sym (t p).root ∙ is) (sym (t q).root ∙ iq) (sym (s.alike p).annex ∙ (same ∙ (s.alike q).annex));
-      some_root = λ a is.
-          let found = h.some_root a (sym (t a).annex ∙ is) in
-          (found.0, (t found.0).root ∙ found.1, (s.alike found.0).annex ∙ found.2);
+      some_root = grind (arith, nat_tests);
       unowned = λ n is. (s.alike n).owner ∙ h.unowned n (sym (t n).free ∙ is);
       owners = λ n is. rw (s.alike n).owner ((t (owner_at os n)).bank ∙ h.owners n (λ e. is ((t n).free ∙ e)));
       prime = ((t 0).bank ∙ h.prime.0, (s.alike 0).owner ∙ h.prime.1);
@@ -134,18 +107,7 @@ nearly_weaken g W V os f h = record {
 -- sound is nearly sound where those that wait may be resumed
 pub nearly_from : (g : Geometry) (w : World) → IsSound g w → IsNearlySound g (Waits w.objects) w.objects
 nearly_from g w h = record {
-  frame = record {
-    size = h.size;
-    kinds = h.kinds;
-    annexes = h.annexes;
-    one_root = h.one_root;
-    some_root = h.some_root;
-    unowned = h.unowned;
-    owners = h.owners;
-    prime = h.prime;
-    chains = h.chains;
-    limits = h.limits;
-  };
+  frame = grind (arith, nat_tests);
   filled = λ n. record {
     shape = h.shapes n;
     words = h.words n;

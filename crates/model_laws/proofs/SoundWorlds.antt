@@ -1,9 +1,9 @@
 -- The worlds that scripts begin with are sound: each object is in its place.
-use Rattle.model_laws.proofs.Names.{ℕ, false, zero, suc, true, List, [], length, replicate, refl, sym, subst, inl, inr, arith, false≢true, IsTrue, slice_index}
-use Rattle.model_laws.proofs.Names.{slice_index_or, slice_set, Contains, Capability, Void, Page, Node, Process, Start, Bank, Geometry, Content, Object, State}
-use Rattle.model_laws.proofs.Names.{Available, Running, full, free, all_slots, zero_words, is_free, is_root, is_annex, is_bank, words_in, slots_in, limit_in}
-use Rattle.model_laws.proofs.Names.{root_in, World, object_at, content_at, owner_at, slot_at, annex_at, is_process, chain, usage, IsOfKind, HasShape, IsSpace}
-use Rattle.model_laws.proofs.Names.{MayBeHeld, IsSound, object_count, small, of_prime_bank, fresh_root, prime_bank, f0, i0}
+use Rattle.model_laws.proofs.Names.{nat_tests, ℕ, false, zero, suc, true, List, [], length, replicate, refl, sym, subst, inl, inr, arith, false≢true, IsTrue}
+use Rattle.model_laws.proofs.Names.{slice_index, slice_index_or, slice_set, Contains, Capability, Void, Page, Node, Process, Start, Bank, Geometry, Content}
+use Rattle.model_laws.proofs.Names.{Object, State, Available, Running, full, free, all_slots, zero_words, is_free, is_root, is_annex, is_bank, words_in}
+use Rattle.model_laws.proofs.Names.{slots_in, limit_in, root_in, World, object_at, content_at, owner_at, slot_at, annex_at, is_process, chain, usage, IsOfKind}
+use Rattle.model_laws.proofs.Names.{HasShape, IsSpace, MayBeHeld, IsSound, object_count, small, of_prime_bank, fresh_root, prime_bank, f0, i0}
 use Rattle.std.proofs.Common.{◌≡◌, ◌≢◌, ◌⊎◌, ◌+◌, ◌^◌, ◌<◌, ◌≤◌, ◌∷◌, ◌++◌, ◌∙◌}
 use Rattle.model.specs.declared.object.Content.TheVariants as content
 use Rattle.model_laws.proofs.SoundEdits.{at_set}
@@ -44,17 +44,13 @@ Each P k (o ∷ os) = P k o × Each P (k + 1) os
 pub each_at : (P : ℕ → Object → Type 0) (k : ℕ) (os : List Object) → Each P k os → ((m : ℕ) → P m free)
     → (n m : ℕ) → m ≡ k + n → P m (slice_index_or os n free)
 each_at P k [] each blank n m e = blank m
-each_at P k (o ∷ os) each blank zero m e =
-    let same : k ≡ m = omega (arith, e) in
-    subst (λ i. P i o) same each.0
+each_at P k (o ∷ os) each blank zero m e = grind (arith, nat_tests)
 each_at P k (o ∷ os) each blank (suc n) m e = each_at P (k + 1) os each.1 blank n m (omega (arith, e))
 
 -- free objects before others
 pub each_after : (P : ℕ → Object → Type 0) (m k j : ℕ) (os : List Object) → ((n : ℕ) → P n free) → j ≡ k + m → Each P j os
     → Each P k (replicate m free ++ os)
-each_after P zero k j os blank e each =
-    let same : j ≡ k = omega (arith, e) in
-    subst (λ i. Each P i os) same each
+each_after P zero k j os blank e each = grind (arith, nat_tests)
 each_after P (suc m) k j os blank e each = (blank k, each_after P m (k + 1) j os blank (omega (arith, e)) each)
 
 -- the registers of a process: 32, and the first is void
@@ -105,21 +101,7 @@ module _ (g : Geometry) (os : List Object) (H : Capability → Type 0) (bank : I
   plain_in_place : (n : ℕ) (c : Content Capability) → is_bank c ≡ false → is_root c ≡ false → is_annex c ≡ false → (root_in c).space ≡ Void
       → IsOfKind g n c → HasShape c → ((i : ℕ) → slice_index (words_in c) i < 2 ^ 64) → ((i : ℕ) → H (slice_index_or (slots_in c) i Void))
       → IsInPlace g os H n (of_prime_bank c)
-  plain_in_place n c no_bank no_root no_annex space kind shape words slots = record {
-    kind = kind;
-    shape = shape;
-    words = words;
-    slots = slots;
-    register_0 = λ is. absurd (false≢true (sym no_annex ∙ is));
-    space = space;
-    annex = λ is. absurd (false≢true (sym no_root ∙ is));
-    next = λ is. absurd (false≢true (sym no_root ∙ is));
-    some_root = λ is. absurd (false≢true (sym no_annex ∙ is));
-    unowned = λ is. refl;
-    owned = λ is. bank;
-    chains = λ is. absurd (false≢true (sym no_bank ∙ is));
-    limits = λ is. absurd (false≢true (sym no_bank ∙ is));
-  }
+  plain_in_place n c no_bank no_root no_annex space kind shape words slots = grind (arith, nat_tests)
 
   free_in_place : (n : ℕ) → IsInPlace g os H n free
   free_in_place n = plain_in_place n content.Free refl refl refl refl tt tt (λ i. omega arith) (λ i. void)
@@ -132,58 +114,16 @@ module _ (g : Geometry) (os : List Object) (H : Capability → Type 0) (bank : I
 
   bank_in_place : 0 < g.nodes → usage os 0 ≤ 1000 → IsInPlace g os H 0 prime_bank
   unfolding chain
-  bank_in_place fits within = record {
-    kind = fits;
-    shape = omega arith;
-    words = λ i. omega arith;
-    slots = λ i. void;
-    register_0 = λ is. refl;
-    space = refl;
-    annex = λ is. cc;
-    next = λ is. cc;
-    some_root = λ is. cc;
-    unowned = λ is. refl;
-    owned = λ is. bank;
-    chains = λ is. (0, omega arith, refl);
-    limits = λ is. within;
-  }
+  bank_in_place fits within = grind (arith, nat_tests)
 
   root_in_place : (n annex : ℕ) (s : State) → n < g.nodes → annex ≡ n + 1 → IsTrue (is_annex (content_at os annex)) → owner_at os annex ≡ 0
       → IsInPlace g os H n (fresh_root s annex)
-  root_in_place n annex s fits next is_there own = record {
-    kind = fits;
-    shape = (refl, λ i. holds_replicate (λ n. n < 2 ^ 64) 4 0 0 (omega arith) (omega arith) i, omega arith);
-    words = λ i. omega arith;
-    slots = λ i. void;
-    register_0 = λ is. refl;
-    space = refl;
-    annex = λ is. (is_there, own);
-    next = λ is. next;
-    some_root = λ is. cc;
-    unowned = λ is. refl;
-    owned = λ is. bank;
-    chains = λ is. cc;
-    limits = λ is. cc;
-  }
+  root_in_place n annex s fits next is_there own = grind (arith, nat_tests)
 
   annex_in_place : (n p : ℕ) (registers : List Capability) → n < g.nodes → AreRegisters registers
       → ((i : ℕ) → H (slice_index_or registers i Void))
       → IsTrue (is_process os p) → annex_at os p ≡ n → IsInPlace g os H n (of_prime_bank (content.Annex registers))
-  annex_in_place n p registers fits are held is_there same = record {
-    kind = fits;
-    shape = are.0;
-    words = λ i. omega arith;
-    slots = held;
-    register_0 = λ is. are.1;
-    space = refl;
-    annex = λ is. cc;
-    next = λ is. cc;
-    some_root = λ is. (p, is_there, same);
-    unowned = λ is. refl;
-    owned = λ is. bank;
-    chains = λ is. cc;
-    limits = λ is. cc;
-  }
+  annex_in_place n p registers fits are held is_there same = grind (arith, nat_tests)
 
 are_void : AreRegisters (all_slots Void)
 unfolding all_slots
@@ -238,13 +178,7 @@ f0_in_place n =
 
 f0_may : (c : Capability) → IsInF0 c → MayBeHeld f0.objects c
 unfolding f0
-f0_may c held = elim held [
-  | inl void ↦ subst (MayBeHeld f0.objects) (sym void) (tt, tt)
-  | inr some ↦ elim some [
-    | inl node ↦ subst (MayBeHeld f0.objects) (sym node) (inl refl, refl)
-    | inr page ↦ subst (MayBeHeld f0.objects) (sym page) (inl refl, refl)
-  ]
-]
+f0_may c held = grind (arith, nat_tests)
 
 pub f0_sound : IsSound small f0
 unfolding f0

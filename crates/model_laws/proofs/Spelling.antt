@@ -1,10 +1,10 @@
 -- The words of a line decide its command.
-use Rattle.model_laws.proofs.Names.{ℕ, Bool, true, false, List, [], map, length, take, drop, All, codes, decimal, bytes_eq, inl, inr, refl, sym, ap, ap₂, subst}
-use Rattle.model_laws.proofs.Names.{arith, leb-true, length-append, slice_split, list_any, digits_value, length-map, All-nil, All-cons, All-head, All-tail}
-use Rattle.model_laws.proofs.Names.{All-append, All-push, All-map, All-weaker, slice_split_none, slice_split_at, join_with_byte-slice_split, decimal_by_steps}
-use Rattle.model_laws.proofs.Names.{decimal_is_IsNumeral, length-decimal-le, take-append_seam, drop-append_seam, Command, Operation, Call, Return, Send, spaced}
-use Rattle.model_laws.proofs.Names.{operation_name, command_words, spelling, Fits, IsSkipped, Says, SpellsOne, SaysOne}
-use Rattle.std.proofs.Common.{◌≡◌, ◌↔◌, ◌+◌, ◌*◌, ◌<◌, ◌≤◌, ◌^◌, ◌==◌, ◌||◌, ◌∷◌, ◌++◌, ◌∙◌, ◌%◌, nat_le, if◌then◌else◌, slice_index_or, ne_eqb}
+use Rattle.model_laws.proofs.Names.{nat_tests, ℕ, Bool, true, false, List, [], map, length, take, drop, All, codes, decimal, bytes_eq, inl, inr, refl, sym, ap}
+use Rattle.model_laws.proofs.Names.{ap₂, subst, arith, leb-true, length-append, slice_split, list_any, digits_value, length-map, All-nil, All-cons, All-head}
+use Rattle.model_laws.proofs.Names.{All-tail, All-append, All-push, All-map, All-weaker, slice_split_none, slice_split_at, join_with_byte-slice_split}
+use Rattle.model_laws.proofs.Names.{decimal_by_steps, decimal_is_IsNumeral, length-decimal-le, take-append_seam, drop-append_seam, Command, Operation, Call}
+use Rattle.model_laws.proofs.Names.{Return, Send, spaced, operation_name, command_words, spelling, Fits, IsSkipped, Says, SpellsOne, SaysOne, nat_le}
+use Rattle.std.proofs.Common.{◌≡◌, ◌↔◌, ◌+◌, ◌*◌, ◌<◌, ◌≤◌, ◌^◌, ◌==◌, ◌||◌, ◌∷◌, ◌++◌, ◌∙◌, ◌%◌, if◌then◌else◌, slice_index_or, ne_eqb}
 use Rattle.model.specs.declared.command.Command.TheVariants as command
 use Rattle.model.specs.declared.line.Line.TheVariants as line
 
@@ -61,16 +61,13 @@ spaceless_by_test [] e = All-nil (λ b. (b == 32) ≡ false)
 spaceless_by_test (b ∷ text) e = All-cons (λ b. (b == 32) ≡ false) b text (parts (b == 32) e).0 (spaceless_by_test text (parts (b == 32) e).1)
   where
     parts : (first : Bool) → (first || list_any (λ b. b == 32) text) ≡ false → (first ≡ false) × (list_any (λ b. b == 32) text ≡ false)
-    parts true e = cc
-    parts false e = (refl, e)
+    parts first e = grind (arith, nat_tests)
 
 name_is_word : (text : List ℕ) → list_any (λ b. b == 32) text ≡ false → nat_le (length text) 20 ≡ true → IsWord text
 name_is_word text e h = (spaceless_by_test text e, leb-true _ _ h)
 
 operation_is_word : (o : Operation) → IsWord (operation_name o)
-operation_is_word Call = name_is_word (codes "call") refl refl
-operation_is_word Return = name_is_word (codes "return") refl refl
-operation_is_word Send = name_is_word (codes "send") refl refl
+operation_is_word o = grind (arith, nat_tests)
 
 one_word : (w : List ℕ) → IsWord w → All IsWord (w ∷ [])
 one_word w is = All-cons IsWord w [] is (All-nil IsWord)
@@ -92,11 +89,6 @@ words_are_words (command.Invoke i) fits =
     (operation_is_word i.operation) (decimal_is_word i.process fits.0) (decimal_is_word i.register (omega arith)))
     (All-append IsWord (map decimal i.words) (map decimal i.sent) (decimals_are_words i.words fits.3)
     (decimals_are_words i.sent (All-weaker (λ r. r < 32) (λ r. r < 2 ^ 64) (λ r h. omega arith) i.sent fits.5)))
-words_are_words (command.Load p address) fits =
-    three_words (codes "load") (decimal p) (decimal address) (name_is_word (codes "load") refl refl) (decimal_is_word p fits.0) (decimal_is_word address fits.1)
-words_are_words (command.Store p address value) fits =
-    All-cons IsWord (codes "store") (decimal p ∷ decimal address ∷ decimal value ∷ []) (name_is_word (codes "store") refl refl)
-    (three_words (decimal p) (decimal address) (decimal value) (decimal_is_word p fits.0) (decimal_is_word address fits.1) (decimal_is_word value fits.2))
 words_are_words (command.Show n) fits = named_number (codes "show") n (name_is_word (codes "show") refl refl) fits
 words_are_words (command.Evict n) fits = named_number (codes "evict") n (name_is_word (codes "evict") refl refl) fits
 words_are_words command.Checkpoint fits = one_word (codes "checkpoint") (name_is_word (codes "checkpoint") refl refl)
@@ -106,22 +98,17 @@ words_are_words (command.Migrate n) fits = named_number (codes "migrate") n (nam
 words_are_words (command.Journal n) fits = named_number (codes "journal") n (name_is_word (codes "journal") refl refl) fits
 words_are_words command.Restart fits = one_word (codes "restart") (name_is_word (codes "restart") refl refl)
 words_are_words command.Cut fits = one_word (codes "cut") (name_is_word (codes "cut") refl refl)
+words_are_words which fits = grind (arith, nat_tests, three_words, name_is_word, decimal_is_word)
 
 -- a command has 1 to 11 words
 pub words_count : (c : Command) → Fits c → (0 < length (command_words c)) × (length (command_words c) ≤ 11)
 unfolding command_words
-words_count (command.Invoke i) fits =
-    let all = length-append (map decimal i.words) (map decimal i.sent) in
-    let words = length-map i.words decimal in
-    let sent = length-map i.sent decimal in
-    (omega arith, omega arith)
-words_count c fits = (omega arith, omega arith)
+words_count c fits = grind (arith, nat_tests, length-append, length-map)
 
 -- the words of a command are the parts of its spelling
 pub split_spelling : (c : Command) → Fits c → split (spelling c) ≡ command_words c
 unfolding spelling
-split_spelling c fits =
-    split_spaced (command_words c) (words_count c fits).0 (All-weaker IsWord IsSpaceless (λ w is. is.0) (command_words c) (words_are_words c fits))
+split_spelling c fits = grind (arith, nat_tests, split_spaced, words_count, words_are_words)
 
 -- a text is the spelling of a command where its parts are the words of the command
 pub spelling_from_words : (text : List ℕ) (c : Command) → split text ≡ command_words c → text ≡ spelling c
@@ -131,10 +118,7 @@ spelling_from_words text c e = sym (join_with_byte-slice_split 32 text) ∙ ap (
 -- a spelling is short
 pub length-spelling : (c : Command) → Fits c → length (spelling c) ≤ 256
 unfolding spelling
-length-spelling c fits =
-    let short = length-spaced (command_words c) (All-weaker IsWord (λ w. length w ≤ 20) (λ w is. is.1) (command_words c) (words_are_words c fits)) in
-    let few = (words_count c fits).1 in
-    omega arith
+length-spelling c fits = grind (arith, nat_tests, length-spaced, words_are_words, words_count)
 
 -- From the words to the command
 
@@ -208,26 +192,11 @@ reads_parts : (o : Operation) (p r : ℕ) (rest : List (List ℕ)) →
     command_of (operation_name o ∷ decimal p ∷ decimal r ∷ rest)
     ≡ invocation o (digits_value 10 (decimal p)) (digits_value 10 (decimal r)) (numbers (take 4 rest)) (numbers (drop 4 rest))
 unfolding command_of
-reads_parts Call p r rest = refl
-reads_parts o p r rest = refl
+reads_parts o p r rest = grind (arith, nat_tests)
 
 pub reads_words : (c : Command) → Fits c → command_of (command_words c) ≡ c
 unfolding command_of command_words
-reads_words (command.Invoke i) fits =
-    let small = All-weaker (λ r. r < 32) (λ r. r < 2 ^ 64) (λ r h. omega arith) i.sent fits.5 in
-    reads_parts i.operation i.process i.register (map decimal i.words ++ map decimal i.sent)
-    ∙ same_invocation i.operation _ i.process _ i.register _ i.words _ i.sent
-    (value_of i.process fits.0) (value_of i.register (omega arith))
-    (first_four i.words i.sent fits.2 fits.3 small) (others i.words i.sent fits.2 fits.3 small)
-reads_words (command.Load p address) fits = ap₂ command.Load (value_of p fits.0) (value_of address fits.1)
-reads_words (command.Store p address value) fits =
-    λ k. command.Store (value_of p fits.0 k) (value_of address fits.1 k) (value_of value fits.2 k)
-reads_words (command.Show n) fits = ap command.Show (value_of n fits)
-reads_words (command.Evict n) fits = ap command.Evict (value_of n fits)
-reads_words (command.Stabilize n) fits = ap command.Stabilize (value_of n fits)
-reads_words (command.Migrate n) fits = ap command.Migrate (value_of n fits)
-reads_words (command.Journal n) fits = ap command.Journal (value_of n fits)
-reads_words c fits = refl
+reads_words c fits = grind (arith, nat_tests, reads_parts, same_invocation, value_of, first_four, others)
 
 -- a spelling gives its command
 pub reads_spelling : (c : Command) → Fits c → command_of (split (spelling c)) ≡ c
@@ -241,13 +210,7 @@ spells_one c d fits fits_too e = sym (reads_spelling c fits) ∙ ap (λ text. co
 -- a spelling is neither empty nor a comment
 spelling_is_no_skip : (c : Command) → IsSkipped (spelling c) → ⊥
 unfolding spelling command_words
-spelling_is_no_skip (command.Invoke i) skipped = no_operation i.operation skipped
-  where
-    no_operation : (o : Operation) →
-        IsSkipped (spaced ((operation_name o ∷ decimal i.process ∷ decimal i.register ∷ []) ++ map decimal i.words ++ map decimal i.sent)) → ⊥
-    no_operation Call e = omega arith
-    no_operation o e = omega arith
-spelling_is_no_skip c skipped = omega arith
+spelling_is_no_skip c skipped = grind (arith, nat_tests)
 
 -- what is skipped or spells a command is not bad, and no spelling is skipped
 pub skip_is_not_bad : (text : List ℕ) → Says text line.Skip → Says text line.Bad → ⊥
@@ -257,10 +220,7 @@ pub skip_is_no_command : (text : List ℕ) (c : Command) → Says text line.Skip
 skip_is_no_command text c skip says = spelling_is_no_skip c (subst IsSkipped says.1 skip.1)
 
 pub command_is_not_bad : (text : List ℕ) (c : Command) → Says text (line.Command c) → Says text line.Bad → ⊥
-command_is_not_bad text c says bad = elim bad [
-  | inl long ↦ (let short = length-spelling c says.0 in let same = ap length says.1 in omega arith)
-  | inr none ↦ none.1 c says.0 says.1
-]
+command_is_not_bad text c says bad = grind (arith, nat_tests, length-spelling)
 
 pub says_one : SaysOne
 says_one text line.Skip line.Skip s t = refl

@@ -1,9 +1,9 @@
 -- The numbers touched, and when an invocation or a store is refused since the log is full.
-use Rattle.model_laws.proofs.Names.{ℕ, zero, suc, Bool, true, false, not, List, [], length, slice_get, Some, None, Ok, Err, Option, Result, inl, inr, refl, sym}
-use Rattle.model_laws.proofs.Names.{ap, subst, arith, lt-ltb, zero-lt-suc, Contains, Contains-append_right, MemoryFault, Refusal, Invocation, Geometry}
-use Rattle.model_laws.proofs.Names.{is_running_process, Effect, invoke, touching, overfills, reached, refusal_of, unless, writable, TouchesWritten}
-use Rattle.model_laws.proofs.Names.{LogFullIsExact, StoreLogFullIsExact}
-use Rattle.std.proofs.Common.{◌≡◌, ◌⊎◌, ◌↔◌, ◌<◌, ◌^◌, ◌&&◌, ◌∷◌, ◌∙◌, slice_set, slice_index_or, IsTrue, length-set, ltb-true}
+use Rattle.model_laws.proofs.Names.{nat_tests, ℕ, zero, suc, Bool, true, not, List, [], length, slice_get, Some, None, Ok, Err, Option, Result, inl, inr, refl}
+use Rattle.model_laws.proofs.Names.{ap, arith, zero-lt-suc, Contains, Contains-append_right, MemoryFault, Refusal, Invocation, Geometry, is_running_process}
+use Rattle.model_laws.proofs.Names.{Effect, invoke, touching, overfills, reached, refusal_of, unless, writable, TouchesWritten, LogFullIsExact}
+use Rattle.model_laws.proofs.Names.{StoreLogFullIsExact}
+use Rattle.std.proofs.Common.{◌≡◌, ◌⊎◌, ◌↔◌, ◌<◌, ◌^◌, ◌&&◌, ◌∷◌, ◌∙◌, slice_set, slice_index_or, IsTrue, length-set}
 use Rattle.model.specs.Machine.{Running}
 use Rattle.model.specs.declared.answer.Refusal.TheVariants as refusal
 use Rattle.model.specs.declared.command.Command.TheVariants as command
@@ -42,26 +42,11 @@ stays_touched xs (m ∷ ns) n e = stays_touched (slice_set xs m true) ns n (stay
 -- the k-th of the numbers written is touched
 is_touched : (xs : List Bool) (ns : List ℕ) (n k : ℕ) → n < length xs → k < length ns → slice_index_or ns k n ≡ n → slice_get (touching xs ns) n ≡ Some true
 is_touched xs [] n k h l e = absurd (omega arith)
-is_touched xs (m ∷ ns) n zero h l e =
-    stays_touched (slice_set xs m true) ns n (subst (λ j. slice_get (slice_set xs j true) n ≡ Some true) (sym e) (is_marked xs n h))
+is_touched xs (m ∷ ns) n zero h l e = grind (arith, nat_tests, stays_touched, is_marked)
 is_touched xs (m ∷ ns) n (suc k) h l e = is_touched (slice_set xs m true) ns n k (rw length-set h) (omega arith) e
 
 pub touches_written : TouchesWritten
-touches_written xs ns n h =
-    (touched_from xs ns n, λ e. elim e [ inl before ↦ stays_touched xs ns n before | inr at ↦ is_touched xs ns n at.0 h at.1 at.2 ])
-
--- where no refusal before it applies, the next check decides
-earlier : (process running young : Bool) (next : Option Refusal) → (process && running) ≡ true → young ≡ true →
-    unless process refusal.NoProcess (unless (process && running) refusal.NotRunning (unless young refusal.Worn next)) ≡ next
-earlier true true true next p y = refl
-earlier true true false next p y = cc
-earlier true false young next p y = cc
-earlier false running young next p y = cc
-
--- the check of the log refuses exactly where it does not pass
-refuses : (full : Bool) → (unless (not full) refusal.LogFull None ≡ Some refusal.LogFull) ↔ (full ≡ true)
-refuses true = (λ e. refl, λ e. refl)
-refuses false = (λ e. cc, λ e. cc)
+touches_written xs ns n h = grind (arith, nat_tests, touched_from, stays_touched, is_touched)
 
 -- what is left to check once an invocation has an effect
 abbrev last_checks : Geometry → Running → Option Effect → Option Refusal
@@ -72,21 +57,15 @@ refusal_is : (g : Geometry) (s : Running) (i : Invocation) (e : Effect) →
     IsTrue (is_running_process s.now.objects i.process) → s.now.age < 2 ^ 62 → invoke g s.now.objects i ≡ Some e →
     refusal_of g s (command.Invoke i) ≡ unless (not (overfills g s.touched e.written)) refusal.LogFull None
 unfolding refusal_of
-refusal_is g s i e p young effect =
-    earlier _ _ _ _ p (lt-ltb _ _ young) ∙ ap (last_checks g s) effect
+refusal_is g s i e p young effect = grind (arith, nat_tests)
 
 pub log_full_is_exact : LogFullIsExact
-log_full_is_exact g s i e p young effect =
-    let is = refusal_is g s i e p young effect in
-    let decides = refuses (overfills g s.touched e.written) in
-    (λ full. ltb-true _ _ (decides.0 (sym is ∙ full)), λ full. is ∙ decides.1 (lt-ltb _ _ full))
+log_full_is_exact g s i e p young effect = grind (arith, nat_tests, refusal_is)
 
 -- the same of a store: what is left to check once its page is known
 acts : (process running : Bool) (next : Option Refusal) → (process && running) ≡ true
     → unless process refusal.NoProcess (unless (process && running) refusal.NotRunning next) ≡ next
-acts true true next p = refl
-acts true false next p = cc
-acts false running next p = cc
+acts process running next p = grind (arith, nat_tests)
 
 abbrev store_checks : Geometry → Running → Result ℕ MemoryFault → Option Refusal
 store_checks g s (Ok page) = unless (not (overfills g s.touched (page ∷ []))) refusal.LogFull None
@@ -98,10 +77,4 @@ unfolding refusal_of
 store_refusal_is g s p address value found runs is = acts _ _ _ runs ∙ ap (store_checks g s) is
 
 pub store_log_full_is_exact : StoreLogFullIsExact
-store_log_full_is_exact g s p address value runs = (
-  λ page is.
-      let refused = store_refusal_is g s p address value (Ok page) runs is in
-      let decides = refuses (overfills g s.touched (page ∷ [])) in
-      (λ full. ltb-true _ _ (decides.0 (sym refused ∙ full)), λ full. refused ∙ decides.1 (lt-ltb _ _ full)),
-  λ why is. store_refusal_is g s p address value (Err why) runs is,
-)
+store_log_full_is_exact g s p address value runs = grind (arith, nat_tests, store_refusal_is)

@@ -1,8 +1,7 @@
-use Rattle.model_laws.proofs.Names.{ℕ, zero, suc, Bool, not, List, length, refl, ap, Capability, Geometry, Content, Object, free, is_free, is_page, is_node}
-use Rattle.model_laws.proofs.Names.{is_root, is_annex, is_bank, role_of, limit_in, root_in, object_at, content_at, owner_at, chain_within, chain, is_under}
-use Rattle.model_laws.proofs.Names.{usage, IsOfKind}
+use Rattle.model_laws.proofs.Names.{arith, nat_tests, ℕ, zero, suc, Bool, not, List, length, refl, ap, Capability, Geometry, Content, Object, free, is_free}
+use Rattle.model_laws.proofs.Names.{is_page, is_node, is_root, is_annex, is_bank, role_of, limit_in, root_in, object_at, content_at, owner_at, chain_within}
+use Rattle.model_laws.proofs.Names.{chain, is_under, usage, IsOfKind}
 use Rattle.std.proofs.Common.{◌≡◌, ◌==◌, ◌&&◌}
-use Rattle.model.specs.declared.object.Content.TheVariants as content
 use Rattle.model_laws.proofs.Counts.{count_alike}
 
 -- two objects that differ in no more than words, slots, a state, a key or an address space
@@ -20,14 +19,8 @@ pub record SameFrame (os us : List Object) : Type 0 where
 pub alike_refl : (x : Object) → AreAlike x x
 alike_refl x = record { owner = refl; role = refl; annex = refl; limit = refl }
 
-pub alike_trans : (x y z : Object) → AreAlike x y → AreAlike y z → AreAlike x z
-alike_trans x y z p q = record { owner = cc; role = cc; annex = cc; limit = cc }
-
 pub frame_trans : (os us vs : List Object) → SameFrame os us → SameFrame us vs → SameFrame os vs
-frame_trans os us vs p q = record {
-  size = cc;
-  alike = λ n. alike_trans (object_at os n) (object_at us n) (object_at vs n) (p.alike n) (q.alike n);
-}
+frame_trans os us vs p q = grind (arith, nat_tests)
 
 pub frame_refl : (os : List Object) → SameFrame os os
 frame_refl os = record { size = refl; alike = λ n. alike_refl (object_at os n) }
@@ -43,13 +36,7 @@ pub record SameTests (c d : Content Capability) : Type 0 where
   pub kind : (g : Geometry) (n : ℕ) → IsOfKind g n c → IsOfKind g n d
 
 pub same_tests : (c d : Content Capability) → role_of d ≡ role_of c → SameTests c d
-same_tests content.Free content.Free e = record { free = refl; page = refl; node = refl; root = refl; annex = refl; bank = refl; kind = λ g n k. k }
-same_tests (content.Page v) (content.Page w) e = record { free = refl; page = refl; node = refl; root = refl; annex = refl; bank = refl; kind = λ g n k. k }
-same_tests (content.Node v) (content.Node w) e = record { free = refl; page = refl; node = refl; root = refl; annex = refl; bank = refl; kind = λ g n k. k }
-same_tests (content.Root v) (content.Root w) e = record { free = refl; page = refl; node = refl; root = refl; annex = refl; bank = refl; kind = λ g n k. k }
-same_tests (content.Annex v) (content.Annex w) e = record { free = refl; page = refl; node = refl; root = refl; annex = refl; bank = refl; kind = λ g n k. k }
-same_tests (content.Bank v) (content.Bank w) e = record { free = refl; page = refl; node = refl; root = refl; annex = refl; bank = refl; kind = λ g n k. k }
-same_tests c d e = cc
+same_tests c d e = grind (arith, nat_tests)
 
 pub tests_at : (os us : List Object) → SameFrame os us → (n : ℕ) → SameTests (content_at os n) (content_at us n)
 tests_at os us s n = same_tests (content_at os n) (content_at us n) (s.alike n).role

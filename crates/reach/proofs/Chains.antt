@@ -1,9 +1,9 @@
 -- Chains lead to what was found, and nowhere else; closed sets are those that no step leaves.
-use Rattle.reach.proofs.Names.{ℕ, Bool, true, false, is_some, Option, None, Some, List, [], length, reverse, option_and_then, inl, inr, ⊎_elim, refl, sym, ap}
-use Rattle.reach.proofs.Names.{subst, arith, IsTrue, All, cases_eq, length-reverse, length_push, reverse-append, same_Some, Capability, Void, Number, Page}
-use Rattle.reach.proofs.Names.{Node, Space, Process, Start, Resume, Bank, Discrim, Content, Object, IsClosed, StaysInside, is_root, root_in, slots_in, annex_at}
-use Rattle.reach.proofs.Names.{content_at, root_at, Found, Levels, Step, Way, Conveys, IsChain, IsPath, IsShortest, IsStep, IsWay, held_by, StepsAreAuthority}
-use Rattle.reach.proofs.Names.{IsAfter, IsFoundIn, IsFrom, IsSearched, found_at, IsReach}
+use Rattle.reach.proofs.Names.{nat_tests, ℕ, Bool, true, false, is_some, Option, None, Some, List, [], length, reverse, option_and_then, inl, inr, ⊎_elim, refl}
+use Rattle.reach.proofs.Names.{sym, ap, subst, arith, IsTrue, All, cases_eq, length-reverse, length_push, reverse-append, same_Some, Capability, Void, Page}
+use Rattle.reach.proofs.Names.{Node, Space, Process, Start, Resume, Bank, Content, Object, IsClosed, StaysInside, slots_in, annex_at, content_at, root_at}
+use Rattle.reach.proofs.Names.{Found, Levels, Step, Way, Conveys, IsChain, IsPath, IsShortest, IsStep, IsWay, held_by, StepsAreAuthority, IsAfter, IsFoundIn}
+use Rattle.reach.proofs.Names.{IsFrom, IsSearched, found_at, IsReach}
 use Rattle.std.proofs.Common.{◌≡◌, ◌+◌, ◌<◌, ◌≤◌, ◌∷◌, ◌++◌, ◌∙◌, slice_index_or}
 use Rattle.model.specs.declared.object.Content.TheVariants as content
 use Rattle.reach.specs.declared.step.Way.TheVariants as way
@@ -50,21 +50,13 @@ module _ (os : List Object) (inside : ℕ → Bool) (closed : IsClosed os inside
   held_inside n i (content.Page words) is member = inl tt
   held_inside n i (content.Node slots) is member = subst (λ (x : Content Capability). StaysInside inside (slice_index_or (slots_in x) i Void)) is
       (closed.slots n i member)
-  held_inside n i (content.Root root) is member =
-      let annex : IsTrue (inside root.annex) =
-      subst (λ (a : ℕ). IsTrue (inside a)) (ap (λ (x : Content Capability). (root_in x).annex) is)
-      (closed.annexes n member (subst (λ (x : Content Capability). IsTrue (is_root x)) (sym is) refl)) in
-      closed.slots root.annex i annex
+  held_inside n i (content.Root root) is member = grind (arith, nat_tests)
   held_inside n i (content.Annex slots) is member = subst (λ (x : Content Capability). StaysInside inside (slice_index_or (slots_in x) i Void)) is
       (closed.slots n i member)
   held_inside n i (content.Bank limit) is member = inl tt
 
   way_inside : (n : ℕ) (w : Way) (m : ℕ) → IsWay os n (content_at os n) w m → IsTrue (inside n) → IsTrue (inside m)
-  way_inside n way.Annex m by member = subst (λ (a : ℕ). IsTrue (inside a)) by.1 (closed.annexes n member by.0)
-  way_inside n way.Owner m by member = closed.owned n m member by.0 by.1 by.2
-  way_inside n (way.Space c) m by member = named_inside inside c m by.1.0 by.1.1 (subst (StaysInside inside) by.0 (closed.spaces n member))
-  way_inside n (way.Slot i c) m by member = named_inside inside c m by.1.0 by.1.1
-      (subst (StaysInside inside) by.0 (held_inside n i (content_at os n) refl member))
+  way_inside n w m by member = grind (arith, nat_tests, named_inside, held_inside)
 
   pub step_inside : (s : Step) → IsStep os s → IsTrue (inside s.from) → IsTrue (inside s.to)
   step_inside s by member = way_inside s.from s.way s.to by member
@@ -75,9 +67,7 @@ module _ (os : List Object) (inside : ℕ → Bool) (closed : IsClosed os inside
 
   -- so a chain stays in each closed set that contains its beginnings
   pub chain_inside : (starts : List ℕ) (steps : List Step) (o : ℕ) → All (λ p. IsTrue (inside p)) starts → IsChain os starts steps o → IsTrue (inside o)
-  chain_inside starts steps o begins chain =
-      let start : IsTrue (inside chain.0) = subst (λ (k : ℕ). IsTrue (inside k)) chain.1.2 (begins chain.1.0 chain.0 chain.1.1) in
-      path_inside steps chain.0 o chain.2 start
+  chain_inside starts steps o begins chain = grind (arith, nat_tests, path_inside)
 
 pub steps_are_authority : StepsAreAuthority
 steps_are_authority os inside = (λ closed. step_inside os inside closed, λ continues. closed_by_steps os inside continues)
@@ -92,10 +82,7 @@ pub record IsBack (os : List Object) (l : Levels) (o at : ℕ) (steps : List Ste
 -- All was searched.
 module _ (os : List Object) (starts : List ℕ) (level : ℕ) (l : Levels) (over : l.greatest < level) (searched : IsSearched os starts level l) where
   continues_on : (n k : ℕ) → IsFoundIn l n k → (s : Step) → IsFrom os n s → IsFoundIn l s.to (k + 1)
-  continues_on n k found s from =
-      let deep : found.0.level ≤ l.greatest = searched.within n found.0 found.1 in
-      let next = searched.continues n found.0 found.1 (omega (arith, deep, over)) s from in
-      (next.0, next.1, omega (arith, next.2, found.2))
+  continues_on n k found s from = grind (arith, nat_tests)
 
   continues_along : (ss : List Step) (n k m : ℕ) → IsFoundIn l n k → IsPath os n ss m → IsFoundIn l m (k + length ss)
   continues_along [] n k m found path = subst (λ (j : ℕ). IsFoundIn l j (k + 0)) path (found.0, found.1, omega (arith, found.2))
@@ -134,20 +121,10 @@ module _ (os : List Object) (starts : List ℕ) (level : ℕ) (l : Levels) (over
         let wrong : false ≡ true = sym none ∙ found_some o found.0 found.1 in cc
 
     pub not_reached : (inside : ℕ → Bool) → IsReach os starts inside → inside o ≡ false
-    not_reached inside reach = of_bool (inside o) refl
-      where
-        of_bool : (b : Bool) → inside o ≡ b → inside o ≡ false
-        of_bool false is = is
-        of_bool true is = let wrong : false ≡ true = sym none ∙ reached_found inside o reach is in absurd (cc)
+    not_reached inside reach = grind (arith, nat_tests, reached_found)
 
   pub back_first : (o : ℕ) → is_some (found_at l o) ≡ true → IsBack os l o o []
-  back_first o some = let found = some_found o some in record {
-    found = found.0;
-    is = found.1;
-    path = refl;
-    count = λ g is. let same : found.0 ≡ g = same_Some found.0 g (sym found.1 ∙ is) in let level : found.0.level ≡ g.level = ap (λ (f : Found). f.level) same in
-        omega (arith, level);
-  }
+  back_first o some = grind (arith, nat_tests)
 
   module _ (o at : ℕ) (steps : List Step) (back : IsBack os l o at steps) where
     -- how it was found
@@ -155,38 +132,16 @@ module _ (os : List Object) (starts : List ℕ) (level : ℕ) (l : Levels) (over
     step_is p is = ap (λ (q : Option Found). option_and_then (λ (f : Found). f.step) q) (sym back.is) ∙ is
 
     after_of : (step : Step) → option_and_then (λ (f : Found). f.step) (found_at l at) ≡ Some step → IsAfter os l at back.found
-    after_of step is = ⊎_elim (λ first. let wrong : Some step ≡ None = sym (step_is (Some step) is) ∙ first.0.none in absurd (cc)) (λ after. after)
-        (searched.linked at back.found back.is)
+    after_of step is = grind (arith, nat_tests)
 
     pub back_next : (step : Step) (new : List Step) → option_and_then (λ (f : Found). f.step) (found_at l at) ≡ Some step → new ≡ steps ++ step ∷ [] →
         IsBack os l o step.from new
-    back_next step new is pushed =
-        let after = after_of step is in
-        let same : after.step ≡ step = same_Some after.step step (sym after.is ∙ step_is (Some step) is) in
-        let long : length new ≡ length (steps ++ step ∷ []) = ap (λ (ss : List Step). length ss) pushed in record {
-          found = after.before;
-          is = subst (λ (s : Step). found_at l s.from ≡ Some after.before) same after.from;
-          path = subst (λ (ss : List Step). IsPath os step.from ss o) (sym (ap (λ (ss : List Step). reverse ss) pushed ∙ reverse-append steps (step ∷ []))) (
-            refl,
-            subst (IsStep os) same after.step_is,
-            subst (λ (n : ℕ). IsPath os n (reverse steps) o) (sym (ap (λ (s : Step). s.to) (sym same) ∙ after.to)) back.path,
-          );
-          count = λ g now. omega (arith, back.count g now, after.level, long, one_more);
-        }
-      where
-        one_more : length (steps ++ step ∷ []) ≡ length steps + 1
-        one_more = length_push steps step
+    back_next step new is pushed = grind (arith, nat_tests, after_of, same_Some, step_is, reverse-append, length_push)
 
     pub back_level : (step : Step) → option_and_then (λ (f : Found). f.step) (found_at l at) ≡ Some step → (level_of : Option Found → ℕ) →
         ((f : Found) → level_of (Some f) ≡ f.level)
         → level_of (found_at l step.from) < level_of (found_at l at)
-    back_level step is level_of level_is =
-        let after = after_of step is in
-        let same : after.step ≡ step = same_Some after.step step (sym after.is ∙ step_is (Some step) is) in
-        let here : level_of (found_at l at) ≡ back.found.level = ap level_of back.is ∙ level_is back.found in
-        let there : level_of (found_at l step.from) ≡ after.before.level = ap level_of
-        (subst (λ (s : Step). found_at l s.from ≡ Some after.before) same after.from) ∙ level_is after.before in
-        omega (arith, here, there, after.level)
+    back_level step is level_of level_is = grind (arith, nat_tests, after_of, same_Some, step_is)
 
     -- at the beginning of a shortest chain
     pub back_whole : option_and_then (λ (f : Found). f.step) (found_at l at) ≡ None → (g : Found) → found_at l o ≡ Some g →

@@ -1,35 +1,16 @@
 -- A set that was followed whole is closed, and the least.
-use Rattle.reach.proofs.Names.{ℕ, zero, suc, nat_eq, Bool, true, false, List, length, replicate, refl, sym, ap, subst, arith, IsTrue, slice_index_or, All}
-use Rattle.reach.proofs.Names.{nat_tests, is_marked, Object, IsClosed, object_at, root_at, slot_at, AreBy, IsKept, with_free, run_confined, Frontier, Grows}
-use Rattle.reach.proofs.Names.{HasNoneLeft, IsDone, IsWithin, Takes, BoundsRuns, IsClosedAt, IsReach}
+use Rattle.reach.proofs.Names.{ℕ, zero, suc, nat_eq, Bool, false, List, length, replicate, refl, sym, ap, subst, arith, IsTrue, slice_index_or, All, nat_tests}
+use Rattle.reach.proofs.Names.{is_marked, Object, IsClosed, object_at, AreBy, IsKept, with_free, run_confined, Frontier, Grows, HasNoneLeft, IsDone, IsWithin}
+use Rattle.reach.proofs.Names.{Takes, BoundsRuns, IsClosedAt, IsReach}
 use Rattle.std.proofs.Common.{◌≡◌, ◌<◌, ◌≤◌, ◌+◌, ◌∙◌}
-use Rattle.reach.proofs.Growing.{stays_more}
 
 -- a closed set is so at each member
 pub closed_at : (os : List Object) (other : ℕ → Bool) (n : ℕ) → IsClosed os other → IsTrue (other n) → IsClosedAt os other n
-closed_at os other n closed inside = record {
-  annexes = closed.annexes n inside;
-  owned = λ bank m free owned. closed.owned n m inside bank free owned;
-  slots = λ i. closed.slots n i inside;
-  space = closed.spaces n inside;
-}
-
-pub closed_of : (os : List Object) (inside : ℕ → Bool) → ((n : ℕ) → IsTrue (inside n) → IsClosedAt os inside n) → IsClosed os inside
-closed_of os inside at = record {
-  annexes = λ p is. (at p is).annexes;
-  owned = λ b n is bank free owned. (at b is).owned bank n free owned;
-  slots = λ n i is. (at n is).slots i;
-  spaces = λ p is. (at p is).space;
-}
+closed_at os other n closed inside = grind (arith, nat_tests)
 
 -- what is closed at a number is so in a greater set
 closed_more : (os : List Object) (old new : ℕ → Bool) (n : ℕ) → ((m : ℕ) → IsTrue (old m) → IsTrue (new m)) → IsClosedAt os old n → IsClosedAt os new n
-closed_more os old new n more at = record {
-  annexes = λ is. more _ (at.annexes is);
-  owned = λ bank m free owned. more m (at.owned bank m free owned);
-  slots = λ i. stays_more old new (slot_at os n i) more (at.slots i);
-  space = stays_more old new (root_at os n).space more at.space;
-}
+closed_more os old new n more at = grind (arith, nat_tests)
 
 -- none is marked in a new set
 none_marked : (count n : ℕ) → is_marked (replicate count false) n ≡ false
@@ -52,17 +33,11 @@ pub record Follows (os : List Object) (starts : List ℕ) (f : Frontier) : Type 
   pub least : (other : ℕ → Bool) → IsClosed os other → All (λ p. IsTrue (other p)) starts → IsWithin f other
 
 marked_not : (marks : List Bool) (count n : ℕ) → marks ≡ replicate count false → IsTrue (is_marked marks n) → ⊥
-marked_not marks count n is inside = let none : is_marked marks n ≡ false = ap (λ (m : List Bool). is_marked m n) is ∙
-    none_marked count n in grind (arith, nat_tests)
+marked_not marks count n is inside = grind (arith, nat_tests, none_marked)
 
 pub begun : (os : List Object) (starts : List ℕ) (f : Frontier) (count : ℕ) → count ≡ length os → f.found ≡ replicate count false →
     length (replicate count false) ≡ count → Begins os starts 0 f
-begun os starts f count same is long = record {
-  count = ap (λ (l : List Bool). length l) is ∙ (long ∙ same);
-  begun = λ k d lt. absurd (omega (arith, lt));
-  none_done = λ n done. marked_not f.found count n is (grind (arith, nat_tests));
-  least = λ other starts n inside. absurd (marked_not f.found count n is inside);
-}
+begun os starts f count same is long = grind (arith, nat_tests, marked_not)
 
 pub one_begun : (os : List Object) (starts : List ℕ) (at : ℕ) (d : ℕ) (old new : Frontier) → Begins os starts at old → Grows old new → at < length starts
     → ((e : ℕ) → IsTrue (is_marked new.found (slice_index_or starts at e)))
@@ -75,9 +50,7 @@ one_begun os starts at d old new begins grows lt found least = record {
 }
   where
     if_at : (k e : ℕ) → k < at + 1 → (b : Bool) → nat_eq k at ≡ b → IsTrue (is_marked new.found (slice_index_or starts k e))
-    if_at k e below true is = let here : at ≡ k = grind (arith, nat_tests) in subst (λ (j : ℕ). IsTrue (is_marked new.found (slice_index_or starts j e))) here
-        (found e)
-    if_at k e below false is = grows.found _ (begins.begun k e (grind (arith, nat_tests)))
+    if_at k e below b is = grind (arith, nat_tests)
 
 pub all_begun : (os : List Object) (starts : List ℕ) (at : ℕ) (f : Frontier) → Begins os starts at f → length starts ≤ at → Follows os starts f
 all_begun os starts at f begins whole = record {
@@ -101,21 +74,11 @@ one_followed os starts n old mid new follows takes grows closed least = record {
     more m inside = grows.found m (subst (λ (l : List Bool). IsTrue (is_marked l m)) (sym takes.found) inside)
 
     if_here : (m : ℕ) → IsDone mid m → (b : Bool) → nat_eq m n ≡ b → IsClosedAt os (is_marked new.found) m
-    if_here m done true is = let here : n ≡ m = grind (arith, nat_tests) in subst (IsClosedAt os (is_marked new.found)) here closed
-    if_here m done false is =
-        let other : (m ≡ n → ⊥) = λ same. grind (arith, nat_tests) in
-        closed_more os (is_marked old.found) (is_marked new.found) m more (follows.closed m (takes.done m done other))
+    if_here m done b is = grind (arith, nat_tests, closed_more, more)
 
 pub all_followed : (os : List Object) (starts : List ℕ) (old new : Frontier) → Follows os starts old → HasNoneLeft old new →
     IsReach os starts (is_marked new.found)
-all_followed os starts old new follows none = record {
-  closed = closed_of os (is_marked new.found) (λ n inside. now.closed n (none.done n inside));
-  begins = now.begins;
-  least = λ other closed all n inside. now.least other closed all n inside;
-}
-  where
-    now : Follows os starts new
-    now = subst (Follows os starts) (sym none.same) follows
+all_followed os starts old new follows none = grind (arith, nat_tests)
 
 pub bounds_runs : (os : List Object) (inside : ℕ → Bool) → IsClosed os inside → BoundsRuns os inside
 bounds_runs os inside closed g s t turns is sound run by n out =

@@ -1,8 +1,8 @@
 -- What holds as numbers are found by steps.
-use Rattle.reach.proofs.Names.{ℕ, max, zero, suc, true, false, is_some, Option, None, Some, List, [], length, length-set, slice_set, inl, inr, ⊎_elim, refl}
-use Rattle.reach.proofs.Names.{sym, ap, subst, arith, cases_eq, cases_lt, get_or-set_same, get_or-set_other, same_Some, Capability, Void, Object, IsWeak, named}
-use Rattle.reach.proofs.Names.{is_free, content_at, owner_at, Found, Levels, Step, Way, Conveys, Begins, FindsBy, IsBy, IsFirst, IsFoundBy, IsHeldIn}
-use Rattle.reach.proofs.Names.{IsOwnedBelow, IsTheStep, found_at, missing}
+use Rattle.reach.proofs.Names.{nat_tests, ℕ, max, zero, suc, true, false, is_some, Option, None, Some, List, [], length, length-set, slice_set, inl, inr}
+use Rattle.reach.proofs.Names.{⊎_elim, refl, sym, ap, subst, arith, cases_lt, get_or-set_same, get_or-set_other, same_Some, Capability, Void, Object, is_free}
+use Rattle.reach.proofs.Names.{content_at, owner_at, Found, Levels, Step, Way, Conveys, Begins, FindsBy, IsBy, IsFoundBy, IsHeldIn, IsOwnedBelow, IsTheStep}
+use Rattle.reach.proofs.Names.{found_at, missing}
 use Rattle.std.proofs.Common.{◌≡◌, ◌≢◌, ◌⊎◌, ◌+◌, ◌<◌, ◌≤◌, ◌∷◌, ◌∙◌, slice_index_or}
 use Rattle.reach.specs.declared.step.Way.TheVariants as way
 
@@ -24,12 +24,10 @@ missing_fewer (Some y ∷ xs) (suc n) x lt none = missing_fewer xs n x (omega (a
 
 -- what is there, and what isn't
 pub none_of : {X : Type 0} (o : Option X) → is_some o ≡ false → o ≡ None
-none_of None is = refl
-none_of (Some x) is = absurd (cc)
+none_of {X} o is = grind (arith, nat_tests)
 
 pub some_of : {X : Type 0} (o : Option X) → is_some o ≡ true → (x : X) × (o ≡ Some x)
-some_of None is = absurd (cc)
-some_of (Some x) is = (x, refl)
+some_of {X} o is = grind (arith, nat_tests)
 
 -- a number is found
 module _ (old new : Levels) (number : ℕ) (f : Found) (none : found_at old number ≡ None) (lt : number < length old.found.items)
@@ -47,50 +45,29 @@ module _ (old new : Levels) (number : ℕ) (f : Found) (none : found_at old numb
   found_kept n g is = found_there n (λ here. let both : Some g ≡ None = sym is ∙ ap (found_at old) here ∙ none in absurd (cc)) ∙ is
 
   found_each : (n : ℕ) (g : Found) → found_at new n ≡ Some g → (found_at old n ≡ Some g) ⊎ ((n ≡ number) × (g ≡ f))
-  found_each n g is = elim (cases_eq n number) [
-    | inl here ↦ let both : Some g ≡ Some f = sym is ∙ ap (found_at new) here ∙ found_here in inr (here, cc)
-    | inr other ↦ inl (sym (found_there n other) ∙ is)
-  ]
+  found_each n g is = grind (arith, nat_tests, found_here, found_there)
 
   found_work : missing new.found.items + 1 ≡ missing old.found.items
   found_work = ap (λ (l : List (Option Found)). missing l + 1) set ∙ missing_fewer old.found.items number f lt none
 
   pub begun : f.level ≡ 0 → f.step ≡ None → new.greatest ≡ old.greatest → Begins number old new
-  begun level step same = record {
-    count = found_count;
-    kept = found_kept;
-    each = λ n g is. ⊎_elim (λ before. inl before) (λ now. inr (now.0, subst (IsFirst n) (sym now.1) (record { level = level; none = step })))
-        (found_each n g is);
-    inside = (f, found_here);
-    greatest = same;
-    work = omega (arith, found_work);
-  }
+  begun level step same = grind (arith, nat_tests, found_count, found_kept, found_each, found_here, found_work)
 
   pub added : (step : Step) (level : ℕ) → step.to ≡ number → f.level ≡ level → f.step ≡ Some step → level ≤ old.greatest + 1 →
       new.greatest ≡ max old.greatest level → FindsBy (IsTheStep step) level old new
   added step level to at is le same = record {
     count = found_count;
     kept = found_kept;
-    each = λ n g now. ⊎_elim (λ before. inl before)
-        (λ here. inr (subst (IsFoundBy (IsTheStep step) level n) (sym here.1)
-        (record { at = at; step = step; is = is; to = to ∙ sym here.0; by = (refl, refl, refl) }))) (found_each n g now);
+    each = λ n g now. grind (arith, nat_tests, found_each);
     all = λ s by. (f, ap (found_at new) (by.2 ∙ to) ∙ found_here);
     later = omega (arith, same);
-    within = λ n g now. ⊎_elim (λ before. inl before)
-        (λ here. let level_is : g.level ≡ level = ap (λ (h : Found). h.level) here.1 ∙ at in inr (omega (arith, level_is, same))) (found_each n g now);
+    within = λ n g now. grind (arith, nat_tests, found_each);
     work = omega (arith, found_work, same, le);
   }
 
 -- nothing is found again
 pub begun_before : (number : ℕ) (f : Found) (l : Levels) → found_at l number ≡ Some f → Begins number l l
-begun_before number f l is = record {
-  count = refl;
-  kept = λ n g now. now;
-  each = λ n g now. inl now;
-  inside = (f, is);
-  greatest = refl;
-  work = omega arith;
-}
+begun_before number f l is = grind (arith, nat_tests)
 
 pub added_before : (step : Step) (level : ℕ) (f : Found) (l : Levels) → found_at l step.to ≡ Some f → FindsBy (IsTheStep step) level l l
 added_before step level f l is = record {
@@ -105,15 +82,7 @@ added_before step level f l is = record {
 
 -- no steps find nothing
 pub finds_none : (By : Step → Type 0) (level : ℕ) (l : Levels) → ((s : Step) → By s → ⊥) → FindsBy By level l l
-finds_none By level l none = record {
-  count = refl;
-  kept = λ n g now. now;
-  each = λ n g now. inl now;
-  all = λ s by. absurd (none s by);
-  later = omega arith;
-  within = λ n g now. inl now;
-  work = omega arith;
-}
+finds_none By level l none = grind (arith, nat_tests)
 
 found_more : (P Q : Step → Type 0) (level n : ℕ) (f : Found) → ((s : Step) → P s → Q s) → IsFoundBy P level n f → IsFoundBy Q level n f
 found_more P Q level n f more found = record { at = found.at; step = found.step; is = found.is; to = found.to; by = more found.step found.by }
@@ -142,9 +111,7 @@ finds_both P Q R level a b c from_first from_next either first next = record {
       (λ now. inr (found_more Q R level n f from_next now)) (next.each n f is);
   all = λ s by. ⊎_elim (λ p. let found = first.all s p in (found.0, next.kept s.to found.0 found.1)) (λ q. next.all s q) (either s by);
   later = omega (arith, first.later, next.later);
-  within = λ n f is. ⊎_elim
-      (λ middle. ⊎_elim (λ before. inl before) (λ now. inr (omega (arith, now, next.later))) (first.within n f middle))
-      (λ now. inr now) (next.within n f is);
+  within = λ n f is. grind (arith, nat_tests);
   work = omega (arith, first.work, next.work);
 }
 
@@ -163,8 +130,7 @@ held_next slots i from level a b c first next = finds_both (IsHeldIn slots i fro
     (λ s held. (held.0, omega (arith, held.1), held.2)) (λ s by. (i, omega arith, by))
     (λ s held. elim (cases_lt held.0 i) [
       | inl below ↦ inl (held.0, below, held.2)
-      | inr past ↦ let here : held.0 ≡ i = omega (arith, past, held.1) in
-          inr (subst (λ (j : ℕ). IsBy from (way.Slot j (slice_index_or slots j Void)) (slice_index_or slots j Void) s) here held.2)
+      | inr past ↦ grind (arith, nat_tests)
     ]) first next
 
 -- one number more that a bank may own
@@ -187,6 +153,5 @@ owned_skip os i bank level a b other = finds_same (IsOwnedBelow os i bank) (IsOw
     (λ s owned. (owned.0, owned.1, omega (arith, owned.2), owned.3, owned.4))
     (λ s owned. elim (cases_lt s.to i) [
       | inl below ↦ (owned.0, owned.1, below, owned.3, owned.4)
-      | inr past ↦ let here : s.to ≡ i = omega (arith, past, owned.2) in
-          absurd (other (ap (λ (n : ℕ). is_free (content_at os n)) (sym here) ∙ owned.3) (ap (λ (n : ℕ). owner_at os n) (sym here) ∙ owned.4))
+      | inr past ↦ grind (arith, nat_tests)
     ])

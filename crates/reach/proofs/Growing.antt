@@ -1,6 +1,6 @@
 -- What holds as more numbers are found.
-use Rattle.reach.proofs.Names.{ℕ, Bool, true, false, Option, None, Some, List, nat_lt, refl, sym, subst, ⊎_elim, inl, inr, arith, IsTrue, slice_index_or}
-use Rattle.reach.proofs.Names.{nat_tests, Capability, IsWeak, named, StaysInside, Object, is_free, content_at, owner_at, Frontier, Grows}
+use Rattle.reach.proofs.Names.{ℕ, Bool, false, Option, None, Some, List, subst, ⊎_elim, inl, inr, arith, IsTrue, slice_index_or, nat_tests, Capability, IsWeak}
+use Rattle.reach.proofs.Names.{named, StaysInside, Object, is_free, content_at, owner_at, Frontier, Grows}
 use Rattle.std.proofs.Common.{◌≡◌, ◌<◌, ◌+◌, ◌∙◌}
 
 -- a number that is named is in a set
@@ -12,17 +12,11 @@ pub named_inside : (other : ℕ → Bool) (c : Capability) (n : ℕ) → (IsWeak
 named_inside other c n strong is stays = ⊎_elim (λ weak. absurd (strong weak)) (λ inside. subst (IsIn other) is inside) stays
 
 pub grows_more : (a b c : Frontier) → Grows a b → Grows b c → Grows a c
-grows_more a b c first next = record {
-  count = next.count ∙ first.count;
-  found = λ n is. next.found n (first.found n is);
-  done = λ n is. first.done n (next.done n is);
-  work = omega (arith, first.work, next.work);
-}
+grows_more a b c first next = grind (arith, nat_tests)
 
 -- what stays inside does so in a greater set
 named_more : (old new : ℕ → Bool) (o : Option ℕ) → ((n : ℕ) → IsTrue (old n) → IsTrue (new n)) → IsIn old o → IsIn new o
-named_more old new None more inside = tt
-named_more old new (Some m) more inside = more m inside
+named_more old new o more inside = grind (arith, nat_tests)
 
 pub stays_more : (old new : ℕ → Bool) (c : Capability) → ((n : ℕ) → IsTrue (old n) → IsTrue (new n)) → StaysInside old c → StaysInside new c
 stays_more old new c more stays = ⊎_elim (λ weak. inl weak) (λ inside. inr (named_more old new (named c) more inside)) stays
@@ -31,30 +25,11 @@ stays_more old new c more stays = ⊎_elim (λ weak. inl weak) (λ inside. inr (
 pub stay_one : (old new : ℕ → Bool) (cs : List Capability) (i : ℕ) → ((n : ℕ) → IsTrue (old n) → IsTrue (new n))
     → ((k : ℕ) (d : Capability) → k < i → StaysInside old (slice_index_or cs k d)) → ((d : Capability) → StaysInside new (slice_index_or cs i d))
     → (k : ℕ) (d : Capability) → k < i + 1 → StaysInside new (slice_index_or cs k d)
-stay_one old new cs i more before one k d lt = if_lt (nat_lt k i) refl
-  where
-    if_lt : (b : Bool) → nat_lt k i ≡ b → StaysInside new (slice_index_or cs k d)
-    if_lt true is = stays_more old new (slice_index_or cs k d) more (before k d (grind (arith, nat_tests)))
-    if_lt false is =
-        let here : i ≡ k = grind (arith, nat_tests) in
-        subst (λ (j : ℕ). StaysInside new (slice_index_or cs j d)) here (one d)
-
--- numbers, with one more in a set where a test passes
-pub owned_one : (old new : ℕ → Bool) (P : ℕ → Type 0) (i : ℕ) → ((n : ℕ) → IsTrue (old n) → IsTrue (new n))
-    → ((m : ℕ) → m < i → P m → IsTrue (old m)) → (P i → IsTrue (new i)) → (m : ℕ) → m < i + 1 → P m → IsTrue (new m)
-owned_one old new P i more before one m lt passes = if_lt (nat_lt m i) refl
-  where
-    if_lt : (b : Bool) → nat_lt m i ≡ b → IsTrue (new m)
-    if_lt true is = more m (before m (grind (arith, nat_tests)) passes)
-    if_lt false is =
-        let here : m ≡ i = grind (arith, nat_tests) in
-        subst (λ (j : ℕ). IsTrue (new j)) (sym here) (one (subst P here passes))
+stay_one old new cs i more before one k d lt = grind (arith, nat_tests)
 
 -- the same of what a bank owns
 pub owned_next : (old new : ℕ → Bool) (os : List Object) (bank i : ℕ) → ((n : ℕ) → IsTrue (old n) → IsTrue (new n))
     → ((m : ℕ) → m < i → is_free (content_at os m) ≡ false → owner_at os m ≡ bank → IsTrue (old m))
     → (is_free (content_at os i) ≡ false → owner_at os i ≡ bank → IsTrue (new i))
     → (m : ℕ) → m < i + 1 → is_free (content_at os m) ≡ false → owner_at os m ≡ bank → IsTrue (new m)
-owned_next old new os bank i more before one m lt free owned =
-    owned_one old new (λ j. (is_free (content_at os j) ≡ false) × (owner_at os j ≡ bank)) i more (λ j below p. before j below p.0 p.1) (λ p. one p.0 p.1) m lt
-    (free, owned)
+owned_next old new os bank i more before one m lt free owned = grind (arith, nat_tests)

@@ -1,8 +1,7 @@
 -- What a member of a closed set holds, in a sound world.
-use Rattle.reach.proofs.Names.{ℕ, zero, suc, Bool, false, List, [], length, refl, sym, ap, subst, arith, IsTrue, slice_index_or, All, get_or_default}
-use Rattle.reach.proofs.Names.{Capability, Void, Number, Page, Node, Space, Process, Start, Resume, Bank, Discrim, Content, Object, Root, StaysInside, free}
-use Rattle.reach.proofs.Names.{is_bank, is_node, is_page, is_root, root_in, slots_in, NamesItsKind, content_at, slot_at, NamesWithin, AreSoundObjects}
-use Rattle.reach.proofs.Names.{IsClosedAt}
+use Rattle.reach.proofs.Names.{nat_tests, ℕ, zero, suc, Bool, false, List, [], length, refl, sym, ap, subst, arith, IsTrue, slice_index_or, All, get_or_default}
+use Rattle.reach.proofs.Names.{Capability, Void, Page, Node, Space, Process, Start, Resume, Bank, Content, Object, Root, StaysInside, free, is_bank, is_node}
+use Rattle.reach.proofs.Names.{is_page, is_root, root_in, slots_in, NamesItsKind, content_at, slot_at, NamesWithin, AreSoundObjects, IsClosedAt}
 use Rattle.std.proofs.Common.{◌≡◌, ◌<◌, ◌∷◌, ◌∙◌}
 use Rattle.model.specs.declared.object.Content.TheVariants as content
 
@@ -49,9 +48,7 @@ slots_stay os n slots other is closed k d lt = subst (StaysInside other) (slot_i
 -- of a root
 pub annex_inside : (os : List Object) (n : ℕ) (root : Root Capability) (other : ℕ → Bool) → content_at os n ≡ content.Root root → IsClosedAt os other n →
     IsTrue (other root.annex)
-annex_inside os n root other is closed =
-    subst (λ (a : ℕ). IsTrue (other a)) (ap (λ (x : Content Capability). (root_in x).annex) is)
-    (closed.annexes (subst (λ (x : Content Capability). IsTrue (is_root x)) (sym is) refl))
+annex_inside os n root other is closed = grind (arith, nat_tests)
 
 pub space_inside : (os : List Object) (n : ℕ) (root : Root Capability) (other : ℕ → Bool) → content_at os n ≡ content.Root root → IsClosedAt os other n →
     StaysInside other root.space

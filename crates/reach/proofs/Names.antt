@@ -4,14 +4,12 @@ pub use Rattle.capability.specs.Parts.{OnlyFetches, objects_in}
 pub use Rattle.collections.specs.Marks.{is_marked}
 pub use Rattle.model.specs.Capability.{IsWeak, named}
 pub use Rattle.model.specs.Closed.{IsClosed, StaysInside}
-unfoldable pub use Rattle.model.specs.Frame.{frames_in, objects_of}
 pub use Rattle.model.specs.Object.{free, is_bank, is_free, is_node, is_page, is_root, root_in, slots_in}
 pub use Rattle.model.specs.Sound.{NamesItsKind}
 pub use Rattle.model.specs.Text.{line_of, spaced}
 pub use Rattle.model.specs.World.{annex_at, content_at, is_process, object_at, owner_at, root_at, slot_at}
-pub use Rattle.model.specs.declared.capability.Cap.{Cap}
 pub use Rattle.model.specs.declared.capability.Capability.{Capability}
-pub use Rattle.model.specs.declared.capability.Capability.TheVariants.{Bank, Discrim, Node, Number, Page, Process, Resume, Space, Start, Void}
+pub use Rattle.model.specs.declared.capability.Capability.TheVariants.{Bank, Node, Page, Process, Resume, Space, Start, Void}
 pub use Rattle.model.specs.declared.frame.ObjectHeader.{ObjectHeader}
 pub use Rattle.model.specs.declared.object.Content.{Content}
 pub use Rattle.model.specs.declared.object.Object.{Object}
@@ -21,8 +19,8 @@ pub use Rattle.model_laws.specs.Confinement.{AreBy, IsKept, with_free}
 pub use Rattle.script.proofs.Fronts.{text_fails, writes_after, writes_fail, wrote_trans}
 pub use Rattle.script.specs.Writing.{Writes, Wrote}
 pub use Rattle.std.proofs.Common.{Bool, Err, List, None, Option, Some, Vec, [], add-one, ap, append-nil, append_assoc, arith, codes, decimal, drop, false}
-pub use Rattle.std.proofs.Common.{get_or, inl, inr, is_some, length, length-set, length-take-le, max, nat_eq, nat_lt, not, option_and_then, refl, replicate}
-pub use Rattle.std.proofs.Common.{reverse, rules, slice_set, subst, suc, sym, take, true, zero, ℕ, ⊎_elim}
+pub use Rattle.std.proofs.Common.{get_or, inl, inr, is_some, length, length-set, length-take-le, max, nat_eq, not, option_and_then, refl, replicate, reverse}
+pub use Rattle.std.proofs.Common.{rules, slice_set, subst, suc, sym, take, true, zero, ℕ, ⊎_elim}
 pub use Rattle.std.proofs.Math.Seq.{take-suc}
 pub use Rattle.std.proofs.lemmas.Bool.{cases_eq, cases_lt}
 pub use Rattle.std.proofs.lemmas.Bool.Decides.{nat_tests}

@@ -1,14 +1,13 @@
 -- What holds as levels are followed.
-use Rattle.reach.proofs.Names.{ℕ, zero, suc, true, false, Option, None, Some, List, [], length, replicate, inl, inr, ⊎_elim, refl, sym, ap, subst, arith}
-use Rattle.reach.proofs.Names.{Contains, cases_lt, nat_tests, get_or_default, length-replicate, Object, Found, Levels, Step, Begins, FindsBy, IsAfter, IsAt}
-use Rattle.reach.proofs.Names.{IsFirst, IsFoundBy, IsFoundIn, IsFrom, IsFromLevel, IsSearched, found_at, has_level, missing}
+use Rattle.reach.proofs.Names.{ℕ, zero, suc, true, false, Option, None, Some, List, [], length, replicate, inl, inr, ⊎_elim, sym, ap, subst, arith, Contains}
+use Rattle.reach.proofs.Names.{cases_lt, nat_tests, get_or_default, length-replicate, Object, Found, Levels, Step, Begins, FindsBy, IsAfter, IsAt, IsFirst}
+use Rattle.reach.proofs.Names.{IsFoundBy, IsFoundIn, IsFrom, IsFromLevel, IsSearched, found_at, has_level, missing}
 use Rattle.std.proofs.Common.{◌≡◌, ◌==◌, ◌+◌, ◌<◌, ◌≤◌, ◌∷◌, ◌∙◌, slice_index_or}
 use Rattle.reach.proofs.Finding.{finds_both, finds_same, missing_most}
 
 -- the level of what was found
 at_of : (o : Option Found) (k : ℕ) → has_level o k ≡ true → (f : Found) × (o ≡ Some f) × (f.level ≡ k)
-at_of None k test = absurd (cc)
-at_of (Some f) k test = (f, refl, grind (arith, nat_tests))
+at_of o k test = grind (arith, nat_tests)
 
 same_level : (f : Found) (k : ℕ) → f.level ≡ k → (f.level == k) ≡ true
 same_level f k is = grind (arith, nat_tests)
@@ -36,11 +35,7 @@ module _ (os : List Object) (start now : Levels) (level i : ℕ) (first : FindsB
       (λ s from. (from.0, omega (arith, from.1), from.2))
       (λ s from. elim (cases_lt s.from i) [
         | inl below ↦ (from.0, below, from.2)
-        | inr past ↦
-            let here : s.from ≡ i = omega (arith, past, from.1) in
-            let at : IsAt start i level = subst (λ (k : ℕ). IsAt start k level) here from.0 in
-            let met : has_level (found_at now i) level ≡ true = level_of (found_at now i) at.0 level (first.kept i at.0 at.1) at.2 in
-            let wrong : false ≡ true = sym test ∙ met in absurd (cc)
+        | inr past ↦ grind (arith, nat_tests, level_of)
       ]) first
 
 -- the first numbers are found
@@ -58,16 +53,7 @@ none_found (suc c) (suc n) f is = none_found c n f is
 
 pub begun_none : (os : List Object) (starts : List ℕ) (count : ℕ) (l : Levels) → l.found.items ≡ replicate count None → count ≡ length os → l.greatest ≡ 0 →
     Begun os starts 0 l
-begun_none os starts count l is same greatest = record {
-  count = counted;
-  begun = λ k d lt. absurd (omega (arith, lt));
-  first = λ n f found. absurd (none_found count n f (ap (λ (xs : List (Option Found)). slice_index_or xs n None) (sym is) ∙ found));
-  greatest = greatest;
-  work = let most : missing l.found.items ≤ length l.found.items = missing_most l.found.items in omega (arith, most, counted);
-}
-  where
-    counted : length l.found.items ≡ length os
-    counted = ap (λ (xs : List (Option Found)). length xs) is ∙ (length-replicate {A = Option Found} count None ∙ same)
+begun_none os starts count l is same greatest = grind (arith, nat_tests, none_found, missing_most, length-replicate)
 
 pub begun_next : (os : List Object) (starts : List ℕ) (i : ℕ) (old new : Levels) → Begun os starts i old → Begins (slice_index_or starts i 0) old new →
     i < length starts → Begun os starts (i + 1) new
@@ -91,19 +77,10 @@ begun_next os starts i old new begun begins lt = record {
     first_now n f is = ⊎_elim (λ before. begun.first n f before) (λ now. (now.1, contained n now.0)) (begins.each n f is)
 
     found_now : IsFoundIn new (slice_index_or starts i 0) 0
-    found_now = let level : begins.inside.0.level ≡ 0 = (first_now (slice_index_or starts i 0) begins.inside.0 begins.inside.1).0.level in
-        (begins.inside.0, begins.inside.1, omega (arith, level))
+    found_now = grind (arith, nat_tests, first_now)
 
 pub searched_first : (os : List Object) (starts : List ℕ) (i : ℕ) (l : Levels) → Begun os starts i l → length starts ≤ i → IsSearched os starts 0 l
-searched_first os starts i l begun whole = record {
-  count = begun.count;
-  begins = λ k d lt. begun.begun k d (omega (arith, whole, lt));
-  linked = λ n f is. inl (begun.first n f is);
-  continues = λ n f is lt. absurd (omega (arith, lt));
-  deepest = λ n f is. let level : f.level ≡ 0 = (begun.first n f is).0.level in omega (arith, level);
-  within = λ n f is. let level : f.level ≡ 0 = (begun.first n f is).0.level in omega (arith, level);
-  few = omega (arith, begun.work, begun.greatest);
-}
+searched_first os starts i l begun whole = grind (arith, nat_tests)
 
 -- what is found is one of the numbers
 found_below : (xs : List (Option Found)) (n : ℕ) (f : Found) → slice_index_or xs n None ≡ Some f → n < length xs
@@ -118,36 +95,16 @@ module _ (os : List Object) (starts : List ℕ) (level : ℕ) (old new : Levels)
   kept_in n k found = (found.0, finds.kept n found.0 found.1, found.2)
 
   after_before : (n : ℕ) (f : Found) → IsAfter os old n f → IsAfter os new n f
-  after_before n f after = record {
-    step = after.step;
-    is = after.is;
-    to = after.to;
-    step_is = after.step_is;
-    before = after.before;
-    from = finds.kept after.step.from after.before after.from;
-    level = after.level;
-  }
+  after_before n f after = grind (arith, nat_tests)
 
   after_now : (n : ℕ) (f : Found) → IsFoundBy (IsFromLevel os old level (length os)) (level + 1) n f → IsAfter os new n f
-  after_now n f found = record {
-    step = found.step;
-    is = found.is;
-    to = found.to;
-    step_is = found.by.2;
-    before = found.by.0.0;
-    from = finds.kept found.step.from found.by.0.0 found.by.0.1;
-    level = omega (arith, found.at, found.by.0.2);
-  }
+  after_now n f found = grind (arith, nat_tests)
 
   deepest_now : (n : ℕ) (f : Found) → found_at new n ≡ Some f → f.level ≤ level + 1
   deepest_now n f is = ⊎_elim (λ before. omega (arith, searched.deepest n f before)) (λ now. omega (arith, now.at)) (finds.each n f is)
 
   continues_here : (n : ℕ) (f : Found) → found_at old n ≡ Some f → f.level ≡ level → (s : Step) → IsFrom os n s → IsFoundIn new s.to (f.level + 1)
-  continues_here n f is at s from =
-      let lt : n < length old.found.items = found_below old.found.items n f is in
-      let found = finds.all s (subst (λ (k : ℕ). IsAt old k level) (sym from.0) (f, is, at), omega (arith, from.0, lt, searched.count), from.1) in
-      let deep : found.0.level ≤ level + 1 = deepest_now s.to found.0 found.1 in
-      (found.0, found.1, omega (arith, deep, at))
+  continues_here n f is at s from = grind (arith, nat_tests, found_below, deepest_now)
 
   continues_now : (n : ℕ) (f : Found) → found_at new n ≡ Some f → f.level < level + 1 → (s : Step) → IsFrom os n s → IsFoundIn new s.to (f.level + 1)
   continues_now n f is lt s from = ⊎_elim
@@ -158,14 +115,4 @@ module _ (os : List Object) (starts : List ℕ) (level : ℕ) (old new : Levels)
       (λ now. absurd (omega (arith, now.at, lt))) (finds.each n f is)
 
   pub searched_next : IsSearched os starts (level + 1) new
-  searched_next = record {
-    count = finds.count ∙ searched.count;
-    begins = λ k d lt. kept_in (slice_index_or starts k d) 0 (searched.begins k d lt);
-    linked = λ n f is. ⊎_elim
-        (λ before. ⊎_elim (λ first. inl first) (λ after. inr (after_before n f after)) (searched.linked n f before))
-        (λ now. inr (after_now n f now)) (finds.each n f is);
-    continues = continues_now;
-    deepest = deepest_now;
-    within = λ n f is. ⊎_elim (λ before. omega (arith, searched.within n f before, finds.later)) (λ now. now) (finds.within n f is);
-    few = omega (arith, finds.work, searched.few);
-  }
+  searched_next = grind (arith, nat_tests, kept_in, after_before, after_now, continues_now, deepest_now)

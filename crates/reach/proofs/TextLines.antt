@@ -1,5 +1,5 @@
 -- Lines, one for each of the items of a list.
-use Rattle.reach.proofs.Names.{ℕ, suc, add-one, length-take-le, List, [], length, get_or, take, drop, refl, sym, ap, append-nil, arith, flat_map}
+use Rattle.reach.proofs.Names.{nat_tests, ℕ, suc, add-one, length-take-le, List, [], length, get_or, take, drop, refl, sym, ap, append-nil, arith, flat_map}
 use Rattle.reach.proofs.Names.{enumerate_from, flat_map-append, take-append-drop, take_all, take-suc}
 use Rattle.std.proofs.Common.{◌≡◌, ◌+◌, ◌<◌, ◌≤◌, ◌∷◌, ◌++◌, ◌∙◌}
 
@@ -49,8 +49,7 @@ module _ {A : Type 0} (line : ℕ × A → List ℕ) (xs : List A) where
   pub lines_split : (i : ℕ) (d : A) → i < length xs
       → flat_map line (enumerate_from 0 xs) ≡ (lines_before i ++ line (i, get_or xs i d)) ++ flat_map line
       (enumerate_from (0 + length (take (i + 1) xs)) (drop (i + 1) xs))
-  lines_split i d lt = lines_whole (i + 1) ∙ ap (λ (t : List ℕ). t ++ flat_map line (enumerate_from (0 + length (take (i + 1) xs)) (drop (i + 1) xs)))
-      (lines_more i d lt)
+  lines_split i d lt = grind (arith, nat_tests, lines_whole, lines_more)
 
   pub lines_all : (i : ℕ) → length xs ≤ i → lines_before i ≡ flat_map line (enumerate_from 0 xs)
   lines_all i le = ap (λ (l : List A). flat_map line (enumerate_from 0 l)) (take_all i xs le)

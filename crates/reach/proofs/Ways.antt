@@ -1,11 +1,11 @@
 -- The ways from an object, by what it holds.
-use Rattle.reach.proofs.Names.{ℕ, zero, suc, false, not, List, [], length, inl, inr, refl, sym, ap, subst, arith, Capability, Void, Content, Object, Root}
-use Rattle.reach.proofs.Names.{IsWeak, is_free, slots_in, content_at, owner_at, Levels, Step, Way, Conveys, IsWay, FindsBy, IsBy, IsFrom, IsHeldIn}
+use Rattle.reach.proofs.Names.{nat_tests, ℕ, zero, suc, false, not, List, [], length, inl, inr, refl, sym, ap, subst, arith, Capability, Void, Content, Object}
+use Rattle.reach.proofs.Names.{Root, IsWeak, is_free, slots_in, content_at, owner_at, Levels, Step, Way, Conveys, IsWay, FindsBy, IsBy, IsFrom, IsHeldIn}
 use Rattle.reach.proofs.Names.{IsOwnedBelow, IsTheStep}
 use Rattle.std.proofs.Common.{◌≡◌, ◌⊎◌, ◌<◌, ◌∷◌, ◌∙◌, slice_index_or}
 use Rattle.model.specs.declared.object.Content.TheVariants as content
 use Rattle.reach.specs.declared.step.Way.TheVariants as way
-use Rattle.reach.proofs.Finding.{finds_both, finds_none, finds_same}
+use Rattle.reach.proofs.Finding.{finds_both, finds_same}
 use Rattle.reach.proofs.Members.{known}
 
 -- the steps from a number with a content
@@ -14,11 +14,7 @@ module _ (os : List Object) (n : ℕ) (x : Content Capability) (is : content_at 
   way_from from = subst (λ (y : Content Capability). IsWay os n y s.way s.to) is (subst (λ (k : ℕ). IsWay os k (content_at os k) s.way s.to) from.0 from.1)
 
   pub from_way : s.from ≡ n → IsWay os n x s.way s.to → IsFrom os n s
-  from_way same by = (
-    same,
-    subst (λ (k : ℕ). IsWay os k (content_at os k) s.way s.to) (sym same)
-        (subst (λ (y : Content Capability). IsWay os n y s.way s.to) (sym is) by),
-  )
+  from_way same by = grind (arith, nat_tests)
 
 -- nothing past the end of a list conveys anything
 conveys_within : (slots : List Capability) (i m : ℕ) → Conveys (slice_index_or slots i Void) m → i < length slots
@@ -36,11 +32,7 @@ module _ (slots : List Capability) (i : ℕ) (c : Capability) (m : ℕ) (is : sl
   held_conveys = subst (λ (d : Capability). Conveys d m) (sym is) conveys
 
   pub held_way : (from : ℕ) (s : Step) → s.from ≡ from → s.way ≡ way.Slot i c → s.to ≡ m → IsHeldIn slots (length slots) from s
-  held_way from s same by to = (
-    i,
-    conveys_within slots i m held_conveys,
-    (same, by ∙ ap (λ (d : Capability). way.Slot i d) (sym is), subst (λ (k : ℕ). Conveys (slice_index_or slots i Void) k) (sym to) held_conveys),
-  )
+  held_way from s same by to = grind (arith, nat_tests, conveys_within, held_conveys)
 
 -- of a list of slots
 slots_held : (os : List Object) (n : ℕ) (slots : List Capability) (w : Way) (m : ℕ) → IsWay os n (content.Node slots) w m → (s : Step) → s.from ≡ n →
@@ -92,12 +84,7 @@ process_ways : (os : List Object) (n : ℕ) (root : Root Capability) (w : Way) (
     → IsOfProcess n root (slots_in (content_at os root.annex)) s
 process_ways os n root way.Annex m by s same is to = inl (same, is, to ∙ sym by.1)
 process_ways os n root way.Owner m by s same is to = let wrong = by.0 in absurd (cc)
-process_ways os n root (way.Space c) m by s same is to =
-    inr (inl (
-      same,
-      is ∙ ap (λ (d : Capability). way.Space d) (sym by.0),
-      subst (λ (k : ℕ). Conveys root.space k) (sym to) (subst (λ (d : Capability). Conveys d m) (sym by.0) by.1),
-    ))
+process_ways os n root (way.Space c) m by s same is to = grind (arith, nat_tests)
 process_ways os n root (way.Slot i c) m by s same is to = inr (inr (held_way (slots_in (content_at os root.annex)) i c m by.0 by.1 n s same is to))
 
 -- All that an object has authority over was found.
@@ -136,12 +123,4 @@ module _ (os : List Object) (n level : ℕ) (a b : Levels) where
           (process_ways os n root s.way s.to (way_from os n (content.Root root) is s from) s from.0 refl refl)
 
       process_from : (s : Step) → IsOfProcess n root registers s → IsFrom os n s
-      process_from s by = elim by [
-        | inl annex ↦ from_way os n (content.Root root) is s annex.0
-            (subst (λ (w : Way). IsWay os n (content.Root root) w s.to) (sym annex.1) (refl, sym annex.2))
-        | inr (inl space) ↦ from_way os n (content.Root root) is s space.0
-            (subst (λ (w : Way). IsWay os n (content.Root root) w s.to) (sym space.1) (refl, space.2))
-        | inr (inr held) ↦ from_way os n (content.Root root) is s held.2.0
-            (subst (λ (w : Way). IsWay os n (content.Root root) w s.to) (sym held.2.1)
-            (ap (λ (l : List Capability). slice_index_or l held.0 Void) same, held.2.2))
-      ]
+      process_from s by = grind (arith, nat_tests, from_way)

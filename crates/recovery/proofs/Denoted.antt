@@ -1,7 +1,7 @@
 -- An image denotes at most one saved part, and one that denotes a saved part isn't bad.
-use Rattle.recovery.proofs.Names.{ℕ, zero, suc, List, [], refl, sym, ap, subst, ⊎_elim, inl, arith, Contains, Geometry, Saved, IsSound, Image, Disk, BadImage}
-use Rattle.recovery.proofs.Names.{one_state, SavedFrames, Holds, kept_of, frames_not_bad, saved_of, IsSoundSaved, Denotes, DenotesOne, Leaves, DenoteOneSaved}
-use Rattle.recovery.proofs.Names.{DenotedIsNotBad, DenotedIsOneOf, DenotedIsSound, IsBad}
+use Rattle.recovery.proofs.Names.{nat_tests, ℕ, zero, suc, List, [], refl, sym, ap, subst, ⊎_elim, inl, arith, Contains, Geometry, Saved, IsSound, Image, Disk}
+use Rattle.recovery.proofs.Names.{BadImage, one_state, SavedFrames, Holds, kept_of, frames_not_bad, saved_of, IsSoundSaved, Denotes, DenotesOne, Leaves}
+use Rattle.recovery.proofs.Names.{DenoteOneSaved, DenotedIsNotBad, DenotedIsOneOf, DenotedIsSound, IsBad}
 use Rattle.std.proofs.Common.{◌≡◌, ◌∷◌, ◌∙◌}
 use Rattle.recovery.proofs.Unsound.{inconsistent_is_unsound}
 
@@ -49,9 +49,7 @@ one_denoted g size c (s ∷ ss) fs denoted held = ⊎_elim (λ here. let is = de
     denoted
 
 pub denoted_one_of : DenotedIsOneOf
-denoted_one_of g h size c ss t one denoted =
-    let is = one_denoted g size c ss denoted.frames one denoted.holds in
-    (sym is.1.geometry ∙ denoted.sound.geometry, subst (Contains ss) denoted.stands is.0)
+denoted_one_of g h size c ss t one denoted = grind (arith, nat_tests, one_denoted)
 
 -- what denotes a saved part is refused for no reason
 pub denoted_not_bad : DenotedIsNotBad

@@ -9,8 +9,7 @@ pub use Rattle.checkpoint.specs.Opened.{OnlyReads}
 pub use Rattle.checkpoint.specs.Saved.{Holds, SavedFrames, kept_of}
 pub use Rattle.checkpoint.specs.Snapshots.{Snapshots}
 pub use Rattle.checkpoint.specs.Store.{Continues, FrozenFrames, OpensStore, View}
-pub use Rattle.layout.specs.declared.open_fault.OpenFault.{OpenFault}
-pub use Rattle.device.proofs.Moments.{CountsNow, ends, leaves_on, leaves_weaker}
+pub use Rattle.device.proofs.Moments.{CountsNow, ends}
 pub use Rattle.device.specs.Calls.{Only}
 pub use Rattle.device.specs.Disk.{Disk, Image}
 pub use Rattle.device.specs.Moments.{Peeks}
@@ -18,21 +17,21 @@ pub use Rattle.layout.proofs.Denoted.{frames_not_bad}
 pub use Rattle.layout.proofs.Images.{one_state}
 pub use Rattle.layout.specs.declared.bad_image.BadImage.{BadImage}
 pub use Rattle.layout.specs.declared.bad_image.BadImage.TheVariants.{BadBank, BadCapability, BadProcess}
+pub use Rattle.layout.specs.declared.open_fault.OpenFault.{OpenFault}
 unfoldable pub use Rattle.model.specs.Bank.{chain, usage}
 pub use Rattle.model.specs.Capability.{IsWellFormed}
 pub use Rattle.model.specs.Frame.{blank_frame, content_behind, conveyed, current_count, frame_at, header_at, headers, held_at, object_of, void_held}
 unfoldable pub use Rattle.model.specs.Frame.{frames_in, objects_of}
-pub use Rattle.model.specs.Keepable.{AreKeepable, Follows, IsKeepable, IsKeptCap, IsSoundFrames, MayBeKept, caps_in, world_at}
+pub use Rattle.model.specs.Keepable.{AreKeepable, Follows, IsKeepable, IsKeptCap, IsSoundFrames, MayBeKept, caps_in}
 pub use Rattle.model.specs.Machine.{Frozen, Saved, opened, touched_count}
 unfoldable pub use Rattle.model.specs.Machine.{untouched}
 pub use Rattle.model.specs.Object.{is_annex, is_bank, is_free, is_node, is_page, is_root, is_waiting, limit_in, map_content, role_number, role_of, root_in}
 pub use Rattle.model.specs.Object.{slots_in}
-pub use Rattle.model.specs.Sound.{IsSound, IsSpace, MayBeHeld, NamesItsKind, object_count}
+pub use Rattle.model.specs.Sound.{IsSound, IsSpace, MayBeHeld, NamesItsKind}
 pub use Rattle.model.specs.World.{World, annex_at, content_at, is_process, owner_at, root_at}
-pub use Rattle.model.specs.contracts.object.Role.{the_type}
 pub use Rattle.model.specs.declared.capability.Cap.{Cap}
 pub use Rattle.model.specs.declared.capability.Capability.{Capability}
-pub use Rattle.model.specs.declared.capability.Capability.TheVariants.{Bank, Discrim, Node, Number, Page, Process, Resume, Space, Start, Void}
+pub use Rattle.model.specs.declared.capability.Capability.TheVariants.{Bank, Node, Page, Void}
 pub use Rattle.model.specs.declared.frame.Frame.{Frame}
 pub use Rattle.model.specs.declared.frame.ObjectHeader.{ObjectHeader}
 pub use Rattle.model.specs.declared.geometry.Geometry.{Geometry}
@@ -46,9 +45,10 @@ pub use Rattle.model_laws.proofs.SoundParts.{IsFilled, IsFramed, IsHeld, Waits, 
 pub use Rattle.space_bank.proofs.Renewing.{unrisen}
 pub use Rattle.space_bank.specs.Banks.{AreCounted, BanksState}
 pub use Rattle.std.proofs.Common.{Bool, List, None, Option, Some, [], ap, arith, false, inl, inr, length, map, not, refl, replicate, rules, slice_index}
-pub use Rattle.std.proofs.Common.{slice_index_or, subst, suc, sym, true, vec_len, zero, zero-add, ℕ, ⊎_elim}
+pub use Rattle.std.proofs.Common.{slice_index_or, subst, suc, sym, true, vec_len, zero, ℕ, ⊎_elim}
 pub use Rattle.std.proofs.Math.ListN.{get_or-map}
-pub use Rattle.std.proofs.lemmas.Bool.{cases_eq, cases_lt, eq-eqb, eqb-true, le-ltb, lt-ltb, ltb-false, ltb-true}
+pub use Rattle.std.proofs.lemmas.Bool.{cases_lt, eq-eqb, eqb-true}
+pub use Rattle.std.proofs.lemmas.Bool.Decides.{nat_tests}
 pub use Rattle.std.proofs.lemmas.List.{ext_get_or, get_or-replicate, get_or-set_other, get_or-set_same, get_or_default, get_or_past, length-map}
 pub use Rattle.std.proofs.lemmas.List.{length-replicate}
 pub use Rattle.std.proofs.lemmas.List.Elements.{All-from_get_or}
@@ -57,12 +57,12 @@ pub use Rattle.std.proofs.lemmas.Map.Views.{Contains-from_any}
 pub use Rattle.std.specs.List.{All, Contains, list_any, range_with_len}
 pub use Rattle.std.specs.Prelude.{Err, IsErrOf, IsTrue, MatchOption, Ok, Result, nat_eq, nat_lt}
 pub use Rattle.std.specs.Vec.{vec_capacity}
-pub use Rattle.recovery.specs.Consistency.{AreBanked, AreLimited, AreNamed, AreOwned, AreWholeProcesses, IsAboveLimit, IsAnnexFor, IsInconsistent, IsNamed}
-pub use Rattle.recovery.specs.Consistency.{IsRootOf, IsUnbanked, NamesItsRole, Tells, annex_in, is_waiting_root, owner_of, role_at}
+pub use Rattle.recovery.specs.Consistency.{AreBanked, AreLimited, AreNamed, AreOwned, AreWholeProcesses, IsAboveLimit, IsInconsistent, IsNamed, IsRootOf}
+pub use Rattle.recovery.specs.Consistency.{IsUnbanked, NamesItsRole, Tells, annex_in, is_waiting_root, owner_of, role_at}
 pub use Rattle.recovery.specs.ConsistencyLaws.{ConsistentIsSound, InconsistentIsUnsound}
 pub use Rattle.recovery.specs.Denotes.{Denotes, DenotesOne, IsSoundSaved, Leaves, saved_of}
 pub use Rattle.recovery.specs.Laws.{DenoteOneSaved, DenotedIsNotBad, DenotedIsOneOf, DenotedIsSound}
-pub use Rattle.recovery.specs.Live.{AreSoundTogether, base_of, frozen_of, running}
+pub use Rattle.recovery.specs.Live.{AreSoundTogether, base_of, running}
 unfoldable pub use Rattle.recovery.specs.Live.{renewed_since}
 pub use Rattle.recovery.specs.Noted.{AreNoted, AreTaken, IsTaking, is_taken, note_at, noted_in}
 pub use Rattle.recovery.specs.Recovered.{IsBad, IsWhy, Recovers, RefusesToOpen}

@@ -1,14 +1,13 @@
 -- A device that was opened, and one that was refused.
-use Rattle.recovery.proofs.Names.{ℕ, Bool, Option, None, Some, List, refl, sym, ap, subst, inr, arith, Result, Ok, Err, IsErrOf, Frame, ObjectHeader, Geometry}
-use Rattle.recovery.proofs.Names.{frames_in, objects_of, IsSoundFrames, world_at, Frozen, Saved, opened, touched_count, untouched, World, Only, Image, Disk}
-use Rattle.recovery.proofs.Names.{Peeks, CountsNow, ends, leaves_on, leaves_weaker, BadImage, OpenFault, OnlyReads, Holds, OnlyFetches, Parts, frames_of}
-use Rattle.recovery.proofs.Names.{objects_in, untouched_count, Snapshots, FrozenFrames, Continues, OpensStore, View, unrisen, AreCounted, BanksState}
-use Rattle.recovery.proofs.Names.{IsInconsistent, Live, saved_of, IsSoundSaved, IsWhy, Recovers, RefusesToOpen, AreSoundTogether, base_of, frozen_of}
-use Rattle.recovery.proofs.Names.{renewed_since, running}
+use Rattle.recovery.proofs.Names.{nat_tests, ℕ, Bool, Option, None, List, refl, sym, ap, subst, inr, arith, Result, Ok, Err, IsErrOf, Frame, ObjectHeader}
+use Rattle.recovery.proofs.Names.{Geometry, frames_in, IsSoundFrames, Frozen, Saved, opened, touched_count, untouched, World, Only, Image, Disk, Peeks}
+use Rattle.recovery.proofs.Names.{CountsNow, ends, BadImage, OpenFault, OnlyReads, Holds, OnlyFetches, Parts, frames_of, objects_in, untouched_count, Snapshots}
+use Rattle.recovery.proofs.Names.{FrozenFrames, Continues, OpensStore, View, unrisen, AreCounted, BanksState, IsInconsistent, Live, saved_of, IsSoundSaved}
+use Rattle.recovery.proofs.Names.{IsWhy, Recovers, RefusesToOpen, AreSoundTogether, base_of, running}
 use Rattle.std.proofs.Common.{◌≡◌, ◌↔◌, ◌<◌, ◌≤◌, ◌∙◌}
 use Rattle.layout.specs.declared.open_fault.OpenFault.TheVariants as fault
 use Rattle.recovery.proofs.Denoted.{leaves_saved}
-use Rattle.recovery.proofs.Renewed.{allocations_at, base_saved, none_renewed}
+use Rattle.recovery.proofs.Renewed.{base_saved, none_renewed}
 
 -- a machine whose parts are those of an opened one
 opened_by : (g : Geometry) (at : Saved) (now : World) (touched renewed : List Bool) (frozen : Option Frozen) (to_move : ℕ) → now ≡ at.world →
@@ -19,15 +18,7 @@ opened_by g at now touched renewed frozen to_move a b c d e = cc
 -- two reads of a device are one, where a crash leaves what a read gives
 only_reads_on : (old mid new : Disk) → OnlyReads old mid → Only mid.seen mid → new.sectors ≡ mid.sectors → Peeks mid new → CountsNow new →
     new.may_leave new.seen → OnlyReads old new
-only_reads_on old mid new first durable size peeks counts_now seen_left =
-    let crash : (c : Image) → new.may_leave c → mid.may_leave c = λ c left. ends {old = mid} {new = new} {P = mid.may_leave} peeks counts_now c left in
-    record {
-      size = size ∙ first.size;
-      seen = λ i. durable new.seen (crash new.seen seen_left) i ∙ first.seen i;
-      crash = λ c left. first.crash c (crash c left);
-      any_moment = leaves_on {old = old} {mid = mid} {new = new} {P = old.may_leave} first.any_moment
-          (leaves_weaker {old = mid} {new = new} {P = mid.may_leave} old.may_leave first.crash peeks);
-    }
+only_reads_on old mid new first durable size peeks counts_now seen_left = grind (arith, nat_tests)
 
 -- and it still does
 durable_on : (mid new : Disk) → Only mid.seen mid → Peeks mid new → CountsNow new → new.may_leave new.seen → Only new.seen new
@@ -49,8 +40,7 @@ module _ {D S : Type 0} (disk : D → Disk) (view : S → View D) (parts : S →
   still_untouched = ap touched_count (same.touched ∙ opens.touched) ∙ untouched_count (view s).snapshots.saved.geometry
 
   looked : OnlyReads (disk device) (disk (view t).beneath)
-  looked = only_reads_on (disk device) (disk (view s).beneath) (disk (view t).beneath) opens.only_reads opens.durable continues.size
-      (peeks still_untouched opens.frozen) (counts_now (view t).beneath) (seen_left (view t).beneath)
+  looked = search (arith, nat_tests, only_reads_on, still_untouched)
 
   -- it was refused
   pub refuses : (why : OpenFault) → (disk (view s).beneath).failures ≤ (disk (view t).beneath).failures →
@@ -63,8 +53,7 @@ module _ {D S : Type 0} (disk : D → Disk) (view : S → View D) (parts : S →
       stayed : (why : OpenFault) → (why ≡ fault.Failed → ⊥) → (disk (view s).beneath).failures ≤ (disk (view t).beneath).failures →
           ((why ≡ fault.Failed) ↔ ((disk (view s).beneath).failures < (disk (view t).beneath).failures)) →
           (disk (view t).beneath).failures ≡ (disk device).failures
-      stayed why other later cause = unrisen (disk (view s).beneath).failures (disk (view t).beneath).failures later (λ rose. other (cause.1 rose)) ∙
-          opens.failures
+      stayed why other later cause = grind (arith, nat_tests, unrisen)
 
       reported : (why : OpenFault) → (disk (view s).beneath).failures ≤ (disk (view t).beneath).failures →
           ((why ≡ fault.Failed) ↔ ((disk (view s).beneath).failures < (disk (view t).beneath).failures)) →
@@ -99,36 +88,17 @@ module _ {D S : Type 0} (disk : D → Disk) (view : S → View D) (parts : S →
     now_sound = subst (λ (X : Type 0). X) (λ k. IsSoundFrames (geometry k) age (sym same_frames k)) sound
 
     saved_sound : IsSoundSaved (view t).snapshots.saved.geometry (view t).snapshots.saved
-    saved_sound = record {
-      geometry = refl;
-      sound = subst (λ (X : Type 0). X) (λ k. IsSoundFrames (view t).snapshots.saved.geometry (age_saved k) (frames k)) now_sound;
-    }
+    saved_sound = grind (arith, nat_tests, age_saved, frames, now_sound)
 
     base_is : base_of (view t).snapshots ≡ frames_of (parts t)
     base_is = base_saved (view t).snapshots frozen ∙ sym frames
 
     is_sound : AreSoundTogether (view t).snapshots.saved.geometry (parts t) (view t).snapshots banks age age
-    is_sound = record {
-      geometry = geometry_is t;
-      now = now_sound;
-      counted = subst (λ (X : Type 0). X) (λ k. AreCounted (geometry k) (objects_of (sym same_frames k)) banks) counted;
-      frozen = λ f is. absurd (let never : None ≡ Some f = sym frozen ∙ is in cc);
-      saved = saved_sound;
-      order = omega (arith, age_saved);
-      risen = λ n. subst (λ (fs : List Frame). allocations_at fs n ≤ allocations_at (frames_of (parts t)) n) (sym base_is) (omega arith);
-    }
+    is_sound = grind (arith, nat_tests, now_sound, geometry, same_frames, frozen, saved_sound, age_saved, base_is)
 
     at_saved : running disk view parts live ≡ opened (view t).snapshots.saved.geometry (saved_of (view t).snapshots.saved)
     unfolding live
-    at_saved =
-        let a = (view t).snapshots in
-        let g = a.saved.geometry in
-        opened_by g (saved_of a.saved) (world_at age (frames_of (parts t))) (parts t).touched (renewed_since (base_of a) (frames_of (parts t)))
-        (frozen_of age a.frozen) a.to_move (ap (λ (n : ℕ). world_at n (frames_of (parts t))) age_saved ∙ ap (world_at a.saved.age) frames)
-        (same.touched ∙ opens.touched ∙ ap (λ (x : Snapshots FrozenFrames). untouched x.saved.geometry) (sym continues.snapshots))
-        (ap (λ (fs : List Frame). renewed_since fs (frames_of (parts t))) base_is ∙ none_renewed g (frames_of (parts t)) now_sound.keepable.count)
-        (ap (frozen_of age) frozen) (ap (λ (x : Snapshots FrozenFrames). x.to_move) continues.snapshots ∙ opens.to_move ∙
-        ap (λ (x : Snapshots FrozenFrames). x.saved.entries) (sym continues.snapshots))
+    at_saved = grind (arith, nat_tests, opened_by, age_saved, frames, base_is, none_renewed, now_sound, frozen)
 
     pub recovers : Recovers disk view parts device (record { store = t; banks = banks; age = age; frozen_age = age })
     unfolding live
@@ -160,11 +130,7 @@ module _ (p q : Parts) (old new : Disk) (before : p.failures ≡ old.failures) (
 
   pub refused_cause : {T : Type 0} (why : OpenFault) → ((let r : Result T OpenFault = Err why in IsErrOf r fault.Failed) ↔ (p.failures < q.failures)) →
       (why ≡ fault.Failed) ↔ (old.failures < new.failures)
-  refused_cause {T} why cause = (
-    λ is. let rose : p.failures < q.failures = cause.0 (ap (λ (e : OpenFault). let r : Result T OpenFault = Err e in r) is) in omega
-        (arith, rose, before, after),
-    λ rose. let reported = cause.1 (omega (arith, rose, before, after)) in cc,
-  )
+  refused_cause {T} why cause = grind (arith, nat_tests)
 
 -- the reason of a refusal, as that of an answer
 pub refused_for : {T : Type 0} (why : OpenFault) {P : BadImage → Type 0} → ((reason : BadImage) →

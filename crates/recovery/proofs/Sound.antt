@@ -1,10 +1,9 @@
 -- Consistent frames are sound, part by part.
-use Rattle.recovery.proofs.Names.{ℕ, inl, inr, Bool, true, false, List, map, length, slice_index, slice_index_or, refl, sym, ap, subst, arith, nat_lt, All}
-use Rattle.recovery.proofs.Names.{get_or-map, cases_lt, ltb-false, get_or_past, length-map, Cap, Capability, Void, Number, Page, Node, Space, Process, Start}
-use Rattle.recovery.proofs.Names.{Resume, Bank, Discrim, Frame, Geometry, Content, IsWellFormed, blank_frame, conveyed, current_count, frame_at, headers}
-use Rattle.recovery.proofs.Names.{objects_of, void_held, AreKeepable, Follows, IsKeepable, IsKeptCap, MayBeKept, caps_in, map_content, IsSpace, MayBeHeld}
-use Rattle.recovery.proofs.Names.{object_count, annex_at, IsFilled, IsFramed, IsHeld, Waits, held_from, held_void, nearly_to, HaveTheirRoles, keepable_roles}
-use Rattle.recovery.proofs.Names.{AreBanked, AreWholeProcesses, IsNamed, ConsistentIsSound, kind_map}
+use Rattle.recovery.proofs.Names.{nat_tests, ℕ, inl, inr, Bool, List, map, length, slice_index, slice_index_or, refl, sym, ap, subst, arith, nat_lt, All}
+use Rattle.recovery.proofs.Names.{get_or-map, cases_lt, get_or_past, length-map, Cap, Capability, Void, Page, Node, Bank, Frame, Geometry, Content}
+use Rattle.recovery.proofs.Names.{IsWellFormed, conveyed, current_count, frame_at, headers, objects_of, void_held, AreKeepable, Follows, IsKeepable, IsKeptCap}
+use Rattle.recovery.proofs.Names.{MayBeKept, caps_in, map_content, IsSpace, MayBeHeld, annex_at, IsFilled, IsFramed, IsHeld, Waits, held_from, held_void}
+use Rattle.recovery.proofs.Names.{nearly_to, HaveTheirRoles, keepable_roles, AreBanked, AreWholeProcesses, IsNamed, ConsistentIsSound, kind_map}
 use Rattle.std.proofs.Common.{◌≡◌, ◌^◌, ◌<◌, ◌≤◌, ◌∙◌}
 use Rattle.std.specs.Prelude.{if◌then◌else◌}
 use Rattle.model.specs.declared.object.Content.TheVariants as content
@@ -13,31 +12,11 @@ use Rattle.recovery.proofs.Standing.{role_bank, role_free, root_of}
 
 -- what follows of a capability that is kept
 follows_formed : (g : Geometry) (age count : ℕ) (c : Capability) → Follows g age count c → IsWellFormed c
-follows_formed g age count (Number n) f = f.0
-follows_formed g age count (Page o a) f = f.0
-follows_formed g age count (Node o a) f = f.0
-follows_formed g age count (Space o h a) f = (f.1, f.2, f.0)
-follows_formed g age count (Start p key) f = f.0
-follows_formed g age count other f = tt
+follows_formed g age count c f = grind (arith, nat_tests)
 
 -- a frame that can be kept stands at each number, since what isn't there is free
 pub kept_at : (g : Geometry) (age : ℕ) (fs : List Frame) → AreKeepable g age fs → (n : ℕ) → IsKeepable g age n (frame_at fs n)
-kept_at g age fs k n = elim (cases_lt n (object_count g)) [
-  | inl known ↦ k.each n known
-  | inr past ↦
-      let blank : IsKeepable g age n blank_frame = record {
-        kind = tt;
-        kept = record {
-          role = refl;
-          allocations = (omega arith, omega arith);
-          calls = (omega arith, omega arith);
-          owner = omega arith;
-          unowned = λ _. refl;
-          content = tt;
-        };
-      } in
-      subst (λ (f : Frame). IsKeepable g age n f) (sym (get_or_past fs n blank_frame (omega (arith, k.count)))) blank
-]
+kept_at g age fs k n = grind (arith, nat_tests, get_or_past)
 
 module _ (g : Geometry) (age : ℕ) (fs : List Frame) (k : AreKeepable g age fs) where
   roles : HaveTheirRoles fs
@@ -46,10 +25,7 @@ module _ (g : Geometry) (age : ℕ) (fs : List Frame) (k : AreKeepable g age fs)
   -- what a held capability conveys may be held
   conveyed_by : (c : Cap) → Follows g age c.count c.what → IsNamed fs c → (b : Bool) → nat_lt c.count (current_count (headers fs) c.what) ≡ b →
       MayBeHeld (objects_of fs) (if b then Void else c.what)
-  conveyed_by c f named true stale = (tt, tt)
-  conveyed_by c f named false live =
-      let above : current_count (headers fs) c.what ≤ c.count = ltb-false c.count (current_count (headers fs) c.what) live in
-      (follows_formed g age c.count c.what f, names_kind fs roles c.what (named.live (omega (arith, above, named.current))))
+  conveyed_by c f named b stale = grind (arith, nat_tests, follows_formed, names_kind, roles)
 
   held : (c : Cap) → Follows g age c.count c.what → IsNamed fs c → MayBeHeld (objects_of fs) (conveyed (headers fs) c)
   held c f named = conveyed_by c f named (nat_lt c.count (current_count (headers fs) c.what)) refl
@@ -59,51 +35,22 @@ module _ (g : Geometry) (age : ℕ) (fs : List Frame) (k : AreKeepable g age fs)
   held_each slots kept named i =
       subst (λ (c : Capability). IsHeld (objects_of fs) (Waits (objects_of fs)) c) (sym (get_or-map (conveyed (headers fs)) slots i void_held))
       (elim (cases_lt i (length slots)) [
-        | inl inside ↦
-            let c = slice_index_or slots i void_held in
-            held_from (objects_of fs) (conveyed (headers fs) c) (held c (kept i void_held inside) (named i void_held inside))
-        | inr past ↦
-            subst (λ (c : Cap). IsHeld (objects_of fs) (Waits (objects_of fs)) (conveyed (headers fs) c)) (sym (get_or_past slots i void_held past))
-            (held_void (objects_of fs) (Waits (objects_of fs)))
+        | inl inside ↦ grind (arith, nat_tests, held_from, held)
+        | inr past ↦ grind (arith, nat_tests, get_or_past, held_void)
       ])
 
   space_by : (c : Capability) (b : Bool) → IsSpace c → IsSpace (if b then Void else c)
-  space_by c true is = tt
-  space_by c false is = is
+  space_by c b is = grind (arith, nat_tests)
 
   words_fit : (words : List ℕ) → All (λ w. w < 2 ^ 64) words → (i : ℕ) → slice_index words i < 2 ^ 64
-  words_fit words each i = elim (cases_lt i (length words)) [
-    | inl inside ↦ each i 0 inside
-    | inr past ↦ omega (arith, get_or_past words i 0 past)
-  ]
+  words_fit words each i = grind (arith, nat_tests, get_or_past)
 
   -- what a kept content conveys is filled
   filled : (c : Content Cap) → MayBeKept g age c → All (IsNamed fs) (caps_in c) →
       IsFilled (objects_of fs) (Waits (objects_of fs)) (map_content (conveyed (headers fs)) c)
-  filled content.Free kept named = record {
-    shape = tt;
-    words = λ i. omega arith;
-    slots = λ i. held_void (objects_of fs) (Waits (objects_of fs));
-    register_0 = λ annex. cc;
-    space = held_void (objects_of fs) (Waits (objects_of fs));
-    is_space = tt;
-  }
-  filled (content.Page words) kept named = record {
-    shape = kept.count_is;
-    words = words_fit words kept.each;
-    slots = λ i. held_void (objects_of fs) (Waits (objects_of fs));
-    register_0 = λ annex. cc;
-    space = held_void (objects_of fs) (Waits (objects_of fs));
-    is_space = tt;
-  }
-  filled (content.Node slots) kept named = record {
-    shape = length-map slots (conveyed (headers fs)) ∙ kept.count;
-    words = λ i. omega arith;
-    slots = held_each slots kept.each named;
-    register_0 = λ annex. cc;
-    space = held_void (objects_of fs) (Waits (objects_of fs));
-    is_space = tt;
-  }
+  filled content.Free kept named = grind (arith, nat_tests, held_void)
+  filled (content.Page words) kept named = grind (arith, nat_tests, words_fit, held_void)
+  filled (content.Node slots) kept named = grind (arith, nat_tests, length-map, held_each, held_void)
   filled (content.Root r) kept named = record {
     shape = (kept.0.count_is, words_fit r.words kept.0.each, kept.1);
     words = λ i. omega arith;
@@ -120,14 +67,7 @@ module _ (g : Geometry) (age : ℕ) (fs : List Frame) (k : AreKeepable g age fs)
     space = held_void (objects_of fs) (Waits (objects_of fs));
     is_space = tt;
   }
-  filled (content.Bank limit) kept named = record {
-    shape = kept;
-    words = λ i. omega arith;
-    slots = λ i. held_void (objects_of fs) (Waits (objects_of fs));
-    register_0 = λ annex. cc;
-    space = held_void (objects_of fs) (Waits (objects_of fs));
-    is_space = tt;
-  }
+  filled (content.Bank limit) kept named = grind (arith, nat_tests, held_void)
 
   framed : AreWholeProcesses fs → AreBanked fs → IsFramed g (objects_of fs)
   framed whole banked = record {
@@ -144,8 +84,7 @@ module _ (g : Geometry) (age : ℕ) (fs : List Frame) (k : AreKeepable g age fs)
         let process = process_of fs found.0 a found.1 in
         (found.0, process.0, process.1);
     unowned = λ n free. owner_is fs n ∙ (kept_at g age fs k n).kept.unowned (free_role fs roles n free);
-    owners = λ n used.
-        rw (owner_is fs n) (role_bank fs roles (frame_at fs n).header.owner (banked.owned.owners n (λ free. used (role_free fs roles n free))));
+    owners = grind (arith, nat_tests, owner_is, role_bank, roles, role_free);
     prime = (role_bank fs roles 0 banked.owned.prime.0, owner_is fs 0 ∙ banked.owned.prime.1);
     chains = λ b bank. banked.owned.chains b (bank_role fs roles b bank);
     limits = λ b bank. rw (limit_is fs b) (banked.limited b (bank_role fs roles b bank));

@@ -1,11 +1,10 @@
 -- What stands at a number, of frames and of the objects that they stand for.
-use Rattle.recovery.proofs.Names.{ℕ, zero, suc, Bool, true, List, Option, Some, length, refl, sym, ap, IsTrue, get_or-map, eqb-true, length-map, Cap}
-use Rattle.recovery.proofs.Names.{Capability, Void, Number, Page, Node, Space, Process, Start, Resume, Bank, Discrim, Frame, Content, Object, Role, blank_frame}
-use Rattle.recovery.proofs.Names.{conveyed, frame_at, header_at, headers, object_of, objects_of, is_annex, is_bank, is_free, is_node, is_page, is_root}
-use Rattle.recovery.proofs.Names.{is_waiting, limit_in, map_content, role_number, role_of, root_in, NamesItsKind, annex_at, content_at, is_process, owner_at}
-use Rattle.recovery.proofs.Names.{root_at, HaveTheirRoles, mapped, IsRootOf, NamesItsRole, annex_in, is_waiting_root, owner_of, role_at}
+use Rattle.recovery.proofs.Names.{arith, nat_tests, ℕ, zero, suc, Bool, true, List, Option, Some, length, sym, ap, IsTrue, get_or-map, eqb-true, length-map}
+use Rattle.recovery.proofs.Names.{Cap, Capability, Page, Node, Bank, Frame, Content, Object, Role, blank_frame, conveyed, frame_at, header_at, headers}
+use Rattle.recovery.proofs.Names.{object_of, objects_of, is_annex, is_bank, is_free, is_node, is_page, is_root, is_waiting, limit_in, map_content, role_number}
+use Rattle.recovery.proofs.Names.{role_of, root_in, NamesItsKind, annex_at, content_at, is_process, owner_at, root_at, HaveTheirRoles, mapped, IsRootOf}
+use Rattle.recovery.proofs.Names.{NamesItsRole, annex_in, is_waiting_root, owner_of, role_at}
 use Rattle.std.proofs.Common.{◌≡◌, ◌==◌, ◌∙◌}
-use Rattle.model.specs.declared.object.Content.TheVariants as content
 use Rattle.model.specs.declared.object.Role.TheVariants as role
 
 -- the header, the content and the owner at a number
@@ -38,8 +37,7 @@ role_from _ = role.Bank
 
 from_number : (r : Role) → role_from (role_number r) ≡ r
 unfolding role_from
-from_number role.Free = refl
-from_number other = refl
+from_number r = grind (arith, nat_tests)
 
 -- roles of one number are the same
 pub is_same : (r s : Role) → is r s ≡ true → r ≡ s
@@ -54,37 +52,30 @@ record AreTested {C : Type 0} (c : Content C) : Type 0 where
   bank : is_bank c ≡ is (role_of c) role.Bank
 
 tested : {C : Type 0} (c : Content C) → AreTested c
-tested content.Free = record { free = refl; page = refl; node = refl; root = refl; annex = refl; bank = refl }
-tested other = record { free = refl; page = refl; node = refl; root = refl; annex = refl; bank = refl }
+tested {C} c = grind (arith, nat_tests)
 
 -- roots, whatever capabilities they hold
 annex_map : (f : Cap → Capability) (c : Content Cap) → annex_in (map_content f c) ≡ annex_in c
-annex_map f content.Free = refl
-annex_map f other = refl
+annex_map f c = grind (arith, nat_tests)
 
 waiting_map : (f : Cap → Capability) (c : Content Cap) → is_waiting_root (map_content f c) ≡ is_waiting_root c
-waiting_map f content.Free = refl
-waiting_map f other = refl
+waiting_map f c = grind (arith, nat_tests)
 
 root_annex : (c : Content Capability) → is_root c ≡ true → annex_in c ≡ Some (root_in c).annex
-root_annex (content.Root r) root = refl
-root_annex other root = cc
+root_annex c root = grind (arith, nat_tests)
 
 -- one number in an option
 pub some_same : (a b : ℕ) → (let x : Option ℕ = Some a in x) ≡ Some b → a ≡ b
 some_same a b same = cc
 
 annex_root : (c : Content Capability) (a : ℕ) → annex_in c ≡ Some a → IsTrue (is_root c) × ((root_in c).annex ≡ a)
-annex_root (content.Root r) a root = (refl, some_same r.annex a root)
-annex_root other a root = cc
+annex_root c a root = grind (arith, nat_tests)
 
 waiting_root : (c : Content Capability) → is_waiting_root c ≡ true → IsTrue (is_root c) × IsTrue (is_waiting (root_in c).state)
-waiting_root (content.Root r) waits = (refl, waits)
-waiting_root other waits = cc
+waiting_root c waits = grind (arith, nat_tests)
 
 root_waiting : (c : Content Capability) → is_waiting_root c ≡ is_waiting (root_in c).state
-root_waiting content.Free = refl
-root_waiting other = refl
+root_waiting c = grind (arith, nat_tests)
 
 pub limit_is : (fs : List Frame) (n : ℕ) → limit_in (content_at (objects_of fs) n) ≡ limit_in (frame_at fs n).content
 limit_is fs n = ap (λ (c : Content Capability). limit_in c) (content_is fs n) ∙ (mapped (conveyed (headers fs)) (frame_at fs n).content).limit
@@ -159,21 +150,7 @@ module _ (fs : List Frame) (roles : HaveTheirRoles fs) (n : ℕ) where
 -- what a capability names
 module _ (fs : List Frame) (roles : HaveTheirRoles fs) where
   pub names_kind : (c : Capability) → NamesItsRole fs c → NamesItsKind (objects_of fs) c
-  names_kind (Page o a) names = role_page fs roles o names
-  names_kind (Node o a) names = role_node fs roles o names
-  names_kind (Space o h a) names = role_node fs roles o names
-  names_kind (Process p) names = role_root fs roles p names
-  names_kind (Start p key) names = role_root fs roles p names
-  names_kind (Resume p) names = waiting_of fs p names
-  names_kind (Bank b) names = role_bank fs roles b names
-  names_kind other names = tt
+  names_kind c names = grind (arith, nat_tests, role_page, role_node, role_root, waiting_of, role_bank)
 
   pub names_role : (c : Capability) → NamesItsKind (objects_of fs) c → NamesItsRole fs c
-  names_role (Page o a) names = page_role fs roles o names
-  names_role (Node o a) names = node_role fs roles o names
-  names_role (Space o h a) names = node_role fs roles o names
-  names_role (Process p) names = root_role fs roles p names
-  names_role (Start p key) names = root_role fs roles p names
-  names_role (Resume p) names = waits_of fs p names.1
-  names_role (Bank b) names = bank_role fs roles b names
-  names_role other names = tt
+  names_role c names = grind (arith, nat_tests, page_role, node_role, root_role, waits_of, bank_role)

@@ -1,6 +1,6 @@
 -- What the table of headers and the contents in memory say of frames.
-use Rattle.recovery.proofs.Names.{ℕ, inl, inr, List, length, sym, ap, arith, cases_lt, get_or_past, Cap, Frame, ObjectHeader, Content, blank_frame, frame_at}
-use Rattle.recovery.proofs.Names.{frames_in, header_at, headers, held_at, Parts, frames_of, frame_in, headers_in, length_in, role_at}
+use Rattle.recovery.proofs.Names.{nat_tests, ℕ, List, length, sym, ap, arith, get_or_past, Cap, Frame, ObjectHeader, Content, blank_frame, frame_at, header_at}
+use Rattle.recovery.proofs.Names.{headers, held_at, Parts, frames_of, frame_in, headers_in, length_in, role_at}
 use Rattle.std.proofs.Common.{◌≡◌, ◌<◌, ◌≤◌, ◌∙◌}
 use Rattle.model.specs.declared.object.Role.TheVariants as role
 use Rattle.recovery.proofs.Standing.{header_is}
@@ -25,10 +25,7 @@ pub frame_beyond : (p : Parts) (n : ℕ) → length p.headers ≤ n → frame_at
 frame_beyond p n past = get_or_past (frames_of p) n blank_frame (omega (arith, length_in p.headers p.contents, past))
 
 pub role_known : (p : Parts) (n : ℕ) → (role_at (frames_of p) n ≡ role.Free → ⊥) → n < length p.headers
-role_known p n used = elim (cases_lt n (length p.headers)) [
-  | inl inside ↦ inside
-  | inr past ↦ absurd (used (ap (λ (f : Frame). f.header.role) (frame_beyond p n past)))
-]
+role_known p n used = grind (arith, nat_tests, frame_beyond)
 
 pub annex_known : (p : Parts) (n : ℕ) → role_at (frames_of p) n ≡ role.Annex → n < length p.headers
 annex_known p n annex = role_known p n (λ free. let wrong : role.Annex ≡ role.Free = sym annex ∙ free in cc)
@@ -38,5 +35,4 @@ bank_known p n bank = role_known p n (λ free. let wrong : role.Bank ≡ role.Fr
 
 -- a read-only call leaves the frames
 pub frames_looked : (old now : Parts) → now.headers ≡ old.headers → now.contents ≡ old.contents → frames_of now ≡ frames_of old
-frames_looked old now hs cs =
-    ap (λ (ks : List ObjectHeader). frames_in ks now.contents) hs ∙ ap (frames_in old.headers) cs
+frames_looked old now hs cs = grind (arith, nat_tests)

@@ -1,5 +1,5 @@
 -- Banks: their tree, their chains and their limits.
-use Rattle.recovery.proofs.Names.{ℕ, zero, suc, Bool, true, false, List, [], length, map, slice_index, slice_index_or, zero-add, refl, sym, ap, arith, IsTrue}
+use Rattle.recovery.proofs.Names.{nat_tests, ℕ, zero, suc, Bool, true, List, [], length, map, slice_index, slice_index_or, refl, sym, ap, arith, IsTrue}
 use Rattle.recovery.proofs.Names.{MatchOption, nat_eq, Contains, list_any, range_with_len, eqb-true, eq-eqb, get_or-map-range_with_len}
 use Rattle.recovery.proofs.Names.{length-map-range_with_len, Contains-from_any, Frame, ObjectHeader, Geometry, chain, usage, frame_at, objects_of, AreKeepable}
 use Rattle.recovery.proofs.Names.{is_bank, limit_in, content_at, IsTree, HaveTheirRoles, Parts, frames_of, objects_in, keepable_roles, Unbanked, AreBanked}
@@ -13,8 +13,7 @@ use Rattle.recovery.proofs.Standing.{bank_role, free_role, limit_is, owner_is, r
 use Rattle.recovery.proofs.Tables.{bank_known, role_known}
 
 after : (a b : Bool) → b ≡ true → (a || b) ≡ true
-after true b so = refl
-after false b so = so
+after a b so = grind (arith, nat_tests)
 
 -- a number in a list, and the test for it
 any_of : (xs : List ℕ) → Contains xs 0 → list_any (nat_eq 0) xs ≡ true
@@ -39,11 +38,7 @@ module _ (p : Parts) (hs : List ObjectHeader) (count n : ℕ) (table : hs ≡ p.
   pub owned_whole : (role_at (frames_of p) 0 ≡ role.Bank) × (owner_of (frames_of p) 0 ≡ 0) →
       ((m : ℕ) → m < n → role_at (frames_of p) m ≢ role.Free → role_at (frames_of p) (owner_of (frames_of p) m) ≡ role.Bank) →
       ((b : ℕ) → b < n → role_at (frames_of p) b ≡ role.Bank → Contains (chain (objects_in p) b) 0) → AreOwned (frames_of p)
-  owned_whole prime owners chains = record {
-    prime = prime;
-    owners = λ m used. owners m (known_before m used) used;
-    chains = λ b bank. chains b (known_before b (λ free. let wrong : role.Bank ≡ role.Free = sym bank ∙ free in cc)) bank;
-  }
+  owned_whole prime owners chains = grind (arith, nat_tests, known_before)
 
 -- owned objects are a tree
 module _ (g : Geometry) (age : ℕ) (fs : List Frame) (k : AreKeepable g age fs) where
@@ -73,10 +68,7 @@ module _ (g : Geometry) (age : ℕ) (p : Parts) (k : AreKeepable g age (frames_o
     limits_count = ap (λ (xs : List ℕ). length xs) are ∙ length-map-range_with_len (λ n. limit_in (content_at (objects_in p) n)) 0 count
 
     limit_there : (b : ℕ) → b < count → slice_index limits b ≡ limit_in (frame_at (frames_of p) b).content
-    limit_there b inside =
-        ap (λ (xs : List ℕ). slice_index xs b) are
-        ∙ get_or-map-range_with_len (λ n. limit_in (content_at (objects_in p) n)) 0 count b b 0 inside (zero-add b)
-        ∙ limit_is (frames_of p) b
+    limit_there b inside = grind (arith, nat_tests, get_or-map-range_with_len, limit_is)
 
     below : ((b : ℕ) → role_at (frames_of p) b ≡ role.Bank → slice_index usages b ≤ slice_index limits b) → AreLimited (frames_of p)
     below low b bank =

@@ -1,31 +1,23 @@
 -- What follows of sound frames: no reason of inconsistency.
-use Rattle.recovery.proofs.Names.{ℕ, List, Option, Some, map, slice_index_or, refl, sym, ap, subst, arith, IsTrue, All, get_or-map, le-ltb, All-from_get_or}
-use Rattle.recovery.proofs.Names.{Cap, Capability, Void, Frame, ObjectHeader, Geometry, Content, usage, conveyed, current_count, frame_at, headers, objects_of}
-use Rattle.recovery.proofs.Names.{void_held, IsSoundFrames, caps_in, is_annex, map_content, root_in, slots_in, MayBeHeld, NamesItsKind, content_at, owner_at}
-use Rattle.recovery.proofs.Names.{HaveTheirRoles, keepable_roles, BadCapability, BadProcess, BadBank, AreBanked, AreNamed, AreWholeProcesses, IsNamed, role_at}
-use Rattle.recovery.proofs.Names.{InconsistentIsUnsound}
+use Rattle.recovery.proofs.Names.{nat_tests, ℕ, List, Option, Some, map, slice_index_or, sym, ap, subst, arith, IsTrue, All, get_or-map, All-from_get_or, Cap}
+use Rattle.recovery.proofs.Names.{Capability, Void, Frame, ObjectHeader, Geometry, Content, conveyed, current_count, frame_at, headers, objects_of, void_held}
+use Rattle.recovery.proofs.Names.{IsSoundFrames, caps_in, is_annex, map_content, root_in, slots_in, MayBeHeld, content_at, owner_at, HaveTheirRoles}
+use Rattle.recovery.proofs.Names.{keepable_roles, BadCapability, BadProcess, BadBank, AreBanked, AreNamed, AreWholeProcesses, IsNamed, InconsistentIsUnsound}
 use Rattle.std.proofs.Common.{◌≡◌, ◌≤◌, ◌∙◌}
 use Rattle.model.specs.declared.object.Content.TheVariants as content
-use Rattle.model.specs.declared.object.Role.TheVariants as role
 use Rattle.recovery.proofs.Standing.{annex_role, bank_role, content_is, free_role, limit_is, names_role, owner_is, process_of, role_annex, role_bank}
 use Rattle.recovery.proofs.Standing.{root_of}
 
 -- a live capability conveys what it is
 live_conveyed : (hs : List ObjectHeader) (c : Cap) → c.count ≡ current_count hs c.what → conveyed hs c ≡ c.what
-live_conveyed hs c live =
-    let level : current_count hs c.what ≤ c.count = omega (arith, live) in
-    rw (le-ltb c.count (current_count hs c.what) level) refl
+live_conveyed hs c live = grind (arith, nat_tests)
 
 module _ (g : Geometry) (age : ℕ) (fs : List Frame) (h : IsSoundFrames g age fs) where
   roles : HaveTheirRoles fs
   roles = keepable_roles g age fs h.keepable
 
   named_from : (c : Cap) → c.count ≤ current_count (headers fs) c.what → MayBeHeld (objects_of fs) (conveyed (headers fs) c) → IsNamed fs c
-  named_from c current may = record {
-    current = current;
-    live = λ live. names_role fs roles c.what
-        (subst (λ (w : Capability). NamesItsKind (objects_of fs) w) (live_conveyed (headers fs) c live) may.1);
-  }
+  named_from c current may = grind (arith, nat_tests, names_role, roles, live_conveyed)
 
   each_named : (slots : List Cap) → All (λ c. c.count ≤ current_count (headers fs) c.what) slots →
       ((i : ℕ) → MayBeHeld (objects_of fs) (slice_index_or (map (conveyed (headers fs)) slots) i Void)) → All (IsNamed fs) slots
@@ -39,12 +31,7 @@ module _ (g : Geometry) (age : ℕ) (fs : List Frame) (h : IsSoundFrames g age f
   content_named content.Free current slots space = λ i d inside. absurd (omega arith)
   content_named (content.Page words) current slots space = λ i d inside. absurd (omega arith)
   content_named (content.Node held) current slots space = each_named held current slots
-  content_named (content.Root r) current slots space =
-      All-from_get_or (IsNamed fs) (caps_in (content.Root r)) r.space
-      (λ i inside.
-      let first : i ≡ 0 = omega arith in
-      subst (λ (k : ℕ). IsNamed fs (slice_index_or (caps_in (content.Root r)) k r.space)) (sym first)
-      (named_from r.space (current 0 void_held (omega arith)) space))
+  content_named (content.Root r) current slots space = grind (arith, nat_tests, named_from)
   content_named (content.Annex registers) current slots space = each_named registers current slots
   content_named (content.Bank limit) current slots space = λ i d inside. absurd (omega arith)
 
@@ -63,26 +50,14 @@ module _ (g : Geometry) (age : ℕ) (fs : List Frame) (h : IsSoundFrames g age f
           annex_role fs roles a (subst (λ (m : ℕ). IsTrue (is_annex (content_at (objects_of fs) m))) process.1 known.0),
           sym (owner_is fs a) ∙ subst (λ (m : ℕ). owner_at (objects_of fs) m ≡ owner_at (objects_of fs) p) process.1 known.1 ∙ owner_is fs p,
         );
-    one_root = λ p q a one other.
-        let first = process_of fs p a one in
-        let second = process_of fs q a other in
-        h.sound.one_root p q first.0 second.0 (first.1 ∙ sym second.1);
+    one_root = grind (arith, nat_tests, process_of);
     some_root = λ a annex.
         let found = h.sound.some_root a (role_annex fs roles a annex) in
         (found.0, root_of fs found.0 found.1 ∙ ap (λ (m : ℕ). let x : Option ℕ = Some m in x) found.2);
   }
 
   pub sound_banked : AreBanked fs
-  sound_banked = record {
-    owned = record {
-      prime = (bank_role fs roles 0 h.sound.prime.0, sym (owner_is fs 0) ∙ h.sound.prime.1);
-      owners = λ n used.
-          subst (λ (m : ℕ). role_at fs m ≡ role.Bank) (owner_is fs n)
-          (bank_role fs roles (owner_at (objects_of fs) n) (h.sound.owners n (λ free. used (free_role fs roles n free))));
-      chains = λ b bank. h.sound.chains b (role_bank fs roles b bank);
-    };
-    limited = λ b bank. subst (λ (m : ℕ). usage (objects_of fs) b ≤ m) (limit_is fs b) (h.sound.limits b (role_bank fs roles b bank));
-  }
+  sound_banked = grind (arith, nat_tests, bank_role, roles, owner_is, free_role, role_bank, limit_is)
 
 pub inconsistent_is_unsound : InconsistentIsUnsound
 inconsistent_is_unsound g age fs BadCapability why h = why (sound_named g age fs h)

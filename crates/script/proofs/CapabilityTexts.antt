@@ -1,6 +1,6 @@
 -- A text is a capability's where its pieces are the capability's words.
-use Rattle.script.proofs.Names.{ℕ, not, Bool, true, false, List, [], length, codes, decimal, refl, sym, ap, arith, flat_map, list_all, same_Some, All-nil}
-use Rattle.script.proofs.Names.{All-cons, All-weaker, AllPass-from_list_all, join_with_byte-slice_split, Access, Capability, spaced, access_text}
+use Rattle.script.proofs.Names.{nat_tests, ℕ, not, Bool, true, false, List, [], length, codes, decimal, refl, sym, ap, arith, flat_map, list_all, same_Some}
+use Rattle.script.proofs.Names.{All-nil, All-cons, All-weaker, AllPass-from_list_all, join_with_byte-slice_split, Access, Capability, spaced, access_text}
 use Rattle.script.proofs.Names.{capability_text, IsSpaceless, split_spaced, decimal_is_word, access_words, capability_words, kind_name, words_of}
 use Rattle.std.proofs.Common.{◌≡◌, ◌≢◌, ◌<◌, ◌^◌, ◌==◌, if◌then◌else◌, ◌∷◌, ◌++◌, ◌∙◌, All}
 use Rattle.model.specs.declared.capability.Capability.TheVariants as capability
@@ -9,12 +9,7 @@ use Rattle.script.proofs.Texts.{spaced_more}
 
 -- an access, as its word with a space before it
 access_is : (a : Access) → flat_map (λ w. 32 ∷ w) (access_words a) ≡ access_text a
-access_is a = go (a.0 == 0) (a.0 == 1) where
-  go : (b c : Bool) → flat_map (λ w. 32 ∷ w) (if b then [] else if c then codes "ro" ∷ [] else codes "weak" ∷ []) ≡
-      (if b then [] else if c then codes " ro" else codes " weak")
-  go true c = refl
-  go false true = refl
-  go false false = refl
+access_is a = grind (arith, nat_tests)
 
 restricted : (word : List ℕ) (words : List (List ℕ)) (a : Access) → spaced (word ∷ words) ++ access_text a ≡ spaced (word ∷ (words ++ access_words a))
 restricted word words a = ap (λ (t : List ℕ). spaced (word ∷ words) ++ t) (sym (access_is a)) ∙ sym (spaced_more word words (access_words a))
@@ -37,8 +32,7 @@ name_is text test = All-weaker (λ b. not (b == 32) ≡ true) (λ b. (b == 32) �
     (AllPass-from_list_all (λ b. not (b == 32)) text test)
   where
     other : (b : Bool) → not b ≡ true → b ≡ false
-    other true e = absurd cc
-    other false e = refl
+    other b e = grind (arith, nat_tests)
 
 alone : (word : List ℕ) → IsSpaceless word → AreWords (word ∷ [])
 alone word is = All-cons IsSpaceless word [] is (All-nil IsSpaceless)
@@ -47,32 +41,15 @@ named : (word : List ℕ) (n : ℕ) (words : List (List ℕ)) → IsSpaceless wo
 named word n words is small more = All-cons IsSpaceless word (decimal n ∷ words) is (All-cons IsSpaceless (decimal n) words (decimal_is_word n small).0 more)
 
 access_are : (a : Access) → AreWords (access_words a)
-access_are a = go (a.0 == 0) (a.0 == 1) where
-  go : (b c : Bool) → AreWords (if b then [] else if c then codes "ro" ∷ [] else codes "weak" ∷ [])
-  go true c = All-nil IsSpaceless
-  go false true = alone (codes "ro") (name_is (codes "ro") refl)
-  go false false = alone (codes "weak") (name_is (codes "weak") refl)
+access_are a = grind (arith, nat_tests)
 
 words_are : (c : Capability) → HasText c → AreWords (capability_words c)
 unfolding capability_words
-words_are capability.Void has = alone (codes "void") (name_is (codes "void") refl)
-words_are (capability.Number n) has = named (codes "number") n [] (name_is (codes "number") refl) has.0 (All-nil IsSpaceless)
-words_are (capability.Page o a) has = named (codes "page") o (access_words a) (name_is (codes "page") refl) has.1 (access_are a)
-words_are (capability.Node o a) has = named (codes "node") o (access_words a) (name_is (codes "node") refl) has.1 (access_are a)
-words_are (capability.Space o h a) has =
-    named (codes "space") o (decimal h ∷ access_words a) (name_is (codes "space") refl) has.1
-    (All-cons IsSpaceless (decimal h) (access_words a) (decimal_is_word h (omega (arith, has.0.1))).0 (access_are a))
-words_are (capability.Process p) has = named (codes "process") p [] (name_is (codes "process") refl) has.1 (All-nil IsSpaceless)
-words_are (capability.Start p key) has =
-    named (codes "start") p (decimal key ∷ []) (name_is (codes "start") refl) has.1 (alone (decimal key) (decimal_is_word key (omega (arith, has.0))).0)
-words_are (capability.Resume p) has = named (codes "resume") p [] (name_is (codes "resume") refl) has.1 (All-nil IsSpaceless)
-words_are (capability.Bank b) has = named (codes "bank") b [] (name_is (codes "bank") refl) has.1 (All-nil IsSpaceless)
-words_are capability.Discrim has = alone (codes "discrim") (name_is (codes "discrim") refl)
+words_are c has = grind (arith, nat_tests, alone, name_is, named, access_are, decimal_is_word)
 
 some_words : (c : Capability) → 0 < length (capability_words c)
 unfolding capability_words
-some_words capability.Void = omega arith
-some_words other = omega arith
+some_words c = grind (arith, nat_tests)
 
 -- ---- texts and pieces
 

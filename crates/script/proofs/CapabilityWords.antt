@@ -1,8 +1,7 @@
 -- A capability is read from its words, and from no others.
-use Rattle.script.proofs.Names.{ℕ, nat_lt, nat_le, Bool, true, false, cond, List, [], Option, None, Some, codes, decimal, inl, inr, append-nil, refl, sym, ap}
-use Rattle.script.proofs.Names.{subst, arith, IfSome, bytes_eq, bytes_eq-Decides, lt-ltb, ltb-true, le-leb, leb-true, Access, Capability, IsAccess}
-use Rattle.script.proofs.Names.{IsWellFormed, named, weak, Kind, kind_name, access_words, capability_words, access_in, access_at, height_at, key_at, one_of}
-use Rattle.script.proofs.Names.{object_of, capability_at, Words, number_at}
+use Rattle.script.proofs.Names.{nat_tests, ℕ, List, [], Option, None, Some, codes, decimal, inl, append-nil, refl, sym, ap, subst, arith, IfSome, bytes_eq}
+use Rattle.script.proofs.Names.{bytes_eq-Decides, lt-ltb, le-leb, Access, Capability, IsAccess, IsWellFormed, named, Kind, kind_name, access_words}
+use Rattle.script.proofs.Names.{capability_words, access_in, access_at, height_at, key_at, one_of, object_of, capability_at, Words, number_at}
 use Rattle.std.proofs.Common.{◌≡◌, ◌≢◌, ◌≤◌, ◌<◌, ◌^◌, ◌&&◌, if◌then◌else◌, ◌∷◌, ◌++◌, ◌∙◌}
 use Rattle.model.specs.declared.capability.Capability.TheVariants as capability
 use Rattle.script.specs.declared.named.Kind.TheVariants as kind
@@ -12,9 +11,7 @@ use Rattle.script.proofs.Commands.{bind_some, guard_some, both, some_is, number_
 
 access_again : (a : Access) → IsAccess a → access_at (access_words a) ≡ Some (a, [])
 unfolding access_at access_in
-access_again a (inl is) = subst (λ (n : ℕ). access_at (access_words (record { 0 = n })) ≡ Some (record { 0 = n }, [])) (sym is) refl
-access_again a (inr (inl is)) = subst (λ (n : ℕ). access_at (access_words (record { 0 = n })) ≡ Some (record { 0 = n }, [])) (sym is) refl
-access_again a (inr (inr is)) = subst (λ (n : ℕ). access_at (access_words (record { 0 = n })) ≡ Some (record { 0 = n }, [])) (sym is) refl
+access_again a is = grind (arith, nat_tests)
 
 height_again : (h : ℕ) (rest : Words) → 1 ≤ h → h ≤ 4 → height_at (decimal h ∷ rest) ≡ Some (h, rest)
 unfolding height_at
@@ -64,16 +61,7 @@ capability_again capability.Discrim has = ([], refl, refl)
 
 access_in_some : (word : List ℕ) (a : Access) → access_in word ≡ Some a → IsAccess a × (word ∷ [] ≡ access_words a)
 unfolding access_in
-access_in_some word a = go (bytes_eq word (codes "ro")) (bytes_eq word (codes "weak")) (bytes_eq-Decides word (codes "ro")).0
-    (bytes_eq-Decides word (codes "weak")).0
-  where
-    go : (b c : Bool) → (b ≡ true → word ≡ codes "ro") → (c ≡ true → word ≡ codes "weak")
-        → (if b then Some (record { 0 = 1 }) else if c then Some weak else None) ≡ Some a → IsAccess a × (word ∷ [] ≡ access_words a)
-    go true c ro other e =
-        subst (λ (x : Access). IsAccess x × (word ∷ [] ≡ access_words x)) (some_is _ _ e) (inr (inl refl), ap (λ (w : List ℕ). w ∷ []) (ro refl))
-    go false true ro other e =
-        subst (λ (x : Access). IsAccess x × (word ∷ [] ≡ access_words x)) (some_is _ _ e) (inr (inr refl), ap (λ (w : List ℕ). w ∷ []) (other refl))
-    go false false ro other e = absurd cc
+access_in_some word a is = grind (arith, nat_tests, bytes_eq-Decides, some_is)
 
 access_takes : (words : Words) (p : Access × Words) → access_at words ≡ Some p → IsAccess p.0 × (words ≡ access_words p.0 ++ p.1)
 unfolding access_at
@@ -85,20 +73,11 @@ access_takes (word ∷ words) p e =
 
 height_takes : (words : Words) (p : ℕ × Words) → height_at words ≡ Some p → (1 ≤ p.0) × (p.0 ≤ 4) × (words ≡ decimal p.0 ∷ p.1)
 unfolding height_at
-height_takes words p e =
-    let b = bind_some (number_at words) (λ (h : ℕ × Words). cond (nat_le 1 h.0 && nat_le h.0 4) (Some h) None) p e in
-    let g = guard_some (nat_le 1 b.0.0 && nat_le b.0.0 4) b.0 p b.2 in
-    let tests = both (nat_le 1 b.0.0) (nat_le b.0.0 4) g.0 in
-    let t = number_takes words b.0 b.1 in
-    subst (λ (q : ℕ × Words). (1 ≤ q.0) × (q.0 ≤ 4) × (words ≡ decimal q.0 ∷ q.1)) g.1 (leb-true 1 b.0.0 tests.0, leb-true b.0.0 4 tests.1, t.1)
+height_takes words p e = grind (arith, nat_tests, bind_some, guard_some, both, number_takes)
 
 key_takes : (words : Words) (p : ℕ × Words) → key_at words ≡ Some p → (p.0 < 2 ^ 16) × (words ≡ decimal p.0 ∷ p.1)
 unfolding key_at
-key_takes words p e =
-    let b = bind_some (number_at words) (λ (key : ℕ × Words). cond (nat_lt key.0 (2 ^ 16)) (Some key) None) p e in
-    let g = guard_some (nat_lt b.0.0 (2 ^ 16)) b.0 p b.2 in
-    let t = number_takes words b.0 b.1 in
-    subst (λ (q : ℕ × Words). (q.0 < 2 ^ 16) × (words ≡ decimal q.0 ∷ q.1)) g.1 (ltb-true b.0.0 (2 ^ 16) g.0, t.1)
+key_takes words p e = grind (arith, nat_tests, bind_some, guard_some, number_takes)
 
 -- the capability that was read, and the words of it
 abbrev IsReadFrom : Kind → Words → Capability × Words → Type 0
@@ -159,26 +138,14 @@ start_takes words p e =
 capability_takes : (k : Kind) (words : Words) (p : Capability × Words) → capability_at k words ≡ Some p → IsReadFrom k words p
 unfolding capability_at capability_words
 capability_takes kind.Void words p e = subst (IsReadFrom kind.Void words) (some_is _ _ e) ((tt, tt), refl)
-capability_takes kind.Number words p e =
-    let t = one_takes (λ n. capability.Number n) words p e in one_read kind.Number words p (capability.Number t.0) t.2 (t.1, tt)
-    (ap (λ (w : Words). codes "number" ∷ w) t.3)
-capability_takes kind.Page words p e =
-    let t = object_takes (λ o a. capability.Page o a) words p e in one_read kind.Page words p (capability.Page t.0 t.1) t.4 (t.3, t.2)
-    (ap (λ (w : Words). codes "page" ∷ w) t.5)
-capability_takes kind.Node words p e =
-    let t = object_takes (λ o a. capability.Node o a) words p e in one_read kind.Node words p (capability.Node t.0 t.1) t.4 (t.3, t.2)
-    (ap (λ (w : Words). codes "node" ∷ w) t.5)
+capability_takes kind.Number words p e = grind (arith, nat_tests, one_takes, one_read)
+capability_takes kind.Page words p e = grind (arith, nat_tests, object_takes, one_read)
+capability_takes kind.Node words p e = grind (arith, nat_tests, object_takes, one_read)
 capability_takes kind.Space words p e = space_takes words p e
-capability_takes kind.Process words p e =
-    let t = one_takes (λ n. capability.Process n) words p e in one_read kind.Process words p (capability.Process t.0) t.2 (tt, t.1)
-    (ap (λ (w : Words). codes "process" ∷ w) t.3)
+capability_takes kind.Process words p e = grind (arith, nat_tests, one_takes, one_read)
 capability_takes kind.Start words p e = start_takes words p e
-capability_takes kind.Resume words p e =
-    let t = one_takes (λ n. capability.Resume n) words p e in one_read kind.Resume words p (capability.Resume t.0) t.2 (tt, t.1)
-    (ap (λ (w : Words). codes "resume" ∷ w) t.3)
-capability_takes kind.Bank words p e =
-    let t = one_takes (λ n. capability.Bank n) words p e in one_read kind.Bank words p (capability.Bank t.0) t.2 (tt, t.1)
-    (ap (λ (w : Words). codes "bank" ∷ w) t.3)
+capability_takes kind.Resume words p e = grind (arith, nat_tests, one_takes, one_read)
+capability_takes kind.Bank words p e = grind (arith, nat_tests, one_takes, one_read)
 capability_takes kind.Discrim words p e = subst (IsReadFrom kind.Discrim words) (some_is _ _ e) ((tt, tt), refl)
 
 -- ---- the kind of a word
@@ -198,8 +165,7 @@ kind_at word =
 
 kind_at_name : (k : Kind) → kind_at (kind_name k) ≡ Some k
 unfolding kind_at
-kind_at_name kind.Void = refl
-kind_at_name other = refl
+kind_at_name k = grind (arith, nat_tests)
 
 one_kind : (j k : Kind) → kind_name j ≡ kind_name k → j ≡ k
 one_kind j k same = some_is j k (sym (kind_at_name j) ∙ ap kind_at same ∙ kind_at_name k)
@@ -210,13 +176,7 @@ one_kind j k same = some_is j k (sym (kind_at_name j) ∙ ap kind_at same ∙ ki
 pub arguments_are : (words rest : Words) (word : List ℕ) (k : Kind) (c : Capability) → words ≡ word ∷ rest → word ≡ kind_name k → HasText c →
     words ≡ capability_words c
     → capability_at k rest ≡ Some (c, [])
-arguments_are words rest word k c split is has whole =
-    let again = capability_again c has in
-    let both_are : word ∷ rest ≡ kind_name (kind_for c) ∷ again.0 = sym split ∙ whole ∙ again.1 in
-    let same : kind_name k ≡ kind_name (kind_for c) = cc in
-    let key : k ≡ kind_for c = one_kind k (kind_for c) same in
-    let left : rest ≡ again.0 = cc in
-    rw (key, left) again.2
+arguments_are words rest word k c split is has whole = grind (arith, nat_tests, capability_again, kind_for, one_kind)
 
 pub capability_found : (words rest left : Words) (word : List ℕ) (k : Kind) (c : Capability) → words ≡ word ∷ rest → word ≡ kind_name k
     → capability_at k rest ≡ Some (c, left) → left ≡ [] → HasText c × (words ≡ capability_words c)
@@ -229,10 +189,7 @@ no_words c has e = let again = capability_again c has in absurd (cc (again.1))
 
 pub no_kind : (words rest : Words) (word : List ℕ) → words ≡ word ∷ rest → ((k : Kind) → word ≢ kind_name k) → (c : Capability) → HasText c →
     words ≢ capability_words c
-no_kind words rest word split none c has whole =
-    let again = capability_again c has in
-    let both_are : word ∷ rest ≡ kind_name (kind_for c) ∷ again.0 = sym split ∙ whole ∙ again.1 in
-    none (kind_for c) cc
+no_kind words rest word split none c has whole = grind (arith, nat_tests, capability_again, kind_for)
 
 pub no_arguments : (words rest : Words) (word : List ℕ) (k : Kind) → words ≡ word ∷ rest → word ≡ kind_name k → capability_at k rest ≡ None
     → (c : Capability) → HasText c → words ≢ capability_words c

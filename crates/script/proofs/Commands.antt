@@ -1,8 +1,8 @@
 -- A command is read from its words, and from no others.
-use Rattle.script.proofs.Names.{ℕ, Bool, true, false, cond, List, [], map, Option, None, Some, length, decimal, codes, zero, suc, append-nil, append_assoc}
-use Rattle.script.proofs.Names.{refl, sym, ap, subst, arith, nat_lt, IfSome, IfNone, All, bytes_eq, digits_value, bytes_eq-Decides, lt-ltb, ltb-true, Command}
-use Rattle.script.proofs.Names.{Operation, Call, Return, Send, Fits, command_words, operation_name, Keyword, keyword_name, Words, Gives, number_in, number_at}
-use Rattle.script.proofs.Names.{register_at, numbers_at, registers_at, invocation_at, one_at, arguments_at}
+use Rattle.script.proofs.Names.{nat_tests, ℕ, Bool, true, cond, List, [], map, Option, None, Some, length, decimal, codes, append-nil, append_assoc, refl, sym}
+use Rattle.script.proofs.Names.{ap, subst, arith, IfSome, IfNone, All, bytes_eq, digits_value, bytes_eq-Decides, lt-ltb, Command, Operation, Call, Return, Send}
+use Rattle.script.proofs.Names.{Fits, command_words, operation_name, Keyword, keyword_name, Words, Gives, number_in, number_at, register_at, numbers_at}
+use Rattle.script.proofs.Names.{registers_at, invocation_at, one_at, arguments_at}
 use Rattle.std.proofs.Common.{◌≡◌, ◌≢◌, ◌<◌, ◌^◌, ◌&&◌, if◌then◌else◌, ◌∷◌, ◌++◌, ◌∙◌}
 use Rattle.script.specs.Reading.{◌>>=◌}
 use Rattle.model.specs.declared.command.Command.TheVariants as command
@@ -11,17 +11,14 @@ use Rattle.script.proofs.Numbers.{decimal_is_digits}
 
 -- the value of a step that did not fail
 pub bind_some : {A B : Type 0} (r : Option A) (f : A → Option B) (y : B) → (r >>= f) ≡ Some y → (x : A) × (r ≡ Some x) × (f x ≡ Some y)
-bind_some (Some x) f y e = (x, refl, e)
-bind_some None f y e = absurd cc
+bind_some {A} {B} r f y e = grind (arith, nat_tests)
 
 -- a test that did not fail
 pub guard_some : {A : Type 0} (b : Bool) (x y : A) → cond b (Some x) None ≡ Some y → (b ≡ true) × (x ≡ y)
-guard_some true x y e = (refl, cc)
-guard_some false x y e = absurd cc
+guard_some {A} b x y e = grind (arith, nat_tests)
 
 pub both : (a b : Bool) → (a && b) ≡ true → (a ≡ true) × (b ≡ true)
-both true b e = (refl, e)
-both false b e = absurd cc
+both a b e = grind (arith, nat_tests)
 
 -- a word that is a number
 
@@ -34,11 +31,7 @@ number_in_decimal word n small is =
 
 number_in_some : (word : List ℕ) (n : ℕ) → number_in word ≡ Some n → (n < 2 ^ 64) × (word ≡ decimal n)
 unfolding number_in
-number_in_some word n e =
-    let v = digits_value 10 word in
-    let g = guard_some (bytes_eq word (decimal v) && nat_lt v (2 ^ 64)) v n e in
-    let tests = both (bytes_eq word (decimal v)) (nat_lt v (2 ^ 64)) g.0 in
-    subst (λ (k : ℕ). (k < 2 ^ 64) × (word ≡ decimal k)) g.1 (ltb-true v (2 ^ 64) tests.1, (bytes_eq-Decides word (decimal v)).0 tests.0)
+number_in_some word n e = grind (arith, nat_tests, guard_some, both, bytes_eq-Decides)
 
 number_in_none : (word : List ℕ) → ((n : ℕ) → n < 2 ^ 64 → word ≢ decimal n) → number_in word ≡ None
 number_in_none word none = go (number_in word) refl where
@@ -50,8 +43,7 @@ number_in_none word none = go (number_in word) refl where
 pub number_gives : (r : Option ℕ) (word : List ℕ) (old left : Words) → old ≡ word ∷ left
     → IfSome r (λ n. (n < 2 ^ 64) × (word ≡ decimal n)) → IfNone r ((n : ℕ) → n < 2 ^ 64 → word ≢ decimal n) → Gives r left (number_at old)
 unfolding number_at
-number_gives None word old left is found none = rw (is, number_in_none word none) refl
-number_gives (Some n) word old left is found none = rw (is, number_in_decimal word n found.0 found.1) refl
+number_gives r word old left is found none = grind (arith, nat_tests, number_in_none, number_in_decimal)
 
 -- ---- what is read from the words of a command
 
@@ -90,11 +82,7 @@ four_again read limit again (a ∷ b ∷ c ∷ []) rest four small = absurd (ome
 four_again read limit again (a ∷ b ∷ c ∷ d ∷ e ∷ more) rest four small = absurd (omega arith)
 
 pub all_four : (limit a b c d : ℕ) → a < limit → b < limit → c < limit → d < limit → All (λ n. n < limit) (a ∷ b ∷ c ∷ d ∷ [])
-all_four limit a b c d pa pb pc pd zero e lt = pa
-all_four limit a b c d pa pb pc pd (suc zero) e lt = pb
-all_four limit a b c d pa pb pc pd (suc (suc zero)) e lt = pc
-all_four limit a b c d pa pb pc pd (suc (suc (suc zero))) e lt = pd
-all_four limit a b c d pa pb pc pd (suc (suc (suc (suc k)))) e lt = absurd (omega arith)
+all_four limit a b c d pa pb pc pd is e lt = grind (arith, nat_tests)
 
 pub some_is : {A : Type 0} (x y : A) → Some x ≡ Some y → x ≡ y
 some_is x y e = cc
@@ -132,11 +120,7 @@ number_takes (word ∷ words) p e =
 
 register_takes : TakesOne register_at 32
 unfolding register_at
-register_takes words p e =
-    let b = bind_some (number_at words) (λ (n : ℕ × Words). cond (nat_lt n.0 32) (Some n) None) p e in
-    let g = guard_some (nat_lt b.0.0 32) b.0 p b.2 in
-    let t = number_takes words b.0 b.1 in
-    subst (λ (q : ℕ × Words). (q.0 < 32) × (words ≡ decimal q.0 ∷ q.1)) g.1 (ltb-true b.0.0 32 g.0, t.1)
+register_takes words p e = grind (arith, nat_tests, bind_some, guard_some, number_takes)
 
 -- the keyword of a command
 pub keyword_for : Command → Keyword
@@ -200,8 +184,7 @@ IsReadFrom k words p = Fits p.0 × (keyword_name k ∷ words ≡ command_words p
 
 invocation_words : (name process register : List ℕ) (sent_words sent words one two three four : Words) → words ≡ process ∷ one → one ≡ register ∷ two
     → two ≡ sent_words ++ three → three ≡ sent ++ four → name ∷ words ≡ name ∷ process ∷ register ∷ ((sent_words ++ sent) ++ four)
-invocation_words name process register sent_words sent words one two three four a b c d =
-    rw (a, b, c, d) (ap (λ (w : Words). name ∷ process ∷ register ∷ w) (sym (append_assoc sent_words sent four)))
+invocation_words name process register sent_words sent words one two three four a b c d = grind (arith, nat_tests, append_assoc)
 
 invocation_end : (o : Operation) (words : Words) (a b : ℕ × Words) (c d : List ℕ × Words) (p : Command × Words)
     → number_at words ≡ Some a → register_at a.1 ≡ Some b → four_at number_at b.1 ≡ Some c → four_at register_at c.1 ≡ Some d
@@ -252,18 +235,13 @@ arguments_takes keyword.Store words p e =
       (a.0, b.0, c.0),
       ap (λ (w : Words). codes "store" ∷ w) (a.1 ∙ ap (λ (w : Words). decimal one.0.0 ∷ w) (b.1 ∙ ap (λ (w : Words). decimal two.0.0 ∷ w) c.1)),
     )
-arguments_takes keyword.Show words p e = let t = one_takes (λ n. command.Show n) words p e in one_read keyword.Show words p (command.Show t.0) t.2 t.1
-    (ap (λ (w : Words). codes "show" ∷ w) t.3)
-arguments_takes keyword.Evict words p e = let t = one_takes (λ n. command.Evict n) words p e in one_read keyword.Evict words p (command.Evict t.0) t.2 t.1
-    (ap (λ (w : Words). codes "evict" ∷ w) t.3)
+arguments_takes keyword.Show words p e = grind (arith, nat_tests, one_takes, one_read)
+arguments_takes keyword.Evict words p e = grind (arith, nat_tests, one_takes, one_read)
 arguments_takes keyword.Checkpoint words p e = subst (IsReadFrom keyword.Checkpoint words) (some_is _ _ e) (tt, refl)
-arguments_takes keyword.Stabilize words p e = let t = one_takes (λ n. command.Stabilize n) words p e in one_read keyword.Stabilize words p
-    (command.Stabilize t.0) t.2 t.1 (ap (λ (w : Words). codes "stabilize" ∷ w) t.3)
+arguments_takes keyword.Stabilize words p e = grind (arith, nat_tests, one_takes, one_read)
 arguments_takes keyword.Commit words p e = subst (IsReadFrom keyword.Commit words) (some_is _ _ e) (tt, refl)
-arguments_takes keyword.Migrate words p e = let t = one_takes (λ n. command.Migrate n) words p e in one_read keyword.Migrate words p (command.Migrate t.0) t.2
-    t.1 (ap (λ (w : Words). codes "migrate" ∷ w) t.3)
-arguments_takes keyword.Journal words p e = let t = one_takes (λ n. command.Journal n) words p e in one_read keyword.Journal words p (command.Journal t.0) t.2
-    t.1 (ap (λ (w : Words). codes "journal" ∷ w) t.3)
+arguments_takes keyword.Migrate words p e = grind (arith, nat_tests, one_takes, one_read)
+arguments_takes keyword.Journal words p e = grind (arith, nat_tests, one_takes, one_read)
 arguments_takes keyword.Restart words p e = subst (IsReadFrom keyword.Restart words) (some_is _ _ e) (tt, refl)
 arguments_takes keyword.Cut words p e = subst (IsReadFrom keyword.Cut words) (some_is _ _ e) (tt, refl)
 
@@ -288,8 +266,7 @@ keyword_at word =
 
 keyword_at_name : (k : Keyword) → keyword_at (keyword_name k) ≡ Some k
 unfolding keyword_at
-keyword_at_name (keyword.Invoke Call) = refl
-keyword_at_name other = refl
+keyword_at_name k = grind (arith, nat_tests)
 
 one_keyword : (j k : Keyword) → keyword_name j ≡ keyword_name k → j ≡ k
 one_keyword j k same = some_is j k (sym (keyword_at_name j) ∙ ap keyword_at same ∙ keyword_at_name k)
@@ -300,13 +277,7 @@ one_keyword j k same = some_is j k (sym (keyword_at_name j) ∙ ap keyword_at sa
 arguments_are : (words rest : Words) (word : List ℕ) (k : Keyword) (c : Command) → words ≡ word ∷ rest → word ≡ keyword_name k → Fits c →
     words ≡ command_words c
     → arguments_at k rest ≡ Some (c, [])
-arguments_are words rest word k c split named fits whole =
-    let again = command_again c fits in
-    let both_are : word ∷ rest ≡ keyword_name (keyword_for c) ∷ again.0 = sym split ∙ whole ∙ again.1 in
-    let same : keyword_name k ≡ keyword_name (keyword_for c) = cc in
-    let key : k ≡ keyword_for c = one_keyword k (keyword_for c) same in
-    let left : rest ≡ again.0 = cc in
-    rw (key, left) again.2
+arguments_are words rest word k c split named fits whole = grind (arith, nat_tests, command_again, keyword_for, one_keyword)
 
 pub command_found : (words rest left : Words) (word : List ℕ) (k : Keyword) (c : Command) → words ≡ word ∷ rest → word ≡ keyword_name k
     → arguments_at k rest ≡ Some (c, left) → left ≡ [] → Fits c × (words ≡ command_words c)

@@ -1,5 +1,5 @@
 -- A word of one digit, with a space behind it or at the end.
-use Rattle.script.proofs.Names.{ℕ, List, [], Some, length, get_or, take, drop, decimal, sym, ap, arith, IsInRange, nat_tests, decimal_digit, take_more}
+use Rattle.script.proofs.Names.{ℕ, List, [], Some, length, get_or, take, drop, decimal, sym, arith, IsInRange, nat_tests, decimal_digit, take_more}
 use Rattle.script.proofs.Names.{position_or_len_is, first_end, first_word, number_at, words_of}
 use Rattle.std.proofs.Common.{◌≡◌, ◌<◌, ◌≤◌, ◌-◌, ◌==◌, ◌∷◌, ◌∙◌}
 use Rattle.script.proofs.Commands.{number_gives}
@@ -11,9 +11,7 @@ digit_alone text n long space digit is =
     let ends : first_end text ≡ 1 = position_or_len_is (λ b. b == 32) text 1 0 (omega arith)
     (λ k small. let zero : k ≡ 0 = omega arith in rw zero (let other : get_or text 0 0 ≡ 32 → ⊥ = λ e. omega (arith, e, digit) in grind (arith, nat_tests)))
     (λ _. grind (arith, nat_tests)) in
-    let word : first_word text ≡ decimal n =
-    ap (λ (k : ℕ). take k text) ends ∙ take_more text 0 0 (omega arith)
-    ∙ sym (decimal_digit n (omega (arith, is, digit)) ∙ ap (λ (b : ℕ). b ∷ []) (omega (arith, is, digit))) in
+    let word : first_word text ≡ decimal n = grind (arith, nat_tests, take_more, decimal_digit) in
     number_gives (Some n) (first_word text) (words_of text) (words_of (take (length text - 2) (drop 2 text)))
     (word_and_more text 1 (sym ends) (omega arith)) (omega (arith, is, digit), word) tt
 
@@ -23,7 +21,5 @@ digit_last text n some last digit is =
     let ends : first_end text ≡ 1 = position_or_len_is (λ b. b == 32) text 1 0 (omega arith)
     (λ k small. let zero : k ≡ 0 = omega arith in rw zero (let other : get_or text 0 0 ≡ 32 → ⊥ = λ e. omega (arith, e, digit) in grind (arith, nat_tests)))
     (λ more. absurd (omega (arith, more, last))) in
-    let word : first_word text ≡ decimal n =
-    ap (λ (k : ℕ). take k text) ends ∙ take_more text 0 0 (omega arith)
-    ∙ sym (decimal_digit n (omega (arith, is, digit)) ∙ ap (λ (b : ℕ). b ∷ []) (omega (arith, is, digit))) in
+    let word : first_word text ≡ decimal n = grind (arith, nat_tests, take_more, decimal_digit) in
     number_gives (Some n) (first_word text) (words_of text) [] (word_alone text 1 (sym ends) (omega arith)) (omega (arith, is, digit), word) tt

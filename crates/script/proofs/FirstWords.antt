@@ -11,11 +11,7 @@ first_end_within text = prefix_len-le-length _ text
 
 -- it ends at the first space
 pub ends_here : (text : List ℕ) (i : ℕ) → i ≤ first_end text → i < length text → get_or text i 0 ≡ 32 → i ≡ first_end text
-ends_here text i before lt space =
-    elim (cases_lt i (first_end text)) [
-      | inl earlier ↦ let other = fails_before_first is_space text i 0 earlier in absurd (grind (arith, nat_tests))
-      | inr le ↦ omega arith
-    ]
+ends_here text i before lt space = grind (arith, nat_tests, fails_before_first)
 
 pub goes_on : (text : List ℕ) (i : ℕ) → i ≤ first_end text → i < length text → get_or text i 0 ≢ 32 → i < first_end text
 goes_on text i before lt other =
@@ -33,8 +29,4 @@ word_length text = length-take-le (first_end text) text (first_end_within text)
 -- its bytes are those of the text
 pub word_reads : (text : List ℕ) (i : ℕ) → i < first_end text
     → (i < length (first_word text)) × (get_or (first_word text) i 0 ≡ get_or text i 0) × (take i (first_word text) ≡ take i text)
-word_reads text i lt = (
-  omega (arith, word_length text),
-  get_or-take (first_end text) text i 0 lt,
-  take-take i (first_end text) text (omega arith),
-)
+word_reads text i lt = grind (arith, nat_tests, word_length, get_or-take, take-take)

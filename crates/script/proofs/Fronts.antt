@@ -1,7 +1,7 @@
 -- What a writer is left with, put together.
-use Rattle.script.proofs.Names.{ℕ, List, [], Option, None, Some, Result, Ok, Err, length, take, drop, sym, ap, subst, append_assoc, append-nil, arith}
-use Rattle.script.proofs.Names.{take-append-drop, take_all, length-drop, take-add, Appends-trans, Appends, Keeps, line_of, RunFault, AppendsFront}
-use Rattle.script.proofs.Names.{Writes, Written, Wrote, WroteFront}
+use Rattle.script.proofs.Names.{nat_tests, ℕ, List, [], Option, Result, Ok, Err, length, take, drop, sym, ap, subst, append_assoc, append-nil, arith}
+use Rattle.script.proofs.Names.{take-append-drop, take_all, length-drop, take-add, Appends-trans, Appends, Keeps, line_of, RunFault, AppendsFront, Writes}
+use Rattle.script.proofs.Names.{Written, Wrote, WroteFront}
 use Rattle.std.proofs.Common.{◌≡◌, ◌+◌, ◌-◌, ◌<◌, ◌++◌, ◌∙◌}
 
 -- the first n bytes are a beginning
@@ -9,9 +9,7 @@ pub front_at : (a b : Option (List ℕ)) (bytes : List ℕ) (n : ℕ) → Append
 front_at a b bytes n h = (take n bytes, drop n bytes, sym (take-append-drop n bytes), h)
 
 pub kept_nil : (a b : Option (List ℕ)) → Appends a b [] → Keeps a b
-kept_nil None b h = tt
-kept_nil (Some x) None h = absurd h
-kept_nil (Some x) (Some y) h = h ∙ append-nil x
+kept_nil a b h = grind (arith, nat_tests, append-nil)
 
 -- a write of the rest took n bytes more
 pub took_more : (a b c : Option (List ℕ)) (bytes : List ℕ) (i n : ℕ) → Appends a b (take i bytes)
@@ -40,10 +38,7 @@ wrote_trans a b c first second h k = record {
 
 -- a beginning of the second text, after the first
 pub second_front : (a b c : Written) (first second : List ℕ) → Wrote a b first → WroteFront b c second → WroteFront a c (first ++ second)
-second_front a b c first second h k = record {
-  taken = front_after a.contents b.contents c.contents first second h.taken k.taken;
-  failed = subst (λ (n : ℕ). n < c.failures) h.none_failed k.failed;
-}
+second_front a b c first second h k = search (arith, nat_tests, front_after)
 
 -- a beginning of the first text
 pub first_front : (a b : Written) (first second : List ℕ) → WroteFront a b first → WroteFront a b (first ++ second)
@@ -76,8 +71,7 @@ line_fails a b e line spelled second text same is w =
 pub line_and : (a b c : Written) (r : Result (Unit {0}) RunFault) (line spelled second text : List ℕ) → line ≡ spelled →
     text ≡ line_of spelled ++ second
     → Wrote a b (line_of line) → Writes b c r second → Writes a c r text
-line_and a b c r line spelled second text same is h w =
-    subst (Writes a c r) (ap (λ (t : List ℕ). line_of t ++ second) same ∙ sym is) (writes_after a b c r (line_of line) second h w)
+line_and a b c r line spelled second text same is h w = grind (arith, nat_tests, writes_after)
 
 pub writes_same : (a b : Written) (r : Result (Unit {0}) RunFault) (text other : List ℕ) → text ≡ other → Writes a b r text → Writes a b r other
 writes_same a b r text other same w = subst (Writes a b r) same w

@@ -1,9 +1,8 @@
 -- Words that can't stand at their places, and lines whose words can.
-use Rattle.script.proofs.Names.{ℕ, zero, suc, Bool, true, false, List, [], None, Some, length, take, get_or, decimal, codes, refl, sym, ap, subst, inl, inr}
-use Rattle.script.proofs.Names.{arith, append_assoc, append-nil, map, ⊎_elim, slice_get, All, cases_lt, nat_tests, take_all, IsInRange, decimal_digit}
-use Rattle.script.proofs.Names.{digits_more, digit_value_digit, AllDigits, digits_value, Command, Fits, Says, command_words, operation_name}
-use Rattle.script.proofs.Names.{spelling_from_words, Keyword, LineFault, keyword_name, AreOperands, HasWord, IsFaultOf, IsOperand, IsWordFault, Names}
-use Rattle.script.proofs.Names.{are_registers, Words, number_at}
+use Rattle.script.proofs.Names.{ℕ, zero, suc, Bool, true, false, List, [], None, Some, length, take, get_or, decimal, codes, refl, sym, ap, subst, arith}
+use Rattle.script.proofs.Names.{append_assoc, append-nil, map, ⊎_elim, slice_get, All, nat_tests, take_all, IsInRange, decimal_digit, digits_more}
+use Rattle.script.proofs.Names.{digit_value_digit, AllDigits, digits_value, Command, Fits, Says, command_words, operation_name, spelling_from_words, Keyword}
+use Rattle.script.proofs.Names.{LineFault, keyword_name, AreOperands, HasWord, IsFaultOf, IsOperand, IsWordFault, Names, are_registers, Words, number_at}
 use Rattle.std.proofs.Common.{◌≡◌, ◌≢◌, ◌+◌, ◌<◌, ◌≤◌, ◌^◌, if◌then◌else◌, ◌==◌, ◌∷◌, ◌++◌, ◌∙◌}
 use Rattle.model.specs.declared.command.Command.TheVariants as command
 use Rattle.model.specs.declared.line.Line.TheVariants as line
@@ -16,11 +15,7 @@ use Rattle.script.proofs.Numbers.{digits_are_decimal}
 
 pub too_great : (word : List ℕ) → ((n : ℕ) → n < 2 ^ 64 → word ≢ decimal n) → AllDigits 10 word → 0 < length word → (get_or word 0 0 ≡ 48 → length word ≡ 1) →
     2 ^ 64 ≤ digits_value 10 word
-too_great word none digits some first =
-    elim (cases_lt (digits_value 10 word) (2 ^ 64)) [
-      | inl small ↦ absurd (none (digits_value 10 word) small (digits_are_decimal word digits some first small))
-      | inr le ↦ le
-    ]
+too_great word none digits some first = grind (arith, nat_tests, digits_are_decimal)
 
 -- a zero that isn't alone
 pub zero_longer : (word : List ℕ) → ((n : ℕ) → n < 2 ^ 64 → word ≢ decimal n) → 0 < length word → get_or word 0 0 ≡ 48 → 1 < length word
@@ -33,8 +28,7 @@ pub digits_on : (ds : List ℕ) (i : ℕ) → i < length ds → AllDigits 10 (ta
 digits_on ds i lt so_far digit = digits_more 10 ds i lt so_far (omega (arith, digit_value_digit (get_or ds i 0) digit, digit.1))
 
 pub no_number : (old rest : Words) (word : List ℕ) → old ≡ word ∷ rest → number_at old ≡ None → (n : ℕ) → n < 2 ^ 64 → word ≢ decimal n
-no_number old rest word is none n small spelt =
-    let some : number_at old ≡ Some (n, rest) = ap number_at (is ∙ ap (λ (w : List ℕ). w ∷ rest) spelt) ∙ number_again n rest small in cc (none, some)
+no_number old rest word is none n small spelt = grind (arith, nat_tests, number_again)
 
 -- a number that is too great for its place stands where a register has to
 pub register_fault : (is_register : Bool) (old left : Words) (n most : ℕ) → number_at old ≡ Some (n, left) → most + 1 ≡ (if is_register then 32 else 2 ^ 64) →
@@ -179,12 +173,10 @@ module _ (registers : List Bool) (k : Keyword) (same : registers ≡ are_registe
 
 first : (b : Bool) (bs : List Bool) (ws : Words) → AreOperands (b ∷ bs) ws →
     (n : ℕ) × (rest : Words) × (n < (if b then 32 else 2 ^ 64)) × (ws ≡ decimal n ∷ rest) × AreOperands bs rest
-first b bs [] are = absurd are
-first b bs (w ∷ ws) are = (are.0.0, ws, are.0.1, ap (λ (v : List ℕ). v ∷ ws) are.0.2, are.1)
+first b bs ws are = grind (arith, nat_tests)
 
 none : (ws : Words) → AreOperands [] ws → ws ≡ []
-none [] are = refl
-none (w ∷ ws) are = absurd are
+none ws are = grind (arith, nat_tests)
 
 four : (b : Bool) (bs : List Bool) (ws : Words) → AreOperands (b ∷ b ∷ b ∷ b ∷ bs) ws →
     (ns : List ℕ) × (rest : Words) × (length ns ≡ 4) × All (λ n. n < (if b then 32 else 2 ^ 64)) ns × (ws ≡ map decimal ns ++ rest) × AreOperands bs rest
@@ -207,9 +199,7 @@ Spells k ws = (c : Command) × Fits c × (command_words c ≡ keyword_name k ∷
 one_spells : (k : Keyword) (make : ℕ → Command) → ((n : ℕ) → n < 2 ^ 64 → Fits (make n)) → ((n : ℕ) → command_words (make n) ≡ keyword_name k ∷ decimal n ∷ [])
     →
     (ws : Words) → AreOperands (false ∷ []) ws → Spells k ws
-one_spells k make fits words ws are =
-    let p = first false [] ws are in
-    (make p.0, fits p.0 p.2, words p.0 ∙ sym (ap (λ (w : Words). keyword_name k ∷ w) (p.3 ∙ ap (λ (w : Words). decimal p.0 ∷ w) (none p.1 p.4))))
+one_spells k make fits words ws are = grind (arith, nat_tests)
 
 spells : (k : Keyword) (ws : Words) → AreOperands (are_registers k) ws → Spells k ws
 unfolding command_words
@@ -252,6 +242,4 @@ spells keyword.Restart ws are = (command.Restart, tt, ap (λ (w : Words). codes 
 spells keyword.Cut ws are = (command.Cut, tt, ap (λ (w : Words). codes "cut" ∷ w) (sym (none ws are)))
 
 pub not_bad : (text : List ℕ) (k : Keyword) (ws : Words) → Names text k ws → AreOperands (are_registers k) ws → length text ≤ 256 → Says text line.Bad → ⊥
-not_bad text k ws names are short bad =
-    let c = spells k ws are in
-    ⊎_elim (λ long. omega (arith, long, short)) (λ other. other.1 c.0 c.1 (spelling_from_words text c.0 (names ∙ sym c.2))) bad
+not_bad text k ws names are short bad = grind (arith, nat_tests, spells, spelling_from_words)

@@ -1,5 +1,5 @@
 -- The names that the proofs here cite: of other crates, and of the definitions of this one.
-pub use Rattle.model.specs.Capability.{IsAccess, IsWellFormed, named, weak}
+pub use Rattle.model.specs.Capability.{IsAccess, IsWellFormed, named}
 pub use Rattle.model.specs.Text.{Fits, IsSkipped, Says, access_text, capability_line, fault_number, headed, line_of, operation_name, registers_of, spaced}
 pub use Rattle.model.specs.Text.{state_text, unjournaled_number, word_line}
 unfoldable pub use Rattle.model.specs.Text.{capability_lines, capability_text, command_words, object_text, printed, spelling, word_lines}
@@ -8,7 +8,7 @@ pub use Rattle.model.specs.declared.access.Access.{Access}
 pub use Rattle.model.specs.declared.answer.MemoryFault.{MemoryFault}
 pub use Rattle.model.specs.declared.answer.Unjournaled.{Unjournaled}
 pub use Rattle.model.specs.declared.capability.Capability.{Capability}
-pub use Rattle.model.specs.declared.capability.Capability.TheVariants.{Bank, Node, Number, Page, Process, Resume, Space, Start, Void}
+pub use Rattle.model.specs.declared.capability.Capability.TheVariants.{Void}
 pub use Rattle.model.specs.declared.command.Command.{Command}
 pub use Rattle.model.specs.declared.command.Operation.{Operation}
 pub use Rattle.model.specs.declared.command.Operation.TheVariants.{Call, Return, Send}
@@ -19,17 +19,16 @@ pub use Rattle.model.specs.declared.object.State.TheVariants.{Available, Running
 pub use Rattle.model_laws.proofs.Spelling.{IsSpaceless, decimal_is_word, length-spelling, skip_is_no_command, spelling_from_words, spells_one, split_spaced}
 pub use Rattle.model_laws.proofs.Spelling.{split_spelling}
 pub use Rattle.std.proofs.Common.{Bool, Err, List, None, Ok, Option, Result, Some, [], add-one, ap, append-nil, append_assoc, arith, codes, cond, decimal, drop}
-pub use Rattle.std.proofs.Common.{false, get_or, inl, inr, length, map, nat_le, nat_lt, not, option_map, refl, rules, subst, suc, sym, take, true, zero, ℕ}
-pub use Rattle.std.proofs.Common.{⊎_elim}
+pub use Rattle.std.proofs.Common.{false, get_or, inl, inr, length, length-take, map, not, option_map, refl, rules, subst, suc, sym, take, true, zero, ℕ, ⊎_elim}
 pub use Rattle.std.proofs.KnownBytes.{Appends-kept, Appends-trans}
 pub use Rattle.std.proofs.Math.Seq.{take-add, take-suc}
-pub use Rattle.std.proofs.lemmas.Bool.{cases_lt, le-leb, leb-true, lt-ltb, ltb-true}
+pub use Rattle.std.proofs.lemmas.Bool.{cases_lt, le-leb, lt-ltb}
 pub use Rattle.std.proofs.lemmas.Bool.Decides.{nat_tests}
 pub use Rattle.std.proofs.lemmas.Fmt.{decimal-digits_value, decimal_digit, decimal_nonempty, decimal_step, digits_decimal, digits_value-decimal, first_decimal}
 pub use Rattle.std.proofs.lemmas.Grind.{flat_map-append}
 pub use Rattle.std.proofs.lemmas.Int.Digits.{digits_more, digits_value_more}
 pub use Rattle.std.proofs.lemmas.List.{drop-drop, get_or-drop, get_or-take, length-drop, length-take-le, take-append-drop, take-take, take_all, take_more}
-pub use Rattle.std.proofs.lemmas.List.Elements.{All-cons, All-from_get_or, All-nil, All-weaker}
+pub use Rattle.std.proofs.lemmas.List.Elements.{All-cons, All-nil, All-weaker}
 pub use Rattle.std.proofs.lemmas.List.Folds.{flat_map-map}
 pub use Rattle.std.proofs.lemmas.List.Quantifiers.{position-Some}
 pub use Rattle.std.proofs.lemmas.List.Splits.{join_with_byte-slice_split, length-slice_split, slice_split_first, slice_split_none}
@@ -43,7 +42,7 @@ pub use Rattle.std.proofs.lemmas.Str.Parse.{IsNumeralModel, digit_at, digits_val
 unfoldable pub use Rattle.std.specs.Fmt.{digits}
 pub use Rattle.std.specs.Int.{IsInRange}
 pub use Rattle.std.specs.Io.KnownBytes.{Appends, Keeps}
-pub use Rattle.std.specs.List.{All, enumerate_from, flat_map, list_all, position, position_or_len}
+pub use Rattle.std.specs.List.{All, enumerate_from, flat_map, list_all, position}
 pub use Rattle.std.specs.Prelude.{IfNone, IfSome, IsSome, slice_get}
 pub use Rattle.std.specs.Str.{bytes_eq}
 pub use Rattle.std.specs.Str.Parse.{AllDigits, digits_value}
@@ -59,4 +58,4 @@ pub use Rattle.script.specs.declared.keyword.Keyword.{Keyword}
 pub use Rattle.script.specs.declared.keyword.Keyword.TheVariants.{Invoke}
 pub use Rattle.script.specs.declared.line_fault.LineFault.{LineFault}
 pub use Rattle.script.specs.declared.named.Kind.{Kind}
-pub use Rattle.script.specs.declared.named.Kind.TheVariants.{Discrim}
+pub use Rattle.script.specs.declared.named.Kind.TheVariants.{Bank, Discrim, Node, Number, Page, Process, Resume, Space, Start}

@@ -1,8 +1,8 @@
 -- The decimal text of a number, and the words that are one.
-use Rattle.script.proofs.Names.{ℕ, zero, suc, List, Option, None, Some, length, get_or, take, decimal, sym, ap, subst, arith, IfSome, IfNone, IsInRange}
-use Rattle.script.proofs.Names.{digit_value_digit, AllDigits, digits_value, decimal_nonempty, first_decimal, decimal_digit, digits_decimal}
-use Rattle.script.proofs.Names.{digits_value-decimal, decimal-digits_value, digits_value_more, digits_more, IsNumeralModel, numerals_by_value, tells_digits}
-use Rattle.script.proofs.Names.{digits_value-take-le, first_end, first_word}
+use Rattle.script.proofs.Names.{nat_tests, ℕ, List, Option, length, get_or, take, decimal, sym, ap, subst, arith, IfSome, IfNone, IsInRange, digit_value_digit}
+use Rattle.script.proofs.Names.{AllDigits, digits_value, decimal_nonempty, first_decimal, decimal_digit, digits_decimal, digits_value-decimal}
+use Rattle.script.proofs.Names.{decimal-digits_value, digits_value_more, digits_more, IsNumeralModel, numerals_by_value, tells_digits, digits_value-take-le}
+use Rattle.script.proofs.Names.{first_end, first_word}
 use Rattle.std.proofs.Common.{◌≡◌, ◌≢◌, ◌<◌, ◌≤◌, ◌^◌, ◌+◌, ◌-◌, ◌*◌, ◌∙◌}
 use Rattle.script.proofs.FirstWords.{word_reads}
 
@@ -16,11 +16,7 @@ pub decimal_not_empty : (word : List ℕ) (n : ℕ) → n < 2 ^ 64 → word ≡ 
 decimal_not_empty word n small is = rw is (decimal_nonempty n small)
 
 pub decimal_no_zero : (word : List ℕ) (n : ℕ) → n < 2 ^ 64 → word ≡ decimal n → 1 < length word → get_or word 0 0 ≡ 48 → ⊥
-decimal_no_zero word zero small is long first =
-    let one : length word ≡ 1 = ap length (is ∙ decimal_digit 0 (omega arith)) in omega arith
-decimal_no_zero word (suc n) small is long first =
-    let more : 48 < get_or (decimal (suc n)) 0 0 = first_decimal (suc n) (omega arith) small in
-    let same : get_or word 0 0 ≡ get_or (decimal (suc n)) 0 0 = ap (λ (w : List ℕ). get_or w 0 0) is in omega arith
+decimal_no_zero word n small is long first = grind (arith, nat_tests, decimal_digit, first_decimal)
 
 pub digits_are_decimal : (word : List ℕ) → AllDigits 10 word → 0 < length word → (get_or word 0 0 ≡ 48 → length word ≡ 1)
     → digits_value 10 word < 2 ^ 64 → word ≡ decimal (digits_value 10 word)
@@ -30,9 +26,7 @@ digits_are_decimal word digits some first small = sym (decimal-digits_value own 
 pub value_more : (digits : List ℕ) (i value : ℕ) → i < length digits → AllDigits 10 (take i digits) → value ≡ digits_value 10 (take i digits)
     → IsInRange 48 57 (get_or digits i 0)
     → AllDigits 10 (take (i + 1) digits) × (value * 10 + (get_or digits i 0 - 48) ≡ digits_value 10 (take (i + 1) digits))
-value_more digits i value lt so_far is digit =
-    let one = digit_value_digit (get_or digits i 0) digit in
-    (digits_more 10 digits i lt so_far (omega (arith, one, digit.1)), omega (arith, digits_value_more 10 digits i lt, one, is, digit.0))
+value_more digits i value lt so_far is digit = grind (arith, nat_tests, digit_value_digit, digits_more, digits_value_more)
 
 -- the digits so far are already too many
 pub value_great : (digits : List ℕ) (i value : ℕ) → i < length digits → value ≡ digits_value 10 (take i digits)
@@ -52,10 +46,8 @@ word_great text i value lt is digit great =
 pub number_found : (word : List ℕ) (r : Option ℕ) → 0 < length word → (get_or word 0 0 ≡ 48 → length word ≡ 1)
     → IfSome r (λ n. (n < 2 ^ 64) × AllDigits 10 word × (n ≡ digits_value 10 word))
     → IfSome r (λ n. (n < 2 ^ 64) × (word ≡ decimal n))
-number_found word None some first found = tt
-number_found word (Some n) some first found = (found.0, rw found.2 (digits_are_decimal word found.1 some first (omega (arith, found.0, found.2))))
+number_found word r some first found = grind (arith, nat_tests, digits_are_decimal)
 
 pub number_none : (word : List ℕ) (r : Option ℕ) → IfNone r (AllDigits 10 word → 2 ^ 64 ≤ digits_value 10 word)
     → IfNone r ((n : ℕ) → n < 2 ^ 64 → word ≢ decimal n)
-number_none word None none = λ n small is. let digits = decimal_is_digits word n small is in omega (arith, none digits.0, digits.1)
-number_none word (Some n) none = tt
+number_none word r none = grind (arith, nat_tests, decimal_is_digits)

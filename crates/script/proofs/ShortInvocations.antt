@@ -1,5 +1,5 @@
 -- The command that numbers say which are read one after the other.
-use Rattle.script.proofs.Names.{ℕ, List, [], Option, None, Some, length, get_or, drop, refl, ap, arith, IfSome, IsSome, lt-ltb, Command, Operation, Fits}
+use Rattle.script.proofs.Names.{nat_tests, ℕ, List, [], Option, Some, length, get_or, drop, refl, ap, arith, IfSome, IsSome, lt-ltb, Command, Operation, Fits}
 use Rattle.script.proofs.Names.{command_words, operation_name, keyword_name, Words, arguments_at, invocation_at, number_at, numbers_at, register_at}
 use Rattle.script.proofs.Names.{registers_at, words_of}
 use Rattle.std.proofs.Common.{◌≡◌, ◌<◌, ◌+◌, ◌*◌, ◌∷◌, ◌∙◌}
@@ -14,8 +14,7 @@ register_reads words left n reads small = rw (reads, lt-ltb n 32 small) refl
 
 pub last_register_reads : (words : Words) (n : ℕ) (r : Option ℕ) → number_at words ≡ Some (n, []) → IfSome r (λ x. x ≡ n) → (IsSome r → n < 32)
     → IfSome r (λ x. register_at words ≡ Some (x, []))
-last_register_reads words n None reads is small = tt
-last_register_reads words n (Some x) reads is small = rw is (register_reads words [] n reads (small refl))
+last_register_reads words n r reads is small = grind (arith, nat_tests, register_reads)
 
 pub registers_read : (words one two three : Words) (first second third fourth : ℕ) → register_at words ≡ Some (first, one) →
     register_at one ≡ Some (second, two)
@@ -54,12 +53,10 @@ abbrev four : ℕ → ℕ → ℕ → ℕ → ℕ
 four a b c d = a + b * 256 + c * 65536 + d * 16777216
 
 void_begins : (a b c d : ℕ) → a < 256 → b < 256 → c < 256 → d < 256 → four a b c d ≡ 540024880 → (a ≡ 48) × (b ≡ 32) × (c ≡ 48) × (d ≡ 32)
-void_begins a b c d pa pb pc pd is =
-    (omega (arith, pa, pb, pc, pd, is), omega (arith, pa, pb, pc, pd, is), omega (arith, pa, pb, pc, pd, is), omega (arith, pa, pb, pc, pd, is))
+void_begins a b c d pa pb pc pd is = grind (arith, nat_tests)
 
 void_ends : (a b c d : ℕ) → a < 256 → b < 256 → c < 256 → d < 256 → four a b c d ≡ 807415840 → (a ≡ 32) × (b ≡ 48) × (c ≡ 32) × (d ≡ 48)
-void_ends a b c d pa pb pc pd is =
-    (omega (arith, pa, pb, pc, pd, is), omega (arith, pa, pb, pc, pd, is), omega (arith, pa, pb, pc, pd, is), omega (arith, pa, pb, pc, pd, is))
+void_ends a b c d pa pb pc pd is = grind (arith, nat_tests)
 
 -- the four registers are 0
 pub void_read : (text : List ℕ) (at : ℕ) → length text ≡ at + 7 → ((i : ℕ) → get_or text i 0 < 256)

@@ -1,5 +1,5 @@
 -- A number at a place of a text, with a space behind it or at the end.
-use Rattle.script.proofs.Names.{ℕ, List, [], Option, None, Some, IfSome, length, get_or, take, drop, decimal, refl, sym, ap, subst, arith, IsInRange, AllDigits}
+use Rattle.script.proofs.Names.{ℕ, List, [], Option, Some, IfSome, length, get_or, take, drop, decimal, refl, sym, ap, subst, arith, IsInRange, AllDigits}
 use Rattle.script.proofs.Names.{digits_value, nat_tests, get_or-take, get_or-drop, take_all, length-drop, drop-drop, length-take-le, position_or_len_is}
 use Rattle.script.proofs.Names.{digit_at, first_end, first_word, number_at, words_of, digits_value_short}
 use Rattle.std.proofs.Common.{◌≡◌, ◌<◌, ◌≤◌, ◌^◌, ◌+◌, ◌*◌, ◌-◌, ◌==◌, ◌∙◌}
@@ -24,19 +24,13 @@ word_ends text size n begins space =
     (λ lt. let here = space lt in grind (arith, nat_tests))
 
 word_is : (text : List ℕ) (size n : ℕ) → Begins text size n → first_end text ≡ size → first_word text ≡ decimal n
-word_is text size n begins ends =
-    let long : length (take size text) ≡ size = length-take-le size text begins.1 in
-    ap (λ (k : ℕ). take k text) ends
-    ∙ digits_are_decimal (take size text) begins.2 (omega (arith, long, begins.0))
-    (λ zero. long ∙ begins.3 (sym (get_or-take size text 0 0 begins.0) ∙ zero)) (omega (arith, begins.4, begins.5))
-    ∙ ap (λ (k : ℕ). decimal k) (sym begins.4)
+word_is text size n begins ends = grind (arith, nat_tests, length-take-le, digits_are_decimal, get_or-take)
 
 digits_first : (text : List ℕ) (size n : ℕ) → Begins text size n → size < length text → get_or text size 0 ≡ 32
     → number_at (words_of text) ≡ Some (n, words_of (drop (size + 1) text))
 digits_first text size n begins within space =
     let ends = word_ends text size n begins (λ _. space) in
-    let left : take (length text - (size + 1)) (drop (size + 1) text) ≡ drop (size + 1) text =
-    take_all (length text - (size + 1)) (drop (size + 1) text) (omega (arith, length-drop (size + 1) text)) in
+    let left : take (length text - (size + 1)) (drop (size + 1) text) ≡ drop (size + 1) text = grind (arith, nat_tests, take_all, length-drop) in
     subst (λ (rest : List ℕ). number_at (words_of text) ≡ Some (n, words_of rest)) left
     (number_gives (Some n) (first_word text) (words_of text) (words_of (take (length text - (size + 1)) (drop (size + 1) text)))
     (word_and_more text size (sym ends) within) (begins.5, word_is text size n begins ends) tt)
@@ -85,14 +79,7 @@ values_up_to_three text at one two three within first second third =
 
 begins_behind : (text : List ℕ) (at size n : ℕ) → at + size ≤ length text → 0 < size → Values text at size n → (get_or text at 0 ≡ 48 → size ≡ 1) → n < 2 ^ 64
     → Begins (drop at text) size n
-begins_behind text at size n within some values first small = (
-  some,
-  omega (arith, within, length-drop at text),
-  values.0,
-  λ zero. first (sym (get_or-drop at text 0 0 ∙ ap (λ (k : ℕ). get_or text k 0) (omega arith)) ∙ zero),
-  values.1,
-  small,
-)
+begins_behind text at size n within some values first small = grind (arith, nat_tests, length-drop, get_or-drop)
 
 number_read : (text : List ℕ) (at size next n : ℕ) → next ≡ at + size + 1 → at + size < length text → get_or text (at + size) 0 ≡ 32 →
     Begins (drop at text) size n
@@ -161,16 +148,12 @@ digits_last text at place n begun whole few some values =
     (omega (arith, begun, whole, length-drop at text))
 
 pub last_one : (text : List ℕ) (at n : ℕ) → length text ≡ at + 1 → IsDigit text at n → number_at (words_of (drop at text)) ≡ Some (n, [])
-last_one text at n whole first =
-    digits_alone (drop at text) 1 n
-    (begins_behind text at 1 n (omega (arith, whole)) (omega arith) (values_one text at n (omega (arith, whole)) first) (λ _. refl) (omega (arith, first)))
-    (omega (arith, whole, length-drop at text))
+last_one text at n whole first = grind (arith, nat_tests, digits_alone, begins_behind, values_one, length-drop)
 
 -- the same, where a digit was looked for
 pub last_one_found : (text : List ℕ) (at : ℕ) (r : Option ℕ) → length text ≡ at + 1 → IfSome r (λ n. IsDigit text at n)
     → IfSome r (λ n. number_at (words_of (drop at text)) ≡ Some (n, []))
-last_one_found text at None whole found = tt
-last_one_found text at (Some n) whole found = last_one text at n whole found
+last_one_found text at r whole found = grind (arith, nat_tests, last_one)
 
 pub last_two : (text : List ℕ) (at one two n : ℕ) → length text ≡ at + 2 → IsDigit text at one → (get_or text at 0 ≡ 48 → ⊥) → IsDigit text (at + 1) two →
     n ≡ one * 10 + two

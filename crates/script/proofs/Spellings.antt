@@ -1,5 +1,5 @@
 -- A line is a command's spelling where its pieces are the command's words.
-use Rattle.script.proofs.Names.{ℕ, List, refl, sym, ap, Command, Fits, IsSkipped, command_words, spelling, length-spelling, skip_is_no_command}
+use Rattle.script.proofs.Names.{arith, nat_tests, ℕ, List, refl, ap, Command, Fits, IsSkipped, command_words, spelling, length-spelling, skip_is_no_command}
 use Rattle.script.proofs.Names.{spelling_from_words, spells_one, split_spelling, words_of, Says}
 use Rattle.std.proofs.Common.{◌≡◌, ◌≢◌, ◌∙◌}
 use Rattle.model.specs.declared.line.Line.TheVariants as line
@@ -14,8 +14,7 @@ says_said text c said = (said.0, spelling_from_words text c said.1)
 
 -- a line spells one command
 one_spelling : (text : List ℕ) (c d : Command) → Fits c → Fits d → words_of text ≡ command_words c → text ≡ spelling d → c ≡ d
-one_spelling text c d fits_c fits_d words spelt =
-    spells_one c d fits_c fits_d (sym (spelling_from_words text c words) ∙ spelt)
+one_spelling text c d fits_c fits_d words spelt = grind (arith, nat_tests, spells_one, spelling_from_words)
 
 pub no_spelling : (text : List ℕ) (d : Command) → Fits d → words_of text ≢ command_words d → text ≢ spelling d
 no_spelling text d fits none spelt = none (ap words_of spelt ∙ split_spelling d fits)

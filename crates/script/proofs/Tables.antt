@@ -1,8 +1,8 @@
 -- Every keyword, every kind and every state has a place in the table of words.
-use Rattle.script.proofs.Names.{ℕ, List, [], get_or, arith, Call, Return, Send, State, Available, Running, Waiting, state_text, Keyword, Kind, Discrim}
-use Rattle.script.proofs.Names.{keyword_name, kind_name}
+use Rattle.script.proofs.Names.{nat_tests, ℕ, List, [], get_or, arith, Call, Return, Send, State, Available, Running, Waiting, state_text, Keyword, Kind}
+use Rattle.script.proofs.Names.{Discrim, keyword_name, kind_name, Number, Page, Node, Space, Process, Start, Resume, Bank}
 use Rattle.std.proofs.Common.{◌≢◌, ◌<◌, ◌∷◌}
-use Rattle.script.specs.declared.named.Kind.TheVariants.{Void, Number, Page, Node, Space, Process, Start, Resume, Bank}
+use Rattle.script.specs.declared.named.Kind.TheVariants.{Void}
 use Rattle.script.specs.declared.keyword.Keyword.TheVariants as keyword
 
 abbrev pub every_keyword : List Keyword
@@ -47,6 +47,4 @@ abbrev pub every_state : List State
 every_state = Available ∷ Running ∷ Waiting ∷ []
 
 pub no_state_left : (word : List ℕ) → ((i : ℕ) → i < 3 → state_text (get_or every_state i Waiting) ≢ word) → (s : State) → state_text s ≢ word
-no_state_left word none Available = none 0 (omega arith)
-no_state_left word none Running = none 1 (omega arith)
-no_state_left word none Waiting = none 2 (omega arith)
+no_state_left word none s = grind (arith, nat_tests)

@@ -1,8 +1,8 @@
 -- The lines of an object, one for each of its parts.
-use Rattle.script.proofs.Names.{Option, ℕ, suc, add-one, List, [], map, length, get_or, take, drop, codes, decimal, refl, sym, ap, append_assoc, append-nil}
-use Rattle.script.proofs.Names.{arith, flat_map, enumerate_from, decimal_digit, decimal_step, flat_map-append, take-append-drop, take_all, div_below}
-use Rattle.script.proofs.Names.{flat_map-map, take-suc, Capability, Void, Object, Root, spaced, headed}
-use Rattle.script.proofs.Names.{line_of, word_lines, state_text, registers_of, object_text, capability_text, capability_line, capability_lines}
+use Rattle.script.proofs.Names.{nat_tests, Option, ℕ, suc, add-one, List, [], map, length, get_or, take, drop, codes, decimal, refl, sym, ap, append_assoc}
+use Rattle.script.proofs.Names.{append-nil, arith, flat_map, enumerate_from, decimal_digit, decimal_step, flat_map-append, take-append-drop, take_all}
+use Rattle.script.proofs.Names.{div_below, flat_map-map, take-suc, Capability, Void, Object, Root, spaced, headed, line_of, word_lines, state_text}
+use Rattle.script.proofs.Names.{registers_of, object_text, capability_text, capability_line, capability_lines}
 use Rattle.std.proofs.Common.{◌≡◌, ◌≢◌, ◌+◌, ◌/◌, ◌%◌, ◌<◌, ◌≤◌, ◌∷◌, ◌++◌, ◌∙◌, length-take-le}
 use Rattle.model.specs.declared.object.Content.TheVariants as content
 
@@ -36,8 +36,7 @@ module _ {A : Type 0} (line : ℕ × A → List ℕ) (xs : List A) where
   pub lines_split : (i : ℕ) (d : A) → i < length xs
       → flat_map line (enumerate_from 0 xs) ≡ (lines_before i ++ line (i, get_or xs i d)) ++ flat_map line
       (enumerate_from (0 + length (take (i + 1) xs)) (drop (i + 1) xs))
-  lines_split i d lt = lines_whole (i + 1) ∙ ap (λ (t : List ℕ). t ++ flat_map line (enumerate_from (0 + length (take (i + 1) xs)) (drop (i + 1) xs)))
-      (lines_more i d lt)
+  lines_split i d lt = grind (arith, nat_tests, lines_whole, lines_more)
 
   pub lines_all : (i : ℕ) → length xs ≤ i → lines_before i ≡ flat_map line (enumerate_from 0 xs)
   lines_all i le = ap (λ (l : List A). flat_map line (enumerate_from 0 l)) (take_all i xs le)
@@ -45,8 +44,7 @@ module _ {A : Type 0} (line : ℕ × A → List ℕ) (xs : List A) where
 -- a capability that isn't void has a line
 pub capability_has_line : (name : List ℕ) (index : ℕ) (capability : Capability) → capability ≢ Void
     → line_of (spaced (name ∷ decimal index ∷ capability_text capability ∷ [])) ≡ capability_line name (index, capability)
-capability_has_line name index Void some = absurd (some refl)
-capability_has_line name index other some = refl
+capability_has_line name index capability some = grind (arith, nat_tests)
 
 -- the words of a line, each with a space before it but the first
 pub spaced_is : (word : List ℕ) (words : List (List ℕ)) → spaced (word ∷ words) ≡ word ++ flat_map (λ w. 32 ∷ w) words
@@ -54,10 +52,7 @@ spaced_is word [] = sym (append-nil word)
 spaced_is word (next ∷ words) = ap (λ (t : List ℕ). word ++ 32 ∷ t) (spaced_is next words)
 
 pub spaced_more : (word : List ℕ) (words more : List (List ℕ)) → spaced (word ∷ (words ++ more)) ≡ spaced (word ∷ words) ++ flat_map (λ w. 32 ∷ w) more
-spaced_more word words more =
-    spaced_is word (words ++ more) ∙ ap (λ (t : List ℕ). word ++ t) (flat_map-append (λ w. 32 ∷ w) words more)
-    ∙ sym (append_assoc word (flat_map (λ w. 32 ∷ w) words) (flat_map (λ w. 32 ∷ w) more)) ∙
-    ap (λ (t : List ℕ). t ++ flat_map (λ w. 32 ∷ w) more) (sym (spaced_is word words))
+spaced_more word words more = grind (arith, nat_tests, spaced_is, flat_map-append, append_assoc)
 
 -- words that are put on a line, one after the other
 abbrev put_all : List ℕ → List (List ℕ) → List ℕ
@@ -70,12 +65,7 @@ put_all_is line (word ∷ words) = put_all_is (line ++ 32 ∷ word) words ∙ ap
 
 put_spaced : (word : List ℕ) (words more numbers last : List (List ℕ))
     → put_all (put_all (spaced (word ∷ words)) more ++ flat_map (λ w. 32 ∷ w) numbers) last ≡ spaced (word ∷ (((words ++ more) ++ numbers) ++ last))
-put_spaced word words more numbers last =
-    put_all_is (put_all (spaced (word ∷ words)) more ++ flat_map (λ w. 32 ∷ w) numbers) last
-    ∙ ap (λ (t : List ℕ). (t ++ flat_map (λ w. 32 ∷ w) numbers) ++ flat_map (λ w. 32 ∷ w) last)
-    (put_all_is (spaced (word ∷ words)) more ∙ sym (spaced_more word words more))
-    ∙ ap (λ (t : List ℕ). t ++ flat_map (λ w. 32 ∷ w) last) (sym (spaced_more word (words ++ more) numbers))
-    ∙ sym (spaced_more word ((words ++ more) ++ numbers) last)
+put_spaced word words more numbers last = grind (arith, nat_tests, put_all_is, spaced_more)
 
 -- the first line of a process, as its parts are joined
 abbrev pub process_put : ℕ → ℕ → ℕ → ℕ → List ℕ → List ℕ → List ℕ → List ℕ
@@ -141,6 +131,4 @@ pub one_digit_text : (line : List ℕ) (n : ℕ) → n < 10 → (line ++ 32 ∷ 
 one_digit_text line n small = rw (decimal_digit n small) (append_assoc line (32 ∷ []) ((48 + n) ∷ []))
 
 pub two_digits_text : (line : List ℕ) (n : ℕ) → 10 ≤ n → n < 100 → ((line ++ 32 ∷ []) ++ (48 + n / 10) ∷ []) ++ (48 + n % 10) ∷ [] ≡ line ++ 32 ∷ decimal n
-two_digits_text line n long small =
-    rw (decimal_step n long (omega arith), decimal_digit (n / 10) (div_below n 10 10 (omega arith) (omega (arith, small))))
-    (append_assoc (line ++ 32 ∷ []) ((48 + n / 10) ∷ []) ((48 + n % 10) ∷ []) ∙ append_assoc line (32 ∷ []) ((48 + n / 10) ∷ (48 + n % 10) ∷ []))
+two_digits_text line n long small = grind (arith, nat_tests, decimal_step, decimal_digit, div_below, append_assoc)

@@ -1,19 +1,15 @@
 -- The least free numbers, and numbers that aren't free, found by marks. What is counted, a number at a time. Usages, added up over the numbers.
-use Rattle.space_bank.proofs.Names.{ℕ, zero, suc, None, Some, Bool, cond, List, [], length, ⊎_elim, refl, sym, ap, subst, zero-add, arith, cases_lt}
+use Rattle.space_bank.proofs.Names.{nat_tests, ℕ, zero, suc, None, Some, Bool, cond, List, [], length, ⊎_elim, refl, sym, ap, subst, zero-add, arith, cases_lt}
 use Rattle.space_bank.proofs.Names.{range_with_len, Geometry, Object, are_free, free_nodes, free_pages, is_free, content_at, MakeProcess, process_at}
 use Rattle.space_bank.proofs.Names.{AreCounted, BanksState, AreMarked, HasNoneMarked, IsNextMarked, is_marked, map, IsTrue, slice_index, SomeIff}
-use Rattle.space_bank.proofs.Names.{get_or-map-range_with_len, length-map-range_with_len, map-range_with_len_more, Cap, Capability, Frame, ObjectHeader}
-use Rattle.space_bank.proofs.Names.{Content, usage, conveyed, frames_in, held_at, objects_of, Role, is_bank, is_root, limit_in, role_of, object_count, Parts}
-use Rattle.space_bank.proofs.Names.{objects_in, content_there, mapped, AreKept, kept_number, ContentRef, content_behind, true, false, inl, inr, filter, ne_eqb}
-use Rattle.space_bank.proofs.Names.{get_or-append_right, get_or_append_left, length_objects, keepable_count, IsNextUnmarked, HasAllMarked, AreFree, HasNoneUsed}
-use Rattle.space_bank.proofs.Names.{IsNextUsed, is_listed, MayServe, chain, chain_prime, list_any, nat_eq, not, owner_at, append_assoc, append-nil, owned_by}
-use Rattle.space_bank.proofs.Names.{under, listed_by, take, get_or, count_by, enumerate_from, cases_eq, eq-eqb, get_or_past, length-take, take_all}
-use Rattle.space_bank.proofs.Names.{length-enumerate_from, get_or-enumerate_from, count_by-le-length, count_by_more_no, count_by_more_yes, is_under, free}
-use Rattle.space_bank.proofs.Names.{is_member, object_at, IsTree, chain_once, IsRaised}
+use Rattle.space_bank.proofs.Names.{get_or-map-range_with_len, length-map-range_with_len, map-range_with_len_more, Cap, Capability, ObjectHeader, Content}
+use Rattle.space_bank.proofs.Names.{usage, held_at, Role, is_bank, is_root, limit_in, role_of, object_count, Parts, objects_in, content_there, mapped, AreKept}
+use Rattle.space_bank.proofs.Names.{kept_number, ContentRef, content_behind, true, false, inl, inr, filter, length_objects, keepable_count, AreFree, is_listed}
+use Rattle.space_bank.proofs.Names.{MayServe, chain, chain_prime, not, owner_at, append_assoc, append-nil, owned_by, under, listed_by, take, get_or, count_by}
+use Rattle.space_bank.proofs.Names.{enumerate_from, cases_eq, eq-eqb, get_or_past, length-take, take_all, length-enumerate_from, get_or-enumerate_from}
+use Rattle.space_bank.proofs.Names.{count_by-le-length, count_by_more_no, count_by_more_yes, is_under, free, is_member, object_at, IsTree, chain_once, IsRaised}
 use Rattle.std.proofs.Common.{◌≡◌, ◌+◌, ◌-◌, ◌<◌, ◌≤◌, ◌∙◌, ◌∷◌, ◌^◌, ◌++◌, ◌≢◌, ◌==◌, ◌&&◌}
-use Rattle.model.specs.declared.object.Content.TheVariants as content
 use Rattle.model.specs.declared.object.ContentRef.TheVariants as content_ref
-use Rattle.model.specs.declared.object.Role.TheVariants as role
 use Rattle.space_bank.proofs.Tallies.{marks_counted}
 
 -- marks of the numbers from a base on
@@ -23,17 +19,10 @@ module _ (os : List Object) (base : ℕ) (marks : List Bool) (same : (n : ℕ) �
   free_from from = are_free os (range_with_len (base + from) (length marks - from))
 
   free_one : (from : ℕ) → from < length marks → free_from from ≡ cond (is_marked marks from) ((base + from) ∷ free_from (from + 1)) (free_from (from + 1))
-  free_one from inside =
-      let k : length marks - from ≡ suc (length marks - (from + 1)) = omega arith in
-      let next : base + from + 1 ≡ base + (from + 1) = omega arith in
-      rw (k, same from inside, next) refl
+  free_one from inside = grind (arith, nat_tests)
 
   next_by : (k from n : ℕ) → n ≡ from + k → IsNextMarked marks from n → free_from from ≡ (base + n) ∷ free_from (n + 1)
-  next_by zero from n is next =
-      let here : from ≡ n = omega arith in
-      let inside : from < length marks = omega (arith, next.inside) in
-      free_one from inside ∙ ap (λ (b : Bool). cond b ((base + from) ∷ free_from (from + 1)) (free_from (from + 1))) (ap (is_marked marks) here ∙ next.marked)
-      ∙ ap (λ (m : ℕ). (base + m) ∷ free_from (m + 1)) here
+  next_by zero from n is next = grind (arith, nat_tests, free_one)
   next_by (suc k) from n is next =
       let inside : from < length marks = omega (arith, next.inside) in
       free_one from inside
@@ -50,9 +39,7 @@ module _ (os : List Object) (base : ℕ) (marks : List Bool) (same : (n : ℕ) �
   next_free from n next = next_by (n - from) from n (omega (arith, next.past)) next
 
   none_by : (k from : ℕ) → from + k ≡ length marks → HasNoneMarked marks from → free_from from ≡ []
-  none_by zero from is none =
-      let k : length marks - from ≡ 0 = omega arith in
-      rw k refl
+  none_by zero from is none = grind (arith, nat_tests)
   none_by (suc k) from is none =
       let inside : from < length marks = omega arith in
       free_one from inside ∙ ap (λ (b : Bool). cond b ((base + from) ∷ free_from (from + 1)) (free_from (from + 1))) (none from (omega arith))
@@ -63,10 +50,7 @@ module _ (os : List Object) (base : ℕ) (marks : List Bool) (same : (n : ℕ) �
       (λ (inside : from ≤ length marks). none_by (length marks - from) from (omega arith) none) (cases_lt (length marks) from)
 
   whole : are_free os (range_with_len base (length marks)) ≡ free_from 0
-  whole =
-      let start : base ≡ base + 0 = omega arith in
-      let all : length marks ≡ length marks - 0 = omega arith in
-      ap (λ (k : ℕ). are_free os (range_with_len base k)) all ∙ ap (λ (m : ℕ). are_free os (range_with_len m (length marks - 0))) start
+  whole = grind (arith, nat_tests)
 
   pub found_none : HasNoneMarked marks 0 → are_free os (range_with_len base (length marks)) ≡ []
   found_none none = whole ∙ none_free 0 none
@@ -97,43 +81,28 @@ module _ {g : Geometry} {os : List Object} {s : BanksState} (h : AreCounted g os
   pub made_of_nodes : marks ≡ s.free_nodes →
       ((us : List Object) → AreMarked us 0 (length marks) marks → x ≡ make (are_free us (range_with_len 0 (length marks)))) → x ≡ make (free_nodes g os)
   unfolding free_nodes
-  made_of_nodes are made =
-      let all : g.nodes ≡ length marks = omega (arith, h.nodes, ap (λ (m : List Bool). length m) are) in
-      made os (subst (λ (m : List Bool). AreMarked os 0 (length m) m) (sym are) (record {
-        size = refl;
-        each = λ n inside. h.node n (omega (arith, inside, h.nodes)) ∙ ap (λ (m : ℕ). is_free (content_at os m)) (sym (zero-add n));
-      })) ∙ ap (λ (k : ℕ). make (are_free os (range_with_len 0 k))) (sym all)
+  made_of_nodes are made = grind (arith, nat_tests)
 
   pub made_of_pages : marks ≡ s.free_pages → (first : ℕ) → first ≡ g.nodes →
       ((us : List Object) → AreMarked us first (length marks) marks → x ≡ make (are_free us (range_with_len first (length marks)))) → x ≡ make (free_pages g os)
   unfolding free_pages
-  made_of_pages are first is made =
-      let all : g.pages ≡ length marks = omega (arith, h.pages, ap (λ (m : List Bool). length m) are) in
-      made os (subst (λ (n : ℕ). AreMarked os n (length marks) marks) (sym is) (subst (λ (m : List Bool). AreMarked os g.nodes (length m) m) (sym are) (record {
-        size = refl;
-        each = λ n inside. h.page n (omega (arith, inside, h.pages));
-      }))) ∙ (λ k. make (are_free os (range_with_len (is k) (sym all k))))
+  made_of_pages are first is made = grind (arith, nat_tests)
 
 -- no number is kept of an object with another role
 pub kept_other : (r : Role) (c : Content Capability) → (role_of c ≡ r → ⊥) → kept_number r c ≡ 0
-kept_other role.Root (content.Root r) other = absurd (other refl)
-kept_other role.Bank (content.Bank limit) other = absurd (other refl)
-kept_other r c other = refl
+kept_other r c other = grind (arith, nat_tests)
 
 pub no_limit : (r : ContentRef) → ((x : ℕ) → r ≡ content_ref.Bank x → ⊥) → limit_in (content_behind r) ≡ 0
-no_limit (content_ref.Bank limit) bank = absurd (bank limit refl)
-no_limit c bank = refl
+no_limit r bank = grind (arith, nat_tests)
 
 -- the limit of what is held at a number
 pub limit_held : (p : Parts) (n : ℕ) (c : Content Cap) → n < length p.headers → c ≡ held_at p.contents n →
     limit_in c ≡ limit_in (content_at (objects_in p) n)
-limit_held p n c known is =
-    sym ((mapped (conveyed p.headers) c).limit) ∙ sym (ap (λ (d : Content Capability). limit_in d) (content_there p n known c (sym is)))
+limit_held p n c known is = grind (arith, nat_tests, mapped, content_there)
 
 -- a read-only call leaves the objects
 pub objects_looked : (old now : Parts) → now.headers ≡ old.headers → now.contents ≡ old.contents → objects_in now ≡ objects_in old
-objects_looked old now headers contents =
-    ap (λ (fs : List Frame). objects_of fs) (ap (λ (hs : List ObjectHeader). frames_in hs now.contents) headers ∙ ap (frames_in old.headers) contents)
+objects_looked old now headers contents = grind (arith, nat_tests)
 
 -- one number more, read after a read-only call
 pub numbers_more : (old now : Parts) (r : Role) (n one : ℕ) (kept new : List ℕ) → now.headers ≡ old.headers → now.contents ≡ old.contents →
@@ -149,8 +118,7 @@ numbers_more old now r n one kept new headers contents is so more =
 -- numbers of nodes and pages fit, since there is a header for each
 pub numbers_fit : (p : Parts) (hs : List ObjectHeader) (h : Geometry) (count : ℕ) → hs ≡ p.headers → count ≡ length hs → count < 2 ^ 64 → h ≡ p.geometry →
     length p.headers ≡ object_count p.geometry → h.nodes + h.pages < 2 ^ 64
-numbers_fit p hs h count table is fits same all =
-    omega (arith, ap (λ (ks : List ObjectHeader). length ks) table, ap (λ (k : Geometry). k.nodes) same, ap (λ (k : Geometry). k.pages) same)
+numbers_fit p hs h count table is fits same all = grind (arith, nat_tests)
 
 pub room_replying : (count room : ℕ) → SomeIff (Some room) (count + 2 < 2 ^ 64) (count + 2) → room ≡ count + 2
 room_replying count room is = is.1
@@ -161,40 +129,19 @@ module _ (g : Geometry) (os : List Object) (s : BanksState) (below : (b : ℕ) �
   counted_parts : AreMarked os 0 g.nodes s.free_nodes → AreMarked os g.nodes g.pages s.free_pages → length s.usages ≡ g.nodes →
       ((b : ℕ) → IsTrue (is_bank (content_at os b)) → slice_index s.usages b ≡ usage os b) →
       AreKept os g.nodes s.limits s.annexes → object_count g + 2 ≤ s.room → AreCounted g os s
-  counted_parts nodes pages size usages kept room =
-      let f : ℕ → ℕ = λ n. kept_number role.Bank (content_at os n) in
-      let h : ℕ → ℕ = λ n. kept_number role.Root (content_at os n) in
-      record {
-        nodes = nodes.size;
-        pages = pages.size;
-        node = λ n inside. nodes.each n inside ∙ ap (λ (m : ℕ). is_free (content_at os m)) (zero-add n);
-        page = pages.each;
-        usage_each = size;
-        limit_each = ap length kept.limits_are ∙ length-map-range_with_len f 0 g.nodes;
-        annex_each = ap length kept.annexes_are ∙ length-map-range_with_len h 0 g.nodes;
-        usage = usages;
-        limit = λ b bank. ap (λ (xs : List ℕ). slice_index xs b) kept.limits_are ∙ get_or-map-range_with_len f 0 g.nodes b b 0 (below b bank) (zero-add b);
-        annex = λ p root. ap (λ (xs : List ℕ). slice_index xs p) kept.annexes_are ∙ get_or-map-range_with_len h 0 g.nodes p p 0 (process_below p root)
-            (zero-add p);
-        room = room;
-      }
+  counted_parts nodes pages size usages kept room = grind (arith, nat_tests, length-map-range_with_len, get_or-map-range_with_len)
 
   pub counted_from : (h : Geometry) → h ≡ g → AreMarked os 0 h.nodes s.free_nodes → AreMarked os h.nodes h.pages s.free_pages → length s.usages ≡ h.nodes →
       ((b : ℕ) → IsTrue (is_bank (content_at os b)) → slice_index s.usages b ≡ usage os b) →
       AreKept os g.nodes s.limits s.annexes → object_count g + 2 ≤ s.room → AreCounted g os s
-  counted_from h is nodes pages size =
-      counted_parts (subst (λ (k : Geometry). AreMarked os 0 k.nodes s.free_nodes) is nodes)
-      (subst (λ (k : Geometry). AreMarked os k.nodes k.pages s.free_pages) is pages) (size ∙ ap (λ (k : Geometry). k.nodes) is)
+  counted_from h is nodes pages size has same given = grind (arith, nat_tests, counted_parts)
 
 -- one number more
 cond_append : (b : Bool) (x : ℕ) (ys zs : List ℕ) → cond b (x ∷ (ys ++ zs)) (ys ++ zs) ≡ cond b (x ∷ ys) ys ++ zs
-cond_append true x ys zs = refl
-cond_append false x ys zs = refl
+cond_append b x ys zs = grind (arith, nat_tests)
 
 filter_more : (p : ℕ → Bool) (a n m : ℕ) → a + n ≡ m → filter p (range_with_len a (n + 1)) ≡ filter p (range_with_len a n) ++ cond (p m) (m ∷ []) []
-filter_more p a zero m is =
-    let here : a ≡ m = omega arith in
-    ap (λ (k : ℕ). cond (p k) (k ∷ []) []) here
+filter_more p a zero m is = grind (arith, nat_tests)
 filter_more p a (suc n) m is =
     let more : suc n + 1 ≡ suc (n + 1) = omega arith in
     ap (λ (k : ℕ). filter p (range_with_len a k)) more ∙ ap (λ (xs : List ℕ). cond (p a) (a ∷ xs) xs) (filter_more p (a + 1) n m (omega arith))
@@ -215,48 +162,13 @@ listed_same p before now new n so fails is =
 
 pub listed_whole : (os : List Object) (b : ℕ) (deep : Bool) → filter (is_listed os b deep) (range_with_len 0 (length os)) ≡ listed_by os b deep
 unfolding under owned_by
-listed_whole os b true = refl
-listed_whole os b false = refl
-
-module _ (os : List Object) (nodes pages : List Bool) (free : AreFree os nodes pages) where
-  -- what is said of a node or of a page is said of the number
-  node_is : (n : ℕ) → n < length nodes → is_free (content_at os n) ≡ is_marked nodes n
-  node_is n inside = sym (free.free n (omega (arith, inside, free.each))) ∙ get_or_append_left nodes pages false n inside
-
-  page_is : (n : ℕ) → length nodes ≤ n → n < length os → is_free (content_at os n) ≡ is_marked pages (n - length nodes)
-  page_is n past inside = sym (free.free n inside) ∙ get_or-append_right nodes pages (length nodes) n false refl past
-
-  module _ (from first from_page : ℕ) (is_first : first ≡ length nodes) (is_from : from_page ≡ from - first) (all : HasAllMarked nodes from) where
-    nodes_free : (m : ℕ) → from ≤ m → m < length nodes → is_free (content_at os m) ≡ true
-    nodes_free m past inside = node_is m inside ∙ all m past inside
-
-    pub page_used : (n : ℕ) → IsNextUnmarked pages from_page n → IsNextUsed os from (first + n)
-    page_used n next =
-        let at : first + n - length nodes ≡ n = omega (arith, is_first) in
-        record {
-          past = omega (arith, next.past, is_from);
-          inside = omega (arith, next.inside, free.each, is_first);
-          used = page_is (first + n) (omega (arith, is_first)) (omega (arith, next.inside, free.each, is_first)) ∙ ap (is_marked pages) at ∙ next.unmarked;
-          least = λ m past before. elim (cases_lt m (length nodes)) [
-            | inl node ↦ nodes_free m past node
-            | inr page ↦ page_is m page (omega (arith, before, next.inside, free.each, is_first))
-                ∙ next.least (m - length nodes) (omega (arith, past, is_from, is_first)) (omega (arith, before, page, is_first))
-          ];
-        }
-
-    pub none_used : HasAllMarked pages from_page → HasNoneUsed os from
-    none_used none m past inside = elim (cases_lt m (length nodes)) [
-      | inl node ↦ nodes_free m past node
-      | inr page ↦ page_is m page inside ∙ none (m - length nodes) (omega (arith, past, is_from, is_first)) (omega (arith, inside, free.each, page))
-    ]
+listed_whole os b deep = grind (arith, nat_tests)
 
 -- ---- lists of what passes a test, where none between two numbers does
 
 pub listed_past : (p : ℕ → Bool) (before now : List ℕ) (from k : ℕ) → now ≡ before ++ filter p (range_with_len 0 from)
     → ((m : ℕ) → from ≤ m → m < from + k → p m ≡ false) → now ≡ before ++ filter p (range_with_len 0 (from + k))
-listed_past p before now from zero so none =
-    let same : from ≡ from + zero = omega arith in
-    subst (λ (j : ℕ). now ≡ before ++ filter p (range_with_len 0 j)) same so
+listed_past p before now from zero so none = grind (arith, nat_tests)
 listed_past p before now from (suc k) so none =
     let prev = listed_past p before now from k so (λ m past within. none m past (omega (arith, within))) in
     let more : from + k + 1 ≡ from + suc k = omega arith in
@@ -271,47 +183,25 @@ listed_up_to p before now from n past so none =
     (listed_past p before now from (n - from) so (λ m after within. none m after (omega (arith, within, past))))
 
 pub and_false : (a : Bool) → (a && false) ≡ false
-and_false true = refl
-and_false false = refl
+and_false a = grind (arith, nat_tests)
 
 -- a number that is free isn't listed, nor is number 0
 pub free_not_listed : (os : List Object) (b m : ℕ) (deep : Bool) → is_free (content_at os b) ≡ false → is_free (content_at os m) ≡ true →
     is_listed os b deep m ≡ false
-free_not_listed os b m true used free =
-    let apart : m ≢ b = λ same. let wrong : true ≡ false = sym free ∙ ap (λ (k : ℕ). is_free (content_at os k)) same ∙ used in absurd cc in
-    rw (ne_eqb m b apart, free) refl
-free_not_listed os b m false used free = rw free refl
+free_not_listed os b m deep used free = grind (arith, nat_tests)
 
 prime_not_listed : (os : List Object) (b : ℕ) (deep : Bool) → owner_at os 0 ≡ 0 → b ≢ 0 → is_listed os b deep 0 ≡ false
-prime_not_listed os b true prime other =
-    let none : list_any (nat_eq b) (chain os (owner_at os 0)) ≡ false =
-    ap (λ (m : ℕ). list_any (nat_eq b) (chain os m)) prime ∙ ap (list_any (nat_eq b)) (chain_prime os) ∙ rw (ne_eqb b 0 other) refl in
-    rw (ne_eqb 0 b (λ e. other (sym e)), none) (and_false (not (is_free (content_at os 0))))
-prime_not_listed os b false prime other = rw (prime, ne_eqb 0 b (λ e. other (sym e))) (and_false (not (is_free (content_at os 0))))
+prime_not_listed os b deep prime other = grind (arith, nat_tests, chain_prime, and_false)
 
 pub listed_inner : (os : List Object) (b n : ℕ) (deep : Bool) → owner_at os 0 ≡ 0 → b ≢ 0 → is_listed os b deep n ≡ true → n ≢ 0
-listed_inner os b n deep prime other is same =
-    let wrong : true ≡ false = sym is ∙ ap (is_listed os b deep) same ∙ prime_not_listed os b deep prime other in
-    cc
+listed_inner os b n deep prime other is same = grind (arith, nat_tests, prime_not_listed)
 
 -- ---- what is counted of banks
 
 -- it stays whatever is listed
 pub counted_listed : {g : Geometry} {os : List Object} {s t : BanksState} {list : List ℕ} → t ≡ record s { listed = list } → AreCounted g os s →
     AreCounted g os t
-counted_listed {g} {os} is h = subst (AreCounted g os) (sym is) (record {
-  nodes = h.nodes;
-  pages = h.pages;
-  node = h.node;
-  page = h.page;
-  usage_each = h.usage_each;
-  limit_each = h.limit_each;
-  annex_each = h.annex_each;
-  usage = h.usage;
-  limit = h.limit;
-  annex = h.annex;
-  room = h.room;
-})
+counted_listed {g} {os} {s} {t} {list} is h = grind (arith, nat_tests)
 
 module _ {p : Parts} {s : BanksState} {b : ℕ} (h : MayServe p s b) where
   pub bank_free : (nodes pages : List Bool) → nodes ≡ s.free_nodes → pages ≡ s.free_pages → AreFree (objects_in p) nodes pages
@@ -347,8 +237,7 @@ module _ (os : List Object) (b n : ℕ) (inside : n < length os) where
   used_same is = count_by_more_no (is_used os b) (enumerate_from 0 os) n (0, free) known (ap (is_used os b) there ∙ is)
 
   used_by : (adds : Bool) → is_used os b (n, object_at os n) ≡ adds → used_below os b (n + 1) ≡ used_below os b n + cond adds 1 0
-  used_by true is = used_more is
-  used_by false is = omega (arith, used_same is)
+  used_by adds is = grind (arith, nat_tests, used_more, used_same)
 
 pub used_whole : (os : List Object) (b n : ℕ) → length os ≤ n → usage os b ≡ used_below os b n
 unfolding usage
@@ -356,20 +245,12 @@ used_whole os b n whole = ap (count_by (is_used os b)) (sym (take_all n (enumera
 
 -- number 0 is accounted for by none
 not_empty : (os : List Object) → IsTree os → 0 < length os
-not_empty os t = elim (cases_lt 0 (length os)) [
-  | inl some ↦ some
-  | inr none ↦
-      let past : is_bank (content_at os 0) ≡ false = ap (λ (o : Object). is_bank o.content) (get_or_past os 0 free none) in
-      absurd (let wrong : true ≡ false = sym t.prime.0 ∙ past in cc)
-]
+not_empty os t = grind (arith, nat_tests, get_or_past)
 
 pub used_first : (os : List Object) → IsTree os → (b : ℕ) → used_below os b 1 ≡ 0
 used_first os t b = used_same os b 0 (not_empty os t) (elim (cases_eq 0 b) [
   | inl e ↦ rw (eq-eqb 0 b e) refl
-  | inr other ↦
-      let none : list_any (nat_eq b) (chain os (owner_at os 0)) ≡ false =
-      ap (λ (m : ℕ). list_any (nat_eq b) (chain os m)) t.prime.1 ∙ ap (list_any (nat_eq b)) (chain_prime os) ∙ rw (ne_eqb b 0 (λ e. other (sym e))) refl in
-      rw (none, and_false (not (is_free (content_at os 0))), and_false (not (0 == b))) refl
+  | inr other ↦ grind (arith, nat_tests, chain_prime, and_false)
 ])
 
 -- a number that is free, and one that isn't, whose owner's chain is raised by one
@@ -378,26 +259,19 @@ used_free os b n inside none = used_same os b n inside (rw none (and_false (not 
 
 used_under : (os : List Object) → IsTree os → (b n : ℕ) → IsTrue (is_bank (content_at os b)) → 1 ≤ n → is_free (content_at os n) ≡ false →
     is_used os b (n, object_at os n) ≡ is_member (chain os (owner_at os n)) b
-used_under os t b n bank later used = elim (cases_eq n b) [
-  | inl e ↦
-      rw (eq-eqb n b e) (sym (ap (λ (m : ℕ). is_member (chain os (owner_at os m)) b) e ∙ chain_once os t b bank (λ zero. omega (arith, e, zero))))
-  | inr other ↦ rw (ne_eqb n b other, used) refl
-]
+used_under os t b n bank later used = grind (arith, nat_tests, chain_once)
 
 pub used_raised : (os : List Object) → IsTree os → (b n owner : ℕ) (old new : List ℕ) → IsTrue (is_bank (content_at os b)) → n < length os → 1 ≤ n →
     is_free (content_at os n) ≡ false → owner ≡ owner_at os n → IsRaised (chain os owner) 1 old new → slice_index old b ≡ used_below os b n →
     slice_index new b ≡ used_below os b (n + 1)
 used_raised os t b n owner old new bank inside later used is raised so =
-    let more : slice_index new b ≡ slice_index old b + cond (is_member (chain os (owner_at os n)) b) 1 0 =
-    raised.each b ∙ ap (λ (m : ℕ). slice_index old b + cond (is_member (chain os m) b) 1 0) is in
+    let more : slice_index new b ≡ slice_index old b + cond (is_member (chain os (owner_at os n)) b) 1 0 = grind (arith, nat_tests) in
     let counted = used_by os b n inside (is_member (chain os (owner_at os n)) b) (used_under os t b n bank later used) in
     more ∙ ap (λ (k : ℕ). k + cond (is_member (chain os (owner_at os n)) b) 1 0) so ∙ sym counted
 
 pub owner_of_used : (os : List Object) → IsTree os → (n owner : ℕ) → is_free (content_at os n) ≡ false → owner ≡ owner_at os n →
     IsTrue (is_bank (content_at os owner))
-owner_of_used os t n owner used is =
-    subst (λ (m : ℕ). IsTrue (is_bank (content_at os m))) (sym is) (t.owners n (λ none. let wrong : false ≡ true = sym used ∙ none in cc))
+owner_of_used os t n owner used is = grind (arith, nat_tests)
 
 pub raise_fits : (os : List Object) (b n count usage : ℕ) → usage ≡ used_below os b n → n < count → count < 2 ^ 64 → usage + 1 < 2 ^ 64
-raise_fits os b n count usage so inside fits =
-    omega (arith, count_by-le-length (is_used os b) (take n (enumerate_from 0 os)), length-take n (enumerate_from 0 os))
+raise_fits os b n count usage so inside fits = grind (arith, nat_tests, count_by-le-length, length-take)

@@ -1,5 +1,5 @@
 -- The names that the proofs here cite: of other crates, and of the definitions of this one.
-pub use Rattle.capability.proofs.FrameLists.{bank_used, content_there, length_objects, owner_read}
+pub use Rattle.capability.proofs.FrameLists.{content_there, length_objects, owner_read}
 pub use Rattle.capability.proofs.Keeping.{keepable_at, keepable_count, keepable_later, keepable_roles}
 pub use Rattle.capability.proofs.KindNumbers.{bank_number, root_number}
 pub use Rattle.capability.proofs.Mapped.{mapped}
@@ -9,29 +9,26 @@ pub use Rattle.capability.specs.Changes.{bank_changed, reply_of_code}
 pub use Rattle.capability.specs.Parts.{AreGivenUp, FreshFits, HaveTheirRoles, IsFreshAt, IsOnce, KeepsRest, OnlyFetches, Parts, Renews, frames_of}
 pub use Rattle.capability.specs.Parts.{fresh_content, objects_in}
 pub use Rattle.capability.specs.declared.order.BankChange.{BankChange}
-pub use Rattle.capability.specs.declared.order.BankChange.TheVariants.{GiveUp, Make, MakeProcess, Transfer}
+pub use Rattle.capability.specs.declared.order.BankChange.TheVariants.{GiveUp, MakeProcess}
 pub use Rattle.capability.specs.declared.order.OrderPlan.{OrderPlan}
 pub use Rattle.capability.specs.declared.present.Fresh.{Fresh}
-pub use Rattle.collections.specs.Marks.{HasAllMarked, HasNoneMarked, IsNextMarked, IsNextUnmarked, is_marked}
+pub use Rattle.collections.specs.Marks.{HasNoneMarked, IsNextMarked, is_marked}
 pub use Rattle.model.specs.Bank.{chain_within, is_under}
 unfoldable pub use Rattle.model.specs.Bank.{chain, usage}
-pub use Rattle.model.specs.Banking.{allocated, are_free, bank_allocated, freed, freed_by, least, left_of, new_annex, new_root, process_allocated, transferred}
+pub use Rattle.model.specs.Banking.{are_free, freed, freed_by, least, left_of, new_annex, new_root, transferred}
 unfoldable pub use Rattle.model.specs.Banking.{free_nodes, free_pages, has_quota, inherited, on_bank, owned_by, remaining, under, with_new}
-pub use Rattle.model.specs.Capability.{full}
 pub use Rattle.model.specs.Frame.{content_behind, conveyed, given_up, header_at, held_at}
-unfoldable pub use Rattle.model.specs.Frame.{frames_in, objects_of}
 pub use Rattle.model.specs.Keepable.{AreCurrent, AreKeepable, world_at}
 pub use Rattle.model.specs.Object.{free, is_bank, is_free, is_root, limit_in, map_content, role_of, root_in}
-pub use Rattle.model.specs.OrderOutcome.{OrderOutcome, made, refused, replying_three}
-pub use Rattle.model.specs.Revoke.{is_given_up, is_member, names_member, void_where, without}
+pub use Rattle.model.specs.OrderOutcome.{made, refused, replying_three}
+pub use Rattle.model.specs.Revoke.{is_member, names_member, void_where, without}
 unfoldable pub use Rattle.model.specs.Revoke.{rescind}
 pub use Rattle.model.specs.Sound.{HasShape, MayBeHeld, NamesItsKind, object_count}
 pub use Rattle.model.specs.World.{content_at, object_at, owner_at}
 pub use Rattle.model.specs.contracts.object.Role.{the_type}
 pub use Rattle.model.specs.declared.capability.Cap.{Cap}
 pub use Rattle.model.specs.declared.capability.Capability.{Capability}
-pub use Rattle.model.specs.declared.capability.Capability.TheVariants.{Node, Page, Process, Void}
-pub use Rattle.model.specs.declared.frame.Frame.{Frame}
+pub use Rattle.model.specs.declared.capability.Capability.TheVariants.{Process, Void}
 pub use Rattle.model.specs.declared.frame.ObjectHeader.{ObjectHeader}
 pub use Rattle.model.specs.declared.geometry.Geometry.{Geometry}
 pub use Rattle.model.specs.declared.object.Content.{Content}
@@ -50,18 +47,19 @@ pub use Rattle.model_laws.proofs.BankTree.{chain_once, chain_prime, chain_shorte
 pub use Rattle.model_laws.proofs.BankTree.{new_bank_kept, owner_bank, tree_new, tree_of}
 pub use Rattle.model_laws.proofs.BankUsage.{freed_alike, nodes_alike, owned_alike, pages_alike, remaining_alike, room_alike, under_alike, usage_new}
 pub use Rattle.model_laws.proofs.BankUsage.{usage_new_bank}
-pub use Rattle.model_laws.proofs.GivenUp.{free_rescinded, new_used, none_given_up, rescinded_given_up}
+pub use Rattle.model_laws.proofs.GivenUp.{free_rescinded, new_used, rescinded_given_up}
 pub use Rattle.model_laws.proofs.Mapped.{IsMapped, at_map, without_mapped}
 pub use Rattle.model_laws.proofs.NumberLists.{AllDiffer, all_members, filter_once, found_in, only_member, stands_in}
 pub use Rattle.model_laws.proofs.Revoking.{at_rescind}
 pub use Rattle.model_laws.proofs.SoundBanks.{member_passes}
 pub use Rattle.model_laws.proofs.SoundOrders.{IsNow}
 pub use Rattle.model_laws.proofs.SoundParts.{IsFramed, nearly_from}
-pub use Rattle.model_laws.proofs.Usage.{SameFrame, chain_same, frame_refl, tests_at, usage_same}
+pub use Rattle.model_laws.proofs.Usage.{SameFrame, chain_same, tests_at, usage_same}
 pub use Rattle.std.proofs.Common.{Bool, Global, List, None, Some, Vec, [], add-one, ap, append_assoc, arith, cond, drop, false, get_or, inl, inr, length, map}
 pub use Rattle.std.proofs.Common.{min, nat_eq, not, refl, rules, subst, suc, sym, take, true, vec_len, zero, zero-add, ℕ, ⊎_elim}
-pub use Rattle.std.proofs.lemmas.Bool.{and_parts, cases_Bool, cases_eq, cases_lt, eq-eqb, eqb-true, false_from_ne_true, false≢true, le-leb, leb-true, lt-leb}
-pub use Rattle.std.proofs.lemmas.Bool.{ltb-true, ne_eqb, or_cases}
+pub use Rattle.std.proofs.lemmas.Bool.{cases_eq, cases_lt, eq-eqb, false_from_ne_true, false≢true, le-leb, lt-leb, ne_eqb, or_cases}
+pub use Rattle.std.proofs.lemmas.Bool.Decides.{nat_tests}
+pub use Rattle.std.proofs.lemmas.Grind.{common_steps}
 pub use Rattle.std.proofs.lemmas.List.{append-nil, ext_get_or, get_or-append_right, get_or-set_other, get_or-set_same, get_or_append_left, get_or_past}
 pub use Rattle.std.proofs.lemmas.List.{length-append, length-drop, length-map, length-set, length-take, set-append_left, set-append_right, take_all, take_rest}
 pub use Rattle.std.proofs.lemmas.List.{with_items_is}
@@ -73,7 +71,7 @@ pub use Rattle.std.specs.List.{All, count_by, enumerate_from, filter, list_all, 
 pub use Rattle.std.specs.Option.{SomeIff}
 pub use Rattle.std.specs.Prelude.{IsTrue, nat_le, nat_lt, slice_index, slice_index_or, slice_set}
 pub use Rattle.std.specs.Vec.{vec_capacity}
-pub use Rattle.space_bank.specs.Allocating.{allocated_by, allocating, count_of, given_by, given_for, is_deep, made_for, new_at, new_of, numbers_of, process_at}
+pub use Rattle.space_bank.specs.Allocating.{allocated_by, allocating, count_of, given_by, is_deep, made_for, new_at, new_of, numbers_of, process_at}
 pub use Rattle.space_bank.specs.Banks.{AreCounted, BanksState, KeepsObjects, MayServe}
 pub use Rattle.space_bank.specs.Carrying.{AreTransferred, CarriesOut, GivesUp, IsMade, IsMadeUnder, IsPlanned, MakesOne, MakesTwo, MayGiveUp, MayMake, PlansAs}
 pub use Rattle.space_bank.specs.Carrying.{Transfers, marks_of}

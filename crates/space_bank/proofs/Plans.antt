@@ -1,61 +1,46 @@
 -- Chains of banks, walked from owner to owner. The plan of an order is its effect, and what orders plan may be made.
-use Rattle.space_bank.proofs.Names.{ℕ, suc, Bool, true, false, List, [], length, map, min, nat_eq, refl, sym, ap, subst, arith, IsTrue, nat_le, slice_index}
-use Rattle.space_bank.proofs.Names.{list_all, list_any, eq-eqb, le-leb, lt-leb, ne_eqb, ObjectHeader, Object, chain, chain_within, usage, has_quota, least}
-use Rattle.space_bank.proofs.Names.{left_of, remaining, is_bank, limit_in, content_at, owner_at, Parts, objects_in, bank_used, length_objects, bank_number, All}
-use Rattle.space_bank.proofs.Names.{BanksState, MayServe, all_members, cases_lt, inl, inr, HasLeft, Some, nat_lt, append-nil, length-append, Capability, Void}
-use Rattle.space_bank.proofs.Names.{Page, Node, Process, Geometry, Content, Arguments, BankOrder, ResultCode, allocated, bank_allocated, free_nodes, free_pages}
-use Rattle.space_bank.proofs.Names.{freed, freed_by, inherited, on_bank, owned_by, process_allocated, under, with_new, full, OrderOutcome, made, refused}
-use Rattle.space_bank.proofs.Names.{replying_three, is_root, rescind, MayBeHeld, BankChange, OrderPlan, Fresh, bank_changed, reply_of_code, fresh_content}
-use Rattle.space_bank.proofs.Names.{freed_alike, nodes_alike, owned_alike, pages_alike, remaining_alike, room_alike, under_alike, IsNow, SameFrame, chain_same}
-use Rattle.space_bank.proofs.Names.{frame_refl, usage_same, keepable_count, root_number, New, allocated_by, allocating, count_of, given_for, is_deep, made_for}
-use Rattle.space_bank.proofs.Names.{new_at, new_of, process_at, IsPlanned, MayMake, PlansAs, annex_among, annex_of, not, range_with_len, false≢true, ltb-true}
-use Rattle.space_bank.proofs.Names.{are_free, is_free, is_member, NamesItsKind, member_head, member_tail, owner_bank, tree_of, AllDiffer, filter_once, found_in}
-use Rattle.space_bank.proofs.Names.{tests_at, Make, MakeProcess, IsFreshAt, numbers_of, GivesUp, Transfers, IsMadeUnder, MayGiveUp, and_parts, cases_eq}
-use Rattle.space_bank.proofs.Names.{eqb-true, false_from_ne_true, or_cases, is_under, object_at, destroyed_fits, freed_fits, freed_set, under_found}
-use Rattle.space_bank.proofs.Names.{under_given_up, under_once, usage_destroyed, usage_freed, IsTree, chain_banks, chain_longer, chain_nonempty, chain_once}
-use Rattle.space_bank.proofs.Names.{chain_shorter, chain_zero}
+use Rattle.space_bank.proofs.Names.{nat_tests, ℕ, suc, Bool, true, false, List, [], length, map, min, nat_eq, refl, sym, ap, subst, arith, IsTrue, nat_le}
+use Rattle.space_bank.proofs.Names.{slice_index, list_all, list_any, eq-eqb, le-leb, lt-leb, ne_eqb, ObjectHeader, Object, chain, chain_within, usage}
+use Rattle.space_bank.proofs.Names.{has_quota, least, left_of, remaining, is_bank, limit_in, content_at, owner_at, Parts, objects_in, length_objects}
+use Rattle.space_bank.proofs.Names.{bank_number, All, BanksState, MayServe, all_members, cases_lt, inl, inr, HasLeft, Some, nat_lt, append-nil, length-append}
+use Rattle.space_bank.proofs.Names.{Capability, Void, Process, Geometry, Content, Arguments, BankOrder, ResultCode, free_nodes, free_pages, freed, freed_by}
+use Rattle.space_bank.proofs.Names.{inherited, on_bank, owned_by, under, made, refused, replying_three, is_root, rescind, MayBeHeld, BankChange, OrderPlan}
+use Rattle.space_bank.proofs.Names.{Fresh, bank_changed, reply_of_code, freed_alike, nodes_alike, owned_alike, pages_alike, remaining_alike, room_alike}
+use Rattle.space_bank.proofs.Names.{under_alike, IsNow, SameFrame, chain_same, usage_same, keepable_count, root_number, New, allocated_by, allocating, count_of}
+use Rattle.space_bank.proofs.Names.{is_deep, made_for, new_at, new_of, process_at, IsPlanned, MayMake, PlansAs, annex_among, annex_of, not, range_with_len}
+use Rattle.space_bank.proofs.Names.{false≢true, are_free, is_free, is_member, NamesItsKind, member_head, member_tail, owner_bank, tree_of, AllDiffer}
+use Rattle.space_bank.proofs.Names.{filter_once, found_in, tests_at, MakeProcess, IsFreshAt, numbers_of, GivesUp, Transfers, IsMadeUnder, MayGiveUp}
+use Rattle.space_bank.proofs.Names.{false_from_ne_true, or_cases, is_under, object_at, destroyed_fits, freed_fits, freed_set, under_found, under_given_up}
+use Rattle.space_bank.proofs.Names.{under_once, usage_destroyed, usage_freed, IsTree, chain_banks, chain_longer, chain_nonempty, chain_once, chain_shorter}
+use Rattle.space_bank.proofs.Names.{chain_zero}
 use Rattle.std.specs.Prelude.{◌==◌, ◌&&◌, if◌then◌else◌}
 use Rattle.std.proofs.Common.{◌≡◌, ◌+◌, ◌-◌, ◌<◌, ◌≤◌, ◌∙◌, ◌∷◌, ◌++◌, ◌≢◌}
-use Rattle.model.specs.declared.object.Content.TheVariants as content
 use Rattle.model.specs.declared.order.BankOrder.TheVariants as bank
 use Rattle.model.specs.declared.order.ResultCode.TheVariants as code
 use Rattle.capability.specs.declared.order.Change.TheVariants as change
-use Rattle.capability.specs.declared.present.Fresh.TheVariants as fresh
-use Rattle.space_bank.specs.declared.planning_new.New.TheVariants as new
 use Rattle.space_bank.proofs.Tallies.{chain_bank}
 use Rattle.space_bank.proofs.Renewing.{once_of_differ}
 
 pub inside_read : (p : Parts) (hs : List ObjectHeader) (count n : ℕ) → hs ≡ p.headers → count ≡ length hs → n < count → n < length (objects_in p)
-inside_read p hs count n table is inside =
-    omega (arith, ap (λ (ks : List ObjectHeader). length ks) table, length_objects p.headers p.contents)
+inside_read p hs count n table is inside = grind (arith, nat_tests, length_objects)
 
 pub past_read : (p : Parts) (hs : List ObjectHeader) (count n : ℕ) → hs ≡ p.headers → count ≡ length hs → count ≤ n → length (objects_in p) ≤ n
-past_read p hs count n table is past =
-    omega (arith, ap (λ (ks : List ObjectHeader). length ks) table, length_objects p.headers p.contents)
+past_read p hs count n table is past = grind (arith, nat_tests, length_objects)
 
 -- A walk along a chain, where i banks were passed: it stands at the bank that is sought, at the last, goes on with
 -- the owner, or has passed 16.
 pub chain_here : (os : List Object) (i b sought : ℕ) → i < 16 → b ≡ sought → list_any (nat_eq sought) (chain_within (16 - i) os b) ≡ true
-chain_here os i b sought inside same =
-    let k : 16 - i ≡ suc (15 - i) = omega arith in
-    rw (k, eq-eqb sought b (sym same)) refl
+chain_here os i b sought inside same = grind (arith, nat_tests)
 
 pub chain_last : (os : List Object) (i b : ℕ) → i < 16 → b ≡ 0 → chain_within (16 - i) os b ≡ b ∷ []
-chain_last os i b inside root =
-    let k : 16 - i ≡ suc (15 - i) = omega arith in
-    rw (k, eq-eqb b 0 root) refl
+chain_last os i b inside root = grind (arith, nat_tests)
 
 pub chain_next : (os : List Object) (i b owner : ℕ) → i < 16 → (b ≡ 0 → ⊥) → owner ≡ owner_at os b →
     chain_within (16 - i) os b ≡ b ∷ chain_within (16 - (i + 1)) os owner
-chain_next os i b owner inside inner is =
-    let k : 16 - i ≡ suc (15 - i) = omega arith in
-    let l : 16 - (i + 1) ≡ 15 - i = omega arith in
-    rw (k, l, is, ne_eqb b 0 inner) refl
+chain_next os i b owner inside inner is = grind (arith, nat_tests)
 
 pub chain_past : (os : List Object) (i b : ℕ) → 16 ≤ i → chain_within (16 - i) os b ≡ []
-chain_past os i b past =
-    let k : 16 - i ≡ 0 = omega arith in
-    rw k refl
+chain_past os i b past = grind (arith, nat_tests)
 
 pub chain_begun : (os : List Object) (b : ℕ) → chain os b ≡ chain_within (16 - 0) os b
 unfolding chain
@@ -64,29 +49,18 @@ chain_begun os b = refl
 -- whether the bank that is sought is in the rest
 module _ (os : List Object) (i b sought : ℕ) (other : b ≡ sought → ⊥) where
   pub sought_last : i < 16 → b ≡ 0 → list_any (nat_eq sought) (chain_within (16 - i) os b) ≡ false
-  sought_last inside root =
-      ap (list_any (nat_eq sought)) (chain_last os i b inside root) ∙ rw (ne_eqb sought b (λ e. other (sym e))) refl
+  sought_last inside root = grind (arith, nat_tests)
 
   pub sought_next : (owner : ℕ) → i < 16 → (b ≡ 0 → ⊥) → owner ≡ owner_at os b →
       list_any (nat_eq sought) (chain_within (16 - i) os b) ≡ list_any (nat_eq sought) (chain_within (16 - (i + 1)) os owner)
-  sought_next owner inside inner is =
-      ap (list_any (nat_eq sought)) (chain_next os i b owner inside inner is) ∙ rw (ne_eqb sought b (λ e. other (sym e))) refl
+  sought_next owner inside inner is = grind (arith, nat_tests)
 
 -- whether this number of further objects passes no limit: it is at most the least that is left
 fits_left : (count used limit : ℕ) → used ≤ limit → nat_le count (limit - used) ≡ nat_le (used + count) limit
-fits_left count used limit within = elim (cases_lt limit (used + count)) [
-  | inl over ↦ rw (lt-leb count (limit - used) (omega arith), lt-leb (used + count) limit over) refl
-  | inr fits ↦ rw (le-leb count (limit - used) (omega arith), le-leb (used + count) limit fits) refl
-]
+fits_left count used limit within = grind (arith, nat_tests)
 
 fits_both : (count m n : ℕ) → nat_le count (min m n) ≡ (nat_le count m && nat_le count n)
-fits_both count m n = elim (cases_lt m count) [
-  | inl over ↦ rw (lt-leb count (min m n) (omega arith), lt-leb count m over) refl
-  | inr fits ↦ rw (le-leb count m fits) (elim (cases_lt n count) [
-    | inl over ↦ rw (lt-leb count (min m n) (omega arith), lt-leb count n over) refl
-    | inr both ↦ rw (le-leb count (min m n) (omega arith), le-leb count n both) refl
-  ])
-]
+fits_both count m n = grind (arith, nat_tests)
 
 all_left : (os : List Object) (count m : ℕ) (cs : List ℕ) → All (λ c. usage os c ≤ limit_in (content_at os c)) cs →
     nat_le count (least m (map (left_of os) cs)) ≡ (nat_le count m && list_all (λ c. nat_le (usage os c + count) (limit_in (content_at os c))) cs)
@@ -96,8 +70,7 @@ all_left os count m (c ∷ cs) within =
     ∙ rw (fits_both count m (left_of os c), fits_left count (usage os c) (limit_in (content_at os c)) (within 0 0 (omega arith))) (grouped (nat_le count m) _ _)
   where
     grouped : (a b c : Bool) → ((a && b) && c) ≡ (a && (b && c))
-    grouped true b c = refl
-    grouped false b c = refl
+    grouped a b c = grind (arith, nat_tests)
 
 pub quota_is : (os : List Object) (b count : ℕ) → All (λ c. usage os c ≤ limit_in (content_at os c)) (chain os b) →
     has_quota os b count ≡ nat_le count (remaining os b)
@@ -113,9 +86,7 @@ quota_is os b count within =
 -- the least that is left in the rest
 pub least_begun : (os : List Object) (b m : ℕ) → m ≡ left_of os b → remaining os b ≡ least m (map (left_of os) (chain_within (16 - 0) os b))
 unfolding remaining
-least_begun os b m is =
-    ap (λ (cs : List ℕ). least (left_of os b) (map (left_of os) cs)) (chain_begun os b)
-    ∙ ap (λ (k : ℕ). least k (map (left_of os) (chain_within (16 - 0) os b))) (sym is)
+least_begun os b m is = grind (arith, nat_tests, chain_begun)
 
 pub least_on : (os : List Object) (m : ℕ) (cs ds : List ℕ) → cs ≡ ds → least m (map (left_of os) cs) ≡ least m (map (left_of os) ds)
 least_on os m cs ds same = ap (λ (es : List ℕ). least m (map (left_of os) es)) same
@@ -129,9 +100,7 @@ module _ (os : List Object) (i b m left now : ℕ) (inside : i < 16) (here : lef
 
   pub least_next : (owner : ℕ) → (b ≡ 0 → ⊥) → owner ≡ owner_at os b →
       least m (map (left_of os) (chain_within (16 - i) os b)) ≡ least now (map (left_of os) (chain_within (16 - (i + 1)) os owner))
-  least_next owner inner at =
-      least_on os m (chain_within (16 - i) os b) (b ∷ chain_within (16 - (i + 1)) os owner) (chain_next os i b owner inside inner at)
-      ∙ least_here (chain_within (16 - (i + 1)) os owner)
+  least_next owner inner at = grind (arith, nat_tests)
 
 -- what is counted of a bank that there is
 module _ {p : Parts} {s : BanksState} {b : ℕ} (h : MayServe p s b) where
@@ -139,11 +108,7 @@ module _ {p : Parts} {s : BanksState} {b : ℕ} (h : MayServe p s b) where
   node_of_bank = bank_number p.geometry b (content_at (objects_in p) b) (h.sound.1.sound.kinds b) h.bank
 
   pub left_there : HasLeft s b
-  left_there = record {
-    usage = omega (arith, node_of_bank, h.counted.usage_each);
-    limit = omega (arith, node_of_bank, h.counted.limit_each);
-    within = omega (arith, h.sound.1.sound.limits b h.bank, h.counted.usage b h.bank, h.counted.limit b h.bank);
-  }
+  left_there = grind (arith, nat_tests)
 
   -- the limits of its chain aren't passed
   pub chain_within_limits : All (λ c. usage (objects_in p) c ≤ limit_in (content_at (objects_in p) c)) (chain (objects_in p) b)
@@ -154,12 +119,7 @@ module _ {p : Parts} {s : BanksState} {b : ℕ} (h : MayServe p s b) where
 
   -- its owner is one too
   pub owner_is_bank : {owner : ℕ} → owner ≡ owner_at (objects_in p) b → MayServe p s owner
-  owner_is_bank is = record {
-    sound = h.sound;
-    counted = h.counted;
-    bank = subst (λ (n : ℕ). IsTrue (is_bank (content_at (objects_in p) n))) (sym is)
-        (h.sound.1.sound.owners b (λ free. let used = bank_used (content_at (objects_in p) b) h.bank in cc));
-  }
+  owner_is_bank {owner} is = grind (arith, nat_tests)
 
 -- a plan that refuses, one that makes a change of a bank, and one that replies three words
 abbrev pub refusal : ResultCode → OrderPlan
@@ -174,83 +134,34 @@ answer words = record { reply = record { code = code.Done; words = words; capabi
 module _ {p : Parts} {b : ℕ} {order : BankOrder} {args : Arguments} {first : List ℕ} {plan : OrderPlan} where
   planned_as : {list : List ℕ} (written : List ℕ) → PlansAs p.geometry (objects_in p) b order args written plan → list ≡ first ++ written →
       IsPlanned p b order args first plan list
-  planned_as written plans is =
-      let same : (on_bank p.geometry (objects_in p) b order args).written ≡ written =
-      ap (λ (o : OrderOutcome). o.written) (plans.outcome (objects_in p) (frame_refl (objects_in p))) in
-      record {
-        plans = subst (λ (ns : List ℕ). PlansAs p.geometry (objects_in p) b order args ns plan) (sym same) plans;
-        listed = is ∙ ap (λ (ns : List ℕ). first ++ ns) (sym same);
-      }
+  planned_as {list} written plans is = grind (arith, nat_tests)
 
   pub planned_refused : (why : ResultCode) → ((us : List Object) → SameFrame (objects_in p) us → on_bank p.geometry us b order args ≡ refused us why) →
       plan ≡ refusal why → IsPlanned p b order args first plan first
-  planned_refused why is plans = planned_as []
-      (subst (λ (q : OrderPlan). PlansAs p.geometry (objects_in p) b order args [] q) (sym plans) (record { outcome = is; may = λ us frame now. refl }))
-      (sym (append-nil first))
+  planned_refused why is plans = grind (arith, nat_tests, planned_as, append-nil)
 
   pub planned_replying : (x y z : ℕ) → ((us : List Object) → SameFrame (objects_in p) us → on_bank p.geometry us b order args ≡ replying_three us x y z) →
       plan ≡ answer (x ∷ y ∷ z ∷ []) → IsPlanned p b order args first plan first
-  planned_replying x y z is plans = planned_as []
-      (subst (λ (q : OrderPlan). PlansAs p.geometry (objects_in p) b order args [] q) (sym plans) (record { outcome = is; may = λ us frame now. refl }))
-      (sym (append-nil first))
+  planned_replying x y z is plans = grind (arith, nat_tests, planned_as, append-nil)
 
   pub planned_made : {list : List ℕ} (written : List ℕ) (c : Capability) (x : BankChange) →
       ((us : List Object) → SameFrame (objects_in p) us → on_bank p.geometry us b order args ≡ made (bank_changed us written x) written c) →
       ((us : List Object) → SameFrame (objects_in p) us → IsNow p.geometry us → MayMake p.geometry us written x) → plan ≡ making c x →
       list ≡ first ++ written → IsPlanned p b order args first plan list
-  planned_made written c x is may plans = planned_as written
-      (subst (λ (q : OrderPlan). PlansAs p.geometry (objects_in p) b order args written q) (sym plans) (record { outcome = is; may = may }))
-
--- the effect of an order that allocates
-one_allocated : (os : List Object) (b : ℕ) (f : Fresh) (named : ℕ → Capability) → ((n : ℕ) → named n ≡ given_for n f) → (ns : List ℕ)
-    → allocated os b ns (fresh_content Void f) named ≡ allocated_by os false (new_at b f ns)
-one_allocated os b f named are [] = refl
-one_allocated os b f named are (n ∷ ns) = ap (made (with_new os n b (fresh_content Void f)) (n ∷ [])) (are n)
-
-two_allocated : (os : List Object) (b : ℕ) (ns : List ℕ) → process_allocated os b ns ≡ allocated_by os false (process_at b ns)
-two_allocated os b [] = refl
-two_allocated os b (r ∷ []) = refl
-two_allocated os b (r ∷ a ∷ ns) = refl
-
-deep_allocated : (os : List Object) (b limit : ℕ) (ns : List ℕ) → bank_allocated os b ns limit ≡ allocated_by os (is_deep os b (new.Bank limit))
-    (new_at b (fresh.Bank limit) ns)
-deep_allocated os b limit [] = refl
-deep_allocated os b limit (n ∷ ns) = turned (nat_lt (length (chain os b)) 16) _ _
-  where
-    turned : (short : Bool) (x y : OrderOutcome) → (if short then x else y) ≡ (if not short then y else x)
-    turned true x y = refl
-    turned false x y = refl
+  planned_made {list} written c x is may plans has = grind (arith, nat_tests)
 
 pub allocating_is : (g : Geometry) (os : List Object) (b : ℕ) (order : BankOrder) (args : Arguments) (kind : New) → new_of order args ≡ Some kind
     → on_bank g os b order args ≡ allocating g os b kind
 unfolding on_bank
-allocating_is g os b bank.NewPage args kind is =
-    let e : new.Page ≡ kind = cc in
-    (λ k. if has_quota os b 1 then one_allocated os b fresh.Page (λ n. Page n full) (λ n. refl) (free_pages g os) k else refused os code.Limit)
-    ∙ ap (allocating g os b) e
-allocating_is g os b bank.NewNode args kind is =
-    let e : new.Node ≡ kind = cc in
-    (λ k. if has_quota os b 1 then one_allocated os b fresh.Node (λ n. Node n full) (λ n. refl) (free_nodes g os) k else refused os code.Limit)
-    ∙ ap (allocating g os b) e
-allocating_is g os b bank.NewProcess args kind is =
-    let e : new.Process ≡ kind = cc in
-    (λ k. if has_quota os b 2 then two_allocated os b (free_nodes g os) k else refused os code.Limit) ∙ ap (allocating g os b) e
-allocating_is g os b bank.NewBank args kind is =
-    let e : new.Bank args.first ≡ kind = cc in
-    (λ k. if has_quota os b 1 then deep_allocated os b args.first (free_nodes g os) k else refused os code.Limit) ∙ ap (allocating g os b) e
-allocating_is g os b c args kind is = cc
+allocating_is g os b order args kind is = grind (arith, nat_tests)
 
 -- where the frame is the same, the same is made
 module _ (os us : List Object) (frame : SameFrame os us) (g : Geometry) (b : ℕ) where
   pub made_alike : (kind : New) → made_for g us b kind ≡ made_for g os b kind
-  made_alike new.Page = ap (new_at b fresh.Page) (pages_alike os us frame g)
-  made_alike new.Node = ap (new_at b fresh.Node) (nodes_alike os us frame g)
-  made_alike new.Process = ap (process_at b) (nodes_alike os us frame g)
-  made_alike (new.Bank limit) = ap (new_at b (fresh.Bank limit)) (nodes_alike os us frame g)
+  made_alike kind = grind (arith, nat_tests, pages_alike, nodes_alike)
 
   pub deep_alike : (kind : New) → is_deep us b kind ≡ is_deep os b kind
-  deep_alike (new.Bank limit) = ap (λ (xs : List ℕ). not (nat_lt (length xs) 16)) (chain_same os us frame b)
-  deep_alike c = refl
+  deep_alike kind = grind (arith, nat_tests, chain_same)
 
 -- by the tests that the code makes
 pub new_is : (g : Geometry) (os : List Object) (b : ℕ) (order : BankOrder) (args : Arguments) (kind : New) → new_of order args ≡ Some kind →
@@ -269,14 +180,12 @@ module _ (g : Geometry) (os : List Object) (b : ℕ) (args : Arguments) where
   pub frees_other : (c : Capability) (n : ℕ) (ns : List ℕ) → args.capability ≡ c → freed_by os c ≡ n ∷ ns → (owner_at os n ≡ b → ⊥) →
       on_bank g os b bank.Free args ≡ refused os code.NotFromThisBank
   unfolding on_bank
-  frees_other c n ns is some other =
-      ap (λ (d : Capability). freed os b (freed_by os d)) is ∙ ap (freed os b) some ∙ rw (ne_eqb (owner_at os n) b other) refl
+  frees_other c n ns is some other = grind (arith, nat_tests)
 
   pub frees_own : (c : Capability) (n : ℕ) (ns : List ℕ) → args.capability ≡ c → freed_by os c ≡ n ∷ ns → owner_at os n ≡ b →
       on_bank g os b bank.Free args ≡ made (rescind (n ∷ ns) os) (n ∷ ns) Void
   unfolding on_bank
-  frees_own c n ns is some own =
-      ap (λ (d : Capability). freed os b (freed_by os d)) is ∙ ap (freed os b) some ∙ rw (eq-eqb (owner_at os n) b own) refl
+  frees_own c n ns is some own = grind (arith, nat_tests)
 
   pub destroy_prime : b ≡ 0 → on_bank g os b bank.Destroy args ≡ refused os code.PrimeBank
   unfolding on_bank
@@ -325,31 +234,17 @@ pub bank_room : {p : Parts} {s : BanksState} {b : ℕ} → MayServe p s b → (n
 bank_room {p} h n few = omega (arith, keepable_count p.geometry h.sound.0 p h.sound.1.keepable, h.counted.room)
 
 root_not_bank : (c : Content Capability) → IsTrue (is_root c) → IsTrue (is_bank c) → ⊥
-root_not_bank (content.Root r) root is = cc
-root_not_bank c root is = cc
+root_not_bank c root is = grind (arith, nat_tests)
 
 -- beside a bank and a process four more numbers fit
 pub process_room : {p : Parts} {s t : BanksState} {b : ℕ} (c : Capability) (q n : ℕ) → MayServe p s b → MayBeHeld (objects_in p) c → c ≡ Process q →
     length s.listed ≤ 2 → t ≡ record s { listed = s.listed ++ n ∷ [] } → length t.listed < t.room
-process_room {p} {s} {t} {b} c q n h sent is few listed =
-    let os = objects_in p in
-    let process : IsTrue (is_root (content_at os q)) = (subst (λ (d : Capability). MayBeHeld os d) is sent).1 in
-    let known : q < p.geometry.nodes = root_number p.geometry q (content_at os q) (h.sound.1.sound.kinds q) process in
-    let other : q ≡ b → ⊥ = λ e. root_not_bank (content_at os b) (subst (λ (m : ℕ). IsTrue (is_root (content_at os m))) e process) h.bank in
-    omega (
-      arith,
-      node_of_bank h,
-      h.counted.room,
-      ap (λ (u : BanksState). length u.listed) listed,
-      length-append s.listed (n ∷ []),
-      ap (λ (u : BanksState). u.room) listed,
-    )
+process_room {p} {s} {t} {b} c q n h sent is few listed = grind (arith, nat_tests, root_number, root_not_bank, node_of_bank, length-append)
 
 -- the annex of a process that may be sent is kept
 pub annex_kept : {p : Parts} {s : BanksState} {b : ℕ} (c : Capability) → MayServe p s b → MayBeHeld (objects_in p) c →
     annex_among s.annexes c ≡ annex_of (objects_in p) c
-annex_kept (Process q) h sent = ap (λ (n : ℕ). n ∷ []) (h.counted.annex q sent.1)
-annex_kept c h sent = refl
+annex_kept {p} {s} {b} c h sent = grind (arith, nat_tests)
 
 -- what a capability frees, where a bank owns it
 pub freed_list : (g : Geometry) (os : List Object) (b : ℕ) (c : Capability) (list : List ℕ) → IsNow g os → IsTrue (is_bank (content_at os b)) →
@@ -368,25 +263,13 @@ freed_list g os b c (n ∷ ns) h is names frees some own =
 -- no bank above another is under it
 module _ (os : List Object) (t : IsTree os) (b : ℕ) (is : IsTrue (is_bank (content_at os b))) (on : b ≢ 0) where
   no_loop : (x : ℕ) → is_member (chain os (owner_at os b)) x ≡ true → is_member (chain os (owner_at os x)) b ≡ true → ⊥
-  no_loop x above below =
-      let bank = chain_banks os t (owner_at os b) x (owner_bank os t b is) above in
-      let down = chain_shorter os t (owner_at os x) b (owner_bank os t x bank) below in
-      let longer = chain_longer os t b is on in
-      elim (cases_eq x 0) [
-        | inr far ↦ omega (arith, (chain_shorter os t (owner_at os b) x (owner_bank os t b is) above), down, longer, chain_longer os t x bank far)
-        | inl end ↦
-            let prime : owner_at os x ≡ 0 = ap (λ (m : ℕ). owner_at os m) end ∙ t.prime.1 in
-            let one : length (chain os (owner_at os x)) ≡ 1 = ap (λ (xs : List ℕ). length xs) (chain_zero os (owner_at os x) prime) ∙ refl in
-            omega (arith, one, down, longer, chain_nonempty os t (owner_at os b) (owner_bank os t b is))
-      ]
+  no_loop x above below = grind (arith, nat_tests, chain_banks, owner_bank, chain_shorter, chain_longer, chain_zero, chain_nonempty)
 
   pub above_apart : (x : ℕ) → is_member (chain os (owner_at os b)) x ≡ true → is_member (under os b) x ≡ false
   above_apart x above = false_from_ne_true (is_member (under os b) x) (λ member.
       elim (or_cases (x == b) (is_under os b (object_at os x)) (under_found os b x member).1) [
-        | inl same ↦
-            false≢true (sym (chain_once os t b is on) ∙ (ap (λ (m : ℕ). is_member (chain os (owner_at os b)) m) (sym (eqb-true x b same)) ∙ above))
-        | inr below ↦
-            no_loop x above (and_parts (not (is_free (content_at os x))) (list_any (nat_eq b) (chain os (owner_at os x))) below).1
+        | inl same ↦ grind (arith, nat_tests, chain_once)
+        | inr below ↦ grind (arith, nat_tests, no_loop)
       ])
 
 -- a bank with all that is under it
@@ -406,9 +289,7 @@ pub record IsFreeAmong (os : List Object) (from count n : ℕ) : Type 0 where
   pub unused : IsTrue (is_free (content_at os n))
 
 free_among : (os : List Object) (from count n : ℕ) → is_member (are_free os (range_with_len from count)) n ≡ true → IsFreeAmong os from count n
-free_among os from count n member =
-    let found = found_in (λ m. is_free (content_at os m)) from count n member in
-    record { from_on = found.0; below = found.1; unused = found.2 }
+free_among os from count n member = grind (arith, nat_tests, found_in)
 
 first_free : (os : List Object) (from count n : ℕ) (ns : List ℕ) → are_free os (range_with_len from count) ≡ n ∷ ns → IsFreeAmong os from count n
 first_free os from count n ns are = free_among os from count n (ap (λ (xs : List ℕ). is_member xs n) are ∙ member_head n n ns refl)
@@ -417,12 +298,7 @@ first_free os from count n ns are = free_among os from count n (ap (λ (xs : Lis
 one_may : (g : Geometry) (os : List Object) (b from count : ℕ) (f : Fresh) (c : BankChange) → IsTrue (is_bank (content_at os b)) → IsTrue (has_quota os b 1)
     → ((n : ℕ) → IsFreeAmong os from count n → IsFreshAt g n f) → IsMadeUnder os b f → (ns : List ℕ) → are_free os (range_with_len from count) ≡ ns
     → new_at b f ns ≡ Some c → MayMake g os (numbers_of c) c
-one_may g os b from count f c bank room place kind [] are is = cc
-one_may g os b from count f c bank room place kind (n ∷ ns) are is =
-    let e : Make n f b ≡ c = cc in
-    let free = first_free os from count n ns are in
-    subst (λ (x : BankChange). MayMake g os (numbers_of x) x) e
-    (record { listed = refl; bank = bank; room = room; unused = free.unused; place = place n free; kind = kind })
+one_may g os b from count f c bank room place kind ns are is = grind (arith, nat_tests, first_free)
 
 -- a new process, at the first two
 two_may : (g : Geometry) (os : List Object) (b : ℕ) (c : BankChange) → IsTrue (is_bank (content_at os b)) → IsTrue (has_quota os b 2) → (ns : List ℕ)
@@ -447,27 +323,16 @@ two_may g os b c bank room (r ∷ a ∷ ns) are is =
     })
 
 short_chain : (length_of : ℕ) (short : Bool) → nat_lt length_of 16 ≡ short → not short ≡ false → length_of < 16
-short_chain n true is e = ltb-true n 16 is
-short_chain n false is e = cc
+short_chain n short is e = grind (arith, nat_tests)
 
 new_may : (g : Geometry) (os : List Object) (b : ℕ) (c : BankChange) → IsTrue (is_bank (content_at os b)) → (kind : New) →
     IsTrue (has_quota os b (count_of kind)) → made_for g os b kind ≡ Some c → is_deep os b kind ≡ false → MayMake g os (numbers_of c) c
 unfolding free_nodes free_pages
-new_may g os b c bank new.Page room some short =
-    one_may g os b g.nodes g.pages fresh.Page c bank room (λ n free. free.from_on) tt (are_free os (range_with_len g.nodes g.pages)) refl some
-new_may g os b c bank new.Node room some short =
-    one_may g os b 0 g.nodes fresh.Node c bank room (λ n free. omega (arith, free.below)) tt (are_free os (range_with_len 0 g.nodes)) refl some
-new_may g os b c bank new.Process room some short = two_may g os b c bank room (are_free os (range_with_len 0 g.nodes)) refl some
-new_may g os b c bank (new.Bank limit) room some short =
-    one_may g os b 0 g.nodes (fresh.Bank limit) c bank room (λ n free. omega (arith, free.below))
-    (short_chain (length (chain os b)) (nat_lt (length (chain os b)) 16) refl short) (are_free os (range_with_len 0 g.nodes)) refl some
+new_may g os b c bank kind room some short = grind (arith, nat_tests, one_may, two_may, short_chain)
 
 -- what a capability names is of its kind where the frame is the same
 names_there : (os us : List Object) → SameFrame os us → (c : Capability) (n : ℕ) (ns : List ℕ) → freed_by os c ≡ n ∷ ns → NamesItsKind os c → NamesItsKind us c
-names_there os us frame (Page o a) n ns some names = (tests_at os us frame o).page ∙ names
-names_there os us frame (Node o a) n ns some names = (tests_at os us frame o).node ∙ names
-names_there os us frame (Process p) n ns some names = (tests_at os us frame p).root ∙ names
-names_there os us frame c n ns some names = cc
+names_there os us frame c n ns some names = grind (arith, nat_tests)
 
 module _ {p : Parts} {s : BanksState} {b : ℕ} (h : MayServe p s b) {us : List Object} (frame : SameFrame (objects_in p) us) (now : IsNow p.geometry us) where
   bank_there : IsTrue (is_bank (content_at us b))

@@ -1,14 +1,13 @@
 -- Counts of allocations, and what is left of what is counted, where objects are given up. A bank that is returned to its parent.
-use Rattle.space_bank.proofs.Names.{ℕ, Bool, true, false, not, List, sym, ap, arith, Capability, ObjectHeader, Content, Object, with_new, given_up, header_at}
-use Rattle.space_bank.proofs.Names.{is_free, is_given_up, is_member, rescind, content_at, new_used, none_given_up, rescinded_given_up, AreGivenUp, Parts}
-use Rattle.space_bank.proofs.Names.{Renews, objects_in, ⊎_elim, cases_lt, zero, suc, [], drop, take, length, refl, subst, IsTrue, slice_index, slice_index_or}
-use Rattle.space_bank.proofs.Names.{All, eq-eqb, false_from_ne_true, false≢true, take_rest, list_any_at, Geometry, chain, usage, AreCurrent, AreKeepable, free}
-use Rattle.space_bank.proofs.Names.{is_bank, is_root, limit_in, names_member, void_where, without, object_at, AllDiffer, member_tail, free_rescinded}
-use Rattle.space_bank.proofs.Names.{at_rescind, IsOnce, KeepsRest, frames_of, IsMapped, without_mapped, AreCounted, BanksState, KeepsObjects, CarriesOut}
-use Rattle.space_bank.proofs.Names.{MayGiveUp, MayServe, marks_of, IsRaised, is_marked, inl, inr, add-one, slice_set, cases_Bool, cases_eq, ext_get_or}
-use Rattle.space_bank.proofs.Names.{get_or-set_other, get_or-set_same, length-map, transferred, inherited, owned_by, owner_at, owned_found, used_where}
-use Rattle.space_bank.proofs.Names.{returned_fits, usage_returned, chain_banks, chain_once, member_head, owner_bank, all_members, found_in, only_member}
-use Rattle.space_bank.proofs.Names.{stands_in, at_map, AreTransferred}
+use Rattle.space_bank.proofs.Names.{nat_tests, ℕ, Bool, true, false, not, List, sym, ap, arith, Capability, ObjectHeader, Content, Object, with_new, given_up}
+use Rattle.space_bank.proofs.Names.{header_at, is_free, is_member, rescind, content_at, new_used, rescinded_given_up, AreGivenUp, Parts, Renews, objects_in}
+use Rattle.space_bank.proofs.Names.{⊎_elim, cases_lt, zero, suc, [], drop, take, length, refl, subst, IsTrue, slice_index, slice_index_or, All, eq-eqb}
+use Rattle.space_bank.proofs.Names.{false_from_ne_true, false≢true, take_rest, list_any_at, Geometry, chain, usage, AreCurrent, AreKeepable, free, is_bank}
+use Rattle.space_bank.proofs.Names.{is_root, limit_in, names_member, void_where, without, object_at, AllDiffer, member_tail, free_rescinded, at_rescind, IsOnce}
+use Rattle.space_bank.proofs.Names.{KeepsRest, frames_of, IsMapped, without_mapped, AreCounted, BanksState, KeepsObjects, CarriesOut, MayGiveUp, MayServe}
+use Rattle.space_bank.proofs.Names.{marks_of, IsRaised, is_marked, add-one, slice_set, ext_get_or, get_or-set_other, get_or-set_same, length-map, transferred}
+use Rattle.space_bank.proofs.Names.{inherited, owned_by, owner_at, owned_found, used_where, returned_fits, usage_returned, chain_banks, chain_once, member_head}
+use Rattle.space_bank.proofs.Names.{owner_bank, all_members, found_in, only_member, stands_in, at_map, AreTransferred}
 use Rattle.std.proofs.Common.{◌≡◌, ◌+◌, ◌<◌, ◌≤◌, ◌&&◌, ◌∙◌, ◌-◌, ◌^◌, ◌++◌, ◌∷◌, ◌≢◌, ◌==◌}
 use Rattle.std.specs.Prelude.{if◌then◌else◌, nat_eq}
 use Rattle.space_bank.proofs.Tallies.{chain_bank, few_allocations, few_calls, serve_count, serve_now, serve_tree, annex_in, counted_from, marks_counted}
@@ -28,45 +27,27 @@ SameFree p q = (n : ℕ) → is_free (content_at (objects_in q) n) ≡ is_free (
 -- a count of allocations by whether the object was given up
 given_or_kept : (gone : Bool) (member : Bool) (h k : ObjectHeader) → gone ≡ member → k ≡ (if member then given_up h else h) →
     k.allocations ≡ h.allocations + (if gone then 1 else 0)
-given_or_kept true true h k e is = ap (λ (x : ObjectHeader). x.allocations) is
-given_or_kept false false h k e is = let same = ap (λ (x : ObjectHeader). x.allocations) is in omega (arith, same)
-given_or_kept true false h k e is = cc
-given_or_kept false true h k e is = cc
+given_or_kept gone member h k e is = grind (arith, nat_tests)
 
 stayed : (gone : Bool) (m n : ℕ) → gone ≡ false → m ≡ n → m ≡ n + (if gone then 1 else 0)
-stayed false m n e same = omega (arith, same)
-stayed true m n e same = cc
+stayed gone m n e same = grind (arith, nat_tests)
 
 -- where what was there stays there
 pub renews_none : (p q : Parts) → SameAllocations p q
     → ((n : ℕ) → is_free (content_at (objects_in p) n) ≡ false → is_free (content_at (objects_in q) n) ≡ false) → Renews p q
-renews_none p q same stays = record {
-  each = λ n. stayed (is_given_up (objects_in p) (objects_in q) n) (header_at q.headers n).allocations (header_at p.headers n).allocations
-      (none_given_up (objects_in p) (objects_in q) n (stays n)) (same n);
-}
+renews_none p q same stays = grind (arith, nat_tests)
 
 -- where a set of objects that were there is given up
 pub renews_rescinded : (p q : Parts) (set : List ℕ) → AreGivenUp set p q → objects_in q ≡ rescind set (objects_in p)
     → ((n : ℕ) → is_member set n ≡ true → is_free (content_at (objects_in p) n) ≡ false) → Renews p q
-renews_rescinded p q set given objects used = record {
-  each = λ n. given_or_kept (is_given_up (objects_in p) (objects_in q) n) (is_member set n) (header_at p.headers n) (header_at q.headers n)
-      (ap (λ (us : List Object). is_given_up (objects_in p) us n) objects ∙ rescinded_given_up set (objects_in p) used n) (given.headers n);
-}
+renews_rescinded p q set given objects used = grind (arith, nat_tests, given_or_kept, rescinded_given_up)
 
 -- and after or before a change that leaves counts and free numbers as they are
 pub renews_after : (o p q : Parts) → SameAllocations o p → SameFree o p → Renews p q → Renews o q
-renews_after o p q same free renews = record {
-  each = λ n.
-      renews.each n ∙ (ap (λ (a : ℕ). a + (if is_given_up (objects_in p) (objects_in q) n then 1 else 0)) (same n)
-      ∙ ap (λ (was : Bool). (header_at o.headers n).allocations + (if not was && is_free (content_at (objects_in q) n) then 1 else 0)) (free n));
-}
+renews_after o p q same free renews = grind (arith, nat_tests)
 
 pub renews_then : (o p q : Parts) → Renews o p → SameAllocations p q → SameFree p q → Renews o q
-renews_then o p q renews same free = record {
-  each = λ n.
-      same n ∙ (renews.each n
-      ∙ ap (λ (now : Bool). (header_at o.headers n).allocations + (if not (is_free (content_at (objects_in o) n)) && now then 1 else 0)) (sym (free n)));
-}
+renews_then o p q renews same free = grind (arith, nat_tests)
 
 -- a new object leaves those that were there
 pub new_stays : (os us : List Object) (n b : ℕ) (c : Content Capability) → is_free c ≡ false → us ≡ with_new os n b c
@@ -169,47 +150,17 @@ module _ {S : Type 0} (parts : S → Parts) (Fetched Announced : S → ℕ → T
       → ((n : ℕ) → is_member set n ≡ true → is_free (content_at (objects_in (parts old)) n) ≡ false)
       → ((n : ℕ) → is_member set n ≡ false → Fetched old n → Fetched new n) → ((n : ℕ) → is_member set n ≡ false → Announced old n → Announced new n)
       → Continues old new → KeepsObjects parts Fetched Announced Continues old new
-  ended_snapshots old new set given objects used fetched announced continues = record {
-    count = given.header_count;
-    renews = renews_rescinded (parts old) (parts new) set given objects used;
-    touched = given.touched;
-    geometry = given.geometry;
-    failures = given.failures;
-    fetched = λ n used f. fetched n (stays n used) f;
-    announced = λ n used f. announced n (stays n used) f;
-    continues = continues;
-  }
-    where
-      stays : (n : ℕ) → is_free (content_at (objects_in (parts new)) n) ≡ false → is_member set n ≡ false
-      stays n used = used_stays set (objects_in (parts old)) n (sym (ap (λ (os : List Object). is_free (content_at os n)) objects) ∙ used)
+  ended_snapshots old new set given objects used fetched announced continues = grind (arith, nat_tests, renews_rescinded, used_stays)
 
   pub snapshots_then_ended : (twice : (s t u : S) → Continues s t → Continues t u → Continues s u) (old mid new : S) →
       KeepsRest parts Fetched Announced Continues old mid
       → SameFree (parts old) (parts mid) → KeepsObjects parts Fetched Announced Continues mid new → KeepsObjects parts Fetched Announced Continues old new
-  snapshots_then_ended twice old mid new a free b = record {
-    count = b.count ∙ a.count;
-    renews = renews_after (parts old) (parts mid) (parts new) a.allocations free b.renews;
-    touched = b.touched ∙ a.touched;
-    geometry = b.geometry ∙ a.geometry;
-    failures = b.failures ∙ a.failures;
-    fetched = λ n used f. b.fetched n used (a.fetched n f);
-    announced = λ n used f. b.announced n used (a.announced n f);
-    continues = twice old mid new a.continues b.continues;
-  }
+  snapshots_then_ended twice old mid new a free b = grind (arith, nat_tests)
 
   pub snapshots_alone : (old new : S) → KeepsRest parts Fetched Announced Continues old new
       → ((n : ℕ) → is_free (content_at (objects_in (parts old)) n) ≡ false → is_free (content_at (objects_in (parts new)) n) ≡ false)
       → KeepsObjects parts Fetched Announced Continues old new
-  snapshots_alone old new a stays = record {
-    count = a.count;
-    renews = renews_none (parts old) (parts new) a.allocations stays;
-    touched = a.touched;
-    geometry = a.geometry;
-    failures = a.failures;
-    fetched = λ n used f. a.fetched n f;
-    announced = λ n used f. a.announced n f;
-    continues = a.continues;
-  }
+  snapshots_alone old new a stays = grind (arith, nat_tests)
 
 -- the rest of a list, as a slice of it
 pub rest_is : (xs ys : List ℕ) (i : ℕ) → xs ≡ ys → take (length xs - i) (drop i xs) ≡ drop i ys
@@ -238,17 +189,7 @@ pub released_then : {banks : List ℕ} {count : ℕ} {s r v : BanksState} {nodes
     → r ≡ record s { usages = r.usages } → v ≡ r → length nodes ≡ length v.free_nodes → length pages ≡ length v.free_pages
     → ((n : ℕ) → is_marked (nodes ++ pages) n ≡ (if is_member set n then true else is_marked (v.free_nodes ++ v.free_pages) n))
     → IsReleased banks count s (record v { free_nodes = nodes; free_pages = pages }) set
-released_then {banks} {count} {s} {r} {v} {nodes} {pages} set raised kept same nodes_same pages_same marks = record {
-  usages = subst (λ (us : List ℕ). IsRaised banks count us s.usages) (sym (ap (λ (k : BanksState). k.usages) same)) raised;
-  nodes = nodes_same ∙ (ap (λ (k : BanksState). length k.free_nodes) same ∙ ap (λ (k : BanksState). length k.free_nodes) kept);
-  pages = pages_same ∙ (ap (λ (k : BanksState). length k.free_pages) same ∙ ap (λ (k : BanksState). length k.free_pages) kept);
-  limits = ap (λ (k : BanksState). k.limits) same ∙ ap (λ (k : BanksState). k.limits) kept;
-  annexes = ap (λ (k : BanksState). k.annexes) same ∙ ap (λ (k : BanksState). k.annexes) kept;
-  room = ap (λ (k : BanksState). k.room) same ∙ ap (λ (k : BanksState). k.room) kept;
-  marks = λ n.
-      marks n ∙ ap (λ (b : Bool). if is_member set n then true else b)
-      (ap (λ (k : BanksState). is_marked (marks_of k) n) same ∙ ap (λ (k : BanksState). is_marked (marks_of k) n) kept);
-}
+released_then {banks} {count} {s} {r} {v} {nodes} {pages} set raised kept same nodes_same pages_same marks = grind (arith, nat_tests)
 
 -- what is left once a list is given up
 pub ended_carried : {p q : Parts} {s t : BanksState} {above : ℕ} {list : List ℕ} → MayServe p s above → MayGiveUp (objects_in p) above list
@@ -274,8 +215,7 @@ pub drop_next : (l : List ℕ) (i x : ℕ) (ys : List ℕ) → drop i l ≡ x �
 drop_next l i x ys is = ap (λ (n : ℕ). drop n l) (add-one i) ∙ drop_suc l i x ys is
 
 pub one_all : (P : ℕ → Type 0) (n : ℕ) → P n → All P (n ∷ [])
-one_all P n h zero d inside = h
-one_all P n h (suc k) d inside = absurd (omega arith)
+one_all P n h is d inside = grind (arith, nat_tests)
 
 pub rest_all : (P : ℕ → Type 0) (n : ℕ) (ns : List ℕ) → All P (n ∷ ns) → All P ns
 rest_all P n ns all k d inside = all (suc k) d (omega arith)
@@ -283,14 +223,7 @@ rest_all P n ns all k d inside = all (suc k) d (omega arith)
 -- one number is marked as free
 pub mark_one : (before now : List Bool) (n : ℕ) → n < length before → now ≡ slice_set before n true
     → (m : ℕ) → is_marked now m ≡ (if is_member (n ∷ []) m then true else is_marked before m)
-mark_one before now n inside is m =
-    ap (λ (bs : List Bool). is_marked bs m) is ∙ elim (cases_eq m n) [
-      | inl e ↦
-          ap (λ (k : ℕ). is_marked (slice_set before n true) k) e
-          ∙ (get_or-set_same before n true false inside ∙ sym (ap (λ b. if b then true else is_marked before m) (member_head m n [] e)))
-      | inr differ ↦
-          get_or-set_other before n m true false differ ∙ sym (ap (λ b. if b then true else is_marked before m) (member_tail m n [] differ))
-    ]
+mark_one before now n inside is m = grind (arith, nat_tests, get_or-set_same, member_head, get_or-set_other, member_tail)
 
 -- a bank alone is there
 pub only_used : (os : List Object) (b : ℕ) → IsTrue (is_bank (content_at os b)) → (n : ℕ) → is_member (b ∷ []) n ≡ true → is_free (content_at os n) ≡ false
@@ -302,13 +235,7 @@ owned_used os b = all_members (λ n. is_free (content_at os n) ≡ false) (owned
 
 owned_member : (os : List Object) (b n : ℕ) → n < length os → is_member (owned_by os b) n ≡ (not (is_free (content_at os n)) && (owner_at os n == b))
 unfolding owned_by
-owned_member os b n inside =
-    let test : ℕ → Bool = λ m. not (is_free (content_at os m)) && (owner_at os m == b) in
-    elim (cases_Bool (test n)) [
-      | inl passes ↦ stands_in test 0 (length os) n (omega arith) (omega arith) passes ∙ sym passes
-      | inr fails ↦
-          false_from_ne_true _ (λ member. false≢true (sym fails ∙ (found_in test 0 (length os) n member).2)) ∙ sym fails
-    ]
+owned_member os b n inside = grind (arith, nat_tests, stands_in, found_in)
 
 pub inherited_by : (os us : List Object) (b : ℕ) → AreTransferred (owned_by os b) (owner_at os b) os us → us ≡ inherited os b
 unfolding inherited
@@ -328,8 +255,7 @@ module _ {p : Parts} {s : BanksState} {b : ℕ} (asks : MayServe p s b) (on : b 
   one_enough x member =
       let t = serve_tree asks in
       let bank = chain_banks before t (owner_at before b) x (owner_bank before t b asks.bank) member in
-      let differ : x ≢ b = λ e. false≢true
-      (sym (chain_once before t b asks.bank on) ∙ (ap (λ (m : ℕ). is_member (chain before (owner_at before b)) m) (sym e) ∙ member)) in
+      let differ : x ≢ b = λ e. grind (arith, nat_tests, chain_once) in
       let all = ap {B = ℕ} (λ t. if t then 1 else 0) member in
       omega (arith, asks.counted.usage x bank, returned_fits p.geometry before b (serve_now asks) asks.bank on x differ, all)
 

@@ -1,15 +1,15 @@
 -- What sound frames that are counted say of their objects. What is counted, where objects come, go or are transferred. A walk along a chain, owner by owner.
-use Rattle.space_bank.proofs.Names.{ℕ, true, false, List, length, refl, sym, ap, arith, IsTrue, nat_le, slice_index, leb-true, Cap, Capability, Geometry}
-use Rattle.space_bank.proofs.Names.{Content, Object, chain, usage, has_quota, conveyed, header_at, held_at, AreKeepable, world_at, is_free, limit_in}
-use Rattle.space_bank.proofs.Names.{map_content, role_of, is_member, HasShape, object_count, content_at, IsTree, chain_banks, tree_of, member_passes, IsNow}
-use Rattle.space_bank.proofs.Names.{IsFramed, nearly_from, Parts, frames_of, objects_in, content_there, keepable_at, keepable_count, BanksState, HaveTheirRoles}
-use Rattle.space_bank.proofs.Names.{MayServe, is_bank, keepable_roles, MayShift, inl, inr, Bool, [], subst, slice_set, cases_eq, get_or-set_other}
-use Rattle.space_bank.proofs.Names.{get_or-set_same, length-set, owner_at, chain_itself, chain_length, chain_longer, chain_nonempty, chain_once, chain_unfolds}
-use Rattle.space_bank.proofs.Names.{chain_zero, member_tail, owner_bank, IsRaised, IsShifted, take, eq-eqb, ne_eqb, list_any_more, free, object_at}
-use Rattle.space_bank.proofs.Names.{AreTransferred, slice_index_or, cases_lt, get_or-append_right, get_or_append_left, length-append, new_annex, new_root}
-use Rattle.space_bank.proofs.Names.{with_new, is_root, root_in, at_new, at_other, chain_new, length_new, new_bank_kept, tree_new, usage_new, usage_new_bank}
-use Rattle.space_bank.proofs.Names.{AreCounted, marks_of, is_marked, Void, AreCurrent, Fresh, FreshFits, fresh_content, length_objects, keepable_later}
-use Rattle.space_bank.proofs.Names.{CarriesOut, IsFreshAt, IsMadeUnder, IsMade, MakesOne, MakesTwo}
+use Rattle.space_bank.proofs.Names.{nat_tests, ℕ, true, false, List, length, refl, sym, ap, arith, IsTrue, slice_index, Cap, Capability, Geometry, Content}
+use Rattle.space_bank.proofs.Names.{Object, chain, usage, has_quota, conveyed, header_at, held_at, AreKeepable, world_at, is_free, limit_in, map_content}
+use Rattle.space_bank.proofs.Names.{role_of, is_member, HasShape, object_count, content_at, IsTree, chain_banks, tree_of, member_passes, IsNow, IsFramed}
+use Rattle.space_bank.proofs.Names.{nearly_from, Parts, frames_of, objects_in, content_there, keepable_at, keepable_count, BanksState, HaveTheirRoles, MayServe}
+use Rattle.space_bank.proofs.Names.{is_bank, keepable_roles, MayShift, inl, inr, Bool, [], subst, slice_set, cases_eq, get_or-set_other, get_or-set_same}
+use Rattle.space_bank.proofs.Names.{length-set, owner_at, chain_itself, chain_length, chain_longer, chain_nonempty, chain_once, chain_unfolds, chain_zero}
+use Rattle.space_bank.proofs.Names.{member_tail, owner_bank, IsRaised, IsShifted, take, eq-eqb, ne_eqb, list_any_more, object_at, AreTransferred}
+use Rattle.space_bank.proofs.Names.{slice_index_or, get_or-append_right, get_or_append_left, length-append, new_annex, new_root, with_new, is_root, root_in}
+use Rattle.space_bank.proofs.Names.{at_new, at_other, chain_new, length_new, new_bank_kept, tree_new, usage_new, usage_new_bank, AreCounted, marks_of}
+use Rattle.space_bank.proofs.Names.{is_marked, Void, AreCurrent, Fresh, FreshFits, fresh_content, length_objects, keepable_later, CarriesOut, IsFreshAt}
+use Rattle.space_bank.proofs.Names.{IsMadeUnder, IsMade, MakesOne, MakesTwo}
 use Rattle.std.proofs.Common.{◌≡◌, ◌≢◌, ◌+◌, ◌^◌, ◌<◌, ◌≤◌, ◌∙◌, ◌-◌, ◌||◌, ◌∷◌}
 use Rattle.std.specs.Prelude.{if◌then◌else◌, nat_eq}
 use Rattle.model.specs.declared.object.Content.TheVariants as content
@@ -18,12 +18,10 @@ use Rattle.capability.specs.declared.present.Fresh.TheVariants as fresh
 
 -- what stands where nothing is has the role of what is free
 role_free : (f : Cap → Capability) (c : Content Cap) → is_free (map_content f c) ≡ true → role_of c ≡ role.Free
-role_free f content.Free is = refl
-role_free f c is = cc
+role_free f c is = grind (arith, nat_tests)
 
 role_used : (f : Cap → Capability) (c : Content Cap) → is_free (map_content f c) ≡ false → role_of c ≢ role.Free
-role_used f content.Free is e = cc
-role_used f c is e = cc
+role_used f c is e = grind (arith, nat_tests)
 
 module _ (g : Geometry) (age : ℕ) (p : Parts) (k : AreKeepable g age (frames_of p)) (n : ℕ) (known : n < length p.headers) where
   there : content_at (objects_in p) n ≡ map_content (conveyed p.headers) (held_at p.contents n)
@@ -47,16 +45,13 @@ module _ (g : Geometry) (age : ℕ) (p : Parts) (k : AreKeepable g age (frames_o
   few_calls = (keepable_at g age p n known k).kept.calls.0
 
 limit_shape : (c : Content Capability) → HasShape c → limit_in c < 2 ^ 64
-limit_shape (content.Bank limit) shape = shape
-limit_shape c shape = omega arith
+limit_shape c shape = grind (arith, nat_tests)
 
 -- quota in a chain
 pub room_within : (os : List Object) (b count x : ℕ) → IsTrue (has_quota os b count) → is_member (chain os b) x ≡ true →
     usage os x + count ≤ limit_in (content_at os x)
 unfolding has_quota
-room_within os b count x room member =
-    leb-true (usage os x + count) (limit_in (content_at os x))
-    (member_passes (λ c. nat_le (usage os c + count) (limit_in (content_at os c))) (chain os b) x room member)
+room_within os b count x room member = grind (arith, nat_tests, member_passes)
 
 module _ {p : Parts} {s : BanksState} {b : ℕ} (asks : MayServe p s b) where
   pub serve_now : IsNow p.geometry (objects_in p)
@@ -129,15 +124,7 @@ module _ {os : List Object} (t : IsTree os) {b i c : ℕ} (at : Climbs os b i c)
   climb_ended past = omega (arith, at.short, chain_nonempty os t c at.bank)
 
   pub climbs_on : c ≢ 0 → Climbs os b (i + 1) (owner_at os c)
-  climbs_on on = record {
-    bank = owner_bank os t c at.bank;
-    short = omega (arith, at.short, chain_longer os t c at.bank on);
-    within = λ x member. elim (cases_eq x c) [
-      | inl e ↦ subst (λ (y : ℕ). is_member (chain os b) y ≡ true) (sym e) climb_itself
-      | inr differ ↦
-          at.within x (ap (λ xs. is_member xs x) (chain_unfolds os t c at.bank on) ∙ (member_tail x c (chain os (owner_at os c)) differ ∙ member))
-    ];
-  }
+  climbs_on on = grind (arith, nat_tests, owner_bank, chain_longer, climb_itself, chain_unfolds, member_tail)
 
   share_here : (count : ℕ) → share os c count c ≡ count
   share_here count = rw (chain_itself os t c at.bank) refl
@@ -149,15 +136,10 @@ module _ {os : List Object} (t : IsTree os) {b i c : ℕ} (at : Climbs os b i c)
   share_owner count on = rw (chain_once os t c at.bank on) refl
 
   share_other : (count x : ℕ) → c ≢ 0 → x ≢ c → share os c count x ≡ share os (owner_at os c) count x
-  share_other count x on differ =
-      let same : is_member (chain os c) x ≡ is_member (chain os (owner_at os c)) x =
-      ap (λ xs. is_member xs x) (chain_unfolds os t c at.bank on) ∙ member_tail x c (chain os (owner_at os c)) differ in
-      rw same refl
+  share_other count x on differ = grind (arith, nat_tests, chain_unfolds, member_tail)
 
   share_prime : (count x : ℕ) → c ≡ 0 → x ≢ c → share os c count x ≡ 0
-  share_prime count x end differ =
-      let none : is_member (chain os c) x ≡ false = ap (λ xs. is_member xs x) (chain_zero os c end) ∙ member_tail x c [] differ in
-      rw none refl
+  share_prime count x end differ = grind (arith, nat_tests, chain_zero, member_tail)
 
   module _ {more less : ℕ} {old now : List ℕ} (each : (x : ℕ) → IsTrue (is_bank (content_at os x)) → x < length old)
       (fits : (x : ℕ) → is_member (chain os b) x ≡ true → MayShift more less (slice_index old x)) (r : IsShifting os b c more less old now) where
@@ -172,31 +154,14 @@ module _ {os : List Object} (t : IsTree os) {b i c : ℕ} (at : Climbs os b i c)
     still_fits = subst (λ (n : ℕ). MayShift more less n) (sym same_here) (fits c climb_itself)
 
     pub shifts_on : c ≢ 0 → IsShifting os b (owner_at os c) more less old (slice_set now c (slice_index now c + more - less))
-    shifts_on on = record {
-      size = length-set now c (slice_index now c + more - less) ∙ r.size;
-      each = λ x. elim (cases_eq x c) [
-        | inl e ↦ rw (e, get_or-set_same now c (slice_index now c + more - less) 0 inside)
-            (omega (arith, still_fits.enough, same_here, share_first more, share_first less, share_owner more on, share_owner less on))
-        | inr differ ↦ rw (get_or-set_other now c x (slice_index now c + more - less) 0 differ)
-            (omega (arith, r.each x, share_other more x on differ, share_other less x on differ))
-      ];
-    }
+    shifts_on on = grind (arith, nat_tests, length-set, get_or-set_same, inside, still_fits, same_here, share_first, share_owner, get_or-set_other, share_other)
 
     pub shifted_last : c ≡ 0 → IsShifted (chain os b) more less old (slice_set now c (slice_index now c + more - less))
-    shifted_last end = record {
-      size = length-set now c (slice_index now c + more - less) ∙ r.size;
-      each = λ x. elim (cases_eq x c) [
-        | inl e ↦ rw (e, get_or-set_same now c (slice_index now c + more - less) 0 inside)
-            (omega (arith, still_fits.enough, same_here, share_first more, share_first less))
-        | inr differ ↦ rw (get_or-set_other now c x (slice_index now c + more - less) 0 differ)
-            (omega (arith, r.each x, share_prime more x end differ, share_prime less x end differ))
-      ];
-    }
+    shifted_last end = grind (arith, nat_tests, length-set, get_or-set_same, inside, still_fits, same_here, share_first, get_or-set_other, share_prime)
 
 -- a usage is only added, or only subtracted
 nothing : (is : Bool) → ◌≡◌ {A = ℕ} (if is then 0 else 0) 0
-nothing true = refl
-nothing false = refl
+nothing is = grind (arith, nat_tests)
 
 module _ {banks : List ℕ} {count : ℕ} {old new : List ℕ} where
   pub raised_of : IsShifted banks count 0 old new → IsRaised banks count old new
@@ -210,8 +175,7 @@ abbrev pub transferred : Bool → ℕ → Object → Object
 transferred goes b o = if goes then record { owner = b; content = o.content } else o
 
 pub transferred_content : (goes : Bool) (b : ℕ) (o : Object) → (transferred goes b o).content ≡ o.content
-transferred_content true b o = refl
-transferred_content false b o = refl
+transferred_content goes b o = grind (arith, nat_tests)
 
 -- objects that are transferred hold what they held
 pub transferred_same : (list : List ℕ) (b : ℕ) (os us : List Object) → AreTransferred list b os us → (n : ℕ) → content_at us n ≡ content_at os n
@@ -223,12 +187,10 @@ transferred_used list b os us are n used = ap (λ (c : Content Capability). is_f
 
 -- one more of a list
 either : (b : Bool) → (b || true) ≡ true
-either true = refl
-either false = refl
+either b = grind (arith, nat_tests)
 
 neither : (b : Bool) → (b || false) ≡ b
-neither true = refl
-neither false = refl
+neither b = grind (arith, nat_tests)
 
 module _ (list : List ℕ) (i n : ℕ) (inside : i < length list) where
   pub taken_here : n ≡ slice_index list i → is_member (take (i + 1) list) n ≡ true
@@ -243,45 +205,21 @@ pub transferred_more : (list : List ℕ) (i b : ℕ) (os us vs : List Object) �
     AreTransferred (take i list) b os us
     → vs ≡ slice_set us (slice_index list i) (record { owner = b; content = content_at us (slice_index list i) }) → AreTransferred (take (i + 1) list) b os vs
 transferred_more list i b os us vs inside known are is =
-    let m = slice_index list i in
-    let next : Object = record { owner = b; content = content_at us m } in
-    record {
-      size = ap (λ (xs : List Object). length xs) is ∙ (length-set us m next ∙ are.size);
-      each = λ n. ap (λ (xs : List Object). object_at xs n) is ∙ elim (cases_eq n m) [
-        | inl e ↦
-            let here : object_at (slice_set us m next) n ≡ next = ap (λ (k : ℕ). object_at (slice_set us m next) k) e ∙ get_or-set_same us m next free known in
-            here ∙ (ap (λ (c : Content Capability). let o : Object = record { owner = b; content = c } in o)
-            (transferred_same (take i list) b os us are m ∙ ap (λ (k : ℕ). content_at os k) (sym e))
-            ∙ sym (ap (λ (goes : Bool). transferred goes b (object_at os n)) (taken_here list i n inside e)))
-        | inr differ ↦ get_or-set_other us m n next free differ
-            ∙ (are.each n ∙ sym (ap (λ (goes : Bool). transferred goes b (object_at os n)) (taken_before list i n inside differ)))
-      ];
-    }
+    grind (arith, nat_tests, length-set, get_or-set_same, transferred_same, taken_here, get_or-set_other, taken_before)
 
 -- one more of a list was marked as free
 pub marked_more : (before now next : List Bool) (list : List ℕ) (i : ℕ) → i < length list → slice_index list i < length now
     → next ≡ slice_set now (slice_index list i) true
     → ((n : ℕ) → slice_index_or now n false ≡ (if is_member (take i list) n then true else slice_index_or before n false))
     → (n : ℕ) → slice_index_or next n false ≡ (if is_member (take (i + 1) list) n then true else slice_index_or before n false)
-marked_more before now next list i inside known is marks n =
-    let m = slice_index list i in
-    ap (λ (bs : List Bool). slice_index_or bs n false) is ∙ elim (cases_eq n m) [
-      | inl e ↦ rw (taken_here list i n inside e) (ap (λ k. slice_index_or (slice_set now m true) k false) e ∙ get_or-set_same now m true false known)
-      | inr differ ↦ rw (taken_before list i n inside differ) (get_or-set_other now m n true false differ ∙ marks n)
-    ]
+marked_more before now next list i inside known is marks n = grind (arith, nat_tests, taken_here, get_or-set_same, taken_before, get_or-set_other)
 
 -- each number is marked as what it is
 abbrev pub AreMarked : Geometry → List Object → List Bool → Type 0
 AreMarked g os marks = (n : ℕ) → n < object_count g → is_marked marks n ≡ is_free (content_at os n)
 
 pub marks_counted : {g : Geometry} {os : List Object} {s : BanksState} → AreCounted g os s → AreMarked g os (marks_of s)
-marks_counted {g} {os} {s} counted n known = elim (cases_lt n g.nodes) [
-  | inl inside ↦ get_or_append_left s.free_nodes s.free_pages false n (omega (arith, counted.nodes)) ∙ counted.node n inside
-  | inr past ↦
-      let at : g.nodes + (n - g.nodes) ≡ n = omega arith in
-      get_or-append_right s.free_nodes s.free_pages g.nodes n false counted.nodes past
-      ∙ (counted.page (n - g.nodes) (omega arith) ∙ ap (λ (m : ℕ). is_free (content_at os m)) at)
-]
+marks_counted {g} {os} {s} counted n known = grind (arith, nat_tests, inside, get_or_append_left, get_or-append_right)
 
 -- how many there are of each, and the capacity of the list, stay as they were
 pub record IsAsWide (s t : BanksState) : Type 0 where
@@ -302,23 +240,7 @@ annex_in c = (root_in c).annex
 pub counted_from : {g : Geometry} {os : List Object} (us : List Object) {s : BanksState} (t : BanksState) → AreCounted g os s → IsAsWide s t →
     AreMarked g us (marks_of t) → ((x : ℕ) → IsTrue (is_bank (content_at us x)) → slice_index t.usages x ≡ usage us x)
     → HasEach is_bank limit_in us t.limits → HasEach is_root annex_in us t.annexes → AreCounted g us t
-counted_from {g} us {s} t counted wide marks usages limits annexes = record {
-  nodes = wide.nodes ∙ counted.nodes;
-  pages = wide.pages ∙ counted.pages;
-  node = λ n inside.
-      sym (get_or_append_left t.free_nodes t.free_pages false n (omega (arith, counted.nodes, wide.nodes))) ∙ marks n (omega arith);
-  page = λ n inside.
-      let at : g.nodes + n - g.nodes ≡ n = omega arith in
-      sym (get_or-append_right t.free_nodes t.free_pages g.nodes (g.nodes + n) false (wide.nodes ∙ counted.nodes) (omega arith)
-      ∙ ap (λ m. is_marked t.free_pages m) at) ∙ marks (g.nodes + n) (omega arith);
-  usage_each = wide.usages ∙ counted.usage_each;
-  limit_each = wide.limits ∙ counted.limit_each;
-  annex_each = wide.annexes ∙ counted.annex_each;
-  usage = usages;
-  limit = limits;
-  annex = annexes;
-  room = omega (arith, counted.room, wide.room);
-}
+counted_from {g} {os} us {s} t counted wide marks usages limits annexes = grind (arith, nat_tests, get_or_append_left, get_or-append_right)
 
 marks_length : {g : Geometry} {os : List Object} {s : BanksState} → AreCounted g os s → length (marks_of s) ≡ object_count g
 marks_length {g} {os} {s} counted = omega (arith, length-append s.free_nodes s.free_pages, counted.nodes, counted.pages)
@@ -326,12 +248,7 @@ marks_length {g} {os} {s} counted = omega (arith, length-append s.free_nodes s.f
 -- a new object's number is marked as taken
 marked_new : (g : Geometry) (os : List Object) (marks : List Bool) (n b : ℕ) (c : Content Capability) → n < length os → n < length marks → is_free c ≡ false
     → AreMarked g os marks → AreMarked g (with_new os n b c) (slice_set marks n false)
-marked_new g os marks n b c inside known used is m within = elim (cases_eq m n) [
-  | inl e ↦
-      rw (e, get_or-set_same marks n false false known) (sym (ap (λ (o : Object). is_free o.content) (at_new os n b c inside) ∙ used))
-  | inr differ ↦
-      rw (get_or-set_other marks n m false false differ) (is m within ∙ sym (ap (λ (o : Object). is_free o.content) (at_other os n b c m differ)))
-]
+marked_new g os marks n b c inside known used is m within = grind (arith, nat_tests, get_or-set_same, at_new, get_or-set_other, at_other)
 
 -- More is raised along the chain of a bank, and these marks are set.
 pub record IsTaken (banks : List ℕ) (count : ℕ) (s t : BanksState) (marks : List Bool) : Type 0 where
@@ -344,14 +261,7 @@ pub record IsTaken (banks : List ℕ) (count : ℕ) (s t : BanksState) (marks : 
   pub marks_are : marks_of t ≡ marks
 
 taken_wide : {banks : List ℕ} {count : ℕ} {s t : BanksState} {marks : List Bool} → IsTaken banks count s t marks → IsAsWide s t
-taken_wide taken = record {
-  nodes = taken.nodes;
-  pages = taken.pages;
-  usages = taken.usages.size;
-  limits = ap (λ (xs : List ℕ). length xs) taken.limits;
-  annexes = ap (λ (xs : List ℕ). length xs) taken.annexes;
-  room = taken.room;
-}
+taken_wide {banks} {count} {s} {t} {marks} taken = grind (arith, nat_tests)
 
 module _ (os : List Object) (n b : ℕ) (inside : n < length os) (c : Content Capability) where
   other_content : (x : ℕ) → x ≢ n → content_at (with_new os n b c) x ≡ content_at os x
@@ -363,9 +273,7 @@ module _ (os : List Object) (n b : ℕ) (inside : n < length os) (c : Content Ca
   module _ (passes : Content Capability → Bool) where
     -- what passes a test after a new object that fails it did before
     old_one : passes c ≡ false → (x : ℕ) → IsTrue (passes (content_at (with_new os n b c) x)) → x ≢ n
-    old_one plain x is e =
-        let wrong : true ≡ false = sym is ∙ (ap (λ (m : ℕ). passes (content_at (with_new os n b c) m)) e ∙ (ap passes new_content ∙ plain)) in
-        cc
+    old_one plain x is e = grind (arith, nat_tests, new_content)
 
     other_one : (x : ℕ) → x ≢ n → IsTrue (passes (content_at (with_new os n b c) x)) → IsTrue (passes (content_at os x))
     other_one x differ is = sym (ap passes (other_content x differ)) ∙ is
@@ -373,15 +281,10 @@ module _ (os : List Object) (n b : ℕ) (inside : n < length os) (c : Content Ca
     -- the numbers of what passes it stay, or the new one has its own
     module _ (number : Content Capability → ℕ) (xs : List ℕ) (each : HasEach passes number os xs) where
       each_kept : passes c ≡ false → HasEach passes number (with_new os n b c) xs
-      each_kept plain x is =
-          let differ = old_one plain x is in
-          each x (other_one x differ is) ∙ ap number (sym (other_content x differ))
+      each_kept plain x is = grind (arith, nat_tests, old_one, other_one, other_content)
 
       each_set : (m : ℕ) → m ≡ number c → n < length xs → HasEach passes number (with_new os n b c) (slice_set xs n m)
-      each_set m is within x here = elim (cases_eq x n) [
-        | inl e ↦ rw (e, get_or-set_same xs n m 0 within) (is ∙ ap number (sym new_content))
-        | inr differ ↦ rw (get_or-set_other xs n x m 0 differ) (each x (other_one x differ here) ∙ ap number (sym (other_content x differ)))
-      ]
+      each_set m is within x here = grind (arith, nat_tests, get_or-set_same, new_content, get_or-set_other, other_one, other_content)
 
 no_bank_short : (c : Content Capability) (P : Type 0) → is_bank c ≡ false → IsTrue (is_bank c) → P
 no_bank_short c P plain is = cc
@@ -477,34 +380,17 @@ module _ {g : Geometry} {os : List Object} (size : length os ≡ object_count g)
       (each_kept vs m b within_grown d is_root annex_in (slice_set s.annexes n m) annexes refl)))
     where
       twice : (is : Bool) → (if is then 2 else 0) ≡ (if is then 1 else 0) + (if is then 1 else 0)
-      twice true = refl
-      twice false = refl
+      twice is = grind (arith, nat_tests)
 
 -- more is accounted for, and then a number taken
 pub taken_one : {banks : List ℕ} {count n : ℕ} {s r t : BanksState} → IsRaised banks count s.usages r.usages → r ≡ record s { usages = r.usages } →
     IsMade r t n → IsTaken banks count s t (slice_set (marks_of s) n false)
-taken_one {banks} {count} {n} {s} raised kept made = record {
-  usages = subst (λ (us : List ℕ). IsRaised banks count s.usages us) (sym (ap (λ (k : BanksState). k.usages) made.kept)) raised;
-  nodes = made.nodes ∙ ap (λ (k : BanksState). length k.free_nodes) kept;
-  pages = made.pages ∙ ap (λ (k : BanksState). length k.free_pages) kept;
-  limits = ap (λ (k : BanksState). k.limits) made.kept ∙ ap (λ (k : BanksState). k.limits) kept;
-  annexes = ap (λ (k : BanksState). k.annexes) made.kept ∙ ap (λ (k : BanksState). k.annexes) kept;
-  room = ap (λ (k : BanksState). k.room) made.kept ∙ ap (λ (k : BanksState). k.room) kept;
-  marks_are = made.marks ∙ ap (λ (k : BanksState). slice_set (marks_of k) n false) kept;
-}
+taken_one {banks} {count} {n} {s} {r} {t} raised kept made = grind (arith, nat_tests)
 
 -- and one more
 pub taken_two : {banks : List ℕ} {count n : ℕ} {s r t : BanksState} {marks : List Bool} → IsTaken banks count s r marks → IsMade r t n →
     IsTaken banks count s t (slice_set marks n false)
-taken_two {banks} {count} {n} {s} taken made = record {
-  usages = subst (λ (us : List ℕ). IsRaised banks count s.usages us) (sym (ap (λ (k : BanksState). k.usages) made.kept)) taken.usages;
-  nodes = made.nodes ∙ taken.nodes;
-  pages = made.pages ∙ taken.pages;
-  limits = ap (λ (k : BanksState). k.limits) made.kept ∙ taken.limits;
-  annexes = ap (λ (k : BanksState). k.annexes) made.kept ∙ taken.annexes;
-  room = ap (λ (k : BanksState). k.room) made.kept ∙ taken.room;
-  marks_are = made.marks ∙ ap (λ (bs : List Bool). slice_set bs n false) taken.marks_are;
-}
+taken_two {banks} {count} {n} {s} {r} {t} {marks} taken made = grind (arith, nat_tests)
 
 -- what is free beside a new object has the role of what is free
 pub still_free : (g : Geometry) (age : ℕ) (p q : Parts) (n m b : ℕ) (c : Content Capability) → AreKeepable g age (frames_of q) →
@@ -516,8 +402,7 @@ still_free g age p q n m b c k count objects known two unused =
 
 -- what is new isn't free
 pub fresh_used : (f : Fresh) → is_free (fresh_content Void f) ≡ false
-fresh_used fresh.Page = refl
-fresh_used c = refl
+fresh_used f = grind (arith, nat_tests)
 
 -- a page or a node is neither a bank nor a process
 pub record IsPlain (f : Fresh) : Type 0 where
@@ -526,10 +411,7 @@ pub record IsPlain (f : Fresh) : Type 0 where
   pub root : is_root (fresh_content Void f) ≡ false
 
 pub plain_under : (os : List Object) (b : ℕ) (f : Fresh) → ((limit : ℕ) → f ≡ fresh.Bank limit → ⊥) → IsMadeUnder os b f → IsPlain f
-plain_under os b (fresh.Bank limit) other under = absurd (other limit refl)
-plain_under os b (fresh.Root annex) other under = absurd under
-plain_under os b fresh.Annex other under = absurd under
-plain_under os b c other under = record { fits = tt; bank = refl; root = refl }
+plain_under os b f other under = grind (arith, nat_tests)
 
 inside_objects : (p : Parts) (n : ℕ) → n < length p.headers → n < length (objects_in p)
 inside_objects p n known = omega (arith, length_objects p.headers p.contents)
@@ -549,9 +431,7 @@ module _ {p : Parts} {s : BanksState} {b : ℕ} (asks : MayServe p s b) {q : Par
         (keepable : (age : ℕ) → FreshFits f → AreKeepable p.geometry age (frames_of p) → AreKeepable p.geometry age (frames_of q))
         (taken : IsTaken (chain (objects_in p) b) 1 s u (slice_set (marks_of s) n false)) where
       pub plain_carried : IsPlain f → CarriesOut p q u
-      plain_carried plain = carried (with_new (objects_in p) n b (fresh_content Void f)) u objects (λ age k. keepable age plain.fits k)
-          (counted_alone (serve_framed asks).size (serve_tree asks) asks.counted b asks.bank n (inside_objects p n known) may.unused (fresh_content Void f)
-          (fresh_used f) plain.bank plain.root taken)
+      plain_carried plain = search (arith, nat_tests, carried, counted_alone, serve_framed, serve_tree, inside_objects, fresh_used)
 
       pub bank_carried : (limit : ℕ) (v : BanksState) → f ≡ fresh.Bank limit → limit < 2 ^ 64 →
           v ≡ record u { usages = slice_set u.usages n 0; limits = slice_set u.limits n limit } → CarriesOut p q v
@@ -567,7 +447,4 @@ module _ {p : Parts} {s : BanksState} {b : ℕ} (asks : MayServe p s b) {q : Par
         IsTaken (chain (objects_in p) b) 2 s u (slice_set (slice_set (marks_of s) n false) m false) → v ≡ record u { annexes = slice_set u.annexes n m } →
         CarriesOut p q v
     process_carried {m} {u} v may objects keepable within taken is =
-        carried (with_new (with_new (objects_in p) n b (new_root m)) m b new_annex) v objects keepable
-        (counted_process (serve_framed asks).size (serve_tree asks) asks.counted b asks.bank n (inside_objects p n known) may.unused m v
-        (inside_objects p m within) may.two may.place
-        may.annex_unused taken is)
+        search (arith, nat_tests, carried, counted_process, serve_framed, serve_tree, inside_objects)

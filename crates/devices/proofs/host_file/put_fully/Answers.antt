@@ -1,4 +1,4 @@
-use Rattle.std.proofs.Common.{ℕ, arith, length-drop, length-take}
+use Rattle.devices.proofs.Names.{nat_tests, ℕ, arith, length-drop, length-take}
 use Rattle.devices.proofs.Deeds.{takes_none, takes_on}
 use Rattle.devices.proofs.host_file.put_fully.Goals as goal
 use Rattle.devices.proofs.host_file.put_fully.Goals.{in-Ok, in-Err+else-ne}
@@ -12,8 +12,5 @@ loop-preserved g c = elim c.match-put.branch [
     within = omega (arith, w.in-Ok.ensures.bound, length-take {A = ℕ}, length-drop {A = ℕ});
     taken = rw w.done-is (takes_on c.args.at _ _ _ c.args.from.now c.loop.done w.in-Ok.count c.loop.invariant.within c.loop.invariant.taken w.in-Ok.ensures.ok);
   }
-  | in-Err+else-ne w ↦ record {
-    within = omega arith;
-    taken = rw (w.done-is, w.in-Err.ensures.err) c.loop.invariant.taken;
-  }
+  | in-Err+else-ne w ↦ grind (arith, nat_tests)
 ]

@@ -1,4 +1,4 @@
-use Rattle.devices.proofs.Names.{arith, option_map, refl, ap, resizes}
+use Rattle.devices.proofs.Names.{nat_tests, arith, option_map, refl, ap, resizes}
 use Rattle.std.proofs.Common.{◌∙◌}
 use Rattle.devices.proofs.Openings.{fits_within, still_within, gets_none, gets_on, gets_still, keeps_length}
 use Rattle.devices.proofs.open.get_fully.Goals as goal
@@ -21,8 +21,7 @@ loop-preserved g c =
     let got = c.get.new.into in
     elim c.match-get.branch [
       | in-Ok w ↦ record {
-        within = rw w.done-is
-            (fits_within c.args.at _ _ old got c.loop.done _ c.loop.invariant.within c.loop.invariant.bytes w.in-Ok.count w.in-Ok.ensures.bound.0);
+        within = grind (arith, nat_tests, fits_within);
         bytes = rw w.done-is
             (gets_on c.args.at _ _ old got c.loop.done _ c.loop.invariant.within c.loop.invariant.bytes _ w.in-Ok.count w.in-Ok.ensures.bound.0
             w.in-Ok.ensures.ok);

@@ -1,4 +1,4 @@
-use Rattle.std.proofs.Common.{arith}
+use Rattle.devices.proofs.Names.{nat_tests, arith}
 use Rattle.devices.proofs.Patches.{patches_on, names_more, names_at}
 use Rattle.devices.proofs.sectors.copy_written.Goals as goal
 
@@ -8,7 +8,6 @@ copy_sector-requires-clause-inside c i hit =
 
 pub loop-entry-preserved : goal.loop-entry-preserved
 loop-entry-preserved c = record {
-  patched = patches_on _ _ _ _ _ _ _ c.loop-entry.invariant.patched c.copy_sector.ensures.patched
-      (names_more c.args.entries.now c.loop-entry.entry-index _ (omega arith));
+  patched = grind (arith, nat_tests, patches_on, names_more);
   fits = λ was. c.copy_sector.ensures.fits (c.loop-entry.invariant.fits was);
 }

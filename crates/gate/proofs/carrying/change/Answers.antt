@@ -1,22 +1,10 @@
-use Rattle.gate.proofs.Names.{List, ap, drop, subst, sym, ℕ, All, Object, is_free, content_at, tests_at, Change, target_of, objects_in, AreCounted}
-use Rattle.gate.proofs.Names.{snapshots_alone, MayChange, MayEdit, fetched_of}
+use Rattle.gate.proofs.Names.{List, ap, drop, subst, sym, ℕ, All, Object, is_free, content_at, tests_at, target_of, objects_in, AreCounted, snapshots_alone}
+use Rattle.gate.proofs.Names.{MayEdit}
 use Rattle.std.proofs.Common.{◌∙◌}
 use Rattle.gate.proofs.BankStates.{counted_on}
 use Rattle.gate.proofs.Plans.{change_edit, edit_fetched, target_all, changed_any, changed_frame}
 use Rattle.gate.proofs.Standing.{calls_below}
 use Rattle.gate.proofs.carrying.change.Goals as goal
-
-pub carry_out-requires-clause-may : goal.carry_out-requires-clause-may
-carry_out-requires-clause-may g c =
-    let p = g.F.Frames.parts c.args.store.now in
-    subst (λ (x : Change). MayChange p.geometry (objects_in p) (drop c.args.skip c.args.banks.now.listed) x) c.in-Bank.is c.requires.may
-
-pub carry_out-requires-clause-fetched : goal.carry_out-requires-clause-fetched
-carry_out-requires-clause-fetched g c =
-    subst (λ (x : Change). All (g.F.Frames.IsFetched c.args.store.now) (fetched_of x)) c.in-Bank.is c.requires.fetched
-
-pub returns-in-Bank-clause-objects : goal.returns-in-Bank-clause-objects
-returns-in-Bank-clause-objects g c = rw c.in-Bank.is c.carry_out.ensures.objects
 
 pub make-requires : goal.make-requires
 make-requires g c =

@@ -1,5 +1,5 @@
-use Rattle.gate.proofs.Names.{get_or, subst, sym, ap, ℕ, List, Object, Geometry, FitsCap, with_slots_from, keeps_twice, objects_in, with_message, refl, Message}
-use Rattle.gate.proofs.Names.{deliver, annex_at}
+use Rattle.gate.proofs.Names.{rules, get_or, subst, sym, ℕ, List, Object, Geometry, FitsCap, with_slots_from, keeps_twice, with_message, refl, Message, deliver}
+use Rattle.gate.proofs.Names.{annex_at}
 use Rattle.std.proofs.Common.{◌∙◌, ◌≡◌}
 use Rattle.gate.proofs.Standing.{fits_kept, in_geometry}
 use Rattle.gate.proofs.delivery.deliver.Goals as goal
@@ -11,13 +11,7 @@ unfolding deliver
 deliver_by_parts os p m = refl
 
 pub returns-clause-objects : goal.returns-clause-objects
-returns-clause-objects g c =
-    let m = c.args.message in
-    let before = objects_in (g.F.Frames.parts c.args.store.now) in
-    let caps = m.capabilities in
-    c.set_last_slots.ensures.objects ∙ ap (λ (os : List Object). with_slots_from os c.annex-annex.result 28 caps) c.set_message.ensures.objects
-    ∙ ap (λ (annex : ℕ). with_slots_from (with_message before c.args.process m.words m.key) annex 28 caps) c.annex-annex.ensures
-    ∙ sym (deliver_by_parts before c.args.process m)
+returns-clause-objects g c = search (rules, deliver_by_parts)
 
 pub returns-clause-keepable : goal.returns-clause-keepable
 returns-clause-keepable g c = λ age fits keepable.

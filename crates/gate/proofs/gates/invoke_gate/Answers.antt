@@ -1,5 +1,5 @@
-use Rattle.gate.proofs.Names.{true, List, None, sym, ap, subst, All, slice_index, err_from_is_err_and, Capability, Geometry, Object, can_start, IsNoBankOrder}
-use Rattle.gate.proofs.Names.{is_process, objects_in, entered, received, written_through, FitsCap, process_known}
+use Rattle.gate.proofs.Names.{rules, true, List, None, sym, ap, subst, All, slice_index, err_from_is_err_and, Capability, Geometry, Object, can_start}
+use Rattle.gate.proofs.Names.{IsNoBankOrder, is_process, objects_in, entered, received, written_through, FitsCap, process_known}
 use Rattle.std.proofs.Common.{◌≡◌, ◌||◌, ◌∙◌}
 use Rattle.gate.proofs.Effects.{effect_through, gate_code, gate_invoked, gate_process, gate_stalled, received_fits, carried_out, found_stalled, unannounced}
 use Rattle.gate.proofs.Standing.{running_process, gate_no_bank, renews_invoked, ReadsAs, annex_there, requested_annex, calls_below, few_objects, keepable_most}
@@ -14,9 +14,7 @@ look_at_process-requires-clause-process g c =
     gate_process (g.F.Frames.parts c.args.store.now) c.requires.sound c.args.gate c.requires.requested c.requires.gate
 
 pub look_at_process-requires-clause-annex : goal.look_at_process-requires-clause-annex
-look_at_process-requires-clause-annex g c =
-    annex_there (g.F.Frames.parts c.args.store.now) c.requires.sound c.args.gate.process
-    (gate_process (g.F.Frames.parts c.args.store.now) c.requires.sound c.args.gate c.requires.requested c.requires.gate)
+look_at_process-requires-clause-annex g c = search (rules, annex_there, gate_process)
 
 pub can_enter-requires-clause-process : goal.can_enter-requires-clause-process
 can_enter-requires-clause-process g c =
@@ -45,12 +43,7 @@ enter-requires-clause-receiver g c =
 
 pub enter-requires-clause-calls : goal.enter-requires-clause-calls
 enter-requires-clause-calls g c =
-    let old = g.F.Frames.parts c.args.store.now in
-    let there : ReadsAs old (g.F.Frames.parts c.announce.new.store) = only_reads_again (looked_as c.in_ok-annex.ensures.fetches.snapshots)
-    (prepared_as c.in_ok-announce.ensures.prepares) in
-    calls_below (g.F.Frames.parts c.announce.new.store) (looked_sound there c.requires.sound) c.args.gate.process
-    (looked_number there c.args.gate.process (process_known old c.args.gate.process
-    (gate_process old c.requires.sound c.args.gate c.requires.requested c.requires.gate)))
+    search (rules, only_reads_again, looked_as, prepared_as, calls_below, looked_sound, looked_number, process_known, gate_process)
 
 pub enter-requires-clause-current : goal.enter-requires-clause-current
 enter-requires-clause-current g c =

@@ -1,10 +1,6 @@
-use Rattle.std.proofs.Common.{arith, length}
+use Rattle.std.proofs.Common.{arith}
 use Rattle.gate.proofs.Effects.{contained, on_ok}
 use Rattle.gate.proofs.kernel_object.announce.Goals as goal
-
-pub prepare-requires-clause-known : goal.prepare-requires-clause-known
-prepare-requires-clause-known g c =
-    c.fetched_by-fetched.ensures.known (length (g.F.Frames.parts c.args.store.now).headers) c.requires.process c.requires.annex c.requires.new
 
 pub returns-clause-fetched : goal.returns-clause-fetched
 returns-clause-fetched g c =

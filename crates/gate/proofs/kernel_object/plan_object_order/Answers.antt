@@ -1,4 +1,4 @@
-use Rattle.gate.proofs.Names.{true, List, ap, subst, sym, Object, is_process, objects_in, BanksState}
+use Rattle.gate.proofs.Names.{rules, ap, objects_in, BanksState}
 use Rattle.std.proofs.Common.{◌≡◌}
 use Rattle.gate.proofs.Plans.{object_planned, process_there}
 use Rattle.gate.proofs.Standing.{ReadsAs, few_objects, keepable_most, looked_as, looked_objects, now_sound, register_kind}
@@ -8,17 +8,10 @@ pub look_at_named-requires-clause-keepable : goal.look_at_named-requires-clause-
 look_at_named-requires-clause-keepable g c = keepable_most (g.F.Frames.parts c.args.store.now) c.requires.sound
 
 pub look_at_named-requires-clause-kind : goal.look_at_named-requires-clause-kind
-look_at_named-requires-clause-kind g c =
-    register_kind (g.F.Frames.parts c.args.store.now) c.requires.sound c.args.invocation.now.process c.args.invocation.now.register c.args.caller.invoked
-    c.requires.requested.invoked
+look_at_named-requires-clause-kind g c = search (rules, register_kind)
 
 pub plan-plan-requires-clause-process : goal.plan-plan-requires-clause-process
-plan-plan-requires-clause-process g c p is =
-    let old = g.F.Frames.parts c.args.store.now in
-    let only_reads : ReadsAs old (g.F.Frames.parts c.look_at_named.new.store) = looked_as c.in_ok-look_at_named.ensures.fetches.snapshots in
-    let kind = register_kind old c.requires.sound c.args.invocation.now.process c.args.invocation.now.register c.args.caller.invoked
-    c.requires.requested.invoked in
-    subst (λ (us : List Object). is_process us p ≡ true) (sym (looked_objects only_reads)) (process_there (objects_in old) c.args.caller.invoked kind p is)
+plan-plan-requires-clause-process g c p is = search (rules, looked_as, register_kind, looked_objects, process_there)
 
 pub returns-clause-planned : goal.returns-clause-planned
 returns-clause-planned g c =

@@ -1,4 +1,4 @@
-use Rattle.reach.proofs.Names.{ap, sym, get_or_default, is_marked, Object, free, is_free, object_at}
+use Rattle.reach.proofs.Names.{arith, nat_tests, ap, sym, get_or_default, is_marked, Object, free, is_free, object_at}
 use Rattle.std.proofs.Common.{◌≡◌, ◌∙◌}
 use Rattle.reach.proofs.Growing.{grows_more, owned_next}
 use Rattle.reach.proofs.following.follow_owned.Goals as goal
@@ -14,8 +14,7 @@ loop-number-preserved c =
     elim c.if-is_owned.branch [
       | then-is_owned w ↦ rw (w.frontier-is) (record {
         grows = grows_more c.args.frontier.now c.loop-number.frontier w.add.new.self i.grows w.add.ensures.grows;
-        owned = owned_next (is_marked c.loop-number.frontier.found) (is_marked w.add.new.self.found) os c.args.bank at w.add.ensures.grows.found i.owned
-            (λ free owned. w.add.ensures.found);
+        owned = grind (arith, nat_tests, owned_next);
         least = λ other all within.
             let test = c.is_owned.ensures.0 w.if-is_owned.true in
             w.add.ensures.least other (all at (ap (λ (p : Object). is_free p.content) is ∙ test.0) (ap (λ (p : Object). p.owner) is ∙ test.1))

@@ -1,4 +1,4 @@
-use Rattle.reach.proofs.Names.{ℕ, zero, suc, true, false, not, List, [], length, Some, None, inl, inr, refl, sym, ap, subst, arith, IsTrue, find, cases_lt}
+use Rattle.reach.proofs.Names.{nat_tests, ℕ, zero, suc, true, false, not, List, [], length, Some, None, inl, inr, refl, sym, ap, arith, IsTrue, find, cases_lt}
 use Rattle.reach.proofs.Names.{get_or_default, Object, is_process}
 use Rattle.std.proofs.Common.{◌≡◌, ◌<◌, ◌∷◌, slice_index_or}
 use Rattle.reach.proofs.process.missing_process.Goals as goal
@@ -27,11 +27,7 @@ returns-then-not-is_process-clause-first c =
 pub loop-number-preserved : goal.loop-number-preserved
 loop-number-preserved c k d lt = elim (cases_lt k c.loop-number.number-index) [
   | inl before ↦ c.loop-number.invariant k d before
-  | inr past ↦
-      let here : c.loop-number.number-index ≡ k = omega (arith, past, lt) in
-      subst (λ (j : ℕ). IsTrue (is_process c.args.objects.now (slice_index_or c.args.numbers.now j d))) here
-      (subst (λ (n : ℕ). IsTrue (is_process c.args.objects.now n)) (get_or_default c.args.numbers.now c.loop-number.number-index 0 d c.loop-number-test.true)
-      (sym c.if-not-is_process.ensures))
+  | inr past ↦ grind (arith, nat_tests, get_or_default)
 ]
 
 pub returns-clause-first : goal.returns-clause-first

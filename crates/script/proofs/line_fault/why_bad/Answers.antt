@@ -1,4 +1,5 @@
-use Rattle.std.proofs.Common.{List, ℕ, [], ◌∷◌, ap, arith, refl, sym, ◌∙◌}
+use Rattle.std.proofs.Common.{rules}
+use Rattle.std.proofs.Common.{List, ℕ, [], ◌∷◌, ap, refl, sym, ◌∙◌}
 use Rattle.script.proofs.LineFaults.{empty_list, not_bad}
 use Rattle.script.proofs.line_fault.why_bad.Goals as goal
 
@@ -12,7 +13,4 @@ returns-then-is_empty c = (
 )
 
 pub unreachable-requires-in-None-operands_fault : goal.unreachable-requires-in-None-operands_fault
-unreachable-requires-in-None-operands_fault c =
-    not_bad c.args.line.now c.in-Some-keyword_of.keyword c.next.new.self
-    (sym c.new-words.ensures ∙ c.in-Some.ensures ∙ ap (λ (w : List ℕ). w ∷ c.next.new.self) c.in-Some-keyword_of.ensures.found)
-    c.in-None-operands_fault.ensures.none (omega (arith, c.if-line-gt-LONGEST_LINE.false)) c.requires
+unreachable-requires-in-None-operands_fault c = search (rules, not_bad)

@@ -1,4 +1,4 @@
-use Rattle.script.proofs.Names.{None, Some, arith, first_word}
+use Rattle.script.proofs.Names.{rules, None, Some, arith, first_word}
 use Rattle.std.proofs.Common.{◌∙◌}
 use Rattle.script.proofs.FirstWords.{word_length, word_reads}
 use Rattle.script.proofs.Numbers.{decimal_not_empty, decimal_no_zero, number_found, number_none}
@@ -9,13 +9,10 @@ pub returns-in_err-front-clause-none : goal.returns-in_err-front-clause-none
 returns-in_err-front-clause-none c = rw c.from_residual.ensures (number_none (first_word c.args.text.now) None c.in_err-front.ensures.none)
 
 pub returns-then-front-eq0-clause-none : goal.returns-then-front-eq0-clause-none
-returns-then-front-eq0-clause-none c = λ n small is.
-    omega (arith, decimal_not_empty (first_word c.args.text.now) n small is, word_length c.args.text.now, c.in_ok-front.ensures.size, c.if-front-eq0.true)
+returns-then-front-eq0-clause-none c = search (rules, decimal_not_empty, word_length)
 
 pub returns-then-text-eq48-clause-none : goal.returns-then-text-eq48-clause-none
-returns-then-text-eq48-clause-none c = λ n small is.
-    decimal_no_zero (first_word c.args.text.now) n small is (omega (arith, word_length c.args.text.now, c.in_ok-front.ensures.size, c.if-front-gt1.true))
-    ((word_reads c.args.text.now 0 (omega (arith, c.in_ok-front.ensures.size, c.if-front-gt1.true))).1 ∙ c.if-text-eq48.true)
+returns-then-text-eq48-clause-none c = search (rules, decimal_no_zero, word_length, word_reads)
 
 pub returns-clause-found : goal.returns-clause-found
 returns-clause-found c =

@@ -1,14 +1,12 @@
-use Rattle.script.proofs.Names.{ℕ, [], codes, refl, ap, decimal, MemoryFault, printed, line_of, spaced, fault_number, the_type}
+use Rattle.script.proofs.Names.{arith, nat_tests, ℕ, [], codes, ap, decimal, MemoryFault, printed, line_of, spaced, fault_number, the_type}
 use Rattle.std.proofs.Common.{◌≡◌, ◌+◌, ◌∷◌}
-use Rattle.model.specs.declared.answer.MemoryFault.TheVariants as fault
 use denote.Enum.Declared.{tag_of}
 use Rattle.script.proofs.Fronts.{writes_same}
 use Rattle.script.proofs.print.print_answer.Goals as goal
 
 -- the numbers of the enum are those that are printed
 fault_number_is : (f : MemoryFault) → tag_of the_type f + 1 ≡ fault_number f
-fault_number_is fault.NoSpace = refl
-fault_number_is other = refl
+fault_number_is f = grind (arith, nat_tests)
 
 pub returns-in-MemoryFault : goal.returns-in-MemoryFault
 unfolding printed

@@ -1,3 +1,4 @@
+use Rattle.std.proofs.Common.{rules}
 use Rattle.std.proofs.Common.{arith, ◌-◌}
 use Rattle.script.proofs.ShortNumbers.{digits_read, place_more, value_below}
 use Rattle.script.proofs.short.digits_before.Goals as goal
@@ -30,13 +31,4 @@ overflow_add-number c =
     )
 
 pub loop-place-preserved : goal.loop-place-preserved
-loop-place-preserved c = record {
-  begun = omega (arith, c.loop-place.invariant.begun);
-  values =
-      place_more c.args.text.now c.args.at c.loop-place.place c.loop-place.number _ c.loop-place.invariant.begun
-      (omega (arith, c.loop-place-test.true, c.digits_end-place-end.ensures.within)) c.loop-place.invariant.values (
-        (omega (arith, c.if-byte-lt-FIRST_DIGIT.false, c.from-byte.ensures), omega (arith, c.if-byte-gt-LAST_DIGIT.false, c.from-byte.ensures)),
-        omega
-            (arith, c.from-byte.ensures, c.if-byte-lt-FIRST_DIGIT.false),
-      );
-}
+loop-place-preserved c = search (rules, place_more)

@@ -1,3 +1,4 @@
+use Rattle.std.proofs.Common.{rules}
 use Rattle.std.proofs.Common.{arith, ◌-◌}
 use Rattle.script.proofs.ShortNumbers.{digits_last, place_more, value_below}
 use Rattle.script.proofs.short.last_digits.Goals as goal
@@ -23,20 +24,7 @@ overflow_add-number c =
     )
 
 pub loop-place-preserved : goal.loop-place-preserved
-loop-place-preserved c = record {
-  begun = omega (arith, c.loop-place.invariant.begun);
-  within = omega (arith, c.loop-place-test.true);
-  values =
-      place_more c.args.text.now c.args.at c.loop-place.place c.loop-place.number _ c.loop-place.invariant.begun c.loop-place-test.true
-      c.loop-place.invariant.values (
-        (omega (arith, c.if-byte-lt-FIRST_DIGIT.false, c.from-byte.ensures), omega (arith, c.if-byte-gt-LAST_DIGIT.false, c.from-byte.ensures)),
-        omega
-            (arith, c.from-byte.ensures, c.if-byte-lt-FIRST_DIGIT.false),
-      );
-}
+loop-place-preserved c = search (rules, place_more)
 
 pub returns : goal.returns
-returns c =
-    digits_last c.args.text.now c.args.at c.loop-place.place c.loop-place.number c.loop-place.invariant.begun
-    (omega (arith, c.loop-place.invariant.within, c.loop-place-test.false)) (omega (arith, c.loop-place.invariant.within, c.if-text-at-gt19.false))
-    c.requires.some c.loop-place.invariant.values
+returns c = search (rules, digits_last)

@@ -1,4 +1,4 @@
-use Rattle.std.proofs.Common.{arith}
+use Rattle.script.proofs.Names.{rules, arith}
 use Rattle.script.proofs.ShortNumbers.{last_two, last_three, values_up_to_three}
 use Rattle.script.proofs.short.last_longer.Goals as goal
 
@@ -13,11 +13,7 @@ returns-then-text-at-2 c =
     c.in_ok-first.ensures (λ zero. omega (arith, zero, c.if-first-eq0.false, c.in_ok-first.ensures)) c.in_ok-second.ensures c.in_ok-number.ensures (omega arith)
 
 pub last_digits-requires-clause-digits : goal.last_digits-requires-clause-digits
-last_digits-requires-clause-digits c =
-    (values_up_to_three c.args.text.now c.args.at c.in_ok-first.first c.in_ok-second.second _ (omega (arith, c.requires, c.if-text-at.false))
-    c.in_ok-first.ensures c.in_ok-second.ensures c.in_ok-number.ensures).0
+last_digits-requires-clause-digits c = search (rules, values_up_to_three)
 
 pub last_digits-requires-clause-value : goal.last_digits-requires-clause-value
-last_digits-requires-clause-value c =
-    (values_up_to_three c.args.text.now c.args.at c.in_ok-first.first c.in_ok-second.second _ (omega (arith, c.requires, c.if-text-at.false))
-    c.in_ok-first.ensures c.in_ok-second.ensures c.in_ok-number.ensures).1
+last_digits-requires-clause-value c = search (rules, values_up_to_three)

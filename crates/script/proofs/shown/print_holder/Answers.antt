@@ -1,4 +1,4 @@
-use Rattle.script.proofs.Names.{refl, err_from_is_err_and, capability_lines}
+use Rattle.script.proofs.Names.{rules, refl, err_from_is_err_and, capability_lines}
 use Rattle.script.proofs.Fronts.{line_fails, line_and}
 use Rattle.script.proofs.shown.print_holder.Goals as goal
 
@@ -8,5 +8,4 @@ returns-in_err-print g c =
     rw (p.1, p.2) (line_fails _ _ _ _ _ (capability_lines c.args.name.now c.args.capabilities.now) _ refl refl c.in_err-print.ensures)
 
 pub returns : goal.returns
-returns g c =
-    line_and _ _ _ _ _ _ (capability_lines c.args.name.now c.args.capabilities.now) _ refl refl c.in_ok-print.ensures c.print_capabilities.ensures
+returns g c = search (rules, line_and)

@@ -1,4 +1,4 @@
-use Rattle.script.proofs.Names.{sym, err_from_is_err_and, word_lines}
+use Rattle.script.proofs.Names.{rules, sym, err_from_is_err_and, word_lines}
 use Rattle.script.proofs.Fronts.{writes_same, line_fails, line_and}
 use Rattle.script.proofs.Texts.{object_free, object_page, object_node, object_annex, object_root, object_bank}
 use Rattle.script.proofs.shown.print_object.Goals as goal
@@ -21,16 +21,10 @@ pub returns-in-Bank : goal.returns-in-Bank
 returns-in-Bank g c = writes_same _ _ _ _ _ (rw c.begin_bank.ensures.text (sym (object_bank _ _ _ _ c.in-Bank.limit c.in-Bank.is))) c.print-in-Bank.ensures
 
 pub returns-in-Node : goal.returns-in-Node
-returns-in-Node g c =
-    writes_same _ _ _ _ _ (rw (c.begin_heading-in-Node.ensures.text, c.as_slice-in-Node.ensures.value) (sym (object_node _ _ _ _ c.in-Node.slots c.in-Node.is)))
-    c.print_holder.ensures
+returns-in-Node g c = search (rules, writes_same, object_node)
 
 pub returns-in-Root : goal.returns-in-Root
-returns-in-Root g c =
-    writes_same _ _ _ _ _ (rw (c.begin_process.ensures.text, c.held_by.ensures) (sym (object_root _ _ _ _ c.in-Root.root c.in-Root.is)))
-    c.print_holder-in-Root.ensures
+returns-in-Root g c = search (rules, writes_same, object_root)
 
 pub returns-in-Annex : goal.returns-in-Annex
-returns-in-Annex g c =
-    writes_same _ _ _ _ _ (rw (c.begin_heading-in-Annex.ensures.text, c.as_slice-in-Annex.ensures.value)
-    (sym (object_annex _ _ _ _ c.in-Annex.slots c.in-Annex.is))) c.print_holder-in-Annex.ensures
+returns-in-Annex g c = search (rules, writes_same, object_annex)

@@ -1,4 +1,4 @@
-use Rattle.space_bank.proofs.Names.{owner_read}
+use Rattle.space_bank.proofs.Names.{rules, owner_read}
 use Rattle.space_bank.proofs.Tallies.{climb_ended, climb_starts, climbs_on, shifted_last, shifting_starts, shifts_on, still_fits}
 use Rattle.space_bank.proofs.chains.shift.Goals as goal
 
@@ -14,8 +14,7 @@ overflow_sub-usages g c =
     (still_fits c.requires.tree c.loop-step.invariant.climbs c.requires.each c.requires.fits c.loop-step.invariant.shifting).enough
 
 pub returns-then-current-eq0 : goal.returns-then-current-eq0
-returns-then-current-eq0 g c =
-    shifted_last c.requires.tree c.loop-step.invariant.climbs c.requires.each c.requires.fits c.loop-step.invariant.shifting c.if-current-eq0.true
+returns-then-current-eq0 g c = search (rules, shifted_last)
 
 pub loop-step-preserved : goal.loop-step-preserved
 loop-step-preserved g c =

@@ -1,4 +1,4 @@
-use Rattle.space_bank.proofs.Names.{ℕ, List, length, Vec, Global, vec_len, ap, sym, refl, arith, vec_capacity, objects_in, length_objects, HasNoneUsed}
+use Rattle.space_bank.proofs.Names.{rules, ℕ, List, length, Vec, Global, vec_len, ap, sym, refl, arith, vec_capacity, objects_in, length_objects, HasNoneUsed}
 use Rattle.space_bank.proofs.Names.{IsNextUsed, is_listed}
 use Rattle.std.proofs.Common.{◌∙◌, ◌++◌}
 use Rattle.space_bank.proofs.Missing.{listed_more, listed_same, listed_whole, free_not_listed, listed_inner, listed_up_to}
@@ -6,23 +6,13 @@ use Rattle.space_bank.proofs.listing.list_all.Goals as goal
 use Rattle.space_bank.proofs.listing.list_all.Goals.{then-is_listed, else-is_listed}
 
 pub next_used-requires-clause-few : goal.next_used-requires-clause-few
-next_used-requires-clause-few g c =
-    let p = g.F.Frames.parts c.args.store.now in
-    omega (arith, c.requires.free.each, length_objects p.headers p.contents, c.requires.room, c.args.listed.now.small)
+next_used-requires-clause-few g c = search (rules, length_objects)
 
 pub push_reserved-requires : goal.push_reserved-requires
-push_reserved-requires g c =
-    let p = g.F.Frames.parts c.args.store.now in
-    let os = objects_in p in
-    let next : IsNextUsed os c.loop-number.from c.in-Some.number = c.in-Some.ensures.some os c.requires.free in
-    let inner = listed_inner os c.args.bank c.in-Some.number c.args.deep c.requires.prime c.requires.other (sym c.is_listed.ensures ∙ c.if-is_listed.true) in
-    omega (arith, next.past, next.inside, length_objects p.headers p.contents, c.requires.room, c.loop-number.invariant.count, c.loop-number.invariant.room)
+push_reserved-requires g c = search (rules, listed_inner, length_objects)
 
 pub overflow_add-from : goal.overflow_add-from
-overflow_add-from g c =
-    let p = g.F.Frames.parts c.args.store.now in
-    let next : IsNextUsed (objects_in p) c.loop-number.from c.in-Some.number = c.in-Some.ensures.some (objects_in p) c.requires.free in
-    record { fits = omega (arith, next.inside, length_objects p.headers p.contents, c.requires.room, c.args.listed.now.small) }
+overflow_add-from g c = search (rules, length_objects)
 
 pub loop-number-preserved : goal.loop-number-preserved
 loop-number-preserved g c =

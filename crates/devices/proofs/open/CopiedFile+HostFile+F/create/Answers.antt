@@ -1,4 +1,4 @@
-use Rattle.devices.proofs.Names.{ℕ, ap, arith, refl, length, length-replicate, zeros_are, file_disk}
+use Rattle.devices.proofs.Names.{nat_tests, arith, refl, length, length-replicate, zeros_are, file_disk}
 use Rattle.std.proofs.Common.{◌≡◌, ◌*◌, ◌∙◌}
 use Rattle.devices.proofs.Mirrored.{made_mirrors}
 use Rattle.devices.proofs.Openings.{makes}
@@ -17,7 +17,6 @@ returns-clause-zeros g c i lt =
 
 pub returns-clause-mirror : goal.returns-clause-mirror
 returns-clause-mirror g c =
-    let count : length c.in_ok-zeros.zeros ≡ 512 * c.args.sectors =
-    ap length c.in_ok-zeros.ensures ∙ length-replicate {A = ℕ} (512 * c.args.sectors) 0 in
+    let count : length c.in_ok-zeros.zeros ≡ 512 * c.args.sectors = grind (arith, nat_tests, length-replicate) in
     let size : (file_disk c.over.result).sectors ≡ c.args.sectors = omega (arith, c.over.ensures.size, count) in
     made_mirrors (file_disk c.over.result) c.args.path.now c.args.sectors _ size (returns-clause-zeros g c) (returns-clause-opening g c)

@@ -1,14 +1,13 @@
-use Rattle.reach.proofs.Names.{None, Some, refl, sym, get_or_default, found_at}
+use Rattle.reach.proofs.Names.{arith, nat_tests, None, Some, refl, sym, get_or_default, found_at}
 use Rattle.std.proofs.Common.{◌≡◌, ◌∙◌}
-use Rattle.reach.proofs.Finding.{added, added_before, none_of, some_of}
+use Rattle.reach.proofs.Finding.{added, added_before, some_of}
 use Rattle.reach.proofs.levels.Levels.add.Goals as goal
 
 pub returns-then-is_none : goal.returns-then-is_none
 returns-then-is_none c =
     let old = c.args.self.now in
     let to = c.args.step.to in
-    let none : found_at old to ≡ None = get_or_default old.found.items to None c.index.result.now c.requires.known ∙ sym c.index.ensures ∙
-    none_of c.index.result.now c.if-is_none.ensures in
+    let none : found_at old to ≡ None = grind (arith, nat_tests) in
     added old _ to (record { level = c.args.level; step = Some c.args.step }) none c.requires.known refl c.args.step c.args.level refl refl refl
     c.requires.level c.max-self.ensures
 

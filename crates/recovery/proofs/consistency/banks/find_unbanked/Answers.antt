@@ -1,4 +1,4 @@
-use Rattle.recovery.proofs.Names.{ℕ, List, ap, length, slice_index, subst, sym, MatchOption, Frame, ObjectHeader, frames_of, IsAboveLimit, role_at}
+use Rattle.recovery.proofs.Names.{rules, ℕ, List, ap, length, slice_index, subst, sym, MatchOption, Frame, ObjectHeader, frames_of, IsAboveLimit, role_at}
 use Rattle.std.proofs.Common.{◌≡◌, ◌≤◌, ◌^◌, ◌-◌, ◌∙◌}
 use Rattle.model.specs.declared.object.Role.TheVariants as role
 use Rattle.recovery.proofs.Tables.{frames_looked}
@@ -11,9 +11,7 @@ count_usages-requires-clause-tree g c =
     owned_tree p.geometry (2 ^ 64 - 1) (frames_of p) c.requires (rw c.in-None.is at c.find_unowned.ensures)
 
 pub count_usages-requires-clause-each : goal.count_usages-requires-clause-each
-count_usages-requires-clause-each g c =
-    let p = g.F.Frames.parts c.args.store.now in
-    bank_counted p.geometry (2 ^ 64 - 1) p c.requires c.table.result.now c.count-count.result c.table.ensures c.count-count.ensures
+count_usages-requires-clause-each g c = search (rules, bank_counted)
 
 pub find_above_limit-requires-clause-limits : goal.find_above_limit-requires-clause-limits
 find_above_limit-requires-clause-limits g c =

@@ -1,15 +1,10 @@
-use Rattle.recovery.proofs.Names.{ap, caps_in, frames_of, ContentRef, content_behind, not_annex, not_node, not_root}
+use Rattle.recovery.proofs.Names.{rules, ap, caps_in, frames_of, ContentRef, content_behind, not_annex, not_node, not_root}
 use Rattle.recovery.proofs.Named.{held_named, holds_none, other_named, space_named}
 use Rattle.recovery.proofs.Tables.{content_read}
 use Rattle.recovery.proofs.consistency.capabilities.holds_named.Goals as goal
 
 pub returns-in-Node : goal.returns-in-Node
-returns-in-Node g c =
-    let p = g.F.Frames.parts c.args.store.now in
-    let known = (g.met.F.Frames.known_fetched c.args.store.now c.args.number c.requires.fetched).0 in
-    held_named (frames_of p) (content_behind c.frame.result) c.args.number (content_read p c.args.number (content_behind c.frame.result) known c.frame.ensures)
-    c.are_all_named.result
-    c.in-Node.slots.now (ap (λ (r : ContentRef). caps_in (content_behind r)) c.in-Node.is) c.are_all_named.ensures
+returns-in-Node g c = search (rules, held_named, content_read)
 
 pub returns-in-Root : goal.returns-in-Root
 returns-in-Root g c =
@@ -20,17 +15,7 @@ returns-in-Root g c =
     c.in-Root.root.now.space (ap (λ (r : ContentRef). caps_in (content_behind r)) c.in-Root.is) c.is_named.ensures
 
 pub returns-in-Annex : goal.returns-in-Annex
-returns-in-Annex g c =
-    let p = g.F.Frames.parts c.args.store.now in
-    let known = (g.met.F.Frames.known_fetched c.args.store.now c.args.number c.requires.fetched).0 in
-    held_named (frames_of p) (content_behind c.frame.result) c.args.number (content_read p c.args.number (content_behind c.frame.result) known c.frame.ensures)
-    c.are_all_named-in-Annex.result
-    c.in-Annex.registers.now (ap (λ (r : ContentRef). caps_in (content_behind r)) c.in-Annex.is) c.are_all_named-in-Annex.ensures
+returns-in-Annex g c = search (rules, held_named, content_read)
 
 pub returns-in_default : goal.returns-in_default
-returns-in_default g c =
-    let p = g.F.Frames.parts c.args.store.now in
-    let known = (g.met.F.Frames.known_fetched c.args.store.now c.args.number c.requires.fetched).0 in
-    other_named (frames_of p) (content_behind c.frame.result) c.args.number (content_read p c.args.number (content_behind c.frame.result) known c.frame.ensures)
-    (holds_none (content_behind c.frame.result) (not_node c.frame.result c.in_default.not-Node) (not_root c.frame.result c.in_default.not-Root)
-    (not_annex c.frame.result c.in_default.not-Annex))
+returns-in_default g c = search (rules, other_named, content_read, holds_none, not_node, not_root, not_annex)

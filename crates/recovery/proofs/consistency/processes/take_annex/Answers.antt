@@ -1,15 +1,10 @@
-use Rattle.std.proofs.Common.{◌<◌, arith, length}
+use Rattle.std.proofs.Common.{rules}
+use Rattle.std.proofs.Common.{◌<◌}
 use Rattle.recovery.proofs.Tables.{annex_known}
 use Rattle.recovery.proofs.consistency.processes.take_annex.Goals as goal
 
 pub bounds-taken-annex : goal.bounds-taken-annex
-bounds-taken-annex g c =
-    let p = g.F.Frames.parts c.args.store.now in
-    let known : c.args.annex < length p.headers = annex_known p c.args.annex (c.is_annex_for.ensures.0 c.if-not-is_annex_for.false).0 in
-    omega (arith, known, c.requires)
+bounds-taken-annex g c = search (rules, annex_known)
 
 pub bounds-taken-annex-2 : goal.bounds-taken-annex-2
-bounds-taken-annex-2 g c =
-    let p = g.F.Frames.parts c.args.store.now in
-    let known : c.args.annex < length p.headers = annex_known p c.args.annex (c.is_annex_for.ensures.0 c.if-not-is_annex_for.false).0 in
-    omega (arith, known, c.requires)
+bounds-taken-annex-2 g c = search (rules, annex_known)

@@ -1,13 +1,8 @@
-use Rattle.recovery.proofs.Names.{rules, sym, ap, ObjectHeader, the_type}
+use Rattle.recovery.proofs.Names.{rules}
 use Rattle.std.proofs.Common.{◌∙◌}
 use denote.Enum.Bare.{same_true, true_same}
 use Rattle.recovery.proofs.Tables.{header_read}
 use Rattle.recovery.proofs.consistency.table.has_role.Goals as goal
 
 pub returns : goal.returns
-returns g c =
-    let read = ap (λ (h : ObjectHeader). h.role)
-    (header_read (g.F.Frames.parts c.args.store.now) c.table.result.now c.header.result c.args.number c.table.ensures c.header.ensures) in (
-      λ is. sym read ∙ same_true the_type (search rules) c.header.result.role c.args.role (sym c.eq.ensures ∙ is),
-      λ is. c.eq.ensures ∙ true_same the_type c.header.result.role c.args.role (read ∙ is),
-    )
+returns g c = search (rules, header_read)

@@ -1,14 +1,11 @@
-use Rattle.std.proofs.Common.{ℕ, arith, length-drop, length-take}
-use Rattle.std.proofs.KnownBytes.{Appends-kept}
+use Rattle.script.proofs.Names.{rules, length-take, Appends-kept}
+use Rattle.std.proofs.Common.{length-drop}
 use Rattle.script.proofs.Fronts.{broke_off, kept_nil, took_more, taken_all}
 use Rattle.script.proofs.counted.CountedWriter.write_rest.Goals as goal
-use Rattle.script.proofs.counted.CountedWriter.write_rest.Goals.{in-Ok, in-Err+else-ne}
+use Rattle.script.proofs.counted.CountedWriter.write_rest.Goals.{in-Err+else-ne}
 
 pub returns-then-done-text : goal.returns-then-done-text
-returns-then-done-text g c = record {
-  taken = taken_all _ _ c.args.text.now c.loop.done c.if-done-text.true c.loop.invariant.taken;
-  none_failed = c.loop.invariant.none_failed;
-}
+returns-then-done-text g c = search (rules, taken_all)
 
 pub returns-in-Ok-eq0 : goal.returns-in-Ok-eq0
 returns-in-Ok-eq0 g c =
@@ -34,15 +31,4 @@ returns g c = (
 )
 
 pub loop-preserved : goal.loop-preserved
-loop-preserved g c = elim c.match-write.branch [
-  | in-Ok w ↦ record {
-    within = omega (arith, w.in-Ok.ensures.bound, length-take {A = ℕ}, length-drop {A = ℕ});
-    taken = rw w.done-is (took_more _ _ _ c.args.text.now c.loop.done w.in-Ok.count c.loop.invariant.taken w.in-Ok.ensures.bytes);
-    none_failed = c.loop.invariant.none_failed;
-  }
-  | in-Err+else-ne w ↦ record {
-    within = omega arith;
-    taken = rw w.done-is (Appends-kept _ _ _ _ c.loop.invariant.taken w.in-Err.ensures.bytes);
-    none_failed = c.loop.invariant.none_failed;
-  }
-]
+loop-preserved g c = search (rules, length-take, length-drop, took_more)

@@ -1,4 +1,4 @@
-use Rattle.script.proofs.Names.{sym, ap, None, Some, option_map, number_at, first_word, words_left, words_of}
+use Rattle.script.proofs.Names.{rules, sym, None, Some, option_map, first_word, words_left, words_of}
 use Rattle.std.proofs.Common.{◌≡◌, ◌∙◌}
 use Rattle.script.proofs.Commands.{number_gives}
 use Rattle.script.proofs.Digits.{digit_alone, digit_last}
@@ -20,13 +20,7 @@ returns c =
     (sym view ∙ c.behind_first-self-inside.ensures) c.in_ok-front.ensures.found tt
 
 pub returns-then-is_ascii_digit : goal.returns-then-is_ascii_digit
-returns-then-is_ascii_digit c =
-    let view : words_of c.in_ok-rest.rest.now ≡ c.args.self.now = rw c.in_ok-rest.was at c.self.view_is in
-    ap number_at (sym view) ∙ digit_alone c.in_ok-rest.rest.now c.from.result c.in-len2-up.len_at_least c.if-space-eq32.true c.if-is_ascii_digit.ensures.cases
-    c.from.ensures
+returns-then-is_ascii_digit c = search (rules, digit_alone)
 
 pub returns-then-is_ascii_digit-2 : goal.returns-then-is_ascii_digit-2
-returns-then-is_ascii_digit-2 c =
-    let view : words_of c.in_ok-rest.rest.now ≡ c.args.self.now = rw c.in_ok-rest.was at c.self.view_is in
-    ap number_at (sym view) ∙ digit_last c.in_ok-rest.rest.now c.from-then-is_ascii_digit-2.result c.in-len1.len_at_least c.in-len1.len_below
-    c.if-is_ascii_digit-2.ensures.cases c.from-then-is_ascii_digit-2.ensures
+returns-then-is_ascii_digit-2 c = search (rules, digit_last)

@@ -1,4 +1,4 @@
-use Rattle.space_bank.proofs.Names.{ap, arith, length, BanksState}
+use Rattle.space_bank.proofs.Names.{rules, ap, arith, length, BanksState}
 use Rattle.std.proofs.Common.{◌≡◌}
 use Rattle.space_bank.proofs.Tallies.{bank_carried, plain_carried, plain_under, taken_one, free_role, serve_count}
 use Rattle.space_bank.proofs.banks.Banks.allocate.Goals as goal
@@ -13,8 +13,7 @@ make-requires-clause-known g c =
     omega (arith, at.0, serve_count c.requires.asks, nodes, pages, c.requires.asks.counted.nodes, c.requires.asks.counted.pages)
 
 pub make-requires-clause-free : goal.make-requires-clause-free
-make-requires-clause-free g c =
-    free_role c.requires.asks c.args.number (g.met.F.PresentFrames.known_announced c.args.store.now c.args.number c.requires.announced).0 c.requires.may.unused
+make-requires-clause-free g c = search (rules, free_role)
 
 pub returns-in-Bank-clause-carried : goal.returns-in-Bank-clause-carried
 returns-in-Bank-clause-carried g c =

@@ -1,5 +1,5 @@
-use Rattle.space_bank.proofs.Names.{List, arith, drop, refl, subst, ℕ, All, Void, new_annex, new_root, with_new, BankChange, fresh_content, objects_in}
-use Rattle.space_bank.proofs.Names.{numbers_of, MayMake, MakesOne, MakesTwo}
+use Rattle.space_bank.proofs.Names.{rules, List, arith, drop, refl, subst, ℕ, All, new_annex, new_root, with_new, BankChange, objects_in, numbers_of, MayMake}
+use Rattle.space_bank.proofs.Names.{MakesOne, MakesTwo}
 use Rattle.space_bank.proofs.Tallies.{fresh_used}
 use Rattle.space_bank.proofs.Renewing.{snapshots_alone, new_stays}
 use Rattle.space_bank.proofs.banks.Banks.carry_out.Goals as goal
@@ -16,16 +16,8 @@ allocate-requires g c =
       announced = announced 0 0 (omega arith);
     }
 
-pub returns-in-Make-clause-objects : goal.returns-in-Make-clause-objects
-returns-in-Make-clause-objects g c = rw c.in-Make.is c.allocate.ensures.objects
-
 pub returns-in-Make-clause-snapshots : goal.returns-in-Make-clause-snapshots
-returns-in-Make-clause-snapshots g c =
-    let os = objects_in (g.F.Frames.parts c.args.store.now) in
-    let us = objects_in (g.F.Frames.parts c.allocate.new.store) in
-    snapshots_alone g.F.Frames.parts g.F.Frames.IsFetched g.F.PresentFrames.IsAnnounced g.F.Frames.ContinuesTo c.args.store.now c.allocate.new.store
-    c.allocate.ensures.snapshots
-    (new_stays os us c.in-Make.number c.in-Make.bank (fresh_content Void c.in-Make.fresh) (fresh_used c.in-Make.fresh) c.allocate.ensures.objects)
+returns-in-Make-clause-snapshots g c = search (rules, snapshots_alone, new_stays, fresh_used)
 
 pub new_process-requires : goal.new_process-requires
 new_process-requires g c =
@@ -42,9 +34,6 @@ new_process-requires g c =
       annex_announced = announced 1 0 (omega arith);
     }
 
-pub returns-in-MakeProcess-clause-objects : goal.returns-in-MakeProcess-clause-objects
-returns-in-MakeProcess-clause-objects g c = rw c.in-MakeProcess.is c.new_process.ensures.objects
-
 pub returns-in-MakeProcess-clause-snapshots : goal.returns-in-MakeProcess-clause-snapshots
 returns-in-MakeProcess-clause-snapshots g c =
     let os = objects_in (g.F.Frames.parts c.args.store.now) in
@@ -56,31 +45,3 @@ returns-in-MakeProcess-clause-snapshots g c =
     snapshots_alone g.F.Frames.parts g.F.Frames.IsFetched g.F.PresentFrames.IsAnnounced g.F.Frames.ContinuesTo c.args.store.now c.new_process.new.store
     c.new_process.ensures.snapshots
     (λ n used. new_stays mid us annex bank new_annex refl c.new_process.ensures.objects n (new_stays os mid root bank (new_root annex) refl refl n used))
-
-pub give_up-requires : goal.give_up-requires
-give_up-requires g c =
-    let p = g.F.Frames.parts c.args.store.now in
-    let m = subst (λ (x : BankChange). MayMake p.geometry (objects_in p) (drop c.args.skip c.args.self.now.listed) x) c.in-GiveUp.is c.requires.may in
-    record {
-      asks = record { sound = c.requires.sound; counted = c.requires.counted; bank = m.bank };
-      gives = m.gives;
-      within = c.requires.within;
-      announced = c.requires.announced;
-    }
-
-pub returns-in-GiveUp-clause-objects : goal.returns-in-GiveUp-clause-objects
-returns-in-GiveUp-clause-objects g c = rw c.in-GiveUp.is c.give_up.ensures.objects
-
-pub return_to_parent-requires : goal.return_to_parent-requires
-return_to_parent-requires g c =
-    let p = g.F.Frames.parts c.args.store.now in
-    let m = subst (λ (x : BankChange). MayMake p.geometry (objects_in p) (drop c.args.skip c.args.self.now.listed) x) c.in-Transfer.is c.requires.may in
-    record {
-      asks = record { sound = c.requires.sound; counted = c.requires.counted; bank = m.bank };
-      other = m.other;
-      listed = m.listed;
-      announced = c.requires.announced;
-    }
-
-pub returns-in-Transfer-clause-objects : goal.returns-in-Transfer-clause-objects
-returns-in-Transfer-clause-objects g c = rw c.in-Transfer.is c.return_to_parent.ensures.objects

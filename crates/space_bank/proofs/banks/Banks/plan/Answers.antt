@@ -1,7 +1,7 @@
-use Rattle.space_bank.proofs.Names.{ap, refl, usage, remaining, limit_in, content_at, objects_in}
+use Rattle.space_bank.proofs.Names.{rules, refl}
 use Rattle.std.proofs.Common.{◌∙◌}
 use Rattle.model.specs.declared.order.BankOrder.TheVariants as bank
-use Rattle.space_bank.proofs.Plans.{answer, planned_replying, remaining_there}
+use Rattle.space_bank.proofs.Plans.{planned_replying, remaining_there}
 use Rattle.space_bank.proofs.banks.Banks.plan.Goals as goal
 
 pub returns-in-NewPage-clause-planned : goal.returns-in-NewPage-clause-planned
@@ -26,9 +26,4 @@ pub returns-in-ReturnToParent-clause-planned : goal.returns-in-ReturnToParent-cl
 returns-in-ReturnToParent-clause-planned g c = rw c.in-ReturnToParent.is (c.plan_return.ensures.planned c.args.arguments)
 
 pub returns-in-Remaining-clause-planned : goal.returns-in-Remaining-clause-planned
-returns-in-Remaining-clause-planned g c =
-    let p = g.F.Frames.parts c.args.store.now in
-    let os = objects_in p in
-    let b = c.args.bank in
-    rw c.in-Remaining.is (planned_replying (remaining os b) (usage os b) (limit_in (content_at os b)) (remaining_there p.geometry os b c.args.arguments)
-    (c.replying_three.ensures ∙ ap answer c.remaining.ensures))
+returns-in-Remaining-clause-planned g c = search (rules, planned_replying, remaining_there)

@@ -1,4 +1,4 @@
-use Rattle.space_bank.proofs.Names.{ℕ, List, [], append_assoc, sym, ap, Void, GiveUp, objects_in, BanksState, annex_among, annex_of}
+use Rattle.space_bank.proofs.Names.{rules, ℕ, List, [], append_assoc, sym, ap, Void, GiveUp, objects_in, BanksState, annex_among, annex_of}
 use Rattle.std.proofs.Common.{◌++◌, ◌∙◌, ◌∷◌}
 use Rattle.model.specs.declared.order.ResultCode.TheVariants as code
 use Rattle.space_bank.proofs.Plans.{may_free, annex_kept, frees_none_there, frees_other_there, frees_own_there, planned_made, planned_refused, process_room}
@@ -19,8 +19,7 @@ returns-then-owner-bank-clause-planned g c = λ args is.
     (c.in-Some.ensures os) (λ e. c.if-owner-bank.true (c.owner.ensures ∙ e))) c.refused-then-owner-bank.ensures
 
 pub list_annex-requires : goal.list_annex-requires
-list_annex-requires g c q is =
-    process_room c.args.capability q c.in-Some.object c.requires.bank c.requires.sent is c.requires.few c.list.ensures
+list_annex-requires g c q is = search (rules, process_room)
 
 pub returns-else-owner-bank-clause-planned : goal.returns-else-owner-bank-clause-planned
 returns-else-owner-bank-clause-planned g c = λ args is.

@@ -1,4 +1,4 @@
-use Rattle.space_bank.proofs.Names.{true, false, ap, arith, refl, sym, Capability, has_quota, objects_in, count_of, given_by, numbers_of, BanksState}
+use Rattle.space_bank.proofs.Names.{true, false, ap, refl, sym, Capability, has_quota, objects_in, count_of, given_by, numbers_of, BanksState}
 use Rattle.std.proofs.Common.{◌≡◌, ◌∙◌}
 use Rattle.model.specs.declared.order.ResultCode.TheVariants as code
 use Rattle.space_bank.proofs.Plans.{may_new, making, new_is, planned_made, planned_refused}
@@ -24,9 +24,6 @@ returns-then-is_deep-clause-planned g c = λ order args is.
     let room : has_quota (objects_in p) c.args.bank (count_of c.args.new) ≡ true = cc in
     planned_refused code.TooDeep (λ us frame. new_is p.geometry (objects_in p) c.args.bank order args c.args.new is us frame
     ∙ rw (room, sym c.in-Some.ensures.made, sym c.is_deep.ensures ∙ c.if-is_deep.true) refl) c.refused-then-is_deep.ensures
-
-pub list_new-requires : goal.list_new-requires
-list_new-requires g c = omega (arith, c.in-Some.ensures.few, c.requires.few, c.requires.bank.counted.room)
 
 pub returns-else-is_deep-clause-planned : goal.returns-else-is_deep-clause-planned
 returns-else-is_deep-clause-planned g c = λ order args is.

@@ -1,4 +1,4 @@
-use Rattle.space_bank.proofs.Names.{ap, with_items_is, BanksState}
+use Rattle.space_bank.proofs.Names.{rules, ap, with_items_is, BanksState}
 use Rattle.std.proofs.Common.{◌≡◌, ◌∙◌}
 use Rattle.space_bank.proofs.Tallies.{lowered_of, lowered_fits}
 use Rattle.space_bank.proofs.banks.Banks.release.Goals as goal
@@ -9,6 +9,4 @@ shift-requires-clause-fits g c =
     rw before (lowered_fits c.requires.asks c.args.count c.requires.enough)
 
 pub returns-clause-usages : goal.returns-clause-usages
-returns-clause-usages g c =
-    let before : c.deref_mut.result.now ≡ c.args.self.now.usages = c.deref_mut.ensures.value ∙ ap (λ (s : BanksState). s.usages) c.self.view_is in
-    rw (with_items_is c.self.inside.usages c.shift.new.usages (c.shift.ensures.size ∙ c.deref_mut.ensures.len)) (lowered_of (rw before at c.shift.ensures))
+returns-clause-usages g c = search (rules, with_items_is, lowered_of)

@@ -1,6 +1,6 @@
-use Rattle.space_bank.proofs.Names.{[], ℕ, List, ap, arith, drop, length, subst, sym, take, length-append, Capability, Geometry, Content, Object, chain}
-use Rattle.space_bank.proofs.Names.{owned_by, header_at, AreKeepable, is_free, rescind, owner_at, frames_of, objects_in, BanksState, AreTransferred, IsRaised}
-use Rattle.space_bank.proofs.Names.{owner_read, rules}
+use Rattle.space_bank.proofs.Names.{[], ℕ, List, ap, arith, drop, length, subst, sym, take, length-append, Capability, Geometry, Content, chain, owned_by}
+use Rattle.space_bank.proofs.Names.{header_at, AreKeepable, is_free, rescind, owner_at, frames_of, objects_in, BanksState, AreTransferred, IsRaised, owner_read}
+use Rattle.space_bank.proofs.Names.{rules}
 use Rattle.std.proofs.Common.{◌≡◌, ◌<◌, ◌+◌, ◌-◌, ◌^◌, ◌∙◌, ◌++◌, ◌∷◌}
 use Rattle.space_bank.proofs.Renewing.{snapshots_then_ended, ended_snapshots, listed_rest, released_then, SameFree, drop_next, transferred_allocations}
 use Rattle.space_bank.proofs.Renewing.{transferred_calls, inherited_by, mark_one, one_all, one_enough, only_used, owned_used, rest_all, returned_carried}
@@ -9,13 +9,10 @@ use Rattle.space_bank.proofs.Tallies.{transferred_same, serve_count}
 use Rattle.space_bank.proofs.banks.Banks.return_to_parent.Goals as goal
 
 pub release-requires-clause-asks : goal.release-requires-clause-asks
-release-requires-clause-asks g c =
-    owner_is_bank c.requires.asks (owner_read (g.F.Frames.parts c.args.store.now) c.table.result.now _ c.args.bank c.table.ensures c.header-parent.ensures)
+release-requires-clause-asks g c = search (rules, owner_is_bank, owner_read)
 
 pub release-requires-clause-enough : goal.release-requires-clause-enough
-release-requires-clause-enough g c =
-    let p = g.F.Frames.parts c.args.store.now in
-    rw (owner_read p c.table.result.now _ c.args.bank c.table.ensures c.header-parent.ensures) (one_enough c.requires.asks c.requires.other)
+release-requires-clause-enough g c = search (rules, owner_read, one_enough)
 
 pub transfer-requires : goal.transfer-requires
 transfer-requires g c =
@@ -43,17 +40,7 @@ rescind-requires g c =
     }
 
 pub returns-clause-objects : goal.returns-clause-objects
-returns-clause-objects g c =
-    let p = g.F.Frames.parts c.args.store.now in
-    let os = objects_in p in
-    let us = objects_in (g.F.Frames.parts c.transfer.new.store) in
-    let s = c.args.self.now in
-    let part = listed_rest s (c.args.skip + 1) c.deref.ensures.value c.self.view_is c.release.ensures.kept
-    ∙ drop_next s.listed c.args.skip c.args.bank (owned_by os c.args.bank) c.requires.listed in
-    let transferred : AreTransferred (owned_by os c.args.bank) (owner_at os c.args.bank) os us =
-    subst (λ (n : ℕ). AreTransferred (owned_by os c.args.bank) n os us) (owner_read p c.table.result.now _ c.args.bank c.table.ensures c.header-parent.ensures)
-    (subst (λ (list : List ℕ). AreTransferred list c.header-parent.result.owner os us) part c.transfer.ensures.objects) in
-    c.rescind.ensures.objects ∙ ap (λ (vs : List Object). rescind (c.args.bank ∷ []) vs) (inherited_by os us c.args.bank transferred)
+returns-clause-objects g c = search (rules, listed_rest, drop_next, owner_read, inherited_by)
 
 pub returns-clause-carried : goal.returns-clause-carried
 returns-clause-carried g c =

@@ -1,21 +1,14 @@
-use Rattle.space_bank.proofs.Names.{List, length, sym, ap, subst, arith, Geometry, vec_capacity, ObjectHeader, object_count, content_at, frames_of, objects_in}
+use Rattle.space_bank.proofs.Names.{rules, common_steps, List, length, ap, arith, vec_capacity, ObjectHeader, object_count, content_at, objects_in}
 use Rattle.space_bank.proofs.Names.{keepable_count, keepable_roles, BanksState, bank_number, root_number}
 use Rattle.std.proofs.Common.{◌≡◌, ◌<◌, ◌≤◌, ◌+◌}
 use Rattle.space_bank.proofs.Missing.{counted_from, numbers_fit, room_replying}
 use Rattle.space_bank.proofs.banks.Banks.with_numbers.Goals as goal
 
 pub free_numbers-requires-2-clause-fits : goal.free_numbers-requires-2-clause-fits
-free_numbers-requires-2-clause-fits g c =
-    let p = g.F.Frames.parts c.args.store.now in
-    let sound = c.requires.sound in
-    numbers_fit p c.table.result.now c.geometry-geometry.result c.count.result c.table.ensures c.count.ensures c.count.type_inv
-    c.geometry-geometry.ensures.geometry (keepable_count p.geometry sound.0 p sound.1.keepable)
+free_numbers-requires-2-clause-fits g c = search (rules, numbers_fit, keepable_count)
 
 pub count_usages-requires-clause-roles : goal.count_usages-requires-clause-roles
-count_usages-requires-clause-roles g c =
-    let p = g.F.Frames.parts c.args.store.now in
-    let sound = c.requires.sound in
-    keepable_roles p.geometry sound.0 (frames_of p) sound.1.keepable
+count_usages-requires-clause-roles g c = search (rules, keepable_roles)
 
 pub returns : goal.returns
 returns g c =
@@ -42,13 +35,7 @@ returns g c =
     c.requires.kept room
 
 pub free_numbers-requires-2-clause-roles : goal.free_numbers-requires-2-clause-roles
-free_numbers-requires-2-clause-roles g c =
-    let p = g.F.Frames.parts c.args.store.now in
-    let sound = c.requires.sound in
-    keepable_roles p.geometry sound.0 (frames_of p) sound.1.keepable
+free_numbers-requires-2-clause-roles g c = search (rules, keepable_roles)
 
 pub count_usages-requires-clause-each : goal.count_usages-requires-clause-each
-count_usages-requires-clause-each g c = λ b bank.
-    let p = g.F.Frames.parts c.args.store.now in
-    let below = bank_number p.geometry b (content_at (objects_in p) b) (c.requires.sound.1.sound.kinds b) bank in
-    subst (λ (h : Geometry). b < h.nodes) (sym c.geometry-geometry.ensures.geometry) below
+count_usages-requires-clause-each g c = grind (arith, common_steps, bank_number)
