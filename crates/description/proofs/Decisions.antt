@@ -1,38 +1,78 @@
--- What was read, and what wasn't.
-use Rattle.description.proofs.Names.{ℕ, zero, suc, Bool, List, [], length, get_or, Option, None, Some, Result, Ok, Err, Vec, Global, refl, sym, ap, subst}
-use Rattle.description.proofs.Names.{arith, AllocError, IfOk, IsTrue, MatchOption, false≢true, none-some, same_Some, Data, Items, Members, array, get_item}
-use Rattle.description.proofs.Names.{get_member, view, items_view, Value, Reads, ReadsList, IsList, BuildFault, HasBadItem, IsBadAt, decided, HasList}
+-- What is said, and what isn't.
+use Rattle.description.proofs.Names.{ℕ, zero, suc, Bool, true, List, [], length, get_or, Option, None, Some, Result, Ok, Err, Vec, Global, refl, sym, ap, subst}
+use Rattle.description.proofs.Names.{arith, IsTrue, MatchOption, All, All-head, All-tail, none-some, same_Some, Data, Items, Members, array, get_item}
+use Rattle.description.proofs.Names.{get_member, view, items_view, Value, AreItems, IsList, BuildFault, HasBadItem, IsBadAt, HasList, Finds, IsTable, table}
+use Rattle.description.proofs.Names.{false≢true, is_ok}
 use Rattle.std.proofs.Common.{◌≡◌, ◌<◌, ◌^◌, ◌∷◌, ◌∙◌}
 use Rattle.std.specs.Prelude.{◌↔◌}
-use Rattle.description.proofs.Parts.{as_vec}
+use Rattle.description.proofs.Elements.{element, items_read}
+use Rattle.description.proofs.Parts.{in_table}
 use denote.RawPtr.{null_ptr}
-use Rattle.image_writer.specs.declared.fault.BuildFault.TheVariants as fault
 
-pub reads_decided : {A : Type 0} (P : A → Type 0) (r : Result A BuildFault) (out : Result Bool AllocError) → out ≡ decided r → Reads P r →
-    IfOk out (λ fits. IsTrue fits ↔ ((x : A) × P x))
-reads_decided P (Ok x) out is reads = rw is (λ _. (x, reads), λ _. refl)
-reads_decided P (Err fault.Shape) out is reads = rw is (λ so. absurd (false≢true so), λ p. absurd (reads p.0 p.1))
-reads_decided P (Err fault.NoMemory) out is reads = rw is tt
-reads_decided P other out is reads = absurd reads
-
-pub list_decided : {A : Type 0} (P : List A → Type 0) (r : Result (Vec A Global) BuildFault) (out : Result Bool AllocError) → out ≡ decided r →
-    ReadsList P r →
-    IfOk out (λ fits. IsTrue fits ↔ ((v : Vec A Global) × P v.items))
-list_decided {A = A} P r out is reads = reads_decided (λ (v : Vec A Global). P v.items) r out is (as_vec P r reads)
+pub read_or_not : {A : Type 0} (P : A → Type 0) (r : Result A BuildFault) (out : Bool) → out ≡ is_ok r → Finds P r → IsTrue out ↔ ((x : A) × P x)
+read_or_not P (Ok x) out is reads = rw is (λ _. (x, reads), λ _. refl)
+read_or_not P (Err e) out is none = rw is (λ so. absurd (false≢true so), λ p. absurd (none.1 p.0 p.1))
 
 -- a list of as many entries as memory may hold is that of a Vec
-pub vec_of : {A : Type 0} (alloc : Global) (xs : List A) → length xs < 2 ^ 63 → (v : Vec A Global) × (v.items ≡ xs)
-vec_of alloc xs small = (record { ptr = null_ptr; len = length xs; cap = length xs; alloc = alloc; items = xs; ok = (refl, omega arith); small = small }, refl)
+vec_of : {A : Type 0} (xs : List A) → length xs < 2 ^ 63 → (v : Vec A Global) × (v.items ≡ xs)
+vec_of xs small = (
+  record {
+    ptr = null_ptr;
+    len = length xs;
+    cap = length xs;
+    alloc = record { memory = record { seal = tt } };
+    items = xs;
+    ok = (refl, omega arith);
+    small = small;
+  },
+  refl,
+)
+
+-- values that say one of a type each, as a list of it
+all_said : {A : Type 0} (P : Data → A → Type 0) (vs : List Value) → All (λ v. (x : A) × P (view v) x) vs →
+    (xs : List A) × (length xs ≡ length vs) × AreItems P (items_view vs) xs
+all_said P [] all = ([], refl, tt)
+all_said {A = A} P (v ∷ vs) all =
+    let here = All-head (λ w. (x : A) × P (view w) x) v vs all in
+    let rest = all_said P vs (All-tail (λ w. (x : A) × P (view w) x) v vs all) in
+    (here.0 ∷ rest.0, ap suc rest.1, (here.1, rest.2))
+
+pub as_list : {A : Type 0} (P : Data → A → Type 0) (d : Data) (vs : List Value) → length vs < 2 ^ 63 → d ≡ array (items_view vs) →
+    All (λ v. (x : A) × P (view v) x) vs → (v : Vec A Global) × IsList P d v.items
+as_list {A = A} P d vs small is all =
+    let found = all_said P vs all in
+    let v = vec_of found.0 (subst (λ n. n < 2 ^ 63) (sym found.1) small) in
+    (v.0, (items_view vs, is, subst (λ (xs : List A). AreItems P (items_view vs) xs) (sym v.1) found.2))
+
+pub list_said : {A : Type 0} (P : Data → A → Type 0) (d : Data) (vs : List Value) (X : Type 0) → length vs < 2 ^ 63 → d ≡ array (items_view vs) →
+    (X ↔ All (λ v. (x : A) × P (view v) x) vs) → X ↔ ((v : Vec A Global) × IsList P d v.items)
+list_said P d vs X small is said = (
+  λ so. as_list P d vs small is (said.0 so),
+  λ list. said.1 (λ i v within. element P vs i list.0.items v within (items_read P d vs list.0.items is list.1)),
+)
+
+-- the same of a list at a key, which may be missing
+pub listed : {A : Type 0} (P : Data → A → Type 0) (o : Option Data) (d : Data) (X : Type 0) → Some d ≡ o → (X ↔ ((v : Vec A Global) × IsList P d v.items)) →
+    X ↔ ((v : Vec A Global) × MatchOption o (v.items ≡ []) (λ e. IsList P e v.items))
+listed P None d X is said = absurd (none-some d (sym is))
+listed {A = A} P (Some e) d X is said = subst (λ c. X ↔ ((v : Vec A Global) × IsList P c v.items)) (same_Some d e is) said
+
+pub unlisted : {A : Type 0} (P : Data → A → Type 0) (o : Option Data) → None ≡ o →
+    IsTrue true ↔ ((v : Vec A Global) × MatchOption o (v.items ≡ []) (λ e. IsList P e v.items))
+unlisted P None is = (λ _. vec_of [] (omega arith), λ _. refl)
+unlisted P (Some e) is = absurd (none-some e is)
+
+-- the same of a table
+pub table_said : {A : Type 0} (P : Members → A → Type 0) (d : Data) (ms : Members) (X : Type 0) → d ≡ table ms → (X ↔ ((x : A) × P ms x)) →
+    X ↔ ((x : A) × IsTable P d x)
+table_said P d ms X is said = (λ so. let x = said.0 so in (x.0, (ms, is, x.1)), λ x. said.1 (x.0, in_table P d ms x.0 is x.1))
 
 pub item_viewed : (vs : List Value) (i : ℕ) (v : Value) → i < length vs → get_or vs i v ≡ v → get_item i (items_view vs) ≡ Some (view v)
 item_viewed [] i v within at = absurd (omega arith)
 item_viewed (w ∷ vs) zero v within at = ap (λ x. Some (view x)) at
 item_viewed (w ∷ vs) (suc i) v within at = item_viewed vs i v (omega arith) at
 
--- a key in no table, and a list at a key
-pub not_listed : {A : Type 0} (P : Data → A → Type 0) (o : Option Data) → None ≡ o → (ds : Items) → o ≡ Some (array ds) → ⊥
-not_listed P o is ds at = none-some (array ds) (is ∙ at)
-
+-- a list at a key
 pub unsaid_at : {A : Type 0} (P : Data → A → Type 0) (key : List ℕ) (ms : Members) (d : Data) → Some d ≡ get_member key ms → (HasList P key ms → ⊥) →
     (v : Vec A Global) → IsList P d v.items → ⊥
 unsaid_at P key ms d is none v list = none (v, subst (λ (o : Option Data). MatchOption o (v.items ≡ []) (λ e. IsList P e v.items)) is list)
@@ -48,13 +88,8 @@ unlisted_at key ms d is none ds at = none ds (same_Some d (array ds) (is ∙ at)
 -- a list with another default
 pub with_default : {A : Type 0} (P : Data → List A → Type 0) (o : Option Data) (default : List A) → length default < 2 ^ 63 → (v : Vec A Global)
     → MatchOption o (v.items ≡ []) (λ d. P d v.items) → (u : Vec A Global) × MatchOption o (u.items ≡ default) (λ d. P d u.items)
-with_default P None default small v is = vec_of v.alloc default small
+with_default P None default small v is = vec_of default small
 with_default P (Some d) default small v is = (v, is)
-
--- what is known of nothing, and of something
-pub at_none : {A : Type 0} (P : Type 0) (Q : A → Type 0) (o : Option A) → o ≡ None → MatchOption o P Q → P
-at_none P Q None is known = known
-at_none P Q (Some x) is known = absurd (none-some x (sym is))
 
 pub at_some : {A : Type 0} (P : Type 0) (Q : A → Type 0) (o : Option A) (x : A) → o ≡ Some x → MatchOption o P Q → Q x
 at_some P Q None x is known = absurd (none-some x is)

@@ -3,7 +3,7 @@ use Rattle.description.proofs.Names.{ℕ, zero, suc, List, [], length, get_or, t
 use Rattle.description.proofs.Names.{array, as_array, view, items_view, Value, AreItems, IsList}
 use Rattle.std.proofs.Common.{◌≡◌, ◌+◌, ◌<◌, ◌∷◌, ◌++◌, ◌∙◌}
 
-abbrev item_count : Items → ℕ
+abbrev pub item_count : Items → ℕ
 item_count no_items = 0
 item_count (item d ds) = suc (item_count ds)
 
@@ -14,19 +14,9 @@ count_viewed (v ∷ vs) = ap suc (count_viewed vs)
 pub same_items : (ds es : Items) → array ds ≡ array es → ds ≡ es
 same_items ds es same = same_Some ds es (ap as_array same)
 
--- a list of two has two values
-pub pair_length : (d : Data) (vs : List Value) (a b : Data) → d ≡ array (items_view vs) → d ≡ array (item a (item b no_items)) → length vs ≡ 2
-pair_length d vs a b is pair = sym (count_viewed vs) ∙ ap item_count (same_items (items_view vs) (item a (item b no_items)) (sym is ∙ pair))
-
-count_read : {A : Type 0} (P : Data → A → Type 0) (ds : Items) (xs : List A) → AreItems P ds xs → length xs ≡ item_count ds
-count_read P no_items [] are = refl
-count_read P no_items (x ∷ xs) are = absurd are
-count_read P (item d ds) [] are = absurd are
-count_read P (item d ds) (x ∷ xs) are = ap suc (count_read P ds xs are.1)
-
--- two readings of a list have one length
-pub same_length : {A : Type 0} (P : Data → A → Type 0) (d : Data) (xs ys : List A) → IsList P d xs → IsList P d ys → length xs ≡ length ys
-same_length P d xs ys a b = count_read P a.0 xs a.2 ∙ ap item_count (same_items a.0 b.0 (sym a.1 ∙ b.1)) ∙ sym (count_read P b.0 ys b.2)
+-- a list has as many values as items
+pub items_length : (d : Data) (vs : List Value) (ds : Items) → d ≡ array (items_view vs) → d ≡ array ds → length vs ≡ item_count ds
+items_length d vs ds is at = sym (count_viewed vs) ∙ ap item_count (same_items (items_view vs) ds (sym is ∙ at))
 
 pub last_read : {A : Type 0} (P : Data → A → Type 0) (vs : List Value) (xs : List A) (v : Value) (x : A) → AreItems P (items_view vs) xs → P (view v) x →
     AreItems P (items_view (vs ++ v ∷ [])) (xs ++ x ∷ [])
@@ -40,17 +30,26 @@ pub one_more : {A : Type 0} (P : Data → A → Type 0) (vs : List Value) (i : �
     AreItems P (items_view (take i vs)) xs → P (view v) x → AreItems P (items_view (take (i + 1) vs)) (xs ++ x ∷ [])
 one_more P vs i xs v x within at are is = rw (take_more vs i v within, at) (last_read P (take i vs) xs v x are is)
 
-element : {A : Type 0} (P : Data → A → Type 0) (vs : List Value) (i : ℕ) (xs : List A) (v : Value) → i < length vs → AreItems P (items_view vs) xs →
+pub element : {A : Type 0} (P : Data → A → Type 0) (vs : List Value) (i : ℕ) (xs : List A) (v : Value) → i < length vs → AreItems P (items_view vs) xs →
     (x : A) × P (view (get_or vs i v)) x
 element P [] i xs v within are = absurd (omega arith)
 element P (w ∷ ws) i [] v within are = absurd are
 element P (w ∷ ws) zero (x ∷ xs) v within are = (x, are.0)
 element P (w ∷ ws) (suc i) (x ∷ xs) v within are = element P ws i xs v (omega arith) are.1
 
+pub items_read : {A : Type 0} (P : Data → A → Type 0) (d : Data) (vs : List Value) (xs : List A) → d ≡ array (items_view vs) → IsList P d xs →
+    AreItems P (items_view vs) xs
+items_read P d vs xs is list = rw (← same_items (items_view vs) list.0 (sym is ∙ list.1)) at list.2
+
+pub count_read : {A : Type 0} (P : Data → A → Type 0) (vs : List Value) (xs : List A) → AreItems P (items_view vs) xs → length xs ≡ length vs
+count_read P [] [] are = refl
+count_read P [] (x ∷ xs) are = absurd are
+count_read P (v ∷ vs) [] are = absurd are
+count_read P (v ∷ vs) (x ∷ xs) are = ap suc (count_read P vs xs are.1)
+
 -- each value of a list that is read is one that can be
 pub each_read : {A : Type 0} (P : Data → A → Type 0) (d : Data) (vs : List Value) (i : ℕ) (xs : List A) (v : Value) → d ≡ array (items_view vs) →
     i < length vs → get_or vs i v ≡ v → IsList P d xs → (x : A) × P (view v) x
 each_read P d vs i xs v is within at list =
-    let are : AreItems P (items_view vs) xs = rw (← same_items (items_view vs) list.0 (sym is ∙ list.1)) at list.2 in
-    let found = element P vs i xs v within are in
+    let found = element P vs i xs v within (items_read P d vs xs is list) in
     (found.0, rw at at found.1)

@@ -1,8 +1,7 @@
 -- Lists with a number outside a range or with a number twice, and what holds of an element.
-use Rattle.description.proofs.Names.{ℕ, zero, suc, List, [], length, map, get_or, take, Option, Some, slice_get, slice_index, IsSomeAnd, refl, sym, ap, subst}
-use Rattle.description.proofs.Names.{arith, All, Contains, take_all, All-cons, All-head, All-more, All-tail, slice_get_read, slice_get-get_or, AreDistinct}
-use Rattle.description.proofs.Names.{IsOutside, IsTwice}
-use Rattle.std.proofs.Common.{◌≡◌, ◌≢◌, ◌+◌, ◌<◌, ◌≤◌, ◌∷◌, ◌∙◌}
+use Rattle.description.proofs.Names.{ℕ, zero, suc, List, [], length, map, get_or, take, Option, slice_get, slice_index, IsSomeAnd, refl, sym, subst, arith, All}
+use Rattle.description.proofs.Names.{take_all, All-cons, All-head, All-more, All-tail, slice_get_read, AreDistinct}
+use Rattle.std.proofs.Common.{◌≡◌, ◌≢◌, ◌+◌, ◌<◌, ◌≤◌, ◌∷◌}
 
 -- an element of an index, and what holds of it
 pub element_at : {A : Type 0} (P : A → Type 0) (xs : List A) (i : ℕ) (x : A) → i < length xs → x ≡ get_or xs i x → P x → IsSomeAnd (slice_get xs i) P

@@ -1,11 +1,7 @@
 -- The part of an object that breaks a rule.
-use Rattle.description.proofs.Names.{ℕ, List, map, length, get_or, Option, None, Some, slice_get, IsSomeAnd, refl, sym, subst, arith, MatchOption, All, All-map}
-use Rattle.description.proofs.Names.{Capability, Description, NodeEntry, PageEntry, ProcessEntry, SlotEntry, HasFields, Held, Part, BreaksField, HoldsAt}
-use Rattle.description.proofs.Names.{AllHave, BreaksNodes, BreaksPages, BreaksProcess, BreaksProcesses, LacksIt, OneLacks, OneOf, OneOfNodes, OneOfProcess}
-use Rattle.description.proofs.Names.{OneOfProcesses}
-use Rattle.std.proofs.Common.{◌≡◌, ◌<◌, ◌≤◌}
-use Rattle.description.specs.declared.faults.place.Held.TheVariants as held
-use Rattle.description.specs.declared.faults.place.Part.TheVariants as part
+use Rattle.description.proofs.Names.{ℕ, List, length, get_or, Option, None, Some, slice_get, IsSomeAnd, refl, sym, subst, Capability, Description, ProcessEntry}
+use Rattle.description.proofs.Names.{Part, BreaksProcess, BreaksProcesses, LacksIt}
+use Rattle.std.proofs.Common.{◌≡◌, ◌<◌}
 use Rattle.description.proofs.FaultElements.{element_at}
 
 -- an element that is there

@@ -1,16 +1,14 @@
 -- Where a table isn't that of a description.
-use Rattle.description.proofs.Names.{ℕ, List, [], length, map, codes, Option, None, Some, Result, Ok, Err, IsSomeAnd, Vec, refl, sym, ap, subst, arith}
-use Rattle.description.proofs.Names.{AllocError, IfOk, IsTrue, MatchOption, All, Contains, All-cons, All-contains, none-some, same_Some, Data, Items, Members}
-use Rattle.description.proofs.Names.{array, table, get_item, get_member, view, Value, IsBank, IsDescription, IsList, IsNode, IsPage, IsProcess, IsRange}
-use Rattle.description.proofs.Names.{has_only, whole_ranges, Key, Nodes, Pages, Log, Layout, Age, Ranges, Banks, Processes, NodeList, PageList, BankNumber}
-use Rattle.description.proofs.Names.{BankOwner, BankLimit, ProcessRoot, ProcessAnnex, ProcessOwner, ProcessState, ProcessKey, ProcessWords, ProcessSpace}
-use Rattle.description.proofs.Names.{ProcessRegisters, NodeNumber, NodeOwner, NodeSlots, PageNumber, PageOwner, PageWords, Flaw, Unknown, Misfit, Item}
-use Rattle.description.proofs.Names.{ShapePlace, TableName, HasBadItem, HasItemAs, IsBadAt, IsFlawAt, IsTableOf, IsWholeItem, BreaksShape, Fits, HasItem}
-use Rattle.description.proofs.Names.{IsFlaw, IsItem, IsTableAt, IsUnlisted, key_name, keys_of, object_at}
+use Rattle.description.proofs.Names.{ℕ, List, map, codes, Option, None, Some, IsSomeAnd, refl, sym, subst, arith, IsTrue, MatchOption, All, Contains, none-some}
+use Rattle.description.proofs.Names.{same_Some, Data, Items, Members, array, table, get_item, get_member, view, Value, IsList, IsRange, has_only, whole_ranges}
+use Rattle.description.proofs.Names.{Key, Nodes, Pages, Log, Layout, Age, Ranges, Banks, Processes, NodeList, PageList, BankNumber, BankOwner, BankLimit}
+use Rattle.description.proofs.Names.{ProcessRoot, ProcessAnnex, ProcessOwner, ProcessState, ProcessKey, ProcessWords, ProcessSpace, ProcessRegisters}
+use Rattle.description.proofs.Names.{NodeNumber, NodeOwner, NodeSlots, PageNumber, PageOwner, PageWords, Flaw, Item, TableName, HasBadItem, HasItemAs, IsBadAt}
+use Rattle.description.proofs.Names.{IsFlawAt, IsTableOf, IsWholeItem, BreaksShape, Fits, HasItem, IsFlaw, IsItem, IsTableAt, key_name, keys_of, object_at}
 use Rattle.std.specs.Borrow.{Bor}
-use Rattle.std.proofs.Common.{◌≡◌, ◌≢◌, ◌<◌, ◌∷◌, ◌∙◌}
+use Rattle.std.proofs.Common.{◌≡◌}
 use Rattle.description.specs.declared.faults.place.TableName.TheVariants as name
-use Rattle.description.proofs.Decisions.{at_some, bad_at, unlisted_at, with_default}
+use Rattle.description.proofs.Decisions.{bad_at, unlisted_at, with_default}
 
 -- a key that isn't that of a list of objects
 abbrev pub IsPlain : Key → Type 0
@@ -109,46 +107,28 @@ module _ (ms : Members) where
       (record { number = number.0; owner = owner.0; words = words.0 }, record { known = known; number = number.1; owner = owner.1; words = words.1 })
 
 -- what was found in the list at a key
-pub item_found : {A : Type 0} (P : Data → A → Type 0) (text : List ℕ) (ms : Members) (r : Result (Option (ℕ × Bor Value)) AllocError) (Without : Type 0)
-    (Q : Data → Type 0)
+pub item_found : {A : Type 0} (P : Data → A → Type 0) (text : List ℕ) (ms : Members) (found : Option (ℕ × Bor Value)) (Without : Type 0) (Q : Data → Type 0)
     → ((e : Data) → Q e → (x : A) × P e x) → (((ds : Items) → get_member text ms ≡ Some (array ds) → ⊥) → Without)
-    → IfOk r (λ found. MatchOption found ((ds : Items) → get_member text ms ≡ Some (array ds) → ⊥) (λ p. HasBadItem P text p.0 (view p.1.now) ms))
-    → IfOk r (λ found. MatchOption found Without
-    (λ p. (ds : Items) × (get_member text ms ≡ Some (array ds)) × (get_item p.0 ds ≡ Some (view p.1.now)) × (Q (view p.1.now) → ⊥)))
-item_found P text ms (Ok None) Without Q part none found = none found
-item_found P text ms (Ok (Some p)) Without Q part none found = (found.0, found.1, found.2, λ q. let x = part (view p.1.now) q in found.3 x.0 x.1)
-item_found P text ms (Err e) Without Q part none found = tt
+    → MatchOption found ((ds : Items) → get_member text ms ≡ Some (array ds) → ⊥) (λ p. HasBadItem P text p.0 (view p.1.now) ms)
+    → MatchOption found Without
+    (λ p. (ds : Items) × (get_member text ms ≡ Some (array ds)) × (get_item p.0 ds ≡ Some (view p.1.now)) × (Q (view p.1.now) → ⊥))
+item_found P text ms None Without Q part none found = none found
+item_found P text ms (Some p) Without Q part none found = (found.0, found.1, found.2, λ q. let x = part (view p.1.now) q in found.3 x.0 x.1)
 
-pub has_item : (key : List ℕ) (i : ℕ) (ms : Members) (e : Data) (P : Data → Type 0) (ds : Items) → get_member key ms ≡ Some (array ds) →
+has_item : (key : List ℕ) (i : ℕ) (ms : Members) (e : Data) (P : Data → Type 0) (ds : Items) → get_member key ms ≡ Some (array ds) →
     get_item i ds ≡ Some e → P e → HasItem key i P ms
 has_item key i ms e P ds at there holds = (ds, at, subst (λ (o : Option Data). IsSomeAnd o P) (sym there) holds)
 
-pub flaw_of : (which : TableName) (key : Key) (ms : Members) (flaw : Flaw) → Contains (keys_of which) key → IsFlawAt key ms flaw →
-    IsFlaw (keys_of which) ms flaw
-flaw_of which key ms (Unknown k) there is = absurd is
-flaw_of which key ms (Misfit k) there is = subst (λ j. Contains (keys_of which) j × (Fits j ms → ⊥) × IsUnlisted j ms) (sym is.0) (there, is.1, is.2)
-flaw_of which key ms (Item k i) there is = subst (λ j. Contains (keys_of which) j × HasItem (key_name j) i (λ d. IsItem j d → ⊥) ms) (sym is.0) (there, is.1)
-
 -- the same of the value at the key
-pub bad_found : {A : Type 0} (P : Data → A → Type 0) (key : List ℕ) (ms : Members) (d : Data) (r : Result (Option (ℕ × Bor Value)) AllocError) →
-    Some d ≡ get_member key ms
-    → IfOk r (λ found. MatchOption found ((ds : Items) → d ≡ array ds → ⊥) (λ p. IsBadAt P p.0 (view p.1.now) d))
-    → IfOk r (λ found. MatchOption found ((ds : Items) → get_member key ms ≡ Some (array ds) → ⊥) (λ p. HasBadItem P key p.0 (view p.1.now) ms))
-bad_found P key ms d (Ok None) is found = unlisted_at key ms d is found
-bad_found P key ms d (Ok (Some p)) is found = bad_at P key ms p.0 (view p.1.now) d is found
-bad_found P key ms d (Err e) is found = tt
+pub bad_found : {A : Type 0} (P : Data → A → Type 0) (key : List ℕ) (ms : Members) (d : Data) (found : Option (ℕ × Bor Value)) → Some d ≡ get_member key ms
+    → MatchOption found ((ds : Items) → d ≡ array ds → ⊥) (λ p. IsBadAt P p.0 (view p.1.now) d)
+    → MatchOption found ((ds : Items) → get_member key ms ≡ Some (array ds) → ⊥) (λ p. HasBadItem P key p.0 (view p.1.now) ms)
+bad_found P key ms d None is found = unlisted_at key ms d is found
+bad_found P key ms d (Some p) is found = bad_at P key ms p.0 (view p.1.now) d is found
 
-pub flaw_found : (key : Key) (ms : Members) (found : Option (ℕ × Bor Value)) (i : ℕ) (b : Bor Value) → IsPlain key → found ≡ Some (i, b)
-    → MatchOption found (IsUnlisted key ms) (λ p. HasItemAs key p.0 (view p.1.now) ms) → IsFlawAt key ms (Item key i)
-flaw_found key ms found i b plain is known =
-    let h = at_some (IsUnlisted key ms) (λ (p : ℕ × Bor Value). HasItemAs key p.0 (view p.1.now) ms) found (i, b) is known in
-    (refl, has_item (key_name key) i ms (view b.now) (λ d. IsItem key d → ⊥) h.0 h.1 h.2 (λ item. h.3 (plain_item key 0 (plain 0) (view b.now) item)))
-
-pub flaw_passed : (which : TableName) (key : Key) (ms : Members) (r : Result Flaw AllocError) → Contains (keys_of which) key →
-    IfOk r (λ flaw. IsFlawAt key ms flaw)
-    → IfOk r (λ flaw. IsFlaw (keys_of which) ms flaw)
-flaw_passed which key ms (Ok flaw) there is = flaw_of which key ms flaw there is
-flaw_passed which key ms (Err e) there is = tt
+pub flaw_found : (key : Key) (ms : Members) (i : ℕ) (e : Data) → IsPlain key → HasItemAs key i e ms → IsFlawAt key ms (Item key i)
+flaw_found key ms i e plain at =
+    (refl, has_item (key_name key) i ms e (λ d. IsItem key d → ⊥) at.0 at.1 at.2 (λ item. at.3 (plain_item key 0 (plain 0) e item)))
 
 -- the item of an index has what one has that it is
 pub item_has : (key : List ℕ) (i : ℕ) (ms : Members) (e : Data) (P : Data → Type 0) → HasItem key i (λ d. d ≡ e) ms → P e → HasItem key i P ms

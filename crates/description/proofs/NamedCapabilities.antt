@@ -1,16 +1,15 @@
 -- The capabilities that a description names, and those that its frames hold.
-use Rattle.description.proofs.Names.{ℕ, inl, inr, List, [], length, Option, None, Some, slice_get, unwrap_or, IsSomeAnd, refl, sym, ap, subst, arith, All}
-use Rattle.description.proofs.Names.{Contains, cases_eq, All-cons, All-contains, All-head, All-tail, get_or_from_slice_get, Cap, Capability, Void, Frame}
-use Rattle.description.proofs.Names.{Geometry, frame_at, caps_in, fresh_cap, AreNamed, IsNamed, NamesItsRole, Description, NodeEntry, ProcessEntry, SlotEntry}
-use Rattle.description.proofs.Names.{AreSlots, HasFields, HasNumbers, HoldsNamed, IsDescribed, IsProcessEntry, named_at, AreTargets, Entry, HasProcessTargets}
-use Rattle.description.proofs.Names.{HasTargets, OfAnnex, OfBank, OfNode, OfPage, OfRoot, number_of, IsTarget, Held, BreaksTarget, HoldsAt, AllHave, AllIn}
-use Rattle.description.proofs.Names.{AllOfProcess, IfNamed, OneLacks}
+use Rattle.description.proofs.Names.{ℕ, inl, inr, List, [], Option, None, Some, slice_get, unwrap_or, IsSomeAnd, sym, ap, subst, arith, All, cases_eq, All-cons}
+use Rattle.description.proofs.Names.{All-contains, All-head, All-tail, get_or_from_slice_get, Cap, Capability, Void, Frame, frame_at, caps_in, fresh_cap}
+use Rattle.description.proofs.Names.{AreNamed, IsNamed, NamesItsRole, Description, NodeEntry, SlotEntry, AreSlots, HasFields, HasNumbers, HoldsNamed}
+use Rattle.description.proofs.Names.{IsDescribed, IsProcessEntry, named_at, AreTargets, Entry, HasProcessTargets, HasTargets, OfAnnex, OfBank, OfNode, OfPage}
+use Rattle.description.proofs.Names.{OfRoot, IsTarget, Held, BreaksTarget, AllHave, AllIn, AllOfProcess, IfNamed, OneLacks}
 use Rattle.std.proofs.Common.{◌≡◌, ◌<◌, ◌≤◌, ◌∷◌, ◌∙◌}
 use Rattle.description.proofs.DescribedOnce.{described_once}
 use Rattle.description.proofs.Entries.{IsFrameOf, IsOf, described_cases, described_of}
 use Rattle.description.proofs.Lists.{all_from, all_got, first_beyond, first_of}
 use Rattle.description.proofs.Lists.{first_there}
-use Rattle.description.proofs.NamedTargets.{named_targets, never_raised, role_target}
+use Rattle.description.proofs.NamedTargets.{never_raised, role_target}
 use Rattle.description.specs.declared.faults.place.Held.TheVariants as held
 use Rattle.description.proofs.Refuted.{all_refuted}
 

@@ -1,10 +1,10 @@
 -- In described frames in which each capability is named, each names a number of its kind.
 use Rattle.description.proofs.Names.{inl, inr, ℕ, List, [], Option, Some, unwrap_or, refl, sym, ap, subst, IsTrue, All, get_or-map, All-contains, All-head, Cap}
-use Rattle.description.proofs.Names.{Capability, Void, Number, Page, Node, Space, Process, Start, Resume, Bank, Discrim, Frame, ObjectHeader, Geometry, Content}
-use Rattle.description.proofs.Names.{blank_frame, current_count, frame_at, header_at, headers, caps_in, role_of, IsOfKind, object_count, fresh_cap, Description}
-use Rattle.description.proofs.Names.{NodeEntry, SlotEntry, AreNamed, IsNamed, NamesItsRole, is_waiting_root, AreSlots, HasFields, HasNumbers, HoldsNamed}
-use Rattle.description.proofs.Names.{IsDescribed, IsProcessEntry, first_frame, AreTargets, Entry, HasProcessTargets, HasTargets, IsTarget, OfAnnex, OfBank}
-use Rattle.description.proofs.Names.{OfNode, OfPage, OfRoot, number_of}
+use Rattle.description.proofs.Names.{Capability, Void, Page, Node, Space, Process, Start, Resume, Bank, Frame, ObjectHeader, Geometry, Content, blank_frame}
+use Rattle.description.proofs.Names.{current_count, frame_at, header_at, headers, caps_in, role_of, IsOfKind, object_count, fresh_cap, Description, NodeEntry}
+use Rattle.description.proofs.Names.{SlotEntry, AreNamed, IsNamed, NamesItsRole, is_waiting_root, AreSlots, HasFields, HasNumbers, HoldsNamed, IsDescribed}
+use Rattle.description.proofs.Names.{IsProcessEntry, first_frame, AreTargets, Entry, HasProcessTargets, HasTargets, IsTarget, OfAnnex, OfBank, OfNode, OfPage}
+use Rattle.description.proofs.Names.{OfRoot, number_of}
 use Rattle.std.proofs.Common.{◌≡◌, ◌≢◌, ◌<◌, ◌≤◌, ◌∙◌}
 use Rattle.model.specs.declared.object.Content.TheVariants as content
 use Rattle.model.specs.declared.object.Role.TheVariants as role

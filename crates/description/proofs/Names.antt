@@ -5,7 +5,7 @@ pub use Rattle.collections.specs.Marks.{is_marked}
 pub use Rattle.image_writer.specs.Laid.{placed}
 pub use Rattle.image_writer.specs.declared.fault.BuildFault.{BuildFault}
 pub use Rattle.image_writer.specs.declared.number_range.NumberRange.{NumberRange}
-pub use Rattle.layout.specs.Superblock.{Cover, IsNext}
+pub use Rattle.layout.specs.Superblock.{Cover}
 pub use Rattle.model.specs.Capability.{IsWellFormed, named}
 pub use Rattle.model.specs.Frame.{blank_frame, blank_header, current_count, frame_at, header_at, headers, void_held}
 unfoldable pub use Rattle.model.specs.Frame.{frames_in}
@@ -28,9 +28,11 @@ pub use Rattle.recovery.specs.Consistency.{AreNamed, AreWholeProcesses, IsAnnexF
 pub use Rattle.recovery.specs.Consistency.{role_at}
 pub use Rattle.script.proofs.CapabilityTexts.{text_once}
 pub use Rattle.std.proofs.Common.{Bool, Bor, Err, Global, IfNone, IfSome, IsErrAnd, IsSomeAnd, List, None, Ok, Option, Result, Some, Vec, [], ap, arith, codes}
-pub use Rattle.std.proofs.Common.{drop, false, get_or, inl, inr, is_eq, is_some, length, map, nat_cmp, nat_eq, negsuc, option_map, pos, refl, replicate, rules}
-pub use Rattle.std.proofs.Common.{slice_get, slice_index, slice_index_or, slice_set, subst, suc, sym, take, true, true≢false, unwrap_or, vec_len, zero, ℕ, ℤ}
+pub use Rattle.std.proofs.Common.{drop, false, get_or, inl, inr, is_eq, is_ok, is_some, length, map, nat_cmp, nat_eq, negsuc, option_map, pos, refl, replicate}
+pub use Rattle.std.proofs.Common.{rules, slice_get, slice_index, slice_index_or, slice_set, subst, suc, sym, take, true, true≢false, unwrap_or, vec_len, zero}
+pub use Rattle.std.proofs.Common.{ℕ, ℤ}
 pub use Rattle.std.proofs.Math.ListN.{get_or-map}
+pub use Rattle.std.proofs.iter.runs.Made.{chains}
 pub use Rattle.std.proofs.lemmas.Bool.{cases_eq, false≢true}
 pub use Rattle.std.proofs.lemmas.Bool.Decides.{nat_tests}
 pub use Rattle.std.proofs.lemmas.Cmp.{same_from_slice_cmp}
@@ -45,29 +47,28 @@ pub use Rattle.std.proofs.lemmas.Option.{get_or_from_slice_get, none-some, same_
 pub use Rattle.std.specs.Cmp.Lexicographic.{pointwise, slice_cmp}
 pub use Rattle.std.specs.Int.{is_negative}
 pub use Rattle.std.specs.List.{All, Any, Contains, list_any}
-pub use Rattle.std.specs.Prelude.{IfOk, IsTrue, MatchOption, unsigned_abs}
+pub use Rattle.std.specs.Prelude.{IsTrue, MatchOption, unsigned_abs}
 pub use Rattle.std.specs.Str.{bytes_eq}
 pub use Rattle.std.specs.Vec.{with_item}
-pub use Rattle.std.specs.declared.alloc.AllocError.{AllocError}
-pub use Rattle.toml.specs.Data.{Data, Items, Members, array, as_array, as_integer, as_str, boolean, datetime, float, get_item, get_member, integer, item}
-pub use Rattle.toml.specs.Data.{no_items, same_key, string, table}
+pub use Rattle.toml.specs.Data.{Data, Items, Members, array, as_array, as_integer, as_str, as_table, boolean, datetime, float, get_item, get_member, integer}
+pub use Rattle.toml.specs.Data.{item, no_items, same_key, string, table}
 pub use Rattle.toml.specs.View.{items_view, members_view, table_view, view}
 pub use Rattle.toml.specs.declared.value.Value.{Value}
-pub use Rattle.description.specs.Broken.{BreaksField, BreaksIndexed, BreaksNumber, BreaksRanges, BreaksSlots, BreaksTarget, GoesOn, HoldsAt, IsOfItsKind}
-pub use Rattle.description.specs.Broken.{IsOutside, IsTwice, count_in, number_at}
+pub use Rattle.description.specs.Broken.{BreaksField, BreaksIndexed, BreaksNumber, BreaksRanges, BreaksSlots, BreaksTarget, GoesOn, IsOfItsKind, IsOutside}
+pub use Rattle.description.specs.Broken.{IsTwice, count_in, number_at}
 pub use Rattle.description.specs.Described.{AreDistinct, AreSlots, AreWords, HasFields, HasNamedWords, HasNumbers, HoldsNamed, IsDescribed, IsDescribedAnnex}
 pub use Rattle.description.specs.Described.{IsDescribedNode, IsDescribedPage, IsDescribedRoot, IsProcessEntry, IsSomeCapability, IsSpaceEntry, first_frame}
 pub use Rattle.description.specs.Described.{first_named, named_at, node_numbers, page_numbers, word_named_at}
-pub use Rattle.description.specs.FaultOutcomes.{AllHave, AllIn, AllOfProcess, BreaksIt, BreaksNodes, BreaksPages, BreaksProcess, BreaksProcesses, HasBadItem}
-pub use Rattle.description.specs.FaultOutcomes.{HasItemAs, IfNamed, IsBadAt, IsFlawAt, IsTableOf, IsWholeItem, LacksIt, OneLacks, OneOf, OneOfNodes}
-pub use Rattle.description.specs.FaultOutcomes.{OneOfProcess, OneOfProcesses, decided, place_of}
+pub use Rattle.description.specs.FaultOutcomes.{AllHave, AllIn, AllOfProcess, BreaksIt, BreaksProcess, BreaksProcesses, HasBadItem, HasItemAs, IfNamed, IsBadAt}
+pub use Rattle.description.specs.FaultOutcomes.{IsFlawAt, IsTableOf, IsWholeItem, LacksIt, OneLacks, place_of}
 pub use Rattle.description.specs.Laid.{AreTargets, Entry, HasProcessTargets, HasTargets, IsLaid, IsPut, OfAnnex, OfBank, OfNode, OfPage, OfRoot, entries}
 pub use Rattle.description.specs.Laid.{frame_of, frames_of, number_of, set_each, slot_held}
 unfoldable pub use Rattle.description.specs.Laid.{laid, slots_of, words_of}
 pub use Rattle.description.specs.Laws.{Each, IsSame, IsSameNode, IsSamePage, IsSameProcess, NumberIsSpelledOnce}
-pub use Rattle.description.specs.Outcomes.{Fails, Reads, ReadsList}
-pub use Rattle.description.specs.Reading.{AreFour, AreItems, At, AtOr, IsBank, IsCapability, IsDescription, IsGeometry, IsList, IsNode, IsNumber, IsPage}
-pub use Rattle.description.specs.Reading.{IsPair, IsProcess, IsRange, IsSlot, IsState, IsTable, IsWord, has_key, has_only, whole_ranges}
+pub use Rattle.description.specs.Outcomes.{Fails, Finds, Reads, ReadsList}
+pub use Rattle.description.specs.Reading.{AreFour, AreItems, At, AtOr, HasNumberAndOwner, HasProcessFields, IsBank, IsCapability, IsDescription, IsGeometry}
+pub use Rattle.description.specs.Reading.{IsList, IsNode, IsNumber, IsPage, IsPair, IsProcess, IsRange, IsSlot, IsState, IsTable, IsWord, has_key, has_only}
+pub use Rattle.description.specs.Reading.{whole_ranges}
 unfoldable pub use Rattle.description.specs.Reading.{IsWideNumber}
 pub use Rattle.description.specs.Shapes.{BreaksShape, Fits, HasItem, HasList, IsFlaw, IsItem, IsTableAt, IsUnlisted, key_name, keys_of, object_at}
 pub use Rattle.description.specs.declared.entry.BankEntry.{BankEntry}
@@ -83,13 +84,13 @@ pub use Rattle.description.specs.declared.faults.key.Key.TheVariants.{NodeOwner,
 pub use Rattle.description.specs.declared.faults.key.Key.TheVariants.{ProcessAnnex, ProcessKey, ProcessOwner, ProcessRegisters, ProcessRoot, ProcessSpace}
 pub use Rattle.description.specs.declared.faults.key.Key.TheVariants.{ProcessState, ProcessWords, Processes, Ranges}
 pub use Rattle.description.specs.declared.faults.place.Flaw.{Flaw}
-pub use Rattle.description.specs.declared.faults.place.Flaw.TheVariants.{Item, Misfit, Unknown}
+pub use Rattle.description.specs.declared.faults.place.Flaw.TheVariants.{Item}
 pub use Rattle.description.specs.declared.faults.place.Held.{Held}
 pub use Rattle.description.specs.declared.faults.place.Indexed.{Indexed}
 pub use Rattle.description.specs.declared.faults.place.Limit.{Limit}
 pub use Rattle.description.specs.declared.faults.place.Named.{Named}
 pub use Rattle.description.specs.declared.faults.place.Part.{Part}
-pub use Rattle.description.specs.declared.faults.place.ShapePlace.{ShapePlace}
 pub use Rattle.description.specs.declared.faults.place.SlotFlaw.{SlotFlaw}
 pub use Rattle.description.specs.declared.faults.place.TableName.{TableName}
+pub use Rattle.description.specs.declared.object.ProcessFields.{ProcessFields}
 pub use Rattle.description.specs.declared.world.World.{World}

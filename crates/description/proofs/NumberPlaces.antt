@@ -1,10 +1,8 @@
 -- The numbers of a description, by their places among all.
 use Rattle.description.proofs.Names.{ℕ, zero, suc, List, [], length, map, Option, None, Some, option_map, slice_get, IsSomeAnd, refl, sym, ap, subst, arith}
-use Rattle.description.proofs.Names.{All, Contains, length-append, length-map, All-contains, slice_get-map, Geometry, object_count, Description, AreDistinct}
-use Rattle.description.proofs.Names.{HasNumbers, node_numbers, page_numbers, Named, BreaksNumber, IsOfItsKind, IsOutside, IsTwice, number_at, BreaksIt}
-use Rattle.description.proofs.Names.{place_of}
-use Rattle.std.proofs.Common.{◌≡◌, ◌≢◌, ◌+◌, ◌-◌, ◌<◌, ◌≤◌, ◌∷◌, ◌++◌, ◌∙◌}
-use Rattle.description.proofs.Lists.{all_got}
+use Rattle.description.proofs.Names.{All, length-append, length-map, slice_get-map, Geometry, object_count, Description, AreDistinct, HasNumbers, node_numbers}
+use Rattle.description.proofs.Names.{page_numbers, Named, BreaksNumber, IsOfItsKind, IsOutside, IsTwice, number_at, BreaksIt, place_of}
+use Rattle.std.proofs.Common.{◌≡◌, ◌+◌, ◌-◌, ◌<◌, ◌≤◌, ◌∷◌, ◌++◌, ◌∙◌}
 use Rattle.description.specs.declared.faults.place.Misnumbered.TheVariants as misnumbered
 use Rattle.description.specs.declared.faults.place.Named.TheVariants as named
 use Rattle.description.proofs.Refuted.{all_refuted, twice_refuted}

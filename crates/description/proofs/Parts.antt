@@ -1,17 +1,15 @@
 -- A whole is not there where a part isn't.
-use Rattle.description.proofs.Names.{List, Result, Ok, Err, IsErrAnd, Vec, Global, Fails, Reads, ReadsList, BuildFault}
-use Rattle.std.proofs.Common.{◌≡◌}
+use Rattle.description.proofs.Names.{List, Result, Ok, Err, IsErrAnd, Vec, Global, subst, sym, Data, Members, table, as_table, same_Some, ap, Finds, Fails}
+use Rattle.description.proofs.Names.{Reads, ReadsList, BuildFault, IsTable, IsTrue, false, false≢true, IsNode, IsPage, IsProcess, IsSlot, IsWord, HasList}
+use Rattle.description.proofs.Names.{NodeEntry, PageEntry, ProcessEntry, ℕ, codes, HasNumberAndOwner, HasProcessFields, ProcessFields}
+use Rattle.std.proofs.Common.{◌≡◌, ◌∙◌}
+use Rattle.std.specs.Prelude.{◌↔◌}
 use Rattle.image_writer.specs.declared.fault.BuildFault.TheVariants as fault
 
-pub passed_on : {A B : Type 0} (P : A → Type 0) (Q : B → Type 0) (e : BuildFault) → Fails P e → ((y : B) → Q y → (x : A) × P x) → Fails Q e
+passed_on : {A B : Type 0} (P : A → Type 0) (Q : B → Type 0) (e : BuildFault) → Fails P e → ((y : B) → Q y → (x : A) × P x) → Fails Q e
 passed_on P Q fault.Shape none part = λ y is. none (part y is).0 (part y is).1
 passed_on P Q fault.NoMemory none part = tt
 passed_on P Q other none part = none
-
--- a list that is read is that of a Vec
-pub as_vec : {A : Type 0} (P : List A → Type 0) (r : Result (Vec A Global) BuildFault) → ReadsList P r → Reads (λ (v : Vec A Global). P v.items) r
-as_vec P (Ok v) reads = reads
-as_vec {A = A} P (Err e) reads = passed_on P (λ (v : Vec A Global). P v.items) e reads (λ v is. (v.items, is))
 
 -- the same at an error that is passed on
 pub failed : {A B : Type 0} (P : A → Type 0) (Q : B → Type 0) (e : BuildFault) (r : Result B BuildFault) → IsErrAnd r (λ y. y ≡ e) → Fails P e →
@@ -23,3 +21,116 @@ pub failed_list : {A B : Type 0} (P : A → Type 0) (Q : List B → Type 0) (e :
     IsErrAnd r (λ y. y ≡ e) → Fails P e → ((ys : List B) → Q ys → (x : A) × P x) → ReadsList Q r
 failed_list P Q e (Ok y) same none part = absurd same
 failed_list P Q e (Err f) same none part = rw same (passed_on P Q e none part)
+
+-- and where no memory is taken
+pub missed : {A B : Type 0} (P : A → Type 0) (Q : B → Type 0) (e : BuildFault) (r : Result B BuildFault) → IsErrAnd r (λ y. y ≡ e) →
+    (e ≡ fault.Shape) × ((x : A) → P x → ⊥) → ((y : B) → Q y → (x : A) × P x) → Finds Q r
+missed P Q e (Ok y) same none part = absurd same
+missed P Q e (Err f) same none part = (same ∙ none.0, λ y is. let x = part y is in none.1 x.0 x.1)
+
+pub as_read : {A : Type 0} (P : A → Type 0) (r : Result A BuildFault) → Finds P r → Reads P r
+as_read P (Ok x) is = is
+as_read P (Err e) none = rw none.0 none.1
+
+-- what a table says
+pub same_members : (ms ns : Members) → table ms ≡ table ns → ms ≡ ns
+same_members ms ns same = same_Some ms ns (ap as_table same)
+
+pub in_table : {A : Type 0} (P : Members → A → Type 0) (d : Data) (ms : Members) (x : A) → d ≡ table ms → IsTable P d x → P ms x
+in_table P d ms x is said = subst (λ ns. P ns x) (same_members said.0 ms (sym said.1 ∙ is)) said.2
+
+pub table_read : {A : Type 0} (P : Members → A → Type 0) (d : Data) (ms : Members) (r : Result A BuildFault) → d ≡ table ms → Finds (P ms) r →
+    Reads (IsTable P d) r
+table_read P d ms (Ok x) is reads = (ms, is, reads)
+table_read P d ms (Err e) is none = rw none.0 (λ x said. none.1 x (in_table P d ms x is said))
+
+pub no_whole : {A B : Type 0} (P : A → Type 0) (Q : B → Type 0) → ((x : A) → P x → ⊥) → ((y : B) → Q y → (x : A) × P x) → IsTrue false ↔ ((y : B) × Q y)
+no_whole P Q none part = (λ so. absurd (false≢true so), λ y. let x = part y.0 y.1 in absurd (none x.0 x.1))
+
+-- The parts of an object.
+
+module _ (ms : Members) where
+  pub process_fields : (p : ProcessEntry) → IsProcess ms p → (fields : ProcessFields) × HasProcessFields ms fields
+  process_fields p is = (
+    record {
+      root = p.root;
+      annex = p.annex;
+      owner = p.owner;
+      state = p.state;
+      key = p.key;
+      words = p.words;
+      space = p.space;
+    },
+    record {
+      known = is.known;
+      root = is.root;
+      annex = is.annex;
+      owner = is.owner;
+      state = is.state;
+      key = is.key;
+      words = is.words;
+      space = is.space;
+    },
+  )
+
+  pub process_said : (fields : ProcessFields) (X : Type 0) → HasProcessFields ms fields → (X ↔ HasList IsSlot (codes "registers") ms) →
+      X ↔ ((p : ProcessEntry) × IsProcess ms p)
+  process_said fields X has list = (
+    λ so.
+        let registers = list.0 so in (
+          record {
+            root = fields.root;
+            annex = fields.annex;
+            owner = fields.owner;
+            state = fields.state;
+            key = fields.key;
+            words = fields.words;
+            space = fields.space;
+            registers = registers.0;
+          },
+          record {
+            known = has.known;
+            root = has.root;
+            annex = has.annex;
+            owner = has.owner;
+            state = has.state;
+            key = has.key;
+            words = has.words;
+            space = has.space;
+            registers = registers.1;
+          },
+        ),
+    λ p. list.1 (p.0.registers, p.1.registers),
+  )
+
+  pub node_numbers_of : (n : NodeEntry) → IsNode ms n → (numbers : ℕ × ℕ) × HasNumberAndOwner (codes "slots") ms numbers
+  node_numbers_of n is = ((n.number, n.owner), record { known = is.known; number = is.number; owner = is.owner })
+
+  pub node_said : (X : Type 0) → (X ↔ (((numbers : ℕ × ℕ) × HasNumberAndOwner (codes "slots") ms numbers) × HasList IsSlot (codes "slots") ms)) →
+      X ↔ ((n : NodeEntry) × IsNode ms n)
+  node_said X said = (
+    λ so.
+        let parts = said.0 so in
+        let has = parts.0.1 in
+        let slots = parts.1 in (
+          record { number = parts.0.0.0; owner = parts.0.0.1; slots = slots.0 },
+          record { known = has.known; number = has.number; owner = has.owner; slots = slots.1 },
+        ),
+    λ n. said.1 (node_numbers_of n.0 n.1, (n.0.slots, n.1.slots)),
+  )
+
+  pub page_numbers_of : (p : PageEntry) → IsPage ms p → (numbers : ℕ × ℕ) × HasNumberAndOwner (codes "words") ms numbers
+  page_numbers_of p is = ((p.number, p.owner), record { known = is.known; number = is.number; owner = is.owner })
+
+  pub page_said : (X : Type 0) → (X ↔ (((numbers : ℕ × ℕ) × HasNumberAndOwner (codes "words") ms numbers) × HasList IsWord (codes "words") ms)) →
+      X ↔ ((p : PageEntry) × IsPage ms p)
+  page_said X said = (
+    λ so.
+        let parts = said.0 so in
+        let has = parts.0.1 in
+        let words = parts.1 in (
+          record { number = parts.0.0.0; owner = parts.0.0.1; words = words.0 },
+          record { known = has.known; number = has.number; owner = has.owner; words = words.1 },
+        ),
+    λ p. said.1 (page_numbers_of p.0 p.1, (p.0.words, p.1.words)),
+  )

@@ -1,6 +1,6 @@
 -- Ranges that go on from number to number.
-use Rattle.description.proofs.Names.{ℕ, zero, suc, List, [], length, map, get_or, take, drop, refl, sym, ap, subst, arith, drop_all, drop_more, get_or_default}
-use Rattle.description.proofs.Names.{take_all, take_more, Geometry, object_count, Cover, IsNext, placed, NumberRange, GoesOn, count_in}
+use Rattle.description.proofs.Names.{ℕ, List, [], length, map, get_or, take, drop, sym, ap, subst, arith, drop_more, get_or_default, take_more, Geometry}
+use Rattle.description.proofs.Names.{object_count, Cover, placed, NumberRange, GoesOn, count_in}
 use Rattle.std.proofs.Common.{◌≡◌, ◌+◌, ◌<◌, ◌≤◌, ◌∷◌, ◌++◌, ◌∙◌}
 
 count_more : (rs : List NumberRange) (r : NumberRange) → count_in (rs ++ r ∷ []) ≡ count_in rs + r.count

@@ -1,10 +1,9 @@
 -- What stands at a place that breaks a rule isn't there where the rule is kept.
-use Rattle.description.proofs.Names.{ℕ, zero, suc, List, [], length, map, get_or, take, Option, None, Some, slice_get, slice_index_or, IsSomeAnd, refl, sym, ap}
-use Rattle.description.proofs.Names.{subst, arith, All, Contains, All-map, none-some, same_Some, slice_get_within, Geometry, object_count, Cover, IsNext}
-use Rattle.description.proofs.Names.{placed, NumberRange, Description, NodeEntry, PageEntry, SlotEntry, AreDistinct, AreSlots, AreWords, HasFields}
-use Rattle.description.proofs.Names.{IsProcessEntry, IsSomeCapability, Indexed, Limit, Part, SlotFlaw, BreaksField, BreaksIndexed, BreaksRanges, BreaksSlots}
-use Rattle.description.proofs.Names.{GoesOn, IsOutside, IsTwice, count_in}
-use Rattle.std.proofs.Common.{◌≡◌, ◌≢◌, ◌+◌, ◌<◌, ◌≤◌, ◌^◌, ◌∷◌, ◌∙◌}
+use Rattle.description.proofs.Names.{ℕ, zero, suc, List, [], length, map, take, Option, None, Some, slice_get, slice_index_or, IsSomeAnd, refl, sym, ap, subst}
+use Rattle.description.proofs.Names.{arith, All, All-map, none-some, same_Some, slice_get_within, Geometry, object_count, Cover, placed, NumberRange}
+use Rattle.description.proofs.Names.{Description, NodeEntry, PageEntry, SlotEntry, AreDistinct, AreSlots, AreWords, HasFields, IsProcessEntry, IsSomeCapability}
+use Rattle.description.proofs.Names.{Indexed, Limit, Part, SlotFlaw, BreaksField, BreaksIndexed, BreaksRanges, BreaksSlots, GoesOn, IsTwice, count_in}
+use Rattle.std.proofs.Common.{◌≡◌, ◌+◌, ◌<◌, ◌≤◌, ◌∷◌, ◌∙◌}
 use Rattle.description.proofs.Lists.{all_got}
 use Rattle.description.specs.declared.faults.place.Indexed.TheVariants as indexed
 use Rattle.description.specs.declared.faults.place.Limit.TheVariants as limit

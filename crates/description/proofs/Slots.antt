@@ -1,6 +1,6 @@
 -- Lists of slots and words whose indexes are as they must be.
-use Rattle.description.proofs.Names.{ℕ, List, map, Option, None, Some, slice_get, IsSomeAnd, refl, sym, subst, MatchOption, All, SlotEntry, WordEntry}
-use Rattle.description.proofs.Names.{AreDistinct, AreSlots, AreWords, IsSomeCapability, Indexed, SlotFlaw, BreaksIndexed, BreaksSlots}
+use Rattle.description.proofs.Names.{ℕ, List, map, Option, None, Some, slice_get, IsSomeAnd, sym, subst, MatchOption, All, SlotEntry, WordEntry, AreDistinct}
+use Rattle.description.proofs.Names.{AreSlots, AreWords, IsSomeCapability, Indexed, SlotFlaw, BreaksIndexed, BreaksSlots}
 use Rattle.std.proofs.Common.{◌≡◌, ◌<◌, ◌≤◌}
 use Rattle.description.specs.declared.faults.place.SlotFlaw.TheVariants as slot
 use Rattle.description.proofs.FaultElements.{all_unmapped}

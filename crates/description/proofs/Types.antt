@@ -2,10 +2,9 @@
 use Rattle.description.proofs.Names.{inl, inr, ℕ, ℤ, pos, negsuc, true, false, Option, Some, None, is_some, List, Result, Ok, Err, IfSome, IfNone, sym, ap}
 use Rattle.description.proofs.Names.{arith, none-some, same_Some, unsigned_abs, is_negative, false≢true, IsWellFormed, named, capability_text, state_text}
 use Rattle.description.proofs.Names.{Capability, Number, State, Data, string, integer, float, boolean, datetime, array, table, as_integer, as_str, IsCapability}
-use Rattle.description.proofs.Names.{IsNumber, IsState, IsWideNumber, Fails, Reads, BuildFault}
+use Rattle.description.proofs.Names.{IsNumber, IsState, IsWideNumber, Finds, BuildFault}
 use Rattle.std.proofs.Common.{◌≡◌, ◌≢◌, ◌^◌, ◌<◌, ◌≤◌, ◌∙◌}
 use Rattle.description.proofs.Once.{capability_once}
-use Rattle.description.proofs.Parts.{passed_on}
 
 pub integer_is : (d : Data) (z : ℤ) → Some z ≡ as_integer d → d ≡ integer z
 integer_is (string s) z e = absurd (none-some z (sym e))
@@ -71,13 +70,10 @@ unfolding IsWideNumber
 is_text d n some (inl number) = number
 is_text d n some (inr text) = absurd (false≢true (ap (λ (e : Data). is_some (as_integer e)) (sym text.1.2) ∙ some))
 
-fails_wide : (d : Data) (fault : BuildFault) → is_some (as_integer d) ≡ true → Fails (IsNumber d) fault → Fails (IsWideNumber d) fault
-fails_wide d fault some fails = passed_on (IsNumber d) (IsWideNumber d) fault fails (λ n number. (n, is_text d n some number))
-
-pub wide_read : (d : Data) (r : Result ℕ BuildFault) → is_some (as_integer d) ≡ true → Reads (IsNumber d) r → Reads (IsWideNumber d) r
+pub wide_read : (d : Data) (r : Result ℕ BuildFault) → is_some (as_integer d) ≡ true → Finds (IsNumber d) r → Finds (IsWideNumber d) r
 unfolding IsWideNumber
 wide_read d (Ok n) some reads = inl reads
-wide_read d (Err fault) some reads = fails_wide d fault some reads
+wide_read d (Err fault) some none = (none.0, λ n number. none.1 n (is_text d n some number))
 
 -- what is found to a text
 pub capability_reported : (d : Data) (text : List ℕ) (r : Option Capability) → Some text ≡ as_str d →
@@ -90,15 +86,6 @@ pub state_reported : (d : Data) (text : List ℕ) (r : Option State) → Some te
     IfNone r ((s : State) → state_text s ≢ text) → IsState d r
 state_reported d text None is some none = (text, string_is d text is, none)
 state_reported d text (Some s) is some none = string_is d text is ∙ ap string (sym some)
-
--- what is no text is neither
-pub no_capability : (d : Data) → None ≡ as_str d → (r : Option Capability) → IsCapability d r → ⊥
-no_capability d none None reported = none-some reported.0 (none ∙ ap as_str reported.1)
-no_capability d none (Some c) reported = none-some (capability_text c) (none ∙ ap as_str reported.2)
-
-pub no_state : (d : Data) → None ≡ as_str d → (r : Option State) → IsState d r → ⊥
-no_state d none None reported = none-some reported.0 (none ∙ ap as_str reported.1)
-no_state d none (Some s) reported = none-some (state_text s) (none ∙ ap as_str reported)
 
 -- what says a number and is no integer says a capability
 pub text_said : (d : Data) → as_integer d ≡ None → (n : ℕ) → IsWideNumber d n → (r : Option Capability) × IsCapability d r

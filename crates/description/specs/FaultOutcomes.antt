@@ -1,7 +1,6 @@
 -- What the functions that search for a place answer.
-use Rattle.description.specs.Names.{ℕ, Bool, true, false, List, length, map, slice_get, Option, None, Some, Result, Ok}
-use Rattle.description.specs.Names.{Err, IsSomeAnd, alloc_error, AllocError, All, Capability, Data, Items, Members}
-use Rattle.description.specs.Names.{array, get_item, get_member, BuildFault, Shape}
+use Rattle.description.specs.Names.{ℕ, List, length, map, slice_get, Option, None, Some, IsSomeAnd, All, Capability}
+use Rattle.description.specs.Names.{Data, Items, Members, array, get_item, get_member}
 use Rattle.std.specs.Prelude.{◌≡◌, ◌+◌, ◌^◌, ◌≤◌}
 use Rattle.description.specs.Described.{IsSpaceEntry, node_numbers}
 use Rattle.description.specs.declared.entry.BankEntry.{BankEntry}
@@ -26,12 +25,6 @@ use Rattle.description.specs.Broken.{BreaksIndexed, BreaksSlots, HoldsAt}
 use Rattle.description.specs.declared.faults.place.Flaw.{Flaw}
 use Rattle.description.specs.declared.faults.place.Flaw.TheVariants.{Unknown, Misfit, Item}
 use Rattle.description.specs.Shapes.{Fits, HasItem, IsItem, IsUnlisted, key_name}
-
--- whether something was read
-abbrev pub decided : {A : Type 0} → Result A BuildFault → Result Bool AllocError
-decided (Ok x) = Ok true
-decided (Err Shape) = Ok false
-decided (Err _) = Err alloc_error
 
 -- a table says what one of its name has to
 abbrev pub IsTableOf : TableName → Members → Type 0

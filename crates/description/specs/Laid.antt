@@ -1,8 +1,8 @@
 -- How frames are laid: object by object, over free ones.
-use Rattle.description.specs.Names.{ℕ, List, [], map, replicate, slice_set, unwrap_or, vec_len, All, Cap, Capability}
-use Rattle.description.specs.Names.{Void, Frame, Geometry, Content, Available, frames_in, void_held, AreKeptWords}
-use Rattle.description.specs.Names.{IsTarget, fresh_cap}
-use Rattle.std.specs.Prelude.{◌≡◌, ◌^◌, ◌<◌, ◌≤◌, ◌∷◌, ◌++◌}
+use Rattle.description.specs.Names.{ℕ, List, [], map, replicate, slice_set, unwrap_or, vec_len, All, Cap, Void, Frame}
+use Rattle.description.specs.Names.{Geometry, Content, Available, frames_in, void_held, AreKeptWords, IsTarget}
+use Rattle.description.specs.Names.{fresh_cap}
+use Rattle.std.specs.Prelude.{◌≡◌, ◌^◌, ◌<◌, ◌∷◌, ◌++◌}
 use Rattle.description.specs.declared.entry.BankEntry.{BankEntry}
 use Rattle.description.specs.declared.entry.Description.{Description}
 use Rattle.description.specs.declared.entry.NodeEntry.{NodeEntry}

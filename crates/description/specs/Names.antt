@@ -26,9 +26,8 @@ pub use Rattle.recovery.specs.Consistency.{AreNamed, AreWholeProcesses, IsUnbank
 pub use Rattle.recovery.specs.declared.consistency.reason.Unbanked.{Unbanked}
 pub use Rattle.std.specs.List.{All, Contains, list_any}
 pub use Rattle.std.specs.Prelude.{Bool, Err, IfSome, IsSomeAnd, IsTrue, List, MatchOption, None, Ok, Option, Result}
-pub use Rattle.std.specs.Prelude.{Some, Vec, [], alloc_error, codes, false, length, map, option_map, pos, replicate}
-pub use Rattle.std.specs.Prelude.{slice_get, slice_set, take, true, unwrap_or, vec_len, ℕ}
-pub use Rattle.std.specs.declared.alloc.AllocError.{AllocError}
+pub use Rattle.std.specs.Prelude.{Some, Vec, [], codes, false, length, map, option_map, pos, replicate, slice_get}
+pub use Rattle.std.specs.Prelude.{slice_set, take, true, unwrap_or, vec_len, ℕ}
 pub use Rattle.std.specs.declared.alloc.Global.{Global}
 pub use Rattle.toml.specs.Data.{Data, Items, Members, array, get_item, get_member, integer, item, member, no_items}
 pub use Rattle.toml.specs.Data.{no_members, same_key, string, table}

@@ -1,5 +1,6 @@
 -- What a function that reads answers.
 use Rattle.description.specs.Names.{Result, Ok, Err, List, Vec, Global, BuildFault, Shape, NoMemory}
+use Rattle.std.specs.Prelude.{◌≡◌}
 
 -- nothing is said, or memory ran out; no other fault comes
 abbrev pub Fails : {A : Type 0} → (A → Type 0) → BuildFault → Type 0
@@ -12,7 +13,12 @@ abbrev pub Reads : {A : Type 0} → (A → Type 0) → Result A BuildFault → T
 Reads P (Ok x) = P x
 Reads P (Err e) = Fails P e
 
--- the same of a list
+-- it answers what is said, or `Shape` where nothing is
+abbrev pub Finds : {A : Type 0} → (A → Type 0) → Result A BuildFault → Type 0
+Finds P (Ok x) = P x
+Finds {A = A} P (Err e) = (e ≡ Shape) × ((x : A) → P x → ⊥)
+
+-- `Reads` of a list
 abbrev pub ReadsList : {A : Type 0} → (List A → Type 0) → Result (Vec A Global) BuildFault → Type 0
 ReadsList P (Ok v) = P v.items
 ReadsList P (Err e) = Fails P e

@@ -12,6 +12,7 @@ use Rattle.description.specs.declared.entry.PageEntry.{PageEntry}
 use Rattle.description.specs.declared.entry.ProcessEntry.{ProcessEntry}
 use Rattle.description.specs.declared.entry.SlotEntry.{SlotEntry}
 use Rattle.description.specs.declared.entry.WordEntry.{WordEntry}
+use Rattle.description.specs.declared.object.ProcessFields.{ProcessFields}
 
 -- Values
 
@@ -92,6 +93,19 @@ pub record IsBank (ms : Members) (bank : BankEntry) : Type 0 where
   pub owner : At (codes "owner") IsNumber ms bank.owner
   pub limit : At (codes "limit") IsWideNumber ms bank.limit
 
+-- the fields of a process beside its registers
+pub record HasProcessFields (ms : Members) (fields : ProcessFields) : Type 0 where
+  pub known : IsTrue (has_only
+      (codes "root" ∷ codes "annex" ∷ codes "owner" ∷ codes "state" ∷ codes "key" ∷ codes "words" ∷ codes "space" ∷
+      codes "registers" ∷ []) ms)
+  pub root : At (codes "root") IsNumber ms fields.root
+  pub annex : At (codes "annex") IsNumber ms fields.annex
+  pub owner : At (codes "owner") IsNumber ms fields.owner
+  pub state : At (codes "state") IsState ms fields.state
+  pub key : AtOr 0 (codes "key") IsNumber ms fields.key
+  pub words : AtOr (0 ∷ 0 ∷ 0 ∷ 0 ∷ []) (codes "words") AreFour ms fields.words
+  pub space : AtOr (Some Void) (codes "space") IsCapability ms fields.space
+
 pub record IsProcess (ms : Members) (process : ProcessEntry) : Type 0 where
   pub known : IsTrue (has_only
       (codes "root" ∷ codes "annex" ∷ codes "owner" ∷ codes "state" ∷ codes "key" ∷ codes "words" ∷ codes "space" ∷
@@ -104,6 +118,12 @@ pub record IsProcess (ms : Members) (process : ProcessEntry) : Type 0 where
   pub words : AtOr (0 ∷ 0 ∷ 0 ∷ 0 ∷ []) (codes "words") AreFour ms process.words
   pub space : AtOr (Some Void) (codes "space") IsCapability ms process.space
   pub registers : AtOr [] (codes "registers") (IsList IsSlot) ms process.registers.items
+
+-- a number and an owner, in a table with no other keys than these and that of a list
+pub record HasNumberAndOwner (list : List ℕ) (ms : Members) (numbers : ℕ × ℕ) : Type 0 where
+  pub known : IsTrue (has_only (codes "number" ∷ codes "owner" ∷ list ∷ []) ms)
+  pub number : At (codes "number") IsNumber ms numbers.0
+  pub owner : At (codes "owner") IsNumber ms numbers.1
 
 pub record IsNode (ms : Members) (node : NodeEntry) : Type 0 where
   pub known : IsTrue (has_only (codes "number" ∷ codes "owner" ∷ codes "slots" ∷ []) ms)

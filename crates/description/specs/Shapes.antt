@@ -3,10 +3,6 @@ use Rattle.description.specs.Names.{ℕ, Bool, true, false, List, [], Option, No
 use Rattle.description.specs.Names.{IsTrue, Contains, list_any, Global, NumberRange, Capability, Void, State, Data}
 use Rattle.description.specs.Names.{Items, Members, array, table, get_item, get_member, same_key}
 use Rattle.std.specs.Prelude.{◌≡◌, ◌∷◌}
-use Rattle.description.specs.declared.entry.BankEntry.{BankEntry}
-use Rattle.description.specs.declared.entry.NodeEntry.{NodeEntry}
-use Rattle.description.specs.declared.entry.PageEntry.{PageEntry}
-use Rattle.description.specs.declared.entry.ProcessEntry.{ProcessEntry}
 use Rattle.description.specs.declared.entry.SlotEntry.{SlotEntry}
 use Rattle.description.specs.declared.entry.WordEntry.{WordEntry}
 use Rattle.description.specs.Reading.{AreFour}

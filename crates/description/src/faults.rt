@@ -1,5 +1,4 @@
 // Where a description of an image breaks a rule.
-mod decided;
 mod fields;
 mod indexes;
 mod key;

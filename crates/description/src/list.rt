@@ -1,15 +1,20 @@
 // Lists of values.
-ghost use Rattle.std.specs.Prelude.{◌∷◌, []};
-ghost use Rattle.toml.specs.Data.{Data};
+ghost use Rattle.std.specs.Prelude.{◌≡◌, ◌↔◌, ◌∷◌, ℕ, [], IsTrue, List, MatchResult, Vec};
+ghost use Rattle.std.specs.List.{All};
+ghost use Rattle.std.specs.declared.alloc.Global.{Global};
+ghost use Rattle.toml.specs.Data.{Data, array, item, no_items};
 ghost use Rattle.toml.specs.View.{table_view, view};
-ghost use Rattle.description.specs.Outcomes.{Reads, ReadsList};
-ghost use Rattle.description.specs.Reading.{AreFour, AtOr, IsList, IsRange, IsSlot, IsWideNumber, IsWord};
+ghost use Rattle.image_writer.specs.declared.fault.BuildFault.TheVariants.{Shape};
+ghost use Rattle.description.specs.Outcomes.{Finds, Reads, ReadsList};
+ghost use Rattle.description.specs.Reading.{AreFour, AtOr, IsList, IsRange, IsSlot, IsWord};
+ghost use Rattle.description.specs.Shapes.{HasList};
 
 use crate::entry::{SlotEntry, WordEntry};
 use crate::member::member;
 use crate::value::{array_of, capability_at, number_of, pair_of, wide_number_of};
 use image_writer::{BuildFault, NumberRange};
 use std::alloc::Global;
+use toml::value::Array;
 use toml::{Table, Value};
 
 //// What a value in a list is read as.
@@ -17,9 +22,45 @@ pub trait FromValue: Drop {
     /// Whether a value says this.
     ghost IsSaid: { Data → Self → Type 0 };
 
+    /// Whether a value says one of this type.
+    fn is_said(value: &Value) -> bool
+        ensures { IsTrue result ↔ ((x : Self) × IsSaid (view value.now) x) };
+
     /// Reads a value. `Shape` if it says none, `NoMemory` if memory ran out.
     fn from_value(alloc: Global, value: &Value) -> Result<Self, BuildFault>
         ensures { Reads (IsSaid (view value.now)) result };
+}
+
+// Whether each value says one of this type.
+fn are_said<T: FromValue>(items: &Array) -> bool
+    ensures { IsTrue result ↔ All (λ v. (x : T) × T.IsSaid (view v) x) items.now.items }
+{
+    for i in 0..items.len() {
+        if !T::is_said(&items[i]) {
+            return false;
+        }
+    }
+    true
+}
+
+// Whether a value is a list of values of this type.
+fn is_list_of<T: FromValue>(value: &Value) -> bool
+    ensures { IsTrue result ↔ ((v : Vec T Global) × IsList T.IsSaid (view value.now) v.items) }
+{
+    match array_of(value) {
+        Ok(items) => are_said::<T>(items),
+        Err(_) => false,
+    }
+}
+
+/// Whether a list of values of this type is at a key, or nothing.
+pub(crate) fn may_have_list<T: FromValue>(table: &Table, key: &str) -> bool
+    ensures { IsTrue result ↔ HasList T.IsSaid key.now (table_view table.now) }
+{
+    match member(table, key) {
+        Some(value) => is_list_of::<T>(value),
+        None => true,
+    }
 }
 
 // The values of a list.
@@ -50,65 +91,102 @@ pub fn list_or_empty<T: FromValue>(
     }
 }
 
-impl FromValue for u64 {
-    ghost IsSaid = { IsWideNumber };
-
-    fn from_value(_alloc: Global, value: &Value) -> Result<u64, BuildFault> {
-        wide_number_of(value)
+// The four values of a list of four, which are to be words.
+fn quad_of(value: &Value) -> Result<(&Value, &Value, &Value, &Value), BuildFault>
+    ensures { MatchResult result
+        (λ q. view value.now ≡ array (item (view q.0.now) (item (view q.1.now)
+        (item (view q.2.now) (item (view q.3.now) no_items)))))
+        (λ e. (e ≡ Shape) × ((words : List ℕ) → AreFour (view value.now) words → ⊥)) }
+{
+    let items = array_of(value)?;
+    match items.as_slice() {
+        [first, second, third, fourth] => Ok((first, second, third, fourth)),
+        _ => Err(BuildFault::Shape),
     }
 }
 
 // The four words of a list of four.
-fn four_of(alloc: Global, value: &Value) -> Result<[u64; 4], BuildFault>
-    ensures { Reads (AreFour (view value.now)) result }
+fn four_of(value: &Value) -> Result<[u64; 4], BuildFault>
+    ensures { Finds (AreFour (view value.now)) result }
 {
-    let numbers: Vec<u64> = list_of(alloc, value)?;
-    if numbers.len() != 4 {
-        return Err(BuildFault::Shape);
-    }
-    Ok([numbers[0], numbers[1], numbers[2], numbers[3]])
+    let (first, second, third, fourth) = quad_of(value)?;
+    Ok([
+        wide_number_of(first)?,
+        wide_number_of(second)?,
+        wide_number_of(third)?,
+        wide_number_of(fourth)?,
+    ])
 }
 
-/// The four words at a key, zeros if the key is missing. `Shape` if another value is there, `NoMemory` if
-/// memory ran out.
-pub fn four_or_zeros(alloc: Global, table: &Table, key: &str) -> Result<[u64; 4], BuildFault>
-    ensures { Reads (AtOr (0 ∷ 0 ∷ 0 ∷ 0 ∷ []) key.now AreFour (table_view table.now)) result }
+/// The four words at a key, zeros if the key is missing. `Shape` if another value is there.
+pub fn four_or_zeros(table: &Table, key: &str) -> Result<[u64; 4], BuildFault>
+    ensures { Finds (AtOr (0 ∷ 0 ∷ 0 ∷ 0 ∷ []) key.now AreFour (table_view table.now)) result }
 {
     match member(table, key) {
-        Some(value) => four_of(alloc, value),
+        Some(value) => four_of(value),
         None => Ok([0; 4]),
     }
+}
+
+fn slot_of(value: &Value) -> Result<SlotEntry, BuildFault>
+    ensures { Finds (IsSlot (view value.now)) result }
+{
+    let (index, text) = pair_of(value)?;
+    let index = number_of(index)?;
+    let capability = capability_at(text)?;
+    Ok(SlotEntry { index, capability })
+}
+
+fn word_of(value: &Value) -> Result<WordEntry, BuildFault>
+    ensures { Finds (IsWord (view value.now)) result }
+{
+    let (index, word) = pair_of(value)?;
+    let index = number_of(index)?;
+    let word = wide_number_of(word)?;
+    Ok(WordEntry { index, word })
+}
+
+fn range_of(value: &Value) -> Result<NumberRange, BuildFault>
+    ensures { Finds (IsRange (view value.now)) result }
+{
+    let (first, count) = pair_of(value)?;
+    let first = number_of(first)?;
+    let count = number_of(count)?;
+    Ok(NumberRange { first, count })
 }
 
 impl FromValue for SlotEntry {
     ghost IsSaid = { IsSlot };
 
+    fn is_said(value: &Value) -> bool {
+        slot_of(value).is_ok()
+    }
+
     fn from_value(_alloc: Global, value: &Value) -> Result<SlotEntry, BuildFault> {
-        let (index, text) = pair_of(value)?;
-        let index = number_of(index)?;
-        let capability = capability_at(text)?;
-        Ok(SlotEntry { index, capability })
+        slot_of(value)
     }
 }
 
 impl FromValue for WordEntry {
     ghost IsSaid = { IsWord };
 
+    fn is_said(value: &Value) -> bool {
+        word_of(value).is_ok()
+    }
+
     fn from_value(_alloc: Global, value: &Value) -> Result<WordEntry, BuildFault> {
-        let (index, word) = pair_of(value)?;
-        let index = number_of(index)?;
-        let word = wide_number_of(word)?;
-        Ok(WordEntry { index, word })
+        word_of(value)
     }
 }
 
 impl FromValue for NumberRange {
     ghost IsSaid = { IsRange };
 
+    fn is_said(value: &Value) -> bool {
+        range_of(value).is_ok()
+    }
+
     fn from_value(_alloc: Global, value: &Value) -> Result<NumberRange, BuildFault> {
-        let (first, count) = pair_of(value)?;
-        let first = number_of(first)?;
-        let count = number_of(count)?;
-        Ok(NumberRange { first, count })
+        range_of(value)
     }
 }

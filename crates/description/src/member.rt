@@ -1,10 +1,10 @@
 // What a table has at its keys.
-ghost use Rattle.std.specs.Prelude.{◌≡◌, IfNone, IfSome, IsSome, IsTrue, Some, false, map, option_map};
+ghost use Rattle.std.specs.Prelude.{◌≡◌, ◌↔◌, ℕ, IfNone, IfSome, IsSome, IsTrue, Some, false, map, option_map};
 ghost use Rattle.std.specs.List.{list_any};
 ghost use Rattle.model.specs.declared.capability.Capability.TheVariants.{Void};
 ghost use Rattle.toml.specs.Data.{get_member, same_key};
 ghost use Rattle.toml.specs.View.{table_view, view};
-ghost use Rattle.description.specs.Outcomes.{Reads};
+ghost use Rattle.description.specs.Outcomes.{Finds};
 ghost use Rattle.description.specs.Reading.{At, AtOr, IsCapability, IsNumber, IsState, IsWideNumber, has_key, has_only};
 
 use crate::value::{capability_at, number_of, state_at, wide_number_of};
@@ -37,7 +37,7 @@ pub fn unknown_key<'a>(table: &'a Table, known: &[&str]) -> Option<&'a str>
 
 // A table has no other keys than these.
 pub(crate) fn check_keys(table: &Table, known: &[&str]) -> Result<(), BuildFault>
-    ensures { Reads (λ _. IsTrue (has_only (map (λ k. k.now) known.now) (table_view table.now)))
+    ensures { Finds (λ _. IsTrue (has_only (map (λ k. k.now) known.now) (table_view table.now)))
         result }
 {
     match unknown_key(table, known) {
@@ -55,7 +55,7 @@ pub fn member<'a>(table: &'a Table, key: &str) -> Option<&'a Value>
 
 /// The number at a key. `Shape` if there is none.
 pub fn number(table: &Table, key: &str) -> Result<u64, BuildFault>
-    ensures { Reads (At key.now IsNumber (table_view table.now)) result }
+    ensures { Finds (At key.now IsNumber (table_view table.now)) result }
 {
     match member(table, key) {
         Some(value) => number_of(value),
@@ -65,7 +65,7 @@ pub fn number(table: &Table, key: &str) -> Result<u64, BuildFault>
 
 /// The number of 64 bits at a key. `Shape` if there is none.
 pub fn wide_number(table: &Table, key: &str) -> Result<u64, BuildFault>
-    ensures { Reads (At key.now IsWideNumber (table_view table.now)) result }
+    ensures { Finds (At key.now IsWideNumber (table_view table.now)) result }
 {
     match member(table, key) {
         Some(value) => wide_number_of(value),
@@ -75,7 +75,7 @@ pub fn wide_number(table: &Table, key: &str) -> Result<u64, BuildFault>
 
 /// The number at a key, or the default if the key is missing. `Shape` if another value is there.
 pub fn number_or(table: &Table, key: &str, default: u64) -> Result<u64, BuildFault>
-    ensures { Reads (AtOr default key.now IsNumber (table_view table.now)) result }
+    ensures { Finds (AtOr default key.now IsNumber (table_view table.now)) result }
 {
     match member(table, key) {
         Some(value) => number_of(value),
@@ -83,9 +83,23 @@ pub fn number_or(table: &Table, key: &str, default: u64) -> Result<u64, BuildFau
     }
 }
 
+// Whether a number is at a key.
+pub(crate) fn has_number(table: &Table, key: &str) -> bool
+    ensures { IsTrue result ↔ ((n : ℕ) × At key.now IsNumber (table_view table.now) n) }
+{
+    number(table, key).is_ok()
+}
+
+// Whether a number is at a key, or nothing.
+pub(crate) fn may_have_number(table: &Table, key: &str, default: u64) -> bool
+    ensures { IsTrue result ↔ ((n : ℕ) × AtOr default key.now IsNumber (table_view table.now) n) }
+{
+    number_or(table, key, default).is_ok()
+}
+
 /// The state at a key, or nothing for a text that is that of no state. `Shape` if there is no text.
 pub fn state(table: &Table, key: &str) -> Result<Option<State>, BuildFault>
-    ensures { Reads (At key.now IsState (table_view table.now)) result }
+    ensures { Finds (At key.now IsState (table_view table.now)) result }
 {
     match member(table, key) {
         Some(value) => state_at(value),
@@ -96,7 +110,7 @@ pub fn state(table: &Table, key: &str) -> Result<Option<State>, BuildFault>
 /// The capability at a key, void if the key is missing, or nothing for a text that is that of no capability. `Shape` if
 /// another value is there.
 pub fn capability_or_void(table: &Table, key: &str) -> Result<Option<Capability>, BuildFault>
-    ensures { Reads (AtOr (Some Void) key.now IsCapability (table_view table.now)) result }
+    ensures { Finds (AtOr (Some Void) key.now IsCapability (table_view table.now)) result }
 {
     match member(table, key) {
         Some(value) => capability_at(value),

@@ -1,18 +1,23 @@
 // Banks, processes, nodes and pages.
+ghost use Rattle.std.specs.Prelude.{◌↔◌, ℕ, IsTrue};
 ghost use Rattle.toml.specs.View.{table_view};
-ghost use Rattle.description.specs.Outcomes.{Reads};
-ghost use Rattle.description.specs.Reading.{IsBank, IsNode, IsPage, IsProcess, IsTable};
+ghost use Rattle.description.specs.Outcomes.{Finds};
+ghost use Rattle.description.specs.Reading.{HasNumberAndOwner, HasProcessFields, IsBank, IsNode, IsPage, IsProcess};
+ghost use Rattle.description.specs.Reading.{IsTable};
+ghost use Rattle.description.specs.Shapes.{HasList};
+ghost use Rattle.description.specs.declared.entry.ProcessEntry.{ProcessEntry};
 
-use crate::entry::{BankEntry, NodeEntry, PageEntry, ProcessEntry};
-use crate::list::{FromValue, four_or_zeros, list_or_empty};
+use crate::entry::{BankEntry, NodeEntry, PageEntry, ProcessEntry, SlotEntry, WordEntry};
+use crate::list::{FromValue, four_or_zeros, list_or_empty, may_have_list};
 use crate::member::{capability_or_void, check_keys, number, number_or, state, wide_number};
 use crate::value::table_of;
 use image_writer::BuildFault;
+use model::{Capability, State};
 use std::alloc::Global;
 use toml::{Table, Value};
 
 fn read_bank(table: &Table) -> Result<BankEntry, BuildFault>
-    ensures { Reads (IsBank (table_view table.now)) result }
+    ensures { Finds (IsBank (table_view table.now)) result }
 {
     check_keys(table, &["number", "owner", "limit"])?;
     Ok(BankEntry {
@@ -22,8 +27,20 @@ fn read_bank(table: &Table) -> Result<BankEntry, BuildFault>
     })
 }
 
-fn read_process(alloc: Global, table: &Table) -> Result<ProcessEntry, BuildFault>
-    ensures { Reads (IsProcess (table_view table.now)) result }
+// What a process has beside its registers.
+#[derive(Clone, Copy)]
+struct ProcessFields {
+    root: u64,
+    annex: u64,
+    owner: u64,
+    state: Option<State>,
+    key: u64,
+    words: [u64; 4],
+    space: Option<Capability>,
+}
+
+fn read_fields(table: &Table) -> Result<ProcessFields, BuildFault>
+    ensures { Finds (HasProcessFields (table_view table.now)) result }
 {
     check_keys(
         table,
@@ -43,10 +60,9 @@ fn read_process(alloc: Global, table: &Table) -> Result<ProcessEntry, BuildFault
     let owner = number(table, "owner")?;
     let state = state(table, "state")?;
     let key = number_or(table, "key", 0)?;
-    let words = four_or_zeros(alloc, table, "words")?;
+    let words = four_or_zeros(table, "words")?;
     let space = capability_or_void(table, "space")?;
-    let registers = list_or_empty(alloc, table, "registers")?;
-    Ok(ProcessEntry {
+    Ok(ProcessFields {
         root,
         annex,
         owner,
@@ -54,40 +70,49 @@ fn read_process(alloc: Global, table: &Table) -> Result<ProcessEntry, BuildFault
         key,
         words,
         space,
-        registers,
     })
 }
 
-fn read_node(alloc: Global, table: &Table) -> Result<NodeEntry, BuildFault>
-    ensures { Reads (IsNode (table_view table.now)) result }
+// Whether a table is that of a process.
+fn is_process(table: &Table) -> bool
+    ensures { IsTrue result ↔ ((p : ProcessEntry) × IsProcess (table_view table.now) p) }
 {
-    check_keys(table, &["number", "owner", "slots"])?;
-    let owner = number(table, "owner")?;
-    let number = number(table, "number")?;
-    let slots = list_or_empty(alloc, table, "slots")?;
-    Ok(NodeEntry {
-        number,
-        owner,
-        slots,
-    })
+    match read_fields(table) {
+        Ok(_) => may_have_list::<SlotEntry>(table, "registers"),
+        Err(_) => false,
+    }
 }
 
-fn read_page(alloc: Global, table: &Table) -> Result<PageEntry, BuildFault>
-    ensures { Reads (IsPage (table_view table.now)) result }
+// The number and the owner of an object whose table has these two and a list at a key.
+fn read_numbers(table: &Table, list: &str) -> Result<(u64, u64), BuildFault>
+    ensures { Finds (HasNumberAndOwner list.now (table_view table.now)) result }
 {
-    check_keys(table, &["number", "owner", "words"])?;
+    check_keys(table, &["number", "owner", list])?;
     let owner = number(table, "owner")?;
     let number = number(table, "number")?;
-    let words = list_or_empty(alloc, table, "words")?;
-    Ok(PageEntry {
-        number,
-        owner,
-        words,
-    })
+    Ok((number, owner))
+}
+
+// Whether a table has a number and an owner, and at a key nothing or a list of values of this type.
+fn is_numbered<T: FromValue>(table: &Table, list: &str) -> bool
+    ensures { IsTrue result ↔ (((numbers : ℕ × ℕ) × HasNumberAndOwner list.now (table_view table.now) numbers)
+        × HasList T.IsSaid list.now (table_view table.now)) }
+{
+    match read_numbers(table, list) {
+        Ok(_) => may_have_list::<T>(table, list),
+        Err(_) => false,
+    }
 }
 
 impl FromValue for BankEntry {
     ghost IsSaid = { IsTable IsBank };
+
+    fn is_said(value: &Value) -> bool {
+        match table_of(value) {
+            Ok(table) => read_bank(table).is_ok(),
+            Err(_) => false,
+        }
+    }
 
     fn from_value(_alloc: Global, value: &Value) -> Result<BankEntry, BuildFault> {
         let table = table_of(value)?;
@@ -98,26 +123,71 @@ impl FromValue for BankEntry {
 impl FromValue for ProcessEntry {
     ghost IsSaid = { IsTable IsProcess };
 
+    fn is_said(value: &Value) -> bool {
+        match table_of(value) {
+            Ok(table) => is_process(table),
+            Err(_) => false,
+        }
+    }
+
     fn from_value(alloc: Global, value: &Value) -> Result<ProcessEntry, BuildFault> {
         let table = table_of(value)?;
-        read_process(alloc, table)
+        let fields = read_fields(table)?;
+        let registers = list_or_empty(alloc, table, "registers")?;
+        let words = fields.words;
+        Ok(ProcessEntry {
+            root: fields.root,
+            annex: fields.annex,
+            owner: fields.owner,
+            state: fields.state,
+            key: fields.key,
+            words,
+            space: fields.space,
+            registers,
+        })
     }
 }
 
 impl FromValue for NodeEntry {
     ghost IsSaid = { IsTable IsNode };
 
+    fn is_said(value: &Value) -> bool {
+        match table_of(value) {
+            Ok(table) => is_numbered::<SlotEntry>(table, "slots"),
+            Err(_) => false,
+        }
+    }
+
     fn from_value(alloc: Global, value: &Value) -> Result<NodeEntry, BuildFault> {
         let table = table_of(value)?;
-        read_node(alloc, table)
+        let (number, owner) = read_numbers(table, "slots")?;
+        let slots = list_or_empty(alloc, table, "slots")?;
+        Ok(NodeEntry {
+            number,
+            owner,
+            slots,
+        })
     }
 }
 
 impl FromValue for PageEntry {
     ghost IsSaid = { IsTable IsPage };
 
+    fn is_said(value: &Value) -> bool {
+        match table_of(value) {
+            Ok(table) => is_numbered::<WordEntry>(table, "words"),
+            Err(_) => false,
+        }
+    }
+
     fn from_value(alloc: Global, value: &Value) -> Result<PageEntry, BuildFault> {
         let table = table_of(value)?;
-        read_page(alloc, table)
+        let (number, owner) = read_numbers(table, "words")?;
+        let words = list_or_empty(alloc, table, "words")?;
+        Ok(PageEntry {
+            number,
+            owner,
+            words,
+        })
     }
 }

@@ -1,7 +1,7 @@
 // A whole description.
 ghost use Rattle.std.specs.Prelude.{◌≡◌, IfErr, IfOk, IsErrOf, codes};
 ghost use Rattle.toml.specs.View.{table_view};
-ghost use Rattle.description.specs.Outcomes.{Fails, Reads, ReadsList};
+ghost use Rattle.description.specs.Outcomes.{Finds, Fails, Reads, ReadsList};
 ghost use Rattle.description.specs.Reading.{AtOr, IsDescription, IsGeometry, IsList, IsRange, whole_ranges};
 ghost use Rattle.description.specs.declared.entry.Description.{Description};
 ghost use Rattle.image_writer.specs.declared.fault.BuildFault.TheVariants.{NoMemory, Shape};
@@ -16,7 +16,7 @@ use toml::Table;
 
 // How much the image holds.
 fn read_geometry(table: &Table) -> Result<Geometry, BuildFault>
-    ensures { Reads (IsGeometry (table_view table.now)) result }
+    ensures { Finds (IsGeometry (table_view table.now)) result }
 {
     let nodes = number(table, "nodes")?;
     let pages = number(table, "pages")?;

@@ -2,7 +2,7 @@
 ghost use Rattle.std.specs.Prelude.{◌≡◌, ◌≢◌, ℕ, ◌^◌, ◌≤◌, None, Some, IfNone, IfSome, MatchResult};
 ghost use Rattle.toml.specs.Data.{Data, Items, Members, array, as_integer, table, item, no_items};
 ghost use Rattle.toml.specs.View.{array_view, table_view, view};
-ghost use Rattle.description.specs.Outcomes.{Reads};
+ghost use Rattle.description.specs.Outcomes.{Finds};
 ghost use Rattle.description.specs.Reading.{IsCapability, IsNumber, IsState, IsWideNumber};
 ghost use Rattle.image_writer.specs.declared.fault.BuildFault.TheVariants.{Shape};
 
@@ -27,7 +27,7 @@ fn large_number(capability: Option<Capability>) -> Option<u64>
 // The number that a text says, as that of a capability.
 fn number_in_text(value: &Value) -> Result<u64, BuildFault>
     requires { as_integer (view value.now) ≡ None }
-    ensures { Reads (IsWideNumber (view value.now)) result }
+    ensures { Finds (IsWideNumber (view value.now)) result }
 {
     let capability = capability_at(value)?;
     match large_number(capability) {
@@ -38,7 +38,7 @@ fn number_in_text(value: &Value) -> Result<u64, BuildFault>
 
 // A number that isn't negative.
 pub(crate) fn number_of(value: &Value) -> Result<u64, BuildFault>
-    ensures { Reads (IsNumber (view value.now)) result }
+    ensures { Finds (IsNumber (view value.now)) result }
 {
     match value.as_integer() {
         Some(number) => {
@@ -53,7 +53,7 @@ pub(crate) fn number_of(value: &Value) -> Result<u64, BuildFault>
 
 // A number of 64 bits: a text says it from 2^63 on.
 pub(crate) fn wide_number_of(value: &Value) -> Result<u64, BuildFault>
-    ensures { Reads (IsWideNumber (view value.now)) result }
+    ensures { Finds (IsWideNumber (view value.now)) result }
 {
     if value.is_integer() {
         number_of(value)
@@ -64,7 +64,7 @@ pub(crate) fn wide_number_of(value: &Value) -> Result<u64, BuildFault>
 
 // The capability that a text is of.
 pub(crate) fn capability_at(value: &Value) -> Result<Option<Capability>, BuildFault>
-    ensures { Reads (IsCapability (view value.now)) result }
+    ensures { Finds (IsCapability (view value.now)) result }
 {
     match value.as_str() {
         Some(text) => Ok(capability_of(text.as_bytes())),
@@ -74,7 +74,7 @@ pub(crate) fn capability_at(value: &Value) -> Result<Option<Capability>, BuildFa
 
 // The state that a text is of.
 pub(crate) fn state_at(value: &Value) -> Result<Option<State>, BuildFault>
-    ensures { Reads (IsState (view value.now)) result }
+    ensures { Finds (IsState (view value.now)) result }
 {
     match value.as_str() {
         Some(text) => Ok(state_of(text.as_bytes())),

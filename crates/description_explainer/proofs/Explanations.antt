@@ -1,11 +1,11 @@
 -- What is reported of a description holds.
-use Rattle.description_explainer.proofs.Names.{ℕ, List, sym, subst, Frame, Unbanked, AreBanked, AreNamed, IsUnbanked, NamesItsRole, unbanked_refuted}
-use Rattle.description_explainer.proofs.Names.{Description, HasFields, HasNumbers, IsDescribed, IsTarget, described_once, IsFirstBroken, IsWithinLimits}
-use Rattle.description_explainer.proofs.Names.{Refuses, all_kept, field_broken, limits_broken, number_broken, owner_broken, target_broken, Held, Limit}
-use Rattle.description_explainer.proofs.Names.{Misnumbered, Part, BreaksField, BreaksLimit, BreaksNumber, BreaksTarget, AllHave, BreaksIt, OneLacks, all_named}
-use Rattle.description_explainer.proofs.Names.{kind_broken, role_broken, target_refuted, field_refuted, ExplainsDescription, IfNone, IfSome, MatchOption}
-use Rattle.description_explainer.proofs.Names.{Members, IsDescription, Rule, rule_fault}
-use Rattle.std.proofs.Common.{◌≡◌, ◌≤◌}
+use Rattle.description_explainer.proofs.Names.{ℕ, List, subst, Frame, Unbanked, AreNamed, IsUnbanked, NamesItsRole, unbanked_refuted, Description, HasFields}
+use Rattle.description_explainer.proofs.Names.{HasNumbers, IsDescribed, IsTarget, described_once, IsFirstBroken, IsWithinLimits, Refuses, field_broken}
+use Rattle.description_explainer.proofs.Names.{limits_broken, number_broken, owner_broken, target_broken, Held, Limit, Misnumbered, Part, BreaksField}
+use Rattle.description_explainer.proofs.Names.{BreaksLimit, BreaksNumber, BreaksTarget, AllHave, BreaksIt, OneLacks, all_named, kind_broken, role_broken}
+use Rattle.description_explainer.proofs.Names.{target_refuted, field_refuted, ExplainsDescription, IfNone, IfSome, MatchOption, Members, IsDescription, Rule}
+use Rattle.description_explainer.proofs.Names.{rule_fault}
+use Rattle.std.proofs.Common.{◌≡◌}
 use Rattle.std.specs.Prelude.{Option, Some, None}
 use Rattle.description_explainer.specs.declared.place.Rule.TheVariants as rule
 use Rattle.description_explainer.proofs.Sizes.{limit_refuted}

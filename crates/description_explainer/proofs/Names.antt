@@ -11,7 +11,7 @@ pub use Rattle.description.specs.declared.faults.place.Held.{Held}
 pub use Rattle.description.specs.declared.faults.place.Limit.{Limit}
 pub use Rattle.description.specs.declared.faults.place.Misnumbered.{Misnumbered}
 pub use Rattle.description.specs.declared.faults.place.Part.{Part}
-pub use Rattle.image_builder.proofs.Rules.{all_kept, field_broken, limits_broken, number_broken, owner_broken, target_broken}
+pub use Rattle.image_builder.proofs.Rules.{field_broken, limits_broken, number_broken, owner_broken, target_broken}
 pub use Rattle.image_builder.specs.Built.{IsFirstBroken, IsWithinLimits, Refuses}
 pub use Rattle.image_writer.specs.Faults.{fault_number}
 pub use Rattle.image_writer.specs.Laid.{MayBeLaid}
@@ -22,9 +22,9 @@ pub use Rattle.layout.specs.declared.version.Version.{Version}
 pub use Rattle.model.specs.Keepable.{IsTarget}
 pub use Rattle.model.specs.declared.frame.Frame.{Frame}
 pub use Rattle.recovery.proofs.BankFaults.{unbanked_refuted}
-pub use Rattle.recovery.specs.Consistency.{AreBanked, AreNamed, IsUnbanked, NamesItsRole}
+pub use Rattle.recovery.specs.Consistency.{AreNamed, IsUnbanked, NamesItsRole}
 pub use Rattle.recovery.specs.declared.consistency.reason.Unbanked.{Unbanked}
-pub use Rattle.std.proofs.Common.{Err, Global, List, None, Ok, Option, Result, Some, String, [], ap, arith, codes, decimal, string_bytes, subst, sym, ℕ}
+pub use Rattle.std.proofs.Common.{Err, Global, List, None, Ok, Option, Result, Some, String, [], ap, arith, codes, decimal, string_bytes, subst, ℕ}
 pub use Rattle.std.proofs.lemmas.List.{append_assoc}
 pub use Rattle.std.proofs.lemmas.Result.{IfOk-weaker}
 pub use Rattle.std.specs.Prelude.{IfNone, IfSome, MatchOption, OnOk}

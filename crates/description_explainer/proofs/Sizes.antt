@@ -1,7 +1,7 @@
 -- A size that no image has isn't that of a description within the limits.
 use Rattle.description_explainer.proofs.Names.{List, Option, None, Some, subst, arith, MatchOption, version_number, Version, MayBeLaid, NumberRange}
 use Rattle.description_explainer.proofs.Names.{IsWithinLimits, Description, Limit, BreaksGeometry, BreaksLimit, BreaksRanges, ranges_refuted}
-use Rattle.std.proofs.Common.{◌≡◌, ◌<◌, ◌≤◌, ◌^◌}
+use Rattle.std.proofs.Common.{◌≡◌, ◌≤◌, ◌^◌}
 use Rattle.description.specs.declared.faults.place.Limit.TheVariants as limit
 
 pub limit_refuted : (d : Description) (l : Limit) → BreaksLimit d l → IsWithinLimits d → ⊥

@@ -1,5 +1,5 @@
 // Why the image of a table isn't built, and where.
-ghost use Rattle.std.specs.Prelude.{◌≡◌, Some, IfNone, IfOk, IfSome};
+ghost use Rattle.std.specs.Prelude.{◌≡◌, Some, IfNone, IfOk, IfSome, MatchOption};
 ghost use Rattle.toml.specs.Data.{Members};
 ghost use Rattle.toml.specs.View.{table_view};
 ghost use Rattle.model.specs.Frame.{frames_in};
@@ -77,18 +77,6 @@ fn explain_frames(
     }
 }
 
-// The frames of a description, beside what is known of it. Fails only where memory runs out.
-fn lay_whole(alloc: Global, description: &Description) -> Result<World, AllocError>
-    requires limits { IsWithinLimits description.now }
-    requires numbers { HasNumbers description.now }
-    requires fields { HasFields description.now }
-    requires targets { HasTargets description.now.geometry description.now }
-    ensures { IfOk result (λ w. AreLaid description.now w.headers.items w.contents.items) }
-{
-    let world = lay_described(alloc, description)?;
-    Ok(world)
-}
-
 // The rule that a description breaks beyond those of its numbers, fields and the kinds of capabilities, if it
 // breaks one.
 fn explain_world(alloc: Global, description: &Description) -> Result<Option<Rule>, AllocError>
@@ -98,45 +86,25 @@ fn explain_world(alloc: Global, description: &Description) -> Result<Option<Rule
     requires targets { HasTargets description.now.geometry description.now }
     ensures { IfOk result (λ found. ExplainsDescription description.now found) }
 {
-    let World { headers, contents } = lay_whole(alloc, description)?;
+    let World { headers, contents } = lay_described(alloc, description)?;
     let mut frames = Plain::new(description.geometry, headers, contents);
     explain_frames(alloc, description, &mut frames)
 }
 
-// The rule that a description breaks beyond those of its numbers and fields, if it breaks one.
-fn explain_targets(alloc: Global, description: &Description) -> Result<Option<Rule>, AllocError>
+// The rule for fields or for the kinds of capabilities, if a description breaks one of these.
+fn explain_objects(description: &Description) -> Option<Rule>
     requires limits { IsWithinLimits description.now }
     requires numbers { HasNumbers description.now }
-    requires fields { HasFields description.now }
-    ensures { IfOk result (λ found. ExplainsDescription description.now found) }
+    ensures { MatchOption result
+        (HasFields description.now × HasTargets description.now.geometry description.now)
+        (λ rule. ExplainsDescription description.now (Some rule)) }
 {
+    if let Some(part) = misfilled(description) {
+        return Some(Rule::Field(part));
+    }
     match failing(&OfItsKind::new(description.geometry), description) {
-        Some(at) => Ok(Some(Rule::Target(at))),
-        None => explain_world(alloc, description),
-    }
-}
-
-// The rule that a description breaks beyond that of its numbers, if it breaks one.
-fn explain_fields(alloc: Global, description: &Description) -> Result<Option<Rule>, AllocError>
-    requires limits { IsWithinLimits description.now }
-    requires numbers { HasNumbers description.now }
-    ensures { IfOk result (λ found. ExplainsDescription description.now found) }
-{
-    match misfilled(description) {
-        Some(part) => Ok(Some(Rule::Field(part))),
-        None => explain_targets(alloc, description),
-    }
-}
-
-// The rule that a description within the limits breaks, if it breaks one.
-fn explain_numbers(alloc: Global, description: &Description) -> Result<Option<Rule>, AllocError>
-    requires { IsWithinLimits description.now }
-    ensures { IfOk result (λ found. ExplainsDescription description.now found) }
-{
-    let found = misnumbered(alloc, description)?;
-    match found {
-        Some(number) => Ok(Some(Rule::Number(number))),
-        None => explain_fields(alloc, description),
+        Some(at) => Some(Rule::Target(at)),
+        None => None,
     }
 }
 
@@ -144,33 +112,28 @@ fn explain_numbers(alloc: Global, description: &Description) -> Result<Option<Ru
 fn explain_rules(alloc: Global, description: &Description) -> Result<Option<Rule>, AllocError>
     ensures { IfOk result (λ found. ExplainsDescription description.now found) }
 {
-    match beyond_limits(description) {
-        Some(limit) => Ok(Some(Rule::Limit(limit))),
-        None => explain_numbers(alloc, description),
+    if let Some(limit) = beyond_limits(description) {
+        return Ok(Some(Rule::Limit(limit)));
+    }
+    let found = misnumbered(alloc, description)?;
+    if let Some(number) = found {
+        return Ok(Some(Rule::Number(number)));
+    }
+    match explain_objects(description) {
+        Some(rule) => Ok(Some(rule)),
+        None => explain_world(alloc, description),
     }
 }
 
 // The place where a description breaks a rule, with the description, if it breaks one.
-fn explain_description<'a>(
-    alloc: Global,
-    description: Description,
-) -> Result<Option<Place<'a>>, AllocError>
-    ensures { (table : Members) → IsDescription table description → IfOk result (Explains table) }
+fn place_of<'a>(description: Description, found: Option<Rule>) -> Option<Place<'a>>
+    requires { ExplainsDescription description found }
+    ensures { (table : Members) → IsDescription table description → Explains table result }
 {
-    let found = explain_rules(alloc, &description)?;
     match found {
-        Some(rule) => Ok(Some(Place::Rule(description, rule))),
-        None => Ok(None),
+        Some(rule) => Some(Place::Rule(description, rule)),
+        None => None,
     }
-}
-
-// The place where a table hasn't the shape of a description.
-fn explain_shape<'a>(alloc: Global, table: &'a Table) -> Result<Option<Place<'a>>, AllocError>
-    requires { (d : Description) → IsDescription (table_view table.now) d → ⊥ }
-    ensures { IfOk result (Explains (table_view table.entry.now)) }
-{
-    let shape = misshapen(alloc, table)?;
-    Ok(Some(Place::Shape(shape)))
 }
 
 /// Where a table breaks the first rule that `build` refuses it for. Nothing if `build` accepts it on a device
@@ -179,8 +142,11 @@ pub fn explain<'a>(alloc: Global, table: &'a Table) -> Result<Option<Place<'a>>,
     ensures { IfOk result (Explains (table_view table.entry.now)) }
 {
     match Description::read(alloc, table) {
-        Ok(description) => explain_description(alloc, description),
-        Err(BuildFault::Shape) => explain_shape(alloc, table),
+        Ok(description) => match explain_rules(alloc, &description) {
+            Ok(found) => Ok(place_of(description, found)),
+            Err(error) => Err(error),
+        },
+        Err(BuildFault::Shape) => Ok(Some(Place::Shape(misshapen(table)))),
         Err(BuildFault::NoMemory) => Err(AllocError),
         Err(
             BuildFault::Limits

@@ -1,5 +1,5 @@
 // Where a table hasn't the shape of a description.
-ghost use Rattle.std.specs.Prelude.{◌≡◌, ◌≢◌, ◌↔◌, ℕ, None, Some, Vec, false, map, IfNone, IfOk, IfSome, IsTrue};
+ghost use Rattle.std.specs.Prelude.{◌≡◌, ◌≢◌, ◌↔◌, ℕ, None, Some, Vec, false, map, IfNone, IfSome, IsTrue};
 ghost use Rattle.std.specs.Prelude.{MatchOption};
 ghost use Rattle.std.specs.List.{All, Contains, list_any};
 ghost use Rattle.std.specs.declared.alloc.Global.{Global};
@@ -11,21 +11,22 @@ ghost use Rattle.description.specs.FaultOutcomes.{HasBadItem, HasItemAs, IsBadAt
 ghost use Rattle.description.specs.Shapes.{BreaksShape, Fits, HasItem, HasList, IsFlaw, IsUnlisted, key_name};
 ghost use Rattle.description.specs.Shapes.{keys_of, object_at};
 
-use crate::faults::decided::{decided, has_number, may_have_list, may_have_number, says};
 use crate::faults::key::Key;
 use crate::faults::place::{Flaw, ShapePlace, TableName};
-use crate::member::{capability_or_void, member, state, unknown_key, wide_number};
+use crate::list::may_have_list;
+use crate::member::{
+    capability_or_void, has_number, may_have_number, member, state, unknown_key, wide_number,
+};
 use crate::{
     BankEntry, FromValue, NodeEntry, PageEntry, ProcessEntry, SlotEntry, WordEntry, array_of,
     four_or_zeros, table_of,
 };
 use image_writer::NumberRange;
-use std::alloc::{AllocError, Global};
 use toml::{Table, Value};
 
 // Whether what stands at a key, or its being missing, says a value of its type.
-fn fits(alloc: Global, table: &Table, key: Key) -> Result<bool, AllocError>
-    ensures { IfOk result (λ fits. IsTrue fits ↔ Fits key (table_view table.now)) }
+fn fits(table: &Table, key: Key) -> bool
+    ensures { IsTrue result ↔ Fits key (table_view table.now) }
 {
     match key {
         Key::Nodes => has_number(table, "nodes"),
@@ -33,28 +34,28 @@ fn fits(alloc: Global, table: &Table, key: Key) -> Result<bool, AllocError>
         Key::Log => has_number(table, "log"),
         Key::Layout => may_have_number(table, "layout", 1),
         Key::Age => may_have_number(table, "age", 0),
-        Key::Ranges => may_have_list::<NumberRange>(alloc, table, "ranges"),
-        Key::Banks => may_have_list::<BankEntry>(alloc, table, "bank"),
-        Key::Processes => may_have_list::<ProcessEntry>(alloc, table, "process"),
-        Key::NodeList => may_have_list::<NodeEntry>(alloc, table, "node"),
-        Key::PageList => may_have_list::<PageEntry>(alloc, table, "page"),
+        Key::Ranges => may_have_list::<NumberRange>(table, "ranges"),
+        Key::Banks => may_have_list::<BankEntry>(table, "bank"),
+        Key::Processes => may_have_list::<ProcessEntry>(table, "process"),
+        Key::NodeList => may_have_list::<NodeEntry>(table, "node"),
+        Key::PageList => may_have_list::<PageEntry>(table, "page"),
         Key::BankNumber => has_number(table, "number"),
         Key::BankOwner => has_number(table, "owner"),
-        Key::BankLimit => decided(wide_number(table, "limit")),
+        Key::BankLimit => wide_number(table, "limit").is_ok(),
         Key::ProcessRoot => has_number(table, "root"),
         Key::ProcessAnnex => has_number(table, "annex"),
         Key::ProcessOwner => has_number(table, "owner"),
-        Key::ProcessState => decided(state(table, "state")),
+        Key::ProcessState => state(table, "state").is_ok(),
         Key::ProcessKey => may_have_number(table, "key", 0),
-        Key::ProcessWords => decided(four_or_zeros(alloc, table, "words")),
-        Key::ProcessSpace => decided(capability_or_void(table, "space")),
-        Key::ProcessRegisters => may_have_list::<SlotEntry>(alloc, table, "registers"),
+        Key::ProcessWords => four_or_zeros(table, "words").is_ok(),
+        Key::ProcessSpace => capability_or_void(table, "space").is_ok(),
+        Key::ProcessRegisters => may_have_list::<SlotEntry>(table, "registers"),
         Key::NodeNumber => has_number(table, "number"),
         Key::NodeOwner => has_number(table, "owner"),
-        Key::NodeSlots => may_have_list::<SlotEntry>(alloc, table, "slots"),
+        Key::NodeSlots => may_have_list::<SlotEntry>(table, "slots"),
         Key::PageNumber => has_number(table, "number"),
         Key::PageOwner => has_number(table, "owner"),
-        Key::PageWords => may_have_list::<WordEntry>(alloc, table, "words"),
+        Key::PageWords => may_have_list::<WordEntry>(table, "words"),
     }
 }
 
@@ -92,19 +93,18 @@ fn keys_of(name: TableName) -> &'static [Key]
 }
 
 // The first key of a table where nothing fits, if there is one.
-fn first_misfit(alloc: Global, table: &Table, name: TableName) -> Result<Option<Key>, AllocError>
-    ensures { IfOk result (λ found. MatchOption found
+fn first_misfit(table: &Table, name: TableName) -> Option<Key>
+    ensures { MatchOption result
         (All (λ key. Fits key (table_view table.now)) (keys_of name))
-        (λ key. Contains (keys_of name) key × (Fits key (table_view table.now) → ⊥))) }
+        (λ key. Contains (keys_of name) key × (Fits key (table_view table.now) → ⊥)) }
 {
     let keys = keys_of(name);
     for key in keys {
-        let is_fit = fits(alloc, table, *key)?;
-        if !is_fit {
-            return Ok(Some(*key));
+        if !fits(table, *key) {
+            return Some(*key);
         }
     }
-    Ok(None)
+    None
 }
 
 // A key that is none of the table's, if there is one.
@@ -142,106 +142,92 @@ fn stranger_in<'a>(table: &'a Table, name: TableName) -> Option<&'a str>
 }
 
 // The first value of a list that says none of this type, with its index. Nothing if there is no list.
-fn first_bad<'a, T: FromValue>(
-    alloc: Global,
-    value: &'a Value,
-) -> Result<Option<(usize, &'a Value)>, AllocError>
+fn first_bad<'a, T: FromValue>(value: &'a Value) -> Option<(usize, &'a Value)>
     requires { (v : Vec T Global) → IsList T.IsSaid (view value.now) v.items → ⊥ }
-    ensures { IfOk result (λ found. MatchOption found
+    ensures { MatchOption result
         ((ds : Items) → view value.entry.now ≡ array ds → ⊥)
-        (λ p. IsBadAt T.IsSaid p.0 (view p.1.now) (view value.entry.now))) }
+        (λ p. IsBadAt T.IsSaid p.0 (view p.1.now) (view value.entry.now)) }
 {
     let items = match array_of(value) {
         Ok(items) => items,
-        Err(_) => return Ok(None),
+        Err(_) => return None,
     };
     for i in 0..items.len() {
         let item = &items[i];
-        let is_said = says::<T>(alloc, item)?;
-        if !is_said {
-            return Ok(Some((i, item)));
+        if !T::is_said(item) {
+            return Some((i, item));
         }
     }
     unreachable!()
 }
 
 // The first value of the list at a key that says none of this type, with its index. Nothing if there is no list.
-fn bad_item<'a, T: FromValue>(
-    alloc: Global,
-    table: &'a Table,
-    key: &str,
-) -> Result<Option<(usize, &'a Value)>, AllocError>
+fn bad_item<'a, T: FromValue>(table: &'a Table, key: &str) -> Option<(usize, &'a Value)>
     requires { HasList T.IsSaid key.now (table_view table.now) → ⊥ }
-    ensures { IfOk result (λ found. MatchOption found
+    ensures { MatchOption result
         ((ds : Items) → get_member key.now (table_view table.entry.now) ≡ Some (array ds) → ⊥)
-        (λ p. HasBadItem T.IsSaid key.now p.0 (view p.1.now) (table_view table.entry.now))) }
+        (λ p. HasBadItem T.IsSaid key.now p.0 (view p.1.now) (table_view table.entry.now)) }
 {
     match member(table, key) {
-        Some(value) => first_bad::<T>(alloc, value),
-        None => Ok(None),
+        Some(value) => first_bad::<T>(value),
+        None => None,
     }
 }
 
 // The first value of the list at a key that says none of its type, with its index. Nothing if there is no list.
-fn bad_item_at<'a>(
-    alloc: Global,
-    table: &'a Table,
-    key: Key,
-) -> Result<Option<(usize, &'a Value)>, AllocError>
+fn bad_item_at<'a>(table: &'a Table, key: Key) -> Option<(usize, &'a Value)>
     requires { Fits key (table_view table.now) → ⊥ }
-    ensures { IfOk result (λ found. MatchOption found
+    ensures { MatchOption result
         (IsUnlisted key (table_view table.entry.now))
-        (λ p. HasItemAs key p.0 (view p.1.now) (table_view table.entry.now))) }
+        (λ p. HasItemAs key p.0 (view p.1.now) (table_view table.entry.now)) }
 {
     match key {
-        Key::Ranges => bad_item::<NumberRange>(alloc, table, "ranges"),
-        Key::Banks => bad_item::<BankEntry>(alloc, table, "bank"),
-        Key::Processes => bad_item::<ProcessEntry>(alloc, table, "process"),
-        Key::NodeList => bad_item::<NodeEntry>(alloc, table, "node"),
-        Key::PageList => bad_item::<PageEntry>(alloc, table, "page"),
-        Key::ProcessRegisters => bad_item::<SlotEntry>(alloc, table, "registers"),
-        Key::NodeSlots => bad_item::<SlotEntry>(alloc, table, "slots"),
-        Key::PageWords => bad_item::<WordEntry>(alloc, table, "words"),
-        _ => Ok(None),
+        Key::Ranges => bad_item::<NumberRange>(table, "ranges"),
+        Key::Banks => bad_item::<BankEntry>(table, "bank"),
+        Key::Processes => bad_item::<ProcessEntry>(table, "process"),
+        Key::NodeList => bad_item::<NodeEntry>(table, "node"),
+        Key::PageList => bad_item::<PageEntry>(table, "page"),
+        Key::ProcessRegisters => bad_item::<SlotEntry>(table, "registers"),
+        Key::NodeSlots => bad_item::<SlotEntry>(table, "slots"),
+        Key::PageWords => bad_item::<WordEntry>(table, "words"),
+        _ => None,
     }
 }
 
 // What is wrong at a key where nothing fits. The key is none of objects.
-fn flaw_at<'a>(alloc: Global, table: &Table, key: Key) -> Result<Flaw<'a>, AllocError>
+fn flaw_at<'a>(table: &Table, key: Key) -> Flaw<'a>
     requires unfit { Fits key (table_view table.now) → ⊥ }
     requires plain { (i : ℕ) → object_at key i ≡ None }
-    ensures { IfOk result (λ flaw. IsFlawAt key (table_view table.now) flaw) }
+    ensures { IsFlawAt key (table_view table.now) result }
 {
-    let found = bad_item_at(alloc, table, key)?;
-    match found {
-        Some((i, _)) => Ok(Flaw::Item(key, i)),
-        None => Ok(Flaw::Misfit(key)),
+    match bad_item_at(table, key) {
+        Some((i, _)) => Flaw::Item(key, i),
+        None => Flaw::Misfit(key),
     }
 }
 
 // What is wrong in the table of an object that has no other keys than its own.
-fn misfit_flaw<'a>(alloc: Global, table: &Table, name: TableName) -> Result<Flaw<'a>, AllocError>
+fn misfit_flaw<'a>(table: &Table, name: TableName) -> Flaw<'a>
     requires object { name ≢ TableName.Whole }
     requires known { IsTrue (has_only (map key_name (keys_of name)) (table_view table.now)) }
     requires refused { IsTableOf name (table_view table.now) → ⊥ }
-    ensures { IfOk result (λ flaw. IsFlaw (keys_of name) (table_view table.now) flaw) }
+    ensures { IsFlaw (keys_of name) (table_view table.now) result }
 {
-    let misfit = first_misfit(alloc, table, name)?;
-    match misfit {
-        Some(key) => flaw_at(alloc, table, key),
+    match first_misfit(table, name) {
+        Some(key) => flaw_at(table, key),
         None => unreachable!(),
     }
 }
 
 // What is wrong in the table of an object.
-fn flaw_in<'a>(alloc: Global, table: &'a Table, name: TableName) -> Result<Flaw<'a>, AllocError>
+fn flaw_in<'a>(table: &'a Table, name: TableName) -> Flaw<'a>
     requires object { name ≢ TableName.Whole }
     requires refused { IsTableOf name (table_view table.now) → ⊥ }
-    ensures { IfOk result (λ flaw. IsFlaw (keys_of name) (table_view table.entry.now) flaw) }
+    ensures { IsFlaw (keys_of name) (table_view table.entry.now) result }
 {
     match stranger_in(table, name) {
-        Some(key) => Ok(Flaw::Unknown(key)),
-        None => misfit_flaw(alloc, table, name),
+        Some(key) => Flaw::Unknown(key),
+        None => misfit_flaw(table, name),
     }
 }
 
@@ -268,63 +254,56 @@ fn in_whole(flaw: Flaw<'_>) -> ShapePlace<'_>
 }
 
 // What is wrong in an item of the list at a key, which says no value of its type.
-fn place_of_item<'a>(
-    alloc: Global,
-    key: Key,
-    index: usize,
-    value: &'a Value,
-) -> Result<ShapePlace<'a>, AllocError>
+fn place_of_item<'a>(key: Key, index: usize, value: &'a Value) -> ShapePlace<'a>
     requires whole { Contains (keys_of TableName.Whole) key }
     requires refused { IsWholeItem key (view value.now) → ⊥ }
     ensures { (ms : Members) → HasItem (key_name key) index (λ d. d ≡ view value.entry.now) ms
-        → IfOk result (BreaksShape ms) }
+        → BreaksShape ms result }
 {
     let name = match object_at(key, index) {
         Some(name) => name,
-        None => return Ok(in_whole(Flaw::Item(key, index))),
+        None => return in_whole(Flaw::Item(key, index)),
     };
     match table_of(value) {
-        Ok(object) => {
-            let flaw = flaw_in(alloc, object, name)?;
-            Ok(ShapePlace { table: name, flaw })
-        }
-        Err(_) => Ok(in_whole(Flaw::Item(key, index))),
+        Ok(object) => ShapePlace {
+            table: name,
+            flaw: flaw_in(object, name),
+        },
+        Err(_) => in_whole(Flaw::Item(key, index)),
     }
 }
 
 // Where a table that has no other keys than those of a description hasn't its shape.
-fn misfit_place<'a>(alloc: Global, table: &'a Table) -> Result<ShapePlace<'a>, AllocError>
+fn misfit_place<'a>(table: &'a Table) -> ShapePlace<'a>
     requires known { IsTrue (has_only (map key_name (keys_of TableName.Whole)) (table_view table.now)) }
     requires refused { (d : Description) → IsDescription (table_view table.now) d → ⊥ }
-    ensures { IfOk result (BreaksShape (table_view table.entry.now)) }
+    ensures { BreaksShape (table_view table.entry.now) result }
 {
-    let misfit = first_misfit(alloc, table, TableName::Whole)?;
-    match misfit {
-        Some(key) => place_at_key(alloc, table, key),
+    match first_misfit(table, TableName::Whole) {
+        Some(key) => place_at_key(table, key),
         None => unreachable!(),
     }
 }
 
 // Where at a key of a description, where nothing fits, the shape isn't right.
-fn place_at_key<'a>(alloc: Global, table: &'a Table, key: Key) -> Result<ShapePlace<'a>, AllocError>
+fn place_at_key<'a>(table: &'a Table, key: Key) -> ShapePlace<'a>
     requires whole { Contains (keys_of TableName.Whole) key }
     requires unfit { Fits key (table_view table.now) → ⊥ }
-    ensures { IfOk result (BreaksShape (table_view table.entry.now)) }
+    ensures { BreaksShape (table_view table.entry.now) result }
 {
-    let found = bad_item_at(alloc, table, key)?;
-    match found {
-        Some((index, value)) => place_of_item(alloc, key, index, value),
-        None => Ok(in_whole(Flaw::Misfit(key))),
+    match bad_item_at(table, key) {
+        Some((index, value)) => place_of_item(key, index, value),
+        None => in_whole(Flaw::Misfit(key)),
     }
 }
 
-/// Where a table that isn't that of a description hasn't its shape. Fails only where memory runs out.
-pub fn misshapen<'a>(alloc: Global, table: &'a Table) -> Result<ShapePlace<'a>, AllocError>
+/// Where a table that isn't that of a description hasn't its shape.
+pub fn misshapen<'a>(table: &'a Table) -> ShapePlace<'a>
     requires { (d : Description) → IsDescription (table_view table.now) d → ⊥ }
-    ensures { IfOk result (BreaksShape (table_view table.entry.now)) }
+    ensures { BreaksShape (table_view table.entry.now) result }
 {
     match stranger_in(table, TableName::Whole) {
-        Some(key) => Ok(in_whole(Flaw::Unknown(key))),
-        None => misfit_place(alloc, table),
+        Some(key) => in_whole(Flaw::Unknown(key)),
+        None => misfit_place(table),
     }
 }

@@ -1,12 +1,12 @@
-use Rattle.description.proofs.Names.{true, false, arith, to_z-of_z, is_negative, unsigned_abs, view}
+use Rattle.description.proofs.Names.{true, false, refl, arith, to_z-of_z, is_negative, unsigned_abs, view}
 use Rattle.std.proofs.Common.{◌≡◌, ◌<◌, ◌^◌}
-use Rattle.description.proofs.Types.{natural, negative, not_integer}
+use Rattle.description.proofs.Types.{natural, negative}
 use Rattle.description.proofs.value.number_of.Goals as goal
 
 pub returns-then-is_negative : goal.returns-then-is_negative
 returns-then-is_negative c =
     let below : is_negative c.in-Some.number ≡ true = grind (arith, to_z-of_z) in
-    negative (view c.args.value.now) c.in-Some.number c.in-Some.ensures below
+    (refl, negative (view c.args.value.now) c.in-Some.number c.in-Some.ensures below)
 
 pub returns-else-is_negative : goal.returns-else-is_negative
 returns-else-is_negative c =
@@ -14,6 +14,3 @@ returns-else-is_negative c =
     let size : c.unsigned_abs.result ≡ unsigned_abs c.in-Some.number = grind (arith, to_z-of_z) in
     let small : unsigned_abs c.in-Some.number < 2 ^ 63 = grind (arith, to_z-of_z) in
     rw size (natural (view c.args.value.now) c.in-Some.number c.in-Some.ensures above small)
-
-pub returns-in-None : goal.returns-in-None
-returns-in-None c = not_integer (view c.args.value.now) c.in-None.ensures

@@ -1,11 +1,8 @@
 use Rattle.description.proofs.Names.{Some, ap, view}
 use Rattle.std.proofs.Common.{◌∙◌}
-use Rattle.description.proofs.Types.{state_reported, no_state}
+use Rattle.description.proofs.Types.{state_reported}
 use Rattle.description.proofs.value.state_at.Goals as goal
 
 pub returns-in-Some : goal.returns-in-Some
 returns-in-Some c = state_reported (view c.args.value.now) c.as_bytes.result.now c.state_of.result (ap Some c.as_bytes.ensures.value ∙ c.in-Some.ensures)
     c.state_of.ensures.some c.state_of.ensures.none
-
-pub returns-in-None : goal.returns-in-None
-returns-in-None c = no_state (view c.args.value.now) c.in-None.ensures

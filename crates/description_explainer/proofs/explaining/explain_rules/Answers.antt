@@ -1,5 +1,10 @@
-use Rattle.description_explainer.proofs.Explanations.{explains_limit}
+use Rattle.description.proofs.Decisions.{at_some}
+use Rattle.description_explainer.proofs.Explanations.{explains_limit, explains_number}
 use Rattle.description_explainer.proofs.explaining.explain_rules.Goals as goal
 
 pub returns-in-Some : goal.returns-in-Some
 returns-in-Some c = explains_limit c.args.description.now c.in-Some.limit c.in-Some.ensures
+
+pub returns-in-Some-found : goal.returns-in-Some-found
+returns-in-Some-found c = explains_number c.args.description.now c.in_default.ensures c.in-Some-found.number
+    (at_some _ _ c.in_ok-found.found c.in-Some-found.number c.in-Some-found.is c.in_ok-found.ensures)

@@ -1,5 +1,5 @@
-use Rattle.description.proofs.Names.{get_member, table_view, view}
-use Rattle.description.proofs.Decisions.{not_listed, unsaid_at}
+use Rattle.description.proofs.Names.{table_view, view}
+use Rattle.description.proofs.Decisions.{unsaid_at}
 use Rattle.description.proofs.Flaws.{bad_found}
 use Rattle.description.proofs.faults.shape.bad_item.Goals as goal
 
@@ -9,6 +9,3 @@ first_bad-requires g c = unsaid_at g.T.FromValue.IsSaid c.args.key.now (table_vi
 pub returns-in-Some : goal.returns-in-Some
 returns-in-Some g c = bad_found g.T.FromValue.IsSaid c.args.key.now (table_view c.args.table.now) (view c.in-Some.value.now) c.first_bad.result
     c.in-Some.ensures c.first_bad.ensures
-
-pub returns-in-None : goal.returns-in-None
-returns-in-None g c = not_listed g.T.FromValue.IsSaid (get_member c.args.key.now (table_view c.args.table.now)) c.in-None.ensures

@@ -1,8 +1,7 @@
-use Rattle.description.proofs.Names.{[], length, get_or, sym, subst, arith, common_steps, length-append, take_all, items_view, view, AreItems, IsList}
-use Rattle.description.proofs.Names.{false≢true}
-use Rattle.std.proofs.Common.{◌≡◌, ◌<◌, ◌≤◌, ◌^◌, ◌++◌, ◌∷◌, ◌∙◌}
-use Rattle.description.proofs.Elements.{one_more}
-use Rattle.description.proofs.Decisions.{item_viewed, vec_of}
+use Rattle.description.proofs.Names.{length, get_or, sym, arith, common_steps, items_view, view, false≢true}
+use Rattle.std.proofs.Common.{◌≡◌, ◌<◌, ◌≤◌, ◌^◌, ◌∙◌}
+use Rattle.description.proofs.Decisions.{as_list, item_viewed}
+use Rattle.description.proofs.FaultElements.{all_taken, one_more}
 use Rattle.description.proofs.faults.shape.first_bad.Goals as goal
 
 pub returns-then-not-is_said : goal.returns-then-not-is_said
@@ -11,7 +10,7 @@ returns-then-not-is_said g c =
     let v = c.index-item.result.now in
     let within : c.loop-i.i < length vs = grind (arith, common_steps) in
     let at : get_or vs c.loop-i.i v ≡ v = grind (arith, common_steps) in
-    (items_view vs, c.in-Ok.ensures, item_viewed vs c.loop-i.i v within at, λ x is. false≢true (sym c.if-not-is_said.true ∙ c.in_ok-is_said.ensures.1 (x, is)))
+    (items_view vs, c.in-Ok.ensures, item_viewed vs c.loop-i.i v within at, λ x is. false≢true (sym c.if-not-is_said.true ∙ c.is_said.ensures.1 (x, is)))
 
 pub loop-i-preserved : goal.loop-i-preserved
 loop-i-preserved g c =
@@ -19,20 +18,14 @@ loop-i-preserved g c =
     let v = c.index-item.result.now in
     let within : c.loop-i.i < length vs = grind (arith, common_steps) in
     let at : get_or vs c.loop-i.i v ≡ v = grind (arith, common_steps) in
-    let before = c.loop-i.invariant in
-    let said = c.in_ok-is_said.ensures.0 c.if-not-is_said.false in
-    let x = said.0 in (
-      before.0 ++ x ∷ [],
-      omega (arith, before.1, length-append before.0 (x ∷ [])),
-      one_more g.T.FromValue.IsSaid vs c.loop-i.i before.0 v x within at before.2 said.1,
-    )
+    one_more (λ w. (x : g.row.T.Denot) × g.T.FromValue.IsSaid (view w) x) vs c.loop-i.i v within (sym at) c.loop-i.invariant
+    (c.is_said.ensures.0 c.if-not-is_said.false)
 
 pub unreachable-requires : goal.unreachable-requires
 unreachable-requires g c =
     let items = c.in-Ok.items.now in
-    let read = c.loop-i.invariant in
     let past : length items.items ≤ c.loop-i.i = omega (arith, c.loop-i-test.false, c.len-i-end.ensures, items.ok.0) in
-    let small : length read.0 < 2 ^ 63 = omega (arith, read.1, c.loop-i.auto.i-end, c.len-i-end.ensures, items.ok.1, items.small) in
-    let all = subst (λ vs. AreItems g.T.FromValue.IsSaid (items_view vs) read.0) (take_all c.loop-i.i items.items past) read.2 in
-    let v = vec_of c.args.alloc read.0 small in
-    c.requires v.0 (subst (λ xs. IsList g.T.FromValue.IsSaid (view c.args.value.now) xs) (sym v.1) (items_view items.items, c.in-Ok.ensures, all))
+    let all = all_taken (λ w. (x : g.row.T.Denot) × g.T.FromValue.IsSaid (view w) x) items.items c.loop-i.i past c.loop-i.invariant in
+    let small : length items.items < 2 ^ 63 = omega (arith, items.ok.0, items.ok.1, items.small) in
+    let list = as_list g.T.FromValue.IsSaid (view c.args.value.now) items.items small c.in-Ok.ensures all in
+    c.requires list.0 list.1

@@ -1,7 +1,6 @@
-use Rattle.description.proofs.Names.{List, length, take, items_view, AreItems}
-use Rattle.std.proofs.Common.{◌≡◌}
+use Rattle.description.proofs.Names.{take, view, All}
 use Rattle.description.proofs.faults.shape.first_bad.Given as goal
 
--- the values so far are read
+-- the values so far say one of the type each
 abbrev pub invariant-loop-i : goal.invariant-loop-i
-invariant-loop-i g l = (xs : List g.row.T.Denot) × (length xs ≡ l.i) × AreItems g.T.FromValue.IsSaid (items_view (take l.i l.items.items)) xs
+invariant-loop-i g l = All (λ v. (x : g.row.T.Denot) × g.T.FromValue.IsSaid (view v) x) (take l.i l.items.items)

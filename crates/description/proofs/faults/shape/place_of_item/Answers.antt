@@ -14,11 +14,11 @@ flaw_in-requires-clause-refused c =
     table_refused c.args.key c.args.index c.in-Some.name (view c.args.value.now) (table_view c.in-Ok.object.now) (sym c.in-Some.ensures) c.in-Ok.ensures
     c.requires.refused
 
-pub returns-in_ok-flaw-in-Ok : goal.returns-in_ok-flaw-in-Ok
-returns-in_ok-flaw-in-Ok c ms at =
-    object_place c.args.key c.args.index c.in-Some.name (view c.args.value.now) (table_view c.in-Ok.object.now) c.in_ok-flaw-in-Ok.flaw (sym c.in-Some.ensures)
+pub returns-in-Ok : goal.returns-in-Ok
+returns-in-Ok c ms at =
+    object_place c.args.key c.args.index c.in-Some.name (view c.args.value.now) (table_view c.in-Ok.object.now) c.flaw_in.result (sym c.in-Some.ensures)
     c.in-Ok.ensures
-    c.in_ok-flaw-in-Ok.ensures ms at
+    c.flaw_in.ensures ms at
 
 pub returns-in-Err : goal.returns-in-Err
 returns-in-Err c ms at =

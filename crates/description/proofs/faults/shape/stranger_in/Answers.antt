@@ -9,9 +9,6 @@ returns-in-Whole-clause-none c = rw c.in-Whole.is c.unknown_key.ensures.none
 pub returns-in-Bank-clause-unknown : goal.returns-in-Bank-clause-unknown
 returns-in-Bank-clause-unknown c = rw c.in-Bank.is c.unknown_key-in-Bank.ensures.unknown
 
-pub returns-in-Bank-clause-none : goal.returns-in-Bank-clause-none
-returns-in-Bank-clause-none c = rw c.in-Bank.is c.unknown_key-in-Bank.ensures.none
-
 pub returns-in-Process-clause-unknown : goal.returns-in-Process-clause-unknown
 returns-in-Process-clause-unknown c = rw c.in-Process.is c.unknown_key-in-Process.ensures.unknown
 
@@ -21,11 +18,5 @@ returns-in-Process-clause-none c = rw c.in-Process.is c.unknown_key-in-Process.e
 pub returns-in-Node-clause-unknown : goal.returns-in-Node-clause-unknown
 returns-in-Node-clause-unknown c = rw c.in-Node.is c.unknown_key-in-Node.ensures.unknown
 
-pub returns-in-Node-clause-none : goal.returns-in-Node-clause-none
-returns-in-Node-clause-none c = rw c.in-Node.is c.unknown_key-in-Node.ensures.none
-
 pub returns-in-Page-clause-unknown : goal.returns-in-Page-clause-unknown
 returns-in-Page-clause-unknown c = rw c.in-Page.is c.unknown_key-in-Page.ensures.unknown
-
-pub returns-in-Page-clause-none : goal.returns-in-Page-clause-none
-returns-in-Page-clause-none c = rw c.in-Page.is c.unknown_key-in-Page.ensures.none

@@ -1,5 +1,4 @@
-use Rattle.description.proofs.Names.{sym, subst, AllOfProcess}
-use Rattle.description.proofs.Decisions.{at_none}
+use Rattle.description.proofs.Names.{AllOfProcess}
 use Rattle.description.proofs.FaultElements.{all_taken, one_more}
 use Rattle.description.proofs.faults.targets.failing_in_processes.Goals as goal
 

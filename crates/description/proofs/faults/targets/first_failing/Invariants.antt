@@ -1,4 +1,4 @@
-use Rattle.description.proofs.Names.{take, All, AllIn}
+use Rattle.description.proofs.Names.{take, AllIn}
 use Rattle.description.proofs.faults.targets.first_failing.Given as goal
 
 abbrev pub invariant-loop-i : goal.invariant-loop-i

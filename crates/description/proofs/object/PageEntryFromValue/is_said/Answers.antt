@@ -1,0 +1,9 @@
+use Rattle.description.proofs.Names.{table_view, view, IsPage}
+use Rattle.description.proofs.Decisions.{table_said}
+use Rattle.description.proofs.Parts.{page_said}
+use Rattle.description.proofs.object.PageEntryFromValue.is_said.Goals as goal
+
+pub returns-in-Ok : goal.returns-in-Ok
+returns-in-Ok c =
+    let ms = table_view c.in-Ok.table.now in
+    table_said IsPage (view c.args.value.now) ms _ c.in-Ok.ensures (page_said ms _ c.is_numbered.ensures)
