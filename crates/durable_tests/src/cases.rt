@@ -1,11 +1,11 @@
 // What a store answers, step by step.
+use crate::fixtures::Fixtures;
 use crate::images::{AT_HOME, IN_LOG, LOGGED, OPENING, image};
 use crate::steps::{Step, try_each};
 use device::{Device, Failed};
 use devices::Outcome;
 use migrator::Durable;
 use model::{ObjectHeader, Refusal, Role};
-use std::alloc::Global;
 use std::test::Fail;
 
 const STEPS: &[Step] = &[
@@ -234,22 +234,25 @@ fn what_is_committed_is_there_after_a_cut(rt: HostRuntime) -> Result<(), Fail> {
     Ok(())
 }
 
-// How many headers come out, and whether each is that of its object.
-fn headers_of<D: Device>(alloc: Global, device: D) -> Result<(usize, bool), Fail> {
-    let opened = Durable::open::<Vec<ObjectHeader>>(alloc, device, &mut ())
-        .ok()
-        .ok_or("it opens")?;
-    let mut are_right = true;
-    for (number, header) in opened.taken.iter().enumerate() {
-        let role = if number < 16 { Role::Bank } else { Role::Page };
-        are_right = are_right && header.role == role && header.owner == 7;
+impl Fixtures {
+    // How many headers come out, and whether each is that of its object.
+    fn headers_of<D: Device>(&self, device: D) -> Result<(usize, bool), Fail> {
+        let opened = Durable::open::<Vec<ObjectHeader>>(self.alloc, device, &mut ())
+            .ok()
+            .ok_or("it opens")?;
+        let mut are_right = true;
+        for (number, header) in opened.taken.iter().enumerate() {
+            let role = if number < 16 { Role::Bank } else { Role::Page };
+            are_right = are_right && header.role == role && header.owner == 7;
+        }
+        Ok((opened.taken.len(), are_right))
     }
-    Ok((opened.taken.len(), are_right))
 }
 
 #[test]
 fn the_headers_of_all_frames_come_out(rt: HostRuntime) -> Result<(), Fail> {
     let device = image(&rt, Outcome::Drop, IN_LOG)?;
-    assert_eq!(rt; headers_of(rt.alloc(), device)?, (24, true));
+    let fixtures = Fixtures::new(rt.alloc());
+    assert_eq!(rt; fixtures.headers_of(device)?, (24, true));
     Ok(())
 }

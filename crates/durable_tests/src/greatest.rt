@@ -1,5 +1,5 @@
 // An image of the greatest size. Every second object is put.
-use crate::images::{build, opened};
+use crate::fixtures::Fixtures;
 use crate::rig::Rig;
 use device::{Device, Failed};
 use devices::{Memory, Outcome};
@@ -36,7 +36,8 @@ fn is_half_put<D: Device>(rig: &mut Rig<D>) -> Result<bool, Failed> {
 
 // Opens the device again, and returns how many entries it has and whether all objects are right.
 fn again<D: Device>(rig: Rig<D>) -> Result<(Rig<D>, u64, bool), Fail> {
-    let mut rig = opened(rig.alloc, rig.into_device())?;
+    let fixtures = rig.fixtures;
+    let mut rig = fixtures.opened(rig.into_device())?;
     let is_half_put = is_half_put(&mut rig)?;
     let entries = rig.saved().entries;
     Ok((rig, entries, is_half_put))
@@ -60,7 +61,8 @@ fn commit_and_migrate<D: Device>(rig: Rig<D>) -> Result<[bool; 3], Fail> {
 #[test]
 fn an_image_of_the_greatest_size(rt: HostRuntime) -> Result<(), Fail> {
     let memory = Memory::new(rt.alloc(), 131072, 150000, Outcome::Drop)?;
-    let rig = opened(rt.alloc(), build(rt.alloc(), memory, GREATEST)?)?;
+    let fixtures = Fixtures::new(rt.alloc());
+    let rig = fixtures.opened(fixtures.build(memory, GREATEST)?)?;
     assert_eq!(rt; commit_and_migrate(rig)?, [true, true, true]);
     Ok(())
 }

@@ -1,5 +1,5 @@
 // Images that the tests begin with.
-use crate::frames::frame;
+use crate::fixtures::Fixtures;
 use crate::rig::Rig;
 use crate::steps::{Step, Values, take_from};
 use device::{Device, Failed, SECTOR_SIZE};
@@ -10,7 +10,6 @@ use layout::{
     encode_superblock, write_frame,
 };
 use model::Geometry;
-use std::alloc::Global;
 use std::process::Abort;
 use std::test::Fail;
 
@@ -70,41 +69,51 @@ fn put_heads<D: Device>(device: &mut D, superblock: &Superblock) -> Result<(), F
     put_header(device, 1, 0)
 }
 
-// Writes the home frame of an object, with its number as its value.
-fn put_home<D: Device>(
-    alloc: Global,
-    device: &mut D,
-    superblock: &Superblock,
-    number: u64,
-) -> Result<(), Failed> {
-    let (header, content) = frame(alloc, superblock.geometry(), number, number)?;
-    if device.sectors() < superblock.total() {
-        return Err(Failed);
+impl Fixtures {
+    // Writes the home frame of an object, with its number as its value.
+    fn put_home<D: Device>(
+        &self,
+        device: &mut D,
+        superblock: &Superblock,
+        number: u64,
+    ) -> Result<(), Failed> {
+        let (header, content) = self.frame(superblock.geometry(), number, number)?;
+        if device.sectors() < superblock.total() {
+            return Err(Failed);
+        }
+        let (home, geometry) = (Home::new(superblock), superblock.geometry());
+        let (place, shape) = (home.place(number), home.shape(number));
+        write_frame(
+            device,
+            place,
+            shape,
+            geometry,
+            number,
+            header,
+            content.as_ref(),
+        )
     }
-    let (home, geometry) = (Home::new(superblock), superblock.geometry());
-    let (place, shape) = (home.place(number), home.shape(number));
-    write_frame(
-        device,
-        place,
-        shape,
-        geometry,
-        number,
-        header,
-        content.as_ref(),
-    )
-}
 
-/// Writes an image of generation 0 with nothing in the log. The values are
-/// the numbers.
-pub(crate) fn build<D: Device>(alloc: Global, device: D, geometry: Geometry) -> Result<D, Failed> {
-    let mut device = device;
-    let superblock = superblock(geometry).ok_or(Failed)?;
-    put_heads(&mut device, &superblock)?;
-    for number in 0..geometry.nodes.wrapping_add(geometry.pages) {
-        put_home(alloc, &mut device, &superblock, number)?;
+    /// Writes an image of generation 0 with nothing in the log. The values are
+    /// the numbers.
+    pub(crate) fn build<D: Device>(&self, device: D, geometry: Geometry) -> Result<D, Failed> {
+        let mut device = device;
+        let superblock = superblock(geometry).ok_or(Failed)?;
+        put_heads(&mut device, &superblock)?;
+        for number in 0..geometry.nodes.wrapping_add(geometry.pages) {
+            self.put_home(&mut device, &superblock, number)?;
+        }
+        device.sync()?;
+        Ok(device)
     }
-    device.sync()?;
-    Ok(device)
+
+    /// The store that a device holds.
+    pub(crate) fn opened<D: Device>(&self, device: D) -> Result<Rig<D>, Fail> {
+        match Rig::open(*self, device) {
+            Ok(rig) => Ok(rig),
+            Err(_) => Err(Fail::new("a device that isn't opened")),
+        }
+    }
 }
 
 /// What a device keeps of a sector that wasn't synced, and whether a gate that was written open is
@@ -145,13 +154,6 @@ pub(crate) fn image(
         log: 16,
     };
     let device = Memory::new(rt.alloc(), 399, 2000, outcome)?;
-    take_from(rt, build(rt.alloc(), device, geometry)?, steps, 0)
-}
-
-/// The store that a device holds.
-pub(crate) fn opened<D: Device>(alloc: Global, device: D) -> Result<Rig<D>, Fail> {
-    match Rig::open(alloc, device) {
-        Ok(rig) => Ok(rig),
-        Err(_) => Err(Fail::new("a device that isn't opened")),
-    }
+    let built = Fixtures::new(rt.alloc()).build(device, geometry)?;
+    take_from(rt, built, steps, 0)
 }

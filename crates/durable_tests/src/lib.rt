@@ -6,6 +6,8 @@ mod cases;
 #[cfg(test)]
 mod files;
 #[cfg(test)]
+mod fixtures;
+#[cfg(test)]
 mod frames;
 #[cfg(test)]
 mod greatest;

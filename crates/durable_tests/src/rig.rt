@@ -2,13 +2,13 @@
 ghost use Rattle.std.specs.Prelude.{◌≡◌, true, None};
 ghost use Rattle.migrator.specs.Durable.{stored_of, MayJournal};
 
-use crate::frames::{frame, value_of};
+use crate::fixtures::Fixtures;
+use crate::frames::value_of;
 use checkpoint::{Checkpoint, OpenFault, OpenRefused};
 use device::{Device, Failed};
 use layout::Scratch;
 use migrator::{Durable, Opened};
 use model::{MAX_AGE, ObjectHeader, Refusal, Role};
-use std::alloc::Global;
 use std::marker::Model;
 
 /// A store that is called only as its contracts allow. The frame of a node is a bank with a value
@@ -17,7 +17,7 @@ use std::marker::Model;
 /// that isn't later, or after a commit, a journaling or a migration that failed.
 #[derive(Drop)]
 pub(crate) struct Rig<D: Device> {
-    pub(crate) alloc: Global,
+    pub(crate) fixtures: Fixtures,
     store: Durable<D>,
     scratch: Scratch,
     /// Whether no commit, no journal and no migration failed.
@@ -42,16 +42,20 @@ impl<D: Device> Model for Rig<D> {
 
 impl<D: Device> Rig<D> {
     /// Opens a device.
-    pub(crate) fn open(alloc: Global, device: D) -> Result<Self, OpenRefused<D>> {
-        let Ok(scratch) = Scratch::new(alloc) else {
+    pub(crate) fn open(fixtures: Fixtures, device: D) -> Result<Self, OpenRefused<D>> {
+        let Ok(scratch) = Scratch::new(fixtures.alloc) else {
             return Err(OpenRefused {
                 fault: OpenFault::NoMemory,
                 device,
             });
         };
-        let Opened { store, .. } = Durable::open::<Vec<ObjectHeader>>(alloc, device, &mut ())?;
+        let Opened { store, .. } = Durable::open::<Vec<ObjectHeader>>(
+            fixtures.alloc,
+            device,
+            &mut (),
+        )?;
         Ok(Rig {
-            alloc,
+            fixtures,
             store,
             scratch,
             sound: true,
@@ -85,7 +89,7 @@ impl<D: Device> Rig<D> {
     /// Puts a frame of an object, with a value.
     pub(crate) fn put(&mut self, number: u64, value: u64) -> Result<(), Failed> {
         let geometry = self.store.geometry();
-        let (header, content) = frame(self.alloc, geometry, number, value)?;
+        let (header, content) = self.fixtures.frame(geometry, number, value)?;
         if self.working >= geometry.log {
             return Err(Failed);
         }
@@ -95,7 +99,8 @@ impl<D: Device> Rig<D> {
 
     /// Puts a frame of an object for the checkpoint on its way, with a value.
     pub(crate) fn put_frozen(&mut self, number: u64, value: u64) -> Result<(), Refusal> {
-        let Ok((header, content)) = frame(self.alloc, self.store.geometry(), number, value) else {
+        let geometry = self.store.geometry();
+        let Ok((header, content)) = self.fixtures.frame(geometry, number, value) else {
             return Err(Refusal::Fault);
         };
         if self.frozen >= self.size {

@@ -1,5 +1,6 @@
 // Calls of a store, and what each of them answers.
-use crate::images::{LOGGED, image, opened, put_header};
+use crate::fixtures::Fixtures;
+use crate::images::{LOGGED, image, put_header};
 use crate::rig::Rig;
 use checkpoint::Checkpoint;
 use device::{Device, Failed};
@@ -133,18 +134,18 @@ fn taken<D: Device>(rig: Rig<D>, step: Step) -> Result<Rig<D>, Fail> {
     if !is_answered(&mut rig, step) {
         return Err(Fail::new("another answer"));
     }
-    let alloc = rig.alloc;
+    let fixtures = rig.fixtures;
     match step {
-        Step::Open => opened(alloc, rig.into_device()),
+        Step::Open => fixtures.opened(rig.into_device()),
         Step::Cut => {
             let mut device = rig.into_device();
             device.power_cut();
-            opened(alloc, device)
+            fixtures.opened(device)
         }
         Step::Misplace => {
             let mut device = rig.into_device();
             put_header(&mut device, 3, 6)?;
-            opened(alloc, device)
+            fixtures.opened(device)
         }
         _ => Ok(rig),
     }
@@ -158,7 +159,7 @@ pub(crate) fn take_from<D: Device>(
     steps: &[Step],
     from: usize,
 ) -> Result<D, Fail> {
-    let mut rig = opened(rt.alloc(), device)?;
+    let mut rig = Fixtures::new(rt.alloc()).opened(device)?;
     for i in from..steps.len() {
         if let Step::Image(..) = steps[i] {
             break;

@@ -1,31 +1,33 @@
 // A device that stops at each of its calls, a power cut, and what is saved then.
+use crate::fixtures::Fixtures;
 use crate::images::{AT_HOME, IN_LOG, OPENING, OUTCOMES, image};
 use crate::rig::Rig;
 use crate::steps::{Step, Values, answered, take_from};
 use checkpoint::{OpenFault, OpenRefused};
 use device::Device;
 use devices::{Fuse, Outcome};
-use std::alloc::Global;
 use std::process::Abort;
 use std::test::Fail;
 
-// Opens a device and takes steps, up to a stop after `calls` calls and a power cut. Returns how many
-// of all that were done, or `None` if the device is refused for another reason than that it failed.
-fn stopped<D: Device>(alloc: Global, device: D, steps: &[Step], calls: u64) -> (Option<usize>, D) {
-    let (done, device) = match Rig::open(alloc, Fuse::new(device, calls)) {
-        Ok(rig) => {
-            let mut rig = rig;
-            let done = answered(&mut rig, steps);
-            (done.checked_add(1), rig.into_device())
-        }
-        Err(OpenRefused { fault, device }) => match fault {
-            OpenFault::Failed => (Some(0), device),
-            _ => (None, device),
-        },
-    };
-    let mut device = device;
-    device.power_cut();
-    (done, device.into_inner())
+impl Fixtures {
+    // Opens a device and takes steps, up to a stop after `calls` calls and a power cut. Returns how many
+    // of all that were done, or `None` if the device is refused for another reason than that it failed.
+    fn stopped<D: Device>(&self, device: D, steps: &[Step], calls: u64) -> (Option<usize>, D) {
+        let (done, device) = match Rig::open(*self, Fuse::new(device, calls)) {
+            Ok(rig) => {
+                let mut rig = rig;
+                let done = answered(&mut rig, steps);
+                (done.checked_add(1), rig.into_device())
+            }
+            Err(OpenRefused { fault, device }) => match fault {
+                OpenFault::Failed => (Some(0), device),
+                _ => (None, device),
+            },
+        };
+        let mut device = device;
+        device.power_cut();
+        (done, device.into_inner())
+    }
 }
 
 // No objects, one, three, and as many as a half of the log has slots.
@@ -119,7 +121,7 @@ fn stop_at_each(
     ];
     for calls in 0..ends[4].wrapping_add(2) {
         let device = image(rt, outcome, past)?;
-        let (done, device) = stopped(rt.alloc(), device, &steps, calls);
+        let (done, device) = Fixtures::new(rt.alloc()).stopped(device, &steps, calls);
         assert!(rt; done == Some(done_at(ends, calls)), "at {calls}");
         let (saved, values) = left(writing, calls, opened);
         take_from(rt, device, &[saved, Step::Hold(&values)], 0)?;
@@ -147,7 +149,7 @@ fn a_stop_leaves_the_page_or_not(rt: HostRuntime) -> Result<(), Fail> {
         for calls in OPENING..JOURNALED + 2 {
             let device = image(&rt, outcome, AT_HOME)?;
             let steps = [Step::Journal(17, 317, 3, Ok(2))];
-            let (done, device) = stopped(rt.alloc(), device, &steps, calls);
+            let (done, device) = Fixtures::new(rt.alloc()).stopped(device, &steps, calls);
             assert_eq!(rt; done, Some(if calls < JOURNALED { 1 } else { 2 }));
             let is_saved = is_committed(JOURNALED, calls, opened);
             let saved = if is_saved {
@@ -168,7 +170,7 @@ fn a_stop_leaves_the_page_or_not(rt: HostRuntime) -> Result<(), Fail> {
 fn a_gate_that_is_torn_open_again_commits_nothing(rt: HostRuntime) -> Result<(), Fail> {
     let device = image(&rt, Outcome::Fill(1), SECOND)?;
     let steps = [Step::Freeze(0, Ok(())), Step::Commit(4, Ok(2))];
-    let (done, device) = stopped(rt.alloc(), device, &steps, OPENING + 3);
+    let (done, device) = Fixtures::new(rt.alloc()).stopped(device, &steps, OPENING + 3);
     assert_eq!(rt; done, Some(2));
     let left = [Step::Saved(1, 2, 0), Step::Hold(&[BEFORE])];
     take_from(&rt, device, &left, 0)?;
@@ -180,7 +182,7 @@ fn a_gate_that_is_torn_open_again_commits_nothing(rt: HostRuntime) -> Result<(),
 fn a_device_that_fails_is_handed_back(rt: HostRuntime) -> Result<(), Fail> {
     for calls in 0..OPENING + 2 {
         let device = image(&rt, Outcome::Fill(1), IN_LOG)?;
-        let (done, device) = stopped(rt.alloc(), device, &[], calls);
+        let (done, device) = Fixtures::new(rt.alloc()).stopped(device, &[], calls);
         assert_eq!(rt; done, Some(if calls > OPENING { 1 } else { 0 }));
         take_from(&rt, device, &[Step::Saved(1, 3, 3)], 0)?;
     }

@@ -29,7 +29,7 @@ use layout::{CheckpointHeader, Entry, Version};
 use migrator::{Durable, superblock_of};
 use model::{Cap, Content, ObjectHeader};
 use object_cache::PlainStore;
-use recovery::{Live, recover};
+use recovery::recover;
 use std::alloc::{AllocError, Global};
 use std::marker::Model;
 
@@ -173,10 +173,9 @@ impl<D: ClosableDevice> OldImage<D> {
             (IsErrOf result (UpgradeFault.Old OpenFault.Failed))) }
     {
         match recover::<D, PlainStore<D>>(alloc, old, ()) {
-            Ok(live) => {
-                let Live { store, .. } = live;
-                Ok(OldImage { store })
-            }
+            Ok(live) => Ok(OldImage {
+                store: live.into_store(),
+            }),
             Err(refused) => {
                 let OpenRefused { fault, device } = refused;
                 device.close();

@@ -1,6 +1,6 @@
 -- The laws of descriptions that were renumbered.
-use Rattle.image_describer.proofs.Names.{ℕ, Bool, true, false, List, [], map, refl, sym, ap, true≢false, ext_get_or, Capability, Void, Number, Page, Node}
-use Rattle.image_describer.proofs.Names.{Space, Process, Start, Resume, Bank, Discrim, Geometry, Content, Object, free, is_free, map_content, IsSound, World}
+use Rattle.image_describer.proofs.Names.{ℕ, Bool, true, false, List, [], map, refl, sym, ap, true≢false, ext_get_or, Capability, Page, Node}
+use Rattle.image_describer.proofs.Names.{Space, Process, Start, Resume, Bank, Geometry, Content, Object, free, is_free, map_content, IsSound, World}
 use Rattle.image_describer.proofs.Names.{content_at, object_at, owner_at, IsGrown, moved, moved_capability, moved_object, GrownIsDescribed, GrownToItself}
 use Rattle.std.proofs.Common.{◌≡◌, ◌∷◌, ◌∙◌}
 use Rattle.model.specs.declared.object.Content.TheVariants as content

@@ -1,7 +1,7 @@
 -- Numbers and capabilities in an image of other sizes.
 use Rattle.image_describer.proofs.Names.{ℕ, Bool, true, false, List, [], map, Option, Some, None, refl, sym, ap, subst, arith, All, nat_tests, length-map}
 use Rattle.image_describer.proofs.Names.{All-map, All-weaker, slice_get-map, Cap, Capability, Void, Number, Page, Node, Space, Process, Start, Resume, Bank}
-use Rattle.image_describer.proofs.Names.{Discrim, Frame, Geometry, Content, Object, IsWellFormed, named, map_content, IsSpace, object_count, fresh_cap}
+use Rattle.image_describer.proofs.Names.{Frame, Geometry, Content, Object, IsWellFormed, named, map_content, IsSpace, object_count, fresh_cap}
 use Rattle.image_describer.proofs.Names.{SlotEntry, AreDistinct, AreSlots, HoldsNamed, IsSomeCapability, IsSpaceEntry, named_at, AreBriefSlots, AreRising}
 use Rattle.image_describer.proofs.Names.{plain_frame, moved, moved_capability, moved_held, moved_object, moved_slot, IsWide, NamesWide, SpellsSlot}
 use Rattle.std.proofs.Common.{unwrap_or, ◌≡◌, ◌≢◌, ◌+◌, ◌-◌, ◌<◌, ◌≤◌, if◌then◌else◌, ◌∷◌, ◌∙◌}

@@ -1,7 +1,7 @@
 -- The description of a sound world has a text: its numbers are short enough.
 use Rattle.image_describer.proofs.Names.{ℕ, true, List, [], map, Option, Some, None, IfSome, refl, sym, ap, subst, arith, IsTrue, All, Contains, All-contains}
-use Rattle.image_describer.proofs.Names.{All-from_recursion, All-map, All-weaker, Contains-append_left, Contains-append_right, Cap, Capability, Void, Number}
-use Rattle.image_describer.proofs.Names.{Page, Node, Space, Process, Start, Resume, Bank, Discrim, Frame, Geometry, Content, Object, named, frame_at}
+use Rattle.image_describer.proofs.Names.{All-from_recursion, All-map, All-weaker, Contains-append_left, Contains-append_right, Cap, Capability, Void}
+use Rattle.image_describer.proofs.Names.{Page, Node, Space, Process, Start, Resume, Bank, Frame, Geometry, Content, Object, named, frame_at}
 use Rattle.image_describer.proofs.Names.{objects_of, AreKeptSlots, AreKeptWords, Follows, IsKeepable, IsKeptCap, IsSoundFrames, MayBeKept, world_at, is_bank}
 use Rattle.image_describer.proofs.Names.{is_free, map_content, role_of, IsOfKind, object_count, content_at, object_at, owner_at, HomeRange, Version, One, Two}
 use Rattle.image_describer.proofs.Names.{Cover, IsPlan, Plan, version_number, numbers_of, fresh_cap, mapped, BankEntry, Description, NodeEntry, PageEntry}

@@ -1,5 +1,5 @@
 -- Texts of items, written one after the other.
-use Rattle.image_describer.proofs.Names.{Written, ℕ, List, [], Option, Result, Err, codes, decimal, length, get_or, take, drop, refl, sym, ap, subst}
+use Rattle.image_describer.proofs.Names.{Written, ℕ, List, [], Result, Err, codes, decimal, length, get_or, take, drop, refl, sym, ap, subst}
 use Rattle.image_describer.proofs.Names.{append_assoc, append-nil, add-one, flat_map, Wrote, wrote_trans, flat_map-append, take-append-drop, take_all, take-suc}
 use Rattle.image_describer.proofs.Names.{spaced, RunFault, Writes, text_fails, writes_after, writes_fail, writes_same, box_line, next_line}
 use Rattle.std.proofs.Common.{◌≡◌, ◌+◌, ◌<◌, ◌≤◌, ◌∷◌, ◌++◌, ◌∙◌}

@@ -1,7 +1,7 @@
 -- The values that the text of a description writes: what TOML has for each, and what it says.
 use Rattle.image_describer.proofs.Names.{ℕ, suc, pos, nat_lt, get_or, Bool, true, false, List, [], decimal, length, Option, Some, None, MatchOption, inl, inr}
 use Rattle.image_describer.proofs.Names.{refl, sym, ap, arith, All, list_all, cases_Bool, nat_tests, recursion_from_All, Data, string, integer, array, no_items}
-use Rattle.image_describer.proofs.Names.{item, NumberRange, Capability, Void, Number, Page, Node, Space, Process, Start, Resume, Bank, Discrim, Geometry, State}
+use Rattle.image_describer.proofs.Names.{item, NumberRange, Capability, Void, Number, Page, Node, Space, Process, Geometry, State}
 use Rattle.image_describer.proofs.Names.{capability_text, state_text, AreFour, AreItems, IsCapability, IsList, IsNumber, IsRange, IsSlot, IsState, IsWideNumber}
 use Rattle.image_describer.proofs.Names.{IsWord, whole_ranges, SlotEntry, WordEntry, IsSomeCapability, IsSpaceEntry, IsShort, IsWide, NamesWide, SpellsRange}
 use Rattle.image_describer.proofs.Names.{SpellsSlot, SpellsWord, are_whole, held_text, is_range, list_text, list_unless_empty, number_unless, range_text}

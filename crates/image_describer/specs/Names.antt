@@ -1,5 +1,6 @@
 -- The names of other crates that the definitions here cite.
 pub use Rattle.capability.specs.Plain.{fresh_cap}
+pub use Rattle.collections.specs.Marks.{is_marked}
 pub use Rattle.description.specs.Described.{HasFields, HasNumbers, IsDescribed, IsWorldFault, first_frame, first_named}
 pub use Rattle.description.specs.Reading.{IsDescription, whole_ranges}
 pub use Rattle.description.specs.declared.entry.BankEntry.{BankEntry}

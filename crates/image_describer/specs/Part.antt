@@ -1,7 +1,7 @@
 -- The part of a description that is drawn.
 use Rattle.image_describer.specs.Names.{ℕ, Bool, true, false, Option, None, Some, List, map, unwrap_or, AllZip, filter}
 use Rattle.image_describer.specs.Names.{list_any, Capability, Void, named, Description, NodeEntry, ProcessEntry}
-use Rattle.image_describer.specs.Names.{SlotEntry}
+use Rattle.image_describer.specs.Names.{SlotEntry, is_marked, length}
 use Rattle.std.specs.Prelude.{◌≡◌, ◌==◌, ◌&&◌, ◌||◌, if◌then◌else◌, ◌∷◌, ◌++◌}
 use Rattle.image_describer.specs.Graph.{arrows, boxes, owners}
 
@@ -63,10 +63,20 @@ names o c = is_name o (named (unwrap_or c Void))
 abbrev pub holds_in : ℕ → List SlotEntry → Bool
 holds_in o slots = list_any (λ s. names o s.capability) slots
 
+abbrev pub holding_processes : ℕ → List ProcessEntry → List ℕ
+holding_processes o ps = map (λ p. p.root) (filter (λ p. names o p.space || holds_in o p.registers.items) ps)
+
+abbrev pub holding_nodes : ℕ → List NodeEntry → List ℕ
+holding_nodes o ns = map (λ n. n.number) (filter (λ n. holds_in o n.slots.items) ns)
+
 abbrev pub holders : ℕ → Description → List ℕ
-holders o d = o ∷ map (λ p. p.root) (filter (λ p. names o p.space || holds_in o p.registers.items) d.processes.items)
-    ++ map (λ n. n.number) (filter (λ n. holds_in o n.slots.items) d.nodes.items)
+holders o d = o ∷ holding_processes o d.processes.items ++ holding_nodes o d.nodes.items
 
 -- a number is in a list
 abbrev pub is_listed : ℕ → List ℕ → Bool
 is_listed n ns = list_any (λ m. m == n) ns
+
+-- a set gets the numbers of a list
+pub record Adds (ns : List ℕ) (old new : List Bool) : Type 0 where
+  pub size : length new ≡ length old
+  pub marks : (n : ℕ) → is_marked new n ≡ (is_marked old n || is_listed n ns)

@@ -198,24 +198,20 @@ fn grown_ranges(
     Ok(grown)
 }
 
-// The home ranges of an image of other sizes, if a description can be renumbered for it.
-fn suited_ranges(
-    alloc: Global,
+// Refuses sizes for which a description can't be renumbered, with these home ranges.
+fn check_sizes(
     description: &Description,
     new: Geometry,
-) -> Result<Vec<NumberRange>, GrowthFault>
-    requires { MayBeLaid description.now.geometry description.now.ranges.items }
-    ensures ranges { IfOk result (λ ranges.
-        ranges.items ≡ grown_ranges description.now.geometry new description.now.ranges.items) }
+    ranges: &[NumberRange],
+) -> Result<(), GrowthFault>
+    requires laid { MayBeLaid description.now.geometry description.now.ranges.items }
+    requires ranges { ranges.now ≡ grown_ranges description.now.geometry new description.now.ranges.items }
     ensures limits { OnOk result (IsGeometry new) }
     ensures nodes { OnOk result (NamesNodes new.nodes description.now) }
     ensures pages { OnOk result (NamesPages description.now.geometry new description.now) }
     ensures refused { IfErr result (λ fault. IsNotRenumbered description.now new fault) }
 {
-    let Ok(ranges) = grown_ranges(alloc, description.geometry, new, &description.ranges) else {
-        return Err(GrowthFault::NoMemory);
-    };
-    if let Err(_) = lay_out(Version::One, new, &ranges) {
+    if let Err(_) = lay_out(Version::One, new, ranges) {
         return Err(GrowthFault::Limits);
     }
     if !names_nodes(new.nodes, description) {
@@ -224,7 +220,7 @@ fn suited_ranges(
     if !names_pages(new, description) {
         return Err(GrowthFault::Pages);
     }
-    Ok(ranges)
+    Ok(())
 }
 
 /// Renumbers a description for an image of other sizes. Nodes keep their numbers. The number of a page
@@ -251,7 +247,11 @@ pub fn grow(
     ensures same { OnErr result (description.new ≡ description.old) }
 {
     let old = description.geometry;
-    description.ranges = suited_ranges(alloc, description, geometry)?;
+    let Ok(ranges) = grown_ranges(alloc, old, geometry, &description.ranges) else {
+        return Err(GrowthFault::NoMemory);
+    };
+    check_sizes(description, geometry, &ranges)?;
+    description.ranges = ranges;
     description.geometry = geometry;
     move_processes(old, geometry, description.processes.as_mut_slice());
     move_nodes(old, geometry, description.nodes.as_mut_slice());

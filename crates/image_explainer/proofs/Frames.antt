@@ -1,6 +1,6 @@
 -- Slots and frames.
-use Rattle.image_explainer.proofs.Names.{ℕ, nat_le, List, Option, None, Some, take, drop, refl, sym, ap, subst, inl, inr, arith, cases_lt, Image, Cap, Frame}
-use Rattle.image_explainer.proofs.Names.{Geometry, IsKeptCap, Entry, CheckpointHeader, Shape, capability_bytes, IsFrameOf, shape_of, HasDirectory, HasHeader}
+use Rattle.image_explainer.proofs.Names.{nat_tests, ℕ, nat_le, List, Option, Some, take, drop, refl, sym, ap, subst, inl, inr, arith, cases_lt, Image, Cap}
+use Rattle.image_explainer.proofs.Names.{Frame, Geometry, IsKeptCap, Entry, CheckpointHeader, Shape, capability_bytes, shape_of, HasDirectory, HasHeader}
 use Rattle.image_explainer.proofs.Names.{HasPlan, frame_in, frame_sector, sectors_from, shaped_at, shape_bytes, Plan, FramePart, HoldsCap, IsFault, FitsOr}
 use Rattle.image_explainer.proofs.Names.{IsWholeFrame}
 use Rattle.std.proofs.Common.{◌≡◌, ◌+◌, ◌-◌, ◌*◌, ◌<◌, ◌∙◌}
@@ -18,9 +18,7 @@ slots_more g age bytes k before here j lt = elim (cases_lt j k) [
 -- as the code cuts it
 pub slot_read : (g : Geometry) (age : ℕ) (bytes : List ℕ) (k at : ℕ) (c : Cap) → at ≡ 32 + 24 * k → IsKeptCap g age c →
     take (at + 24 - at) (drop at bytes) ≡ capability_bytes c → HoldsCap g age bytes k
-slot_read g age bytes k at c place kept is =
-    let size : at + 24 - at ≡ 24 = omega arith in
-    (c, kept, ap (λ (n : ℕ). take 24 (drop n bytes)) (sym place) ∙ ap (λ (n : ℕ). take n (drop at bytes)) (sym size) ∙ is)
+slot_read g age bytes k at c place kept is = grind (arith, nat_tests)
 
 -- a frame more can be kept
 pub frames_more : (image : Image) (p : Plan) (h : CheckpointHeader) (es : List Entry) (n : ℕ) → ((m : ℕ) → m < n → IsWholeFrame image p h es m) →

@@ -1,5 +1,6 @@
 -- Texts that are put together piece by piece.
-use Rattle.image_explainer.proofs.Names.{ℕ, List, ap, append_assoc, codes, decimal, BadImage, ImageFault, reason_of, fault_text, reason_number, place_text}
+use Rattle.image_explainer.proofs.Names.{arith, nat_tests, ℕ, List, ap, append_assoc, codes, decimal, BadImage, ImageFault, reason_of, fault_text}
+use Rattle.image_explainer.proofs.Names.{reason_number, place_text}
 use Rattle.std.proofs.Common.{◌≡◌, ◌∷◌, ◌++◌, ◌∙◌}
 
 module _ (l a b m n : List ℕ) (first : m ≡ l ++ a) (second : n ≡ m ++ b) where
@@ -15,16 +16,11 @@ module _ (l a b m n : List ℕ) (first : m ≡ l ++ a) (second : n ≡ m ++ b) w
       joined_4 = fourth ∙ ap (λ (x : List ℕ). x ++ d) joined_3 ∙ append_assoc l (a ++ b ++ c) d
 
       pub joined_6 : (e f q r : List ℕ) → q ≡ p ++ e → r ≡ q ++ f → r ≡ l ++ (a ++ b ++ c ++ d ++ e ++ f)
-      joined_6 e f q r fifth sixth =
-          sixth ∙ ap (λ (x : List ℕ). x ++ f) (fifth ∙ ap (λ (x : List ℕ). x ++ e) joined_4 ∙ append_assoc l (a ++ b ++ c ++ d) e) ∙
-          append_assoc l (a ++ b ++ c ++ d ++ e) f
+      joined_6 e f q r fifth sixth = grind (arith, nat_tests, joined_4, append_assoc)
 
 -- the place, and the number of the reason
 pub said : (fault : ImageFault) (reason : BadImage) (number : ℕ) (l m n o : List ℕ) → l ≡ place_text fault →
     m ≡ l ++ codes " (bad image" → reason ≡ reason_of fault → number ≡ reason_number reason
     → n ≡ m ++ 32 ∷ decimal number → o ≡ n ++ codes ")" → o ≡ fault_text fault
 unfolding fault_text
-said fault reason number l m n o place words is reported digits end =
-    end ∙ ap (λ (x : List ℕ). x ++ codes ")")
-    (digits ∙ ap (λ (x : List ℕ). x ++ 32 ∷ decimal number) (words ∙ ap (λ (x : List ℕ). x ++ codes " (bad image") place)
-    ∙ ap (λ (k : ℕ). place_text fault ++ codes " (bad image" ++ 32 ∷ decimal k) (reported ∙ ap reason_number is))
+said fault reason number l m n o place words is reported digits end = grind (arith, nat_tests)

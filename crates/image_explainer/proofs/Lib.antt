@@ -5,7 +5,6 @@ mod Directories
 mod Frames
 mod Headers
 mod Marks
-mod Searching
 mod Superblocks
 pub mod OneReason
 pub mod Whole

@@ -1,6 +1,6 @@
 -- A superblock has its mark, and an image with one is large enough.
-use Rattle.image_explainer.proofs.Names.{ℕ, List, [], length, replicate, take, drop, refl, sym, ap, subst, ⊎_elim, append_assoc, length-append, take_at}
-use Rattle.image_explainer.proofs.Names.{drop_at, arith, codes, length-replicate, Image, HomeRange, half_number, number, zeros, HasPlan, IsTooSmall, total_in}
+use Rattle.image_explainer.proofs.Names.{nat_tests, ℕ, List, [], length, replicate, take, drop, refl, sym, ap, subst, ⊎_elim, append_assoc, length-append}
+use Rattle.image_explainer.proofs.Names.{take_at, drop_at, arith, codes, length-replicate, Image, HomeRange, half_number, number, zeros, HasPlan, IsTooSmall}
 use Rattle.image_explainer.proofs.Names.{HasMark, IsPlan, Plan, ranges_bytes, superblock_bytes, unused, version_number, total_reported}
 use Rattle.std.proofs.Common.{◌≡◌, ◌+◌, ◌-◌, ◌*◌, ◌∷◌, ◌++◌, ◌∙◌}
 
@@ -49,8 +49,7 @@ module _ (p : Plan) (is : IsPlan p) where
   all_ranges = p.ranges ++ replicate (8 - length p.ranges) unused
 
   eight : length (ranges_bytes all_ranges) ≡ 192
-  eight = ranges_long all_ranges ∙
-      omega (arith, length-append p.ranges (replicate (8 - length p.ranges) unused), length-replicate (8 - length p.ranges) unused, is.few)
+  eight = grind (arith, nat_tests, ranges_long, length-append, length-replicate)
 
   abbrev rest : List ℕ
   rest = number p.geometry.nodes ++
@@ -65,29 +64,14 @@ module _ (p : Plan) (is : IsPlan p) where
 
   begins : superblock_bytes p ≡ codes "EROSCKPT" ++ (half_number (version_number p.version) ++ (half_number (length p.ranges) ++ rest))
   unfolding superblock_bytes
-  begins = deep (codes "EROSCKPT") (half_number (version_number p.version)) (half_number (length p.ranges))
-      (number p.geometry.nodes) (number p.geometry.pages) (number p.geometry.log) (number p.half_0) (number p.half_1) (number p.total)
-      (ranges_bytes (p.ranges ++ replicate (8 - length p.ranges) unused)) (zeros 256)
+  begins = search (arith, nat_tests, deep)
 
   ends : superblock_bytes p ≡ front ++ zeros 256
   unfolding superblock_bytes
   ends = refl
 
   front_long : length front ≡ 256
-  front_long = nine (codes "EROSCKPT") (half_number (version_number p.version)) (half_number (length p.ranges))
-      (number p.geometry.nodes) (number p.geometry.pages) (number p.geometry.log) (number p.half_0) (number p.half_1) (number p.total) (ranges_bytes all_ranges)
-      ∙ omega (
-        arith,
-        half (version_number p.version),
-        half (length p.ranges),
-        long p.geometry.nodes,
-        long p.geometry.pages,
-        long p.geometry.log,
-        long p.half_0,
-        long p.half_1,
-        long p.total,
-        eight,
-      )
+  front_long = search (arith, nat_tests, nine, half, long, eight)
 
   pub marked : HasMark (superblock_bytes p)
   marked = record {
@@ -106,7 +90,4 @@ module _ (size : ℕ) (image : Image) (p : Plan) (plan : HasPlan image size p) w
   has_mark = subst HasMark (sym plan.spelt) (marked p plan.fits)
 
   pub not_small : IsTooSmall image size → ⊥
-  not_small small = ⊎_elim
-      (λ few. omega (arith, few, plan.least))
-      (λ less. let total : total_in (image 0) ≡ p.total = ap total_in plan.spelt ∙ total_reported p plan.fits in omega (arith, less, total, plan.whole))
-      small
+  not_small small = grind (arith, nat_tests, total_reported)

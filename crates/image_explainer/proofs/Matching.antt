@@ -1,5 +1,5 @@
 -- Roots and annexes that don't belong together.
-use Rattle.image_explainer.proofs.Names.{ℕ, List, Option, None, Some, length, inl, inr, subst, arith, cases_lt, Frame, Noted, AreWholeProcesses, AreNoted}
+use Rattle.image_explainer.proofs.Names.{nat_tests, ℕ, List, Option, None, length, inl, inr, subst, arith, cases_lt, Frame, Noted, AreWholeProcesses, AreNoted}
 use Rattle.image_explainer.proofs.Names.{none_noted, HasRoot, IsMatched, MatchesOr, Unmatched, IsUnmatched, IfNone, IfSome, get_or_past}
 use Rattle.std.proofs.Common.{◌≡◌, ◌+◌, ◌<◌, ◌≤◌}
 
@@ -20,10 +20,7 @@ matched_more fs n before here p lt = elim (cases_lt p n) [
 
 -- an annex more has a root
 pub rooted_more : (fs : List Frame) (n : ℕ) → ((a : ℕ) → a < n → HasRoot fs a) → HasRoot fs n → (a : ℕ) → a < n + 1 → HasRoot fs a
-rooted_more fs n before here a lt = elim (cases_lt a n) [
-  | inl less ↦ before a less
-  | inr le ↦ let same : n ≡ a = omega (arith, lt, le) in subst (HasRoot fs) same here
-]
+rooted_more fs n before here a lt = grind (arith, nat_tests)
 
 -- matched roots have annexes of their own
 pub whole_of_matched : (fs : List Frame) → ((p : ℕ) → IsMatched fs p) → ((a : ℕ) → HasRoot fs a) → AreWholeProcesses fs
@@ -42,5 +39,4 @@ whole_of_matched fs matched rooted = record {
 -- what was found of roots, and then of annexes
 pub matches : (fs : List Frame) (found : Option Unmatched) → ((p : ℕ) → IsMatched fs p) → IfSome found (IsUnmatched fs) →
     IfNone found ((a : ℕ) → HasRoot fs a) → MatchesOr fs found
-matches fs None matched is rooted = whole_of_matched fs matched rooted
-matches fs (Some u) matched is rooted = is
+matches fs found matched is rooted = grind (arith, nat_tests, whole_of_matched)

@@ -3,13 +3,11 @@ pub use Rattle.byteorder.specs.Endian.{little_number}
 pub use Rattle.byteorder.specs.Numbers.{little_from-take}
 pub use Rattle.capability.proofs.References.{not_annex, not_node, not_root}
 pub use Rattle.capability.specs.Parts.{Parts, frames_of}
-pub use Rattle.layout.specs.Fault.{CountsOpen}
 pub use Rattle.checkpoint.specs.Opened.{OnlyReads, Refuses}
 pub use Rattle.checkpoint.specs.Saved.{Holds, SavedFrames}
 pub use Rattle.checkpoint.specs.Store.{OpensStore}
-pub use Rattle.layout.specs.declared.open_fault.OpenFault.{OpenFault}
 pub use Rattle.device.proofs.Images.{agrees_is}
-pub use Rattle.device.proofs.Moments.{CountsNow, peeks_on}
+pub use Rattle.device.proofs.Moments.{CountsNow}
 pub use Rattle.device.specs.Calls.{Agrees, AreSectors}
 pub use Rattle.device.specs.Disk.{Disk, Image}
 pub use Rattle.kernel.specs.Opening.{IsNoReason}
@@ -21,27 +19,27 @@ pub use Rattle.layout.proofs.Totals.{total_reported}
 unfoldable pub use Rattle.layout.specs.Bytes.{half_number, number, zeros}
 pub use Rattle.layout.specs.Calls.{ReadsOnly}
 unfoldable pub use Rattle.layout.specs.Capability.{capability_bytes}
-pub use Rattle.layout.specs.Directory.{AllFitting, IsDirectory, IsEntry, entry_at}
+pub use Rattle.layout.specs.Directory.{AllFitting, IsDirectory, entry_at}
 unfoldable pub use Rattle.layout.specs.Directory.{directory_bytes}
-pub use Rattle.layout.specs.Frame.{IsFrameOf}
+pub use Rattle.layout.specs.Fault.{CountsOpen}
 pub use Rattle.layout.specs.Header.{IsHeader}
 unfoldable pub use Rattle.layout.specs.Header.{header_bytes}
-pub use Rattle.layout.specs.Homes.{home_place, shape_of}
+pub use Rattle.layout.specs.Homes.{shape_of}
 pub use Rattle.layout.specs.Image.{HasBadDirectory, HasBadHeader, HasDirectory, HasHeader, HasNoHeader, HasPlan, IsBadBy, IsTooSmall, committed_bytes}
-pub use Rattle.layout.specs.Image.{committed_of, committed_slot, directory_in, directory_length, directory_sector, does_count, frame_in, frame_sector}
-pub use Rattle.layout.specs.Image.{option_at, sequence_in, shaped_at, slot_beside, slot_in, slot_sector, total_in}
+pub use Rattle.layout.specs.Image.{committed_of, committed_slot, directory_in, directory_sector, does_count, frame_in, frame_sector, option_at, sequence_in}
+pub use Rattle.layout.specs.Image.{shaped_at, slot_beside, slot_in, slot_sector, total_in}
 unfoldable pub use Rattle.layout.specs.Image.{sectors_from}
 pub use Rattle.layout.specs.Shape.{shape_bytes}
 pub use Rattle.layout.specs.Superblock.{HasMark, IsPlan, Plan, unused, version_number}
 unfoldable pub use Rattle.layout.specs.Superblock.{ranges_bytes, superblock_bytes}
 pub use Rattle.layout.specs.declared.bad_image.BadImage.{BadImage}
-pub use Rattle.layout.specs.declared.bad_image.BadImage.TheVariants.{BadBank, BadCapability, BadProcess}
 pub use Rattle.layout.specs.declared.directory.Entry.{Entry}
 pub use Rattle.layout.specs.declared.extent.HomeRange.{HomeRange}
 pub use Rattle.layout.specs.declared.header.CheckpointHeader.{CheckpointHeader}
+pub use Rattle.layout.specs.declared.open_fault.OpenFault.{OpenFault}
 pub use Rattle.layout.specs.declared.shape.Shape.{Shape}
 pub use Rattle.migrator.specs.Durable.{DurableState}
-pub use Rattle.model.specs.Frame.{content_behind, current_count, frame_at, header_at, void_held}
+pub use Rattle.model.specs.Frame.{content_behind, current_count, frame_at, header_at}
 pub use Rattle.model.specs.Keepable.{AreKeepable, IsKeptCap, caps_in}
 pub use Rattle.model.specs.declared.capability.Cap.{Cap}
 pub use Rattle.model.specs.declared.frame.Frame.{Frame}
@@ -50,29 +48,29 @@ pub use Rattle.model.specs.declared.geometry.Geometry.{Geometry}
 pub use Rattle.model.specs.declared.object.Content.{Content}
 pub use Rattle.model.specs.declared.object.ContentRef.{ContentRef}
 pub use Rattle.object_cache.specs.StoreState.{StoreState, parts_of, view_of}
-pub use Rattle.recovery.proofs.BankFaults.{refuted, unbanked_refuted}
+pub use Rattle.recovery.proofs.BankFaults.{refuted}
 pub use Rattle.recovery.proofs.Denoted.{holds_one}
 pub use Rattle.recovery.proofs.Looking.{HasLooked}
 pub use Rattle.recovery.proofs.Named.{holds_none, named_more}
 pub use Rattle.recovery.proofs.Notes.{none_noted}
 pub use Rattle.recovery.proofs.Sound.{consistent_is_sound}
 pub use Rattle.recovery.proofs.Tables.{annex_known, content_read, header_read, table_read}
-pub use Rattle.recovery.specs.Consistency.{AreNamed, AreWholeProcesses, IsInconsistent, IsNamed}
+pub use Rattle.recovery.specs.Consistency.{AreWholeProcesses, IsInconsistent, IsNamed}
 pub use Rattle.recovery.specs.Denotes.{saved_of}
 pub use Rattle.recovery.specs.Noted.{AreNoted}
 pub use Rattle.recovery.specs.declared.consistency.processes.Noted.{Noted}
-pub use Rattle.std.proofs.Common.{Break, Continue, ControlFlow}
-pub use Rattle.std.proofs.Common.{Bool, Err, List, None, Ok, Option, Result, Some, [], ap, append-nil, append_assoc, arith, drop, drop_at, false, get_or, inl}
-pub use Rattle.std.proofs.Common.{inr, length, length-append, nat_le, refl, replicate, slice_index_or, subst, suc, sym, take, take-add, take_at, true, zero, ℕ}
-pub use Rattle.std.proofs.Common.{⊎_elim}
-pub use Rattle.std.proofs.lemmas.Bool.{cases_lt, eq-eqb, le-ltb, lt-ltb, ne_eqb}
-pub use Rattle.std.proofs.lemmas.List.{drop-drop, drop_all, drop_more, get_or-drop, get_or-take, get_or_default, get_or_past, length-drop, length-replicate}
-pub use Rattle.std.proofs.lemmas.List.{length-take, take-append-drop, take_rest}
+pub use Rattle.std.proofs.Common.{Bool, ControlFlow, Err, List, None, Ok, Option, Result, Some, [], ap, append-nil, append_assoc, arith, drop, drop_at, false}
+pub use Rattle.std.proofs.Common.{get_or, inl, inr, length, length-append, nat_le, refl, replicate, slice_index_or, subst, suc, sym, take, take-add, take_at}
+pub use Rattle.std.proofs.Common.{true, zero, ℕ, ⊎_elim}
+pub use Rattle.std.proofs.lemmas.Bool.{cases_lt, lt-ltb}
+pub use Rattle.std.proofs.lemmas.Bool.Decides.{nat_tests}
+pub use Rattle.std.proofs.lemmas.List.{drop-drop, get_or-drop, get_or-take, get_or_default, get_or_past, length-drop, length-replicate, length-take}
+pub use Rattle.std.proofs.lemmas.List.{take-append-drop, take_rest}
 pub use Rattle.std.proofs.lemmas.Nat.{le_bytes_8}
+pub use Rattle.std.specs.ControlFlow.{MatchControlFlow}
 pub use Rattle.std.specs.Int.{from_le_bytes, w64}
 pub use Rattle.std.specs.List.{All}
-pub use Rattle.std.specs.ControlFlow.{MatchControlFlow}
-pub use Rattle.std.specs.Prelude.{IfErr, IfNone, IfOk, IfSome, OnOk, codes, decimal}
+pub use Rattle.std.specs.Prelude.{IfNone, IfSome, codes, decimal, ⊤}
 pub use Rattle.image_explainer.specs.Breaking.{BreaksFrames, IsMisnamed, IsUnmatched, reason_of}
 pub use Rattle.image_explainer.specs.Explained.{AreBadForOneReason, Explains, IsExplainedBy}
 pub use Rattle.image_explainer.specs.Finding.{HasRoot, IsConsistentOr, IsMatched, MatchesOr, annex_noted}

@@ -1,7 +1,7 @@
 -- Capabilities that name what they can't.
-use Rattle.image_explainer.proofs.Names.{ℕ, List, [], Option, length, slice_index_or, sym, ap, subst, arith, IfNone, All, get_or_default, Cap, Frame}
-use Rattle.image_explainer.proofs.Names.{ObjectHeader, Content, current_count, frame_at, header_at, void_held, caps_in, Parts, frames_of, IsNamed, header_read}
-use Rattle.image_explainer.proofs.Names.{table_read, Misnamed, IsMisnamed}
+use Rattle.image_explainer.proofs.Names.{nat_tests, ℕ, List, [], Option, length, slice_index_or, sym, ap, subst, arith, IfNone, All, get_or_default, Cap, Frame}
+use Rattle.image_explainer.proofs.Names.{ObjectHeader, Content, current_count, frame_at, header_at, caps_in, Parts, frames_of, IsNamed, header_read, table_read}
+use Rattle.image_explainer.proofs.Names.{Misnamed, IsMisnamed}
 use Rattle.std.proofs.Common.{◌≡◌, ◌<◌, ◌∙◌}
 
 -- the capability of an index, which was read with the table
@@ -10,13 +10,7 @@ pub misnamed_here : (p : Parts) (n i : ℕ) (held : List Cap) (d : Cap) (hs ks :
     → hs ≡ p.headers → h ≡ header_at hs n → ks ≡ p.headers → current ≡ current_count ks (slice_index_or held i d).what →
     (IsNamed (frames_of p) (slice_index_or held i d) → ⊥)
     → IsMisnamed (frames_of p) (record { holder = n; role = h.role; index = i; held = slice_index_or held i d; current = current })
-misnamed_here p n i held d hs ks h current all inside table is other reported broken = record {
-  within = omega (arith, inside, ap (λ (cs : List Cap). length cs) all);
-  held = sym (ap (λ (cs : List Cap). slice_index_or cs i void_held) all) ∙ get_or_default held i void_held d inside;
-  kind = ap (λ (x : ObjectHeader). x.role) (header_read p hs h n table is);
-  current = reported ∙ ap (λ (xs : List ObjectHeader). current_count xs (slice_index_or held i d).what) (table_read p ks other);
-  broken = broken;
-}
+misnamed_here p n i held d hs ks h current all inside table is other reported broken = grind (arith, nat_tests, get_or_default, header_read, table_read)
 
 -- what an object holds
 module _ (fs : List Frame) (c : Content Cap) (n : ℕ) (is : c ≡ (frame_at fs n).content) where
@@ -28,5 +22,4 @@ module _ (fs : List Frame) (c : Content Cap) (n : ℕ) (is : c ≡ (frame_at fs 
   none_there held found all named = subst (λ (cs : List Cap). IfNone found (All (IsNamed fs) cs)) (held_there held all) named
 
   pub nothing_there : caps_in c ≡ [] → All (IsNamed fs) (caps_in (frame_at fs n).content)
-  nothing_there none =
-      subst (λ (cs : List Cap). All (IsNamed fs) cs) (sym none ∙ ap (λ (d : Content Cap). caps_in d) is) (λ k d inside. absurd (omega arith))
+  nothing_there none = grind (arith, nat_tests)

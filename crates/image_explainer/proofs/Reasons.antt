@@ -1,29 +1,16 @@
 -- Faults as reasons to refuse an image.
-use Rattle.image_explainer.proofs.Names.{ℕ, List, Option, None, Some, Ok, inl, inr, ⊎_elim, refl, sym, ap, subst, Frame, Cap, void_held, AreKeepable, Disk}
-use Rattle.image_explainer.proofs.Names.{Image, BadImage, OpenFault, OnlyReads, Holds, SavedFrames, BadBank, BadCapability, BadProcess, AreNamed}
-use Rattle.image_explainer.proofs.Names.{AreWholeProcesses, IsInconsistent, IsNamed, frames_of, unbanked_refuted, consistent_is_sound, OpensStore, StoreState}
-use Rattle.image_explainer.proofs.Names.{parts_of, view_of, saved_of, holds_one, frames_not_bad, SectorFault, IsFault, ImageFault, Misnamed, Unmatched}
-use Rattle.image_explainer.proofs.Names.{BreaksFrames, IsMisnamed, IsUnmatched, reason_of, AreBadForOneReason, Explains, IsExplainedBy, IsConsistentOr}
+use Rattle.image_explainer.proofs.Names.{arith, nat_tests, ℕ, List, Option, None, Some, Ok, inl, inr, ⊎_elim, refl, sym, ap, subst, Frame, AreKeepable, Disk}
+use Rattle.image_explainer.proofs.Names.{Image, BadImage, OpenFault, OnlyReads, Holds, SavedFrames, IsInconsistent, frames_of, consistent_is_sound, OpensStore}
+use Rattle.image_explainer.proofs.Names.{StoreState, parts_of, view_of, saved_of, holds_one, frames_not_bad, SectorFault, IsFault, ImageFault, BreaksFrames}
+use Rattle.image_explainer.proofs.Names.{reason_of, AreBadForOneReason, Explains, IsExplainedBy, IsConsistentOr}
 use Rattle.std.proofs.Common.{◌≡◌, ◌≤◌, ◌^◌, ◌∙◌}
 use Rattle.std.specs.Prelude.{Result}
 use Rattle.image_explainer.proofs.OneReason.{one_reason as one_sector_reason}
 use Rattle.image_explainer.specs.declared.fault.ImageFault.TheVariants as fault
-use Rattle.image_explainer.specs.declared.fault.Unmatched.TheVariants as unmatched
-
-unnamed : (fs : List Frame) (m : Misnamed) → IsMisnamed fs m → AreNamed fs → ⊥
-unnamed fs m is named = is.broken (subst (λ (c : Cap). IsNamed fs c) is.held (named m.holder m.index void_held is.within))
-
-unwhole : (fs : List Frame) (u : Unmatched) → IsUnmatched fs u → AreWholeProcesses fs → ⊥
-unwhole fs (unmatched.Annex root annex) is whole = is.1 (whole.annexes root annex is.0)
-unwhole fs (unmatched.Shared first second annex) is whole = is.2 (whole.one_root first second annex is.0 is.1)
-unwhole fs (unmatched.Rootless annex) is whole = let root = whole.some_root annex is.0 in is.1 root.0 root.1
 
 -- frames with a fault are inconsistent for its reason
 inconsistent : (fs : List Frame) (f : ImageFault) → BreaksFrames fs f → IsInconsistent fs (reason_of f)
-inconsistent fs (fault.Sectors f) is = absurd is
-inconsistent fs (fault.Capability m) is = unnamed fs m is
-inconsistent fs (fault.Process u) is = (is.0, unwhole fs u is.1)
-inconsistent fs (fault.Bank u) is = (is.0, is.1, unbanked_refuted fs u is.2)
+inconsistent fs f is = grind (arith, nat_tests)
 
 explained_frames : (size : ℕ) (c : Image) (saved : SavedFrames) (f : ImageFault) → Holds size c saved → BreaksFrames saved.frames f →
     IsExplainedBy size c (Some f)
@@ -38,8 +25,7 @@ explained_sectors size c f is = (inl is.0, is.1)
 
 -- frames that a device holds can be kept at their age, which is within its limit
 pub keepable : (size : ℕ) (c : Image) (saved : SavedFrames) → Holds size c saved → AreKeepable saved.geometry saved.age saved.frames
-keepable size c saved holds =
-    subst (λ (x : SavedFrames). AreKeepable x.geometry x.age x.frames) holds.2 (record { count = holds.1.count; each = λ n lt. (holds.1.each n lt).0 })
+keepable size c saved holds = grind (arith, nat_tests)
 
 pub within_age : (size : ℕ) (c : Image) (saved : SavedFrames) → Holds size c saved → saved.age ≤ 2 ^ 62
 within_age size c saved holds = subst (λ (x : SavedFrames). x.age ≤ 2 ^ 62) holds.2 holds.1.header.fits.age
@@ -83,19 +69,7 @@ module _ {D : Type 0} (disk : D → Disk) (device back : D) (s : StoreState D) (
 
 -- frames are inconsistent for one reason
 one_inconsistency : (fs : List Frame) (a b : BadImage) → IsInconsistent fs a → IsInconsistent fs b → a ≡ b
-one_inconsistency fs BadCapability BadCapability x y = refl
-one_inconsistency fs BadCapability BadProcess x y = absurd (x y.0)
-one_inconsistency fs BadCapability BadBank x y = absurd (x y.0)
-one_inconsistency fs BadProcess BadCapability x y = absurd (y x.0)
-one_inconsistency fs BadProcess BadProcess x y = refl
-one_inconsistency fs BadProcess BadBank x y = absurd (x.1 y.1)
-one_inconsistency fs BadBank BadCapability x y = absurd (y x.0)
-one_inconsistency fs BadBank BadProcess x y = absurd (y.1 x.1)
-one_inconsistency fs BadBank BadBank x y = refl
-one_inconsistency fs BadCapability _ x y = absurd y
-one_inconsistency fs BadProcess _ x y = absurd y
-one_inconsistency fs BadBank _ x y = absurd y
-one_inconsistency fs _ b x y = absurd x
+one_inconsistency fs a b x y = grind (arith, nat_tests)
 
 -- an image is bad for one reason
 pub one_reason : AreBadForOneReason

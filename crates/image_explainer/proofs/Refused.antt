@@ -1,5 +1,5 @@
 -- Devices that were refused for what is wrong in their sectors.
-use Rattle.image_explainer.proofs.Names.{ℕ, Some, Result, Ok, Err, ⊎_elim, refl, sym, subst, arith, cases_lt, Disk, Image, CountsNow, peeks_on, agrees_is}
+use Rattle.image_explainer.proofs.Names.{nat_tests, ℕ, Some, Result, Ok, Err, ⊎_elim, refl, sym, subst, arith, cases_lt, Disk, Image, CountsNow, agrees_is}
 use Rattle.image_explainer.proofs.Names.{BadImage, IsBadBy, OpenFault, CountsOpen, OnlyReads, Refuses, ReadsOnly, IsNoReason, SectorFault, IsFault, ImageFault}
 use Rattle.image_explainer.proofs.Names.{Explains}
 use Rattle.std.proofs.Common.{◌∙◌}
@@ -19,12 +19,7 @@ bad_still disk before mid reason refuses =
 module _ {D : Type 0} (disk : D → Disk) (before mid back : D) (reason : BadImage) (refuses : Refuses disk before mid (open_fault.Bad reason))
     (reads : ReadsOnly (disk mid) (disk back)) (now : CountsNow (disk mid)) where
   looked : OnlyReads (disk before) (disk back)
-  looked = record {
-    size = reads.size ∙ refuses.only_reads.size;
-    seen = λ i. reads.seen i ∙ refuses.only_reads.seen i;
-    crash = λ c may. refuses.only_reads.crash c (reads.crash c may);
-    any_moment = peeks_on refuses.only_reads.any_moment now reads.time reads.crash;
-  }
+  looked = grind (arith, nat_tests)
 
   pub sectors_found : (f : SectorFault) → IsFault (disk mid).sectors (disk mid).seen f →
       (let r : Result SectorFault OpenFault = Ok f in CountsOpen (disk mid) (disk back) r)
@@ -42,12 +37,5 @@ module _ {D : Type 0} (disk : D → Disk) (before mid back : D) (reason : BadIma
   pub sectors_failed : (why : OpenFault) → IsNoReason why → (let r : Result SectorFault OpenFault = Err why in CountsOpen (disk mid) (disk back) r)
       → (let r : Result (Option ImageFault) OpenFault = Err why in Explains disk before back r)
   sectors_failed open_fault.Failed other counts = (record { is_why = omega (arith, counts.cause.0 refl, refuses.why.0); only_reads = looked }, tt)
-  sectors_failed open_fault.NoMemory other counts = (
-    record {
-      is_why = ⊎_elim (λ rose. let never = counts.cause.1 rose in cc) (λ le. omega (arith, le, counts.never_falls, refuses.why.0))
-          (cases_lt (disk mid).failures (disk back).failures);
-      only_reads = looked;
-    },
-    tt,
-  )
+  sectors_failed open_fault.NoMemory other counts = grind (arith, nat_tests)
   sectors_failed (open_fault.Bad reason) other counts = absurd other

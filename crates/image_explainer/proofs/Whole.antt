@@ -1,8 +1,7 @@
 -- Where the directory lies, and images with nothing wrong in their sectors.
-use Rattle.image_explainer.proofs.Names.{ℕ, List, ControlFlow, Continue, Break, MatchControlFlow, length, take, sym, ap, arith, Image, Entry, CheckpointHeader}
-use Rattle.image_explainer.proofs.Names.{AllFitting, IsDirectory}
-use Rattle.image_explainer.proofs.Names.{directory_bytes, HasDirectory, HasHeader, HasPlan, directory_in, directory_length, directory_sector, sectors_from}
-use Rattle.image_explainer.proofs.Names.{slot_sector, IsPlan, Plan, half_within, DirectoryPart, BreaksDirectory, IsFault}
+use Rattle.image_explainer.proofs.Names.{nat_tests, ℕ, List, ControlFlow, MatchControlFlow, length, take, arith, Image, Entry, CheckpointHeader, AllFitting}
+use Rattle.image_explainer.proofs.Names.{directory_bytes, HasHeader, HasPlan, directory_in, directory_sector, sectors_from, slot_sector, IsPlan, Plan}
+use Rattle.image_explainer.proofs.Names.{half_within, DirectoryPart, BreaksDirectory, IsFault}
 use Rattle.std.proofs.Common.{◌≡◌, ◌+◌, ◌-◌, ◌*◌, ◌/◌, ◌≤◌, ◌∙◌}
 use Rattle.image_explainer.specs.declared.sectors.fault.SectorFault.TheVariants as fault
 use Rattle.image_explainer.proofs.Directories.{no_spelling}
@@ -15,8 +14,7 @@ behind_slots p generation at some is = omega (arith, some, is)
 pub directory_inside : (p : Plan) (generation at n size : ℕ) → IsPlan p → at ≡ slot_sector p generation (p.geometry.log - 1) → n ≤ p.geometry.log →
     p.total ≤ size
     → 512 * (at + 9 + (n + 31) / 32) ≤ 512 * size
-directory_inside p generation at n size plan is few inside =
-    omega (arith, behind_slots p generation at (omega (arith, plan.geometry.least_log)) is, (half_within p generation plan).1, few, inside)
+directory_inside p generation at n size plan is few inside = grind (arith, nat_tests, behind_slots, half_within)
 
 -- the entries that were read are those of the image
 module _ (image : Image) (size : ℕ) (p : Plan) (h : CheckpointHeader) (es : List Entry) (at sector : ℕ) (run : List ℕ)
@@ -26,10 +24,7 @@ module _ (image : Image) (size : ℕ) (p : Plan) (h : CheckpointHeader) (es : Li
   place = here ∙ behind_slots p h.generation at some is
 
   spelt_there : directory_in image p h.generation h.entries ≡ directory_bytes es
-  spelt_there =
-      ap (λ (k : ℕ). directory_in image p h.generation k) (sym count)
-      ∙ ap (λ (s : ℕ). take (16 * n) (sectors_from image s (directory_length n))) (sym place)
-      ∙ ap (take (16 * n)) (sym read) ∙ spelt
+  spelt_there = grind (arith, nat_tests)
 
   pub directory_fault : (part : DirectoryPart) → HasPlan image size p → HasHeader image p h → length es ≡ n → AllFitting es →
       BreaksDirectory p.geometry es part → IsFault size image (fault.Directory sector part)
@@ -48,5 +43,4 @@ module _ (image : Image) (size : ℕ) (p : Plan) (h : CheckpointHeader) (es : Li
 -- what is so where it goes on
 pub on_continue : {F T : Type 0} (A B : Type 0) (P : F → Type 0) (r : ControlFlow F T) → (A → B) → MatchControlFlow r (λ _. A) P →
     MatchControlFlow r (λ _. B) P
-on_continue A B P (Continue x) leads is = leads is
-on_continue A B P (Break e) leads is = is
+on_continue {F} {T} A B P r leads is = grind (arith, nat_tests)

@@ -31,8 +31,7 @@ fn explain_objects<D: Device>(
         → Explains D.disk device result.1 result.0 }
 {
     let mut store = store;
-    let age = store.saved().age;
-    let found = find_in_objects(alloc, &mut store, age);
+    let found = find_in_objects(alloc, &mut store);
     let device = store.into_device();
     match found {
         Ok(found) => (Ok(found), device),

@@ -1,5 +1,5 @@
 // What is wrong with the objects that an image saves: reasons 8 to 10.
-ghost use Rattle.std.specs.Prelude.{◌≤◌, ◌^◌, IfOk};
+ghost use Rattle.std.specs.Prelude.{IfOk};
 ghost use Rattle.model.specs.Keepable.{AreKeepable};
 ghost use Rattle.capability.specs.Parts.{OnlyReads, frames_of};
 ghost use Rattle.image_explainer.specs.Finding.{IsConsistentOr};
@@ -12,8 +12,12 @@ use model::Refusal;
 use recovery::{find_unbanked, read_notes};
 use std::alloc::Global;
 
-// What is wrong with frames that can be kept at any age.
-fn find_fault<F: Frames>(alloc: Global, store: &mut F) -> Result<Option<ImageFault>, Refusal>
+/// What is wrong with frames that can be kept at any age, by the least of the reasons 8 to 10 that
+/// holds. Objects are fetched one at a time, and no object changes.
+pub(crate) fn find_in_objects<F: Frames>(
+    alloc: Global,
+    store: &mut F,
+) -> Result<Option<ImageFault>, Refusal>
     requires { AreKeepable (F.parts store.old).geometry u64.MAX (frames_of (F.parts store.old)) }
     ensures found { IfOk result (IsConsistentOr (frames_of (F.parts store.old))) }
     ensures only_reads { OnlyReads F.parts F.ContinuesTo store.old store.new result }
@@ -29,20 +33,4 @@ fn find_fault<F: Frames>(alloc: Global, store: &mut F) -> Result<Option<ImageFau
         Some(unbanked) => Ok(Some(ImageFault::Bank(unbanked))),
         None => Ok(None),
     }
-}
-
-/// What is wrong with frames that can be kept at an age, by the least of the reasons 8 to 10 that
-/// holds. Objects are fetched one at a time, and no object changes.
-pub(crate) fn find_in_objects<F: Frames>(
-    alloc: Global,
-    store: &mut F,
-    age: u64,
-) -> Result<Option<ImageFault>, Refusal>
-    requires keepable { AreKeepable (F.parts store.old).geometry age
-        (frames_of (F.parts store.old)) }
-    requires most { age ≤ 2 ^ 62 }
-    ensures found { IfOk result (IsConsistentOr (frames_of (F.parts store.old))) }
-    ensures only_reads { OnlyReads F.parts F.ContinuesTo store.old store.new result }
-{
-    find_fault(alloc, store)
 }

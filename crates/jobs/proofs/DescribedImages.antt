@@ -1,9 +1,9 @@
 -- The outcome of the command that describes, and of a build from its text.
-use Rattle.jobs.proofs.Names.{ℕ, List, Result, Ok, refl, sym, ap, subst, same_Some, Members, Frame, Geometry, Object, objects_of, IsSoundFrames, world_at}
-use Rattle.jobs.proofs.Names.{World, Saved, Disk, Image, agrees_is, Encodes, SavedState, OpenFault, OnlyReads, Holds, SavedFrames, saved_state, seen_of}
-use Rattle.jobs.proofs.Names.{AreSound, frames_of, objects_in, first_saved, Live, Recovers, Description, IsDescription, IsSame, description_once}
-use Rattle.jobs.proofs.Names.{described_is_same, described_has_text, same_described, CanBeSpelled, StoreState, parts_of, view_of, DescribesSaved}
-use Rattle.jobs.proofs.Names.{IsDescriptionOf, OpensAndDescribes, DescribedIsDenoted, HoldsOfSaved}
+use Rattle.jobs.proofs.Names.{ℕ, List, refl, sym, ap, subst, same_Some, Members, Frame, Geometry, Object, objects_of, IsSoundFrames, world_at, World, Saved}
+use Rattle.jobs.proofs.Names.{Disk, Image, agrees_is, Encodes, SavedState, OnlyReads, Holds, SavedFrames, saved_state, seen_of, AreSound, frames_of, objects_in}
+use Rattle.jobs.proofs.Names.{first_saved, Live, Recovers, Description, IsDescription, IsSame, description_once, described_is_same, described_has_text}
+use Rattle.jobs.proofs.Names.{same_described, CanBeSpelled, StoreState, parts_of, view_of, DescribesSaved, IsDescriptionOf, DescribedIsDenoted, HoldsOfSaved}
+use Rattle.jobs.proofs.Names.{Whole}
 use Rattle.std.proofs.Common.{◌≡◌, ◌∙◌}
 
 -- A store that was made of a device.
@@ -57,11 +57,12 @@ module _ {D : Type 0} (disk : D → Disk) (seen_left : (d : D) → (disk d).may_
       only_reads = looked;
     }
 
--- what was answered is the description of what is saved
-pub described : {D : Type 0} (disk : D → Disk) (device back : D) (answer : Result Description OpenFault) (d : Description) → answer ≡ Ok d →
-    OpensAndDescribes disk device back answer
-    → DescribesSaved disk device back d
-described disk device back answer d is reported = subst (λ (r : Result Description OpenFault). OpensAndDescribes disk device back r) is reported
+    -- both
+    pub whole_read : (age : ℕ) → age ≡ state_of.header.age → (w : Whole) →
+        IsDescriptionOf l.store.durable.books.plan age (frames_of (parts_of disk l.store)) w.description →
+        w.objects.items ≡ objects_in (parts_of disk l.store) →
+        DescribesSaved disk device back w.description × HoldsOfSaved disk device back (λ us. w.objects.items ≡ us)
+    whole_read age age_is w whole objects = (saved age age_is w.description whole, read w.objects.items objects)
 
 -- A description of what is saved.
 module _ {D : Type 0} (disk : D → Disk) (device back : D) (d : Description) (saved : DescribesSaved disk device back d) where

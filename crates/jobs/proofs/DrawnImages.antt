@@ -1,17 +1,11 @@
 -- The outcome of the command that draws.
-use Rattle.jobs.proofs.Names.{Written, ℕ, List, Option, Result, Ok, Err, sym, subst, arith, Geometry, Object, object_count, Disk, OpenFault, Description}
-use Rattle.jobs.proofs.Names.{HasNumbers, AreSoundObjects, Focus, Fault, Whole, DrawsImage, DrawsPart, IsHeldTo, KeepsPart, KeepsReached, OfWhole, OpensWhole}
-use Rattle.jobs.proofs.Names.{DescribesSaved, HoldsOfSaved}
+use Rattle.jobs.proofs.Names.{Written, List, Result, Ok, Err, sym, subst, arith, Geometry, Object, object_count, Disk, Description, HasNumbers}
+use Rattle.jobs.proofs.Names.{AreSoundObjects, Focus, Fault, Whole, DrawsImage, DrawsPart, IsHeldTo, KeepsPart, KeepsReached, OfWhole, DescribesSaved}
+use Rattle.jobs.proofs.Names.{HoldsOfSaved}
 use Rattle.std.proofs.Common.{◌≡◌, ◌<◌, ◌^◌}
 use Rattle.layout.specs.declared.open_fault.OpenFault.TheVariants as opening
 use Rattle.jobs.specs.declared.fault.Fault.TheVariants as fault
 use Rattle.jobs.proofs.ReachedImages.{objects_sound}
-
--- what was answered is all that is saved
-pub whole_read : {D : Type 0} (disk : D → Disk) (device back : D) (answer : Result Whole OpenFault) (whole : Whole) → answer ≡ Ok whole →
-    OpensWhole disk device back answer
-    → DescribesSaved disk device back whole.description × HoldsOfSaved disk device back (λ os. whole.objects.items ≡ os)
-whole_read disk device back answer whole is read = subst (λ (r : Result Whole OpenFault). OpensWhole disk device back r) is read
 
 module _ {D : Type 0} (disk : D → Disk) (device back : D) (whole : Whole)
     (opened : DescribesSaved disk device back whole.description × HoldsOfSaved disk device back (λ os. whole.objects.items ≡ os)) where

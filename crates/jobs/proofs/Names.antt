@@ -4,7 +4,6 @@ pub use Rattle.checkpoint.specs.Opened.{OnlyReads}
 pub use Rattle.checkpoint.specs.Saved.{Holds, SavedFrames, kept_of}
 pub use Rattle.checkpoint.specs.Store.{View}
 pub use Rattle.checkpoint.specs.declared.committed.Checkpoint.{Checkpoint}
-pub use Rattle.layout.specs.declared.open_fault.OpenFault.{OpenFault}
 pub use Rattle.description.proofs.DescribedOnce.{described_once}
 pub use Rattle.description.proofs.Once.{description_once}
 pub use Rattle.description.specs.Described.{HasFields, HasNumbers}
@@ -42,6 +41,7 @@ pub use Rattle.kernel.specs.Power.{Power}
 pub use Rattle.kernel.specs.Standing.{IsDeviceOf, IsReported}
 pub use Rattle.layout.specs.Image.{Encodes, SavedState}
 pub use Rattle.layout.specs.Superblock.{Plan, version_number}
+pub use Rattle.layout.specs.declared.open_fault.OpenFault.{OpenFault}
 pub use Rattle.layout.specs.declared.version.Version.{Version}
 pub use Rattle.layout.specs.declared.version.Version.TheVariants.{Two}
 pub use Rattle.migrator.specs.Durable.{DurableState, saved_state, seen_of, stored_of}
@@ -79,7 +79,7 @@ pub use Rattle.runs.specs.declared.tracer.Tracer.{Tracer}
 pub use Rattle.script.specs.Writing.{Written, Wrote, WroteFront}
 pub use Rattle.script.specs.declared.fault.RunFault.{RunFault}
 pub use Rattle.std.proofs.Common.{Bool, Err, IfOk, List, None, Ok, Option, Result, Some, String, [], ap, arith, codes, cond, drop, false, length, map, refl}
-pub use Rattle.std.proofs.Common.{string_bytes, subst, sym, take, true, ℕ, ⊎_elim}
+pub use Rattle.std.proofs.Common.{rules, string_bytes, subst, sym, take, true, ℕ, ⊎_elim}
 pub use Rattle.std.proofs.lemmas.Bool.Decides.{nat_tests}
 pub use Rattle.std.proofs.lemmas.Option.{none-some, same_Some}
 pub use Rattle.std.proofs.lemmas.Result.{IfOk-weaker, err_from_is_err_and}
@@ -88,17 +88,17 @@ pub use Rattle.std.specs.Prelude.{IfErr, IsErrOf, OnErr, OnOk, Vec}
 pub use Rattle.std.specs.declared.alloc.Global.{Global}
 pub use Rattle.toml.specs.Data.{Members}
 pub use Rattle.toml.specs.View.{table_view}
-pub use Rattle.jobs.specs.Drawing.{DrawsImage, DrawsPart, IsFocus, IsHeldTo, KeepsPart, KeepsReached, OfWhole, OpensWhole}
+pub use Rattle.jobs.specs.Drawing.{DrawsImage, DrawsPart, IsFocus, IsHeldTo, KeepsPart, KeepsReached, OfWhole}
 pub use Rattle.jobs.specs.Explained.{IsSyntaxLine, position_from, position_text}
 pub use Rattle.jobs.specs.Faults.{HasStop, IsRunEnd}
 pub use Rattle.jobs.specs.Growing.{IsGrownFrom, TellsDescription, TellsGrown, TellsText}
-pub use Rattle.jobs.specs.Images.{BuildsImage, ChecksImage, DescribesImage, DescribesSaved, IsDescribedIn, IsDescriptionOf, OpensAndDescribes, OpensAndRuns}
-pub use Rattle.jobs.specs.Images.{OpensAndSees, ReadsSaved, RefusesSizes, RunsImage, SeesImage, TellsWhole, UpgradesImage, built_text, checked_text, old_failed}
+pub use Rattle.jobs.specs.Images.{BuildsImage, ChecksImage, DescribesImage, DescribesSaved, IsDescribedIn, IsDescriptionOf, OpensAndRuns, OpensAndSees}
+pub use Rattle.jobs.specs.Images.{ReadsSaved, RefusesSizes, RunsImage, SeesImage, TellsWhole, UpgradesImage, built_text, checked_text, old_failed}
 pub use Rattle.jobs.specs.Images.{upgraded_text}
 pub use Rattle.jobs.specs.Info.{InfoOf, has_role, info_line, info_lines, info_text, lines_over, lines_with, objects_with, range_line}
 pub use Rattle.jobs.specs.Laws.{DescribedIsAccepted, DescribedIsDenoted, GrownIsDenoted, UnsizedIsWhole}
-pub use Rattle.jobs.specs.Reaching.{HoldsOfSaved, OpensAndReads, ReachesImage, TellsReach}
+pub use Rattle.jobs.specs.Reaching.{HoldsOfSaved, ReachesImage, TellsReach}
 pub use Rattle.jobs.specs.declared.drawing.Focus.{Focus}
 pub use Rattle.jobs.specs.declared.fault.Fault.{Fault}
 pub use Rattle.jobs.specs.declared.info.InfoLine.{InfoLine}
-pub use Rattle.jobs.specs.declared.whole.Whole.{Whole}
+pub use Rattle.jobs.specs.declared.saved.Whole.{Whole}

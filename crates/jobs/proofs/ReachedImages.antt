@@ -1,15 +1,9 @@
 -- What the command says of the objects that processes can ever change.
-use Rattle.jobs.proofs.Names.{Written, ℕ, List, Option, Result, Ok, Err, sym, subst, Global, Object, Disk, OpenFault, AreSoundObjects, Fault, HoldsOfSaved}
-use Rattle.jobs.proofs.Names.{OpensAndReads, ReachesImage, TellsReach}
-use Rattle.std.proofs.Common.{◌≡◌, Vec}
+use Rattle.jobs.proofs.Names.{Written, ℕ, List, Option, Result, Ok, Err, sym, subst, Object, Disk, AreSoundObjects, Fault, HoldsOfSaved, ReachesImage}
+use Rattle.jobs.proofs.Names.{TellsReach}
+use Rattle.std.proofs.Common.{◌≡◌}
 use Rattle.layout.specs.declared.open_fault.OpenFault.TheVariants as opening
 use Rattle.jobs.specs.declared.fault.Fault.TheVariants as fault
-
--- what was answered is all objects that are saved
-pub objects_read : {D : Type 0} (disk : D → Disk) (device back : D) (answer : Result (Vec Object Global) OpenFault) (objects : Vec Object Global) →
-    answer ≡ Ok objects → OpensAndReads disk device back answer
-    → HoldsOfSaved disk device back (λ os. objects.items ≡ os)
-objects_read disk device back answer objects is read = subst (λ (r : Result (Vec Object Global) OpenFault). OpensAndReads disk device back r) is read
 
 module _ {D : Type 0} (disk : D → Disk) (device back : D) (objects : List Object) (read : HoldsOfSaved disk device back (λ os. objects ≡ os)) where
   -- they are sound

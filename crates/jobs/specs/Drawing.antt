@@ -1,13 +1,12 @@
 -- What the command that draws says of an image.
 use Rattle.jobs.specs.Names.{Written, ℕ, Bool, true, false, Option, None, Some, List, [], Result, Ok, Err, Wrote}
-use Rattle.jobs.specs.Names.{Object, is_process, Disk, OpenFault, RefusesToOpen, WroteFront, Description, boxes}
-use Rattle.jobs.specs.Names.{graph_text, IsPart, holders, is_listed, IsReach}
+use Rattle.jobs.specs.Names.{Object, is_process, Disk, RefusesToOpen, WroteFront, Description, boxes, graph_text}
+use Rattle.jobs.specs.Names.{IsPart, holders, is_listed, IsReach}
 use Rattle.std.specs.Prelude.{◌≡◌, ◌∷◌}
 use Rattle.layout.specs.declared.open_fault.OpenFault.TheVariants as opening
 use Rattle.jobs.specs.declared.drawing.Focus.{Focus}
 use Rattle.jobs.specs.declared.fault.Fault.{Fault}
 use Rattle.jobs.specs.declared.fault.Fault.TheVariants as fault
-use Rattle.jobs.specs.declared.whole.Whole.{Whole}
 use Rattle.jobs.specs.Images.{DescribesSaved}
 use Rattle.jobs.specs.Reaching.{HoldsOfSaved}
 
@@ -64,14 +63,8 @@ DrawsPart os focus d output output_left (Err fault.CannotWriteOutput) = TellsPar
 DrawsPart os focus d output output_left (Err (fault.Open opening.NoMemory)) = output_left ≡ output
 DrawsPart os focus d output output_left (Err why) = IsNoFocus os focus d why × (output_left ≡ output)
 
--- a device was opened with no failure, nothing was written to it at any moment, and these are the description and the
--- objects that are saved on it; or it wasn't opened, or memory ran out
-abbrev pub OpensWhole : {D : Type 0} → (D → Disk) → D → D → Result Whole OpenFault → Type 0
-OpensWhole disk device back (Ok whole) = DescribesSaved disk device back whole.description × HoldsOfSaved disk device
-    back (λ os. whole.objects.items ≡ os)
-OpensWhole disk device back (Err why) = RefusesToOpen disk device back why
-
--- it was opened so, and `Reported` holds of what is saved
+-- a device was opened with no failure, nothing was written to it at any moment, and `Reported` holds of the description
+-- and the objects that are saved on it
 pub record OfWhole {D : Type 0} (disk : D → Disk) (device back : D) (Reported : List Object → Description → Type 0) :
     Type 0 where
   pub description : Description

@@ -1,5 +1,5 @@
 -- A description of an image, renumbered for other sizes.
-use Rattle.jobs.specs.Names.{Written, ℕ, List, Some, Option, Result, Ok, Err, Wrote, Members, parse_document}
+use Rattle.jobs.specs.Names.{Written, ℕ, List, Some, Result, Ok, Err, Wrote, Members, parse_document}
 use Rattle.jobs.specs.Names.{IsGeometry, WroteFront, Description, IsDescription, Sizes, IsNotRenumbered, IsRenumbered}
 use Rattle.jobs.specs.Names.{NamesNodes, NamesPages, grown_geometry, description_text}
 use Rattle.std.specs.Prelude.{◌≡◌}

@@ -149,11 +149,6 @@ pub record DescribesSaved {D : Type 0} (disk : D → Disk) (device back : D) (de
   pub failures : (disk back).failures ≡ (disk device).failures
   pub only_reads : OnlyReads (disk device) (disk back)
 
--- so it was; or the device wasn't opened, or memory ran out
-abbrev pub OpensAndDescribes : {D : Type 0} → (D → Disk) → D → D → Result Description OpenFault → Type 0
-OpensAndDescribes disk device back (Ok description) = DescribesSaved disk device back description
-OpensAndDescribes disk device back (Err why) = RefusesToOpen disk device back why
-
 -- A description has each object that frames stand for, at their age, in an image of these sizes, and nothing else:
 -- nothing at its default, numbers in order, the home ranges there, and the version of a plan.
 pub record IsDescribedIn (p : Plan) (g : Geometry) (age : ℕ) (frames : List Frame) (description : Description) : Type 0

@@ -1,8 +1,8 @@
 -- What is printed about an image.
-use Rattle.jobs.specs.Names.{Written, ℕ, Bool, List, [], codes, decimal, map, Option, Result, Ok, Err, Vec, Global}
-use Rattle.jobs.specs.Names.{Wrote, count_by, flat_map, Cap, Content, Role, IsSoundFrames, Saved, role_number, role_of}
-use Rattle.jobs.specs.Names.{line_of, spaced, World, Disk, HomeRange, Encodes, SavedState, Plan, version_number}
-use Rattle.jobs.specs.Names.{Checkpoint, OpenFault, OnlyReads, kept_of, saved_of, RefusesToOpen, WroteFront}
+use Rattle.jobs.specs.Names.{Written, ℕ, Bool, List, [], codes, decimal, map, Result, Ok, Err, Wrote, count_by}
+use Rattle.jobs.specs.Names.{flat_map, Cap, Content, Role, IsSoundFrames, Saved, role_number, role_of, line_of, spaced}
+use Rattle.jobs.specs.Names.{World, Disk, HomeRange, Encodes, SavedState, Plan, version_number, Checkpoint, OnlyReads}
+use Rattle.jobs.specs.Names.{kept_of, saved_of, RefusesToOpen, WroteFront}
 use Rattle.std.specs.Prelude.{◌≡◌, ◌==◌, ◌∷◌, ◌++◌}
 use Rattle.model.specs.declared.object.Role.TheVariants as role
 use Rattle.jobs.specs.declared.fault.Fault.{Fault}
@@ -71,11 +71,6 @@ pub record InfoOf {D : Type 0} (disk : D → Disk) (device back : D) (lines : Li
   pub lines_are : lines ≡ info_lines state.plan (saved_of (kept_of state))
   pub failures : (disk back).failures ≡ (disk device).failures
   pub only_reads : OnlyReads (disk device) (disk back)
-
--- so it was; or the device wasn't opened, or memory ran out
-abbrev pub OpensForInfo : {D : Type 0} → (D → Disk) → D → D → Result (Vec InfoLine Global) OpenFault → Type 0
-OpensForInfo disk device back (Ok lines) = InfoOf disk device back lines.items
-OpensForInfo disk device back (Err why) = RefusesToOpen disk device back why
 
 abbrev pub TellsInfo : {D : Type 0} → (D → Disk) → D → D → (List ℕ → Type 0) → Type 0
 TellsInfo disk device back Reported = (lines : List InfoLine) × InfoOf disk device back lines × Reported

@@ -4,7 +4,6 @@ pub use Rattle.checkpoint.specs.Opened.{OnlyReads}
 pub use Rattle.checkpoint.specs.Saved.{Holds, SavedFrames, kept_of}
 pub use Rattle.checkpoint.specs.Store.{View}
 pub use Rattle.checkpoint.specs.declared.committed.Checkpoint.{Checkpoint}
-pub use Rattle.layout.specs.declared.open_fault.OpenFault.{OpenFault}
 pub use Rattle.collections.specs.Marks.{is_marked}
 pub use Rattle.description.specs.Reading.{IsDescription}
 pub use Rattle.description.specs.declared.entry.Description.{Description}
@@ -37,6 +36,7 @@ pub use Rattle.kernel.specs.Standing.{IsDeviceOf}
 pub use Rattle.layout.specs.Image.{Encodes, SavedState}
 pub use Rattle.layout.specs.Superblock.{IsGeometry, Plan, version_number}
 pub use Rattle.layout.specs.declared.extent.HomeRange.{HomeRange}
+pub use Rattle.layout.specs.declared.open_fault.OpenFault.{OpenFault}
 pub use Rattle.layout.specs.declared.version.Version.{Version}
 pub use Rattle.layout.specs.declared.version.Version.TheVariants.{Two}
 unfoldable pub use Rattle.model.specs.Frame.{objects_of}

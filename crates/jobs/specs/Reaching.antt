@@ -1,8 +1,8 @@
 -- What the command says of the objects that some processes can ever change.
 use Rattle.jobs.specs.Names.{Written, ℕ, Bool, not, Option, None, Some, List, Vec, Result, Ok, Err, IsTrue, is_some}
 use Rattle.jobs.specs.Names.{Wrote, All, find, Global, is_marked, Object, objects_of, IsSoundFrames, is_process, Disk}
-use Rattle.jobs.specs.Names.{Encodes, SavedState, OnlyReads, OpenFault, RefusesToOpen, WroteFront, Step}
-use Rattle.jobs.specs.Names.{IsShortestIfAny, chain_text, reach_text, BoundsRuns, IsReach}
+use Rattle.jobs.specs.Names.{Encodes, SavedState, OnlyReads, RefusesToOpen, WroteFront, Step, IsShortestIfAny}
+use Rattle.jobs.specs.Names.{chain_text, reach_text, BoundsRuns, IsReach}
 use Rattle.std.specs.Prelude.{◌≡◌}
 use Rattle.layout.specs.declared.open_fault.OpenFault.TheVariants as opening
 use Rattle.jobs.specs.declared.fault.Fault.{Fault}
@@ -54,11 +54,6 @@ pub record HoldsOfSaved {D : Type 0} (disk : D → Disk) (device back : D) (Hold
   pub holds : Holds (objects_of state.frames)
   pub failures : (disk back).failures ≡ (disk device).failures
   pub only_reads : OnlyReads (disk device) (disk back)
-
--- all saved objects were read; or the device wasn't opened, or memory ran out
-abbrev pub OpensAndReads : {D : Type 0} → (D → Disk) → D → D → Result (Vec Object Global) OpenFault → Type 0
-OpensAndReads disk device back (Ok objects) = HoldsOfSaved disk device back (λ os. objects.items ≡ os)
-OpensAndReads disk device back (Err why) = RefusesToOpen disk device back why
 
 -- what processes can ever change was written; or a fault; or the device wasn't opened, or memory ran out
 abbrev pub ReachesImage : {D : Type 0} → (D → Disk) → List ℕ → Option ℕ → D → D → Written → Written →

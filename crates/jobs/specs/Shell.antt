@@ -1,5 +1,5 @@
 -- What a shell writes beside the answers.
-use Rattle.jobs.specs.Names.{Written, ℕ, Bool, true, false, List, length, codes, Option, Result, line_of, Piece}
+use Rattle.jobs.specs.Names.{Written, ℕ, Bool, true, false, List, length, codes, Result, line_of, Piece}
 use Rattle.jobs.specs.Names.{Unsaved, RunFault, Writes}
 use Rattle.std.specs.Prelude.{◌≡◌, ◌||◌}
 use Rattle.runs.specs.declared.script_pieces.Piece.TheVariants as piece

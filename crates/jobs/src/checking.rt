@@ -5,7 +5,7 @@ ghost use Rattle.jobs.specs.Images.{ChecksImage, checked_text};
 
 use crate::done::Done;
 use crate::fault::{Fault, status};
-use checkpoint::Checkpoint;
+use checkpoint::{Checkpoint, ObjectStore};
 use device::Device;
 use kernel::Kernel;
 use object_cache::{BoundedCache, Capacity};
@@ -33,15 +33,16 @@ fn least_capacity() -> Capacity
     }
 }
 
-// Opens a device, reports what checkpoint it holds, and gives it back. Keeps few bodies in memory.
-fn open_and_tell<D: Device, W: Output>(
+// Opens a device, reports what checkpoint it holds, and gives it back.
+fn open_and_tell<D: Device, S: ObjectStore<D>, W: Output>(
     alloc: Global,
     device: D,
+    setting: S::Setting,
     writer: &mut W,
 ) -> (Result<(), Fault>, D)
     ensures { ChecksImage D.disk device result.1 (W.written writer.old) (W.written writer.new) result.0 }
 {
-    let kernel = match Kernel::<D, BoundedCache<D>>::open(alloc, device, least_capacity()) {
+    let kernel = match Kernel::<D, S>::open(alloc, device, setting) {
         Ok(kernel) => kernel,
         Err(refused) => return (Err(Fault::Open(refused.fault)), refused.device),
     };
@@ -72,7 +73,8 @@ pub fn check_image<D: Device, W: Output, V: Output>(
         × IsReported outcome (V.written errors.old) (V.written errors.new)
         × ChecksImage D.disk device result.device (W.written writer.old) (W.written writer.new) outcome }
 {
-    let (outcome, device) = open_and_tell(alloc, device, writer);
+    let capacity = least_capacity();
+    let (outcome, device) = open_and_tell::<D, BoundedCache<D>, W>(alloc, device, capacity, writer);
     Done {
         status: status(outcome, errors),
         device,

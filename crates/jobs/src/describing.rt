@@ -1,48 +1,35 @@
 // The command that describes what an image holds.
-ghost use Rattle.std.specs.Prelude.{◌≡◌, Some, Result, IfErr, IfOk, OnOk, string_bytes};
-ghost use Rattle.toml.specs.Data.{Members};
-ghost use Rattle.toml.specs.Parse.{parse_document};
+ghost use Rattle.std.specs.Prelude.{◌≡◌, Result};
 ghost use Rattle.image_writer.specs.Laid.{MayBeLaid};
-ghost use Rattle.description.specs.Reading.{IsDescription};
 ghost use Rattle.description.specs.Described.{HasFields};
 ghost use Rattle.image_describer.specs.Spelled.{CanBeSpelled};
-ghost use Rattle.image_describer.specs.Text.{description_text};
 ghost use Rattle.jobs.specs.Faults.{IsReported, status_of};
 ghost use Rattle.jobs.specs.Growing.{GrowsDescription, TellsDescription, TellsGrown};
 ghost use Rattle.jobs.specs.Images.{DescribesImage};
 
 use crate::done::Done;
 use crate::fault::{Fault, status};
-use crate::saved::describe_saved;
-use checkpoint::OpenFault;
+use crate::saved::description_in;
+use checkpoint::{ObjectStore, OpenFault};
 use description::Description;
 use device::Device;
 use image_describer::{GrowthFault, Sizes, grow, text_of};
+use object_cache::PlainStore;
+use recovery::recover;
 use script::Output;
-use std::alloc::{AllocError, Global};
+use std::alloc::Global;
 
-// The text of a description, which is let go.
-fn text_of_whole(alloc: Global, description: Description) -> Result<String, AllocError>
-    requires fields { HasFields description }
-    requires spelled { CanBeSpelled description }
-    ensures text { IfOk result (λ text. string_bytes text ≡ description_text description) }
-    ensures read { IfOk result (λ text. (table : Members) × (parse_document (string_bytes text) ≡ Some table)
-        × IsDescription table description) }
-{
-    text_of(alloc, &description)
-}
-
-// Writes the text of a description, which is let go.
+// Writes the text of a description.
 fn tell_description<W: Output>(
     alloc: Global,
-    description: Description,
+    description: &Description,
     writer: &mut W,
 ) -> Result<(), Fault>
-    requires fields { HasFields description }
-    requires spelled { CanBeSpelled description }
-    ensures { TellsDescription description (W.written writer.old) (W.written writer.new) result }
+    requires fields { HasFields description.now }
+    requires spelled { CanBeSpelled description.now }
+    ensures { TellsDescription description.now (W.written writer.old) (W.written writer.new) result }
 {
-    match text_of_whole(alloc, description) {
+    match text_of(alloc, description) {
         Ok(text) => match writer.write_fully(text.as_bytes()) {
             Ok(()) => Ok(()),
             Err(_) => Err(Fault::CannotWriteOutput),
@@ -77,7 +64,7 @@ fn tell_grown<W: Output>(
 {
     let mut description = description;
     match grow_description(alloc, &mut description, sizes) {
-        Ok(()) => tell_description(alloc, description, writer),
+        Ok(()) => tell_description(alloc, &description, writer),
         Err(fault) => Err(fault),
     }
 }
@@ -91,10 +78,17 @@ fn describe_and_tell<D: Device, W: Output>(
 ) -> (Result<(), Fault>, D)
     ensures { DescribesImage D.disk sizes device result.1 (W.written writer.old) (W.written writer.new) result.0 }
 {
-    let (described, device) = describe_saved(alloc, device);
+    let live = match recover::<D, PlainStore<D>>(alloc, device, ()) {
+        Ok(live) => live,
+        Err(refused) => return (Err(Fault::Open(refused.fault)), refused.device),
+    };
+    let mut store = live.store;
+    let age = store.saved().age;
+    let described = description_in(alloc, &mut store, age);
+    let device = store.into_device();
     match described {
         Ok(description) => (tell_grown(alloc, description, sizes, writer), device),
-        Err(fault) => (Err(Fault::Open(fault)), device),
+        Err(_) => (Err(Fault::Open(OpenFault::NoMemory)), device),
     }
 }
 

@@ -10,14 +10,16 @@ ghost use Rattle.jobs.specs.Faults.{IsReported, status_of};
 
 use crate::done::Done;
 use crate::fault::{Fault, status};
-use crate::whole::{Whole, read_whole};
-use checkpoint::OpenFault;
+use crate::saved::{Whole, whole_in};
+use checkpoint::{ObjectStore, OpenFault};
 use collections::NumberSet;
 use description::Description;
 use device::Device;
 use image_describer::{draw, has_box, holders, restrict};
 use model::Object;
+use object_cache::PlainStore;
 use reach::{missing_process, reach};
+use recovery::recover;
 use script::{Output, RunFault};
 use std::alloc::Global;
 
@@ -138,10 +140,17 @@ fn draw_and_tell<D: Device, W: Output>(
 ) -> (Result<(), Fault>, D)
     ensures { DrawsImage D.disk focus device result.1 (W.written writer.old) (W.written writer.new) result.0 }
 {
-    let (read, device) = read_whole(alloc, device);
+    let live = match recover::<D, PlainStore<D>>(alloc, device, ()) {
+        Ok(live) => live,
+        Err(refused) => return (Err(Fault::Open(refused.fault)), refused.device),
+    };
+    let mut store = live.store;
+    let age = store.saved().age;
+    let read = whole_in(alloc, &mut store, age);
+    let device = store.into_device();
     match read {
         Ok(whole) => (draw_part(alloc, whole, focus, writer), device),
-        Err(fault) => (Err(Fault::Open(fault)), device),
+        Err(_) => (Err(Fault::Open(OpenFault::NoMemory)), device),
     }
 }
 

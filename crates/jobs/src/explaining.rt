@@ -1,5 +1,5 @@
 // The command that says why a description is refused.
-ghost use Rattle.std.specs.Prelude.{◌≡◌, Bool, IfOk, Result, string_bytes};
+ghost use Rattle.std.specs.Prelude.{◌≡◌, ℕ, Bool, IfOk, List, Result, string_bytes};
 ghost use Rattle.toml.specs.Errors.{IsWithin};
 ghost use Rattle.jobs.specs.Explained.{ExplainsText, IsSyntaxLine, TellsLine, TellsOf, accepted_status, position_from};
 ghost use Rattle.jobs.specs.Explained.{without_answer};
@@ -82,11 +82,15 @@ fn tell_line<W: Output>(line: String, writer: &mut W) -> Result<(), Fault>
     }
 }
 
-// Writes the line about the description in a text, and answers whether the description is accepted.
-fn explain_and_tell<W: Output>(alloc: Global, text: &str, writer: &mut W) -> Result<bool, Fault>
-    ensures { ExplainsText text.now (W.written writer.old) (W.written writer.new) result }
+// Writes the line about a description, and answers whether the description is accepted.
+fn tell_explained<W: Output>(
+    explained: Result<(String, bool), AllocError>,
+    writer: &mut W,
+) -> Result<bool, Fault>
+    ensures { (text : List ℕ) → IfOk explained (λ answer. TellsOf text (string_bytes answer.0) answer.1)
+        → ExplainsText text (W.written writer.old) (W.written writer.new) result }
 {
-    let (line, is_accepted) = match explained(alloc, text) {
+    let (line, is_accepted) = match explained {
         Ok(explained) => explained,
         Err(_) => return Err(Fault::NoMemory),
     };
@@ -111,7 +115,7 @@ pub fn explain_description<W: Output, V: Output>(
         × IsReported (without_answer outcome) (V.written errors.old) (V.written errors.new)
         × ExplainsText text.now (W.written writer.old) (W.written writer.new) outcome }
 {
-    match explain_and_tell(alloc, text, writer) {
+    match tell_explained(explained(alloc, text), writer) {
         Ok(true) => 0,
         Ok(false) => 1,
         Err(fault) => status(Err(fault), errors),

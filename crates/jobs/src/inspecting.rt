@@ -5,7 +5,7 @@ ghost use Rattle.capability.specs.Parts.{frames_of};
 ghost use Rattle.recovery.specs.Denotes.{saved_of};
 ghost use Rattle.object_cache.specs.StoreState.{parts_of, saved_by};
 ghost use Rattle.jobs.specs.Faults.{IsReported, status_of};
-ghost use Rattle.jobs.specs.Info.{InspectsImage, OpensForInfo, info_lines};
+ghost use Rattle.jobs.specs.Info.{InspectsImage, info_lines};
 
 use crate::done::Done;
 use crate::fault::{Fault, status};
@@ -36,21 +36,6 @@ fn lines_in<D: Device>(
     (lines, saved.into_device())
 }
 
-// Opens a device, gives it back, and with it the lines about the image that it holds.
-fn read_info<D: Device>(alloc: Global, device: D) -> (Result<Vec<InfoLine>, OpenFault>, D)
-    ensures { OpensForInfo D.disk device result.1 result.0 }
-{
-    let live = match recover::<D, PlainStore<D>>(alloc, device, ()) {
-        Ok(live) => live,
-        Err(refused) => return (Err(refused.fault), refused.device),
-    };
-    let (lines, device) = lines_in(alloc, live.store);
-    match lines {
-        Ok(lines) => (Ok(lines), device),
-        Err(_) => (Err(OpenFault::NoMemory), device),
-    }
-}
-
 // Opens a device, writes the lines about the image that it holds, and gives it back.
 fn inspect_and_tell<D: Device, W: Output>(
     alloc: Global,
@@ -59,13 +44,17 @@ fn inspect_and_tell<D: Device, W: Output>(
 ) -> (Result<(), Fault>, D)
     ensures { InspectsImage D.disk device result.1 (W.written writer.old) (W.written writer.new) result.0 }
 {
-    let (read, device) = read_info(alloc, device);
-    match read {
+    let live = match recover::<D, PlainStore<D>>(alloc, device, ()) {
+        Ok(live) => live,
+        Err(refused) => return (Err(Fault::Open(refused.fault)), refused.device),
+    };
+    let (lines, device) = lines_in(alloc, live.store);
+    match lines {
         Ok(lines) => match print_lines(&lines, writer) {
             Ok(()) => (Ok(()), device),
             Err(_) => (Err(Fault::CannotWriteOutput), device),
         },
-        Err(fault) => (Err(Fault::Open(fault)), device),
+        Err(_) => (Err(Fault::Open(OpenFault::NoMemory)), device),
     }
 }
 

@@ -15,12 +15,10 @@ mod inspecting;
 pub mod laws;
 mod output;
 mod reaching;
-mod reading;
 mod running;
 mod saved;
 mod shell;
 mod upgrading;
-mod whole;
 
 pub use building::build_image;
 pub use checking::check_image;

@@ -9,12 +9,14 @@ ghost use Rattle.jobs.specs.Reaching.{AreProcesses, ReachesImage, TellsReach};
 
 use crate::done::Done;
 use crate::fault::{Fault, status};
-use crate::reading::read_saved;
-use checkpoint::OpenFault;
+use crate::saved::objects_of;
+use checkpoint::{ObjectStore, OpenFault};
 use collections::NumberSet;
 use device::Device;
 use model::Object;
+use object_cache::PlainStore;
 use reach::{Step, missing_process, print_chain, print_reach, reach, shortest_chain};
+use recovery::recover;
 use script::{Output, RunFault};
 use std::alloc::Global;
 
@@ -115,13 +117,19 @@ fn open_and_reach<D: Device, W: Output>(
     ensures { ReachesImage D.disk processes.now shows device result.1 (W.written writer.old) (W.written writer.new)
         result.0 }
 {
-    let (read, device) = read_saved(alloc, device);
+    let live = match recover::<D, PlainStore<D>>(alloc, device, ()) {
+        Ok(live) => live,
+        Err(refused) => return (Err(Fault::Open(refused.fault)), refused.device),
+    };
+    let mut store = live.store;
+    let read = objects_of(alloc, &mut store);
+    let device = store.into_device();
     match read {
         Ok(objects) => (
             tell_reach(alloc, &objects, processes, shows, writer),
             device,
         ),
-        Err(fault) => (Err(Fault::Open(fault)), device),
+        Err(_) => (Err(Fault::Open(OpenFault::NoMemory)), device),
     }
 }
 

@@ -34,7 +34,7 @@ fn open_and_run<D: Device, S: ObjectStore<D>, R: Script, W: Output, O: Observer>
         Ok(kernel) => kernel,
         Err(refused) => return (Err(refused.fault), refused.device),
     };
-    let outcome = run_observed(alloc, &mut kernel, reader, writer, observer);
+    let outcome = run_observed(&mut kernel, reader, writer, observer);
     (Ok(outcome), kernel.into_device())
 }
 

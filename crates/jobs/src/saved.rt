@@ -1,16 +1,17 @@
-// What is saved on a device, as a description.
+// What is saved on a device, as a description and as objects.
 ghost use Rattle.std.specs.Prelude.{◌≡◌, IfOk};
 ghost use Rattle.model.specs.Keepable.{IsSoundFrames};
-ghost use Rattle.capability.specs.Parts.{frames_of};
+ghost use Rattle.capability.specs.Parts.{AreSound, frames_of, objects_in};
 ghost use Rattle.object_cache.specs.StoreState.{parts_of};
-ghost use Rattle.jobs.specs.Images.{IsDescriptionOf, OpensAndDescribes};
+ghost use Rattle.jobs.specs.Images.{IsDescriptionOf};
 
-use checkpoint::{ObjectStore, OpenFault};
+use checkpoint::ObjectStore;
 use description::Description;
 use device::Device;
 use image_describer::{describe, ranges_of};
+use model::Object;
 use object_cache::PlainStore;
-use recovery::recover;
+use reach::read_objects;
 use std::alloc::{AllocError, Global};
 
 /// The description of the objects of a store, which are sound at an age, with the ranges and the version that
@@ -34,27 +35,49 @@ pub(crate) fn description_in<D: Device>(
     }
 }
 
-/// Opens a device as a run does, and returns it with the description of what is saved on it: the
-/// state of each object in use, by rising numbers, with the home ranges and the image's version. It
-/// writes nothing to the device at any moment.
-///
-/// It fails where the device isn't opened, for that reason, and with `NoMemory` where memory runs out.
-pub(crate) fn describe_saved<D: Device>(
+/// The objects of a store. Fails only if memory runs out: it makes no device call.
+pub(crate) fn objects_of<D: Device>(
     alloc: Global,
-    device: D,
-) -> (Result<Description, OpenFault>, D)
-    ensures { OpensAndDescribes D.disk device result.1 result.0 }
+    store: &mut PlainStore<D>,
+) -> Result<Vec<Object>, AllocError>
+    requires { AreSound (parts_of D.disk store.old) }
+    ensures objects { IfOk result (λ objects. objects.items ≡ objects_in (parts_of D.disk store.old)) }
+    ensures same { store.new.durable ≡ store.old.durable }
+    ensures frames { frames_of (parts_of D.disk store.new) ≡ frames_of (parts_of D.disk store.old) }
 {
-    let live = match recover::<D, PlainStore<D>>(alloc, device, ()) {
-        Ok(live) => live,
-        Err(refused) => return (Err(refused.fault), refused.device),
-    };
-    let mut store = live.store;
-    let age = store.saved().age;
-    let described = description_in(alloc, &mut store, age);
-    let device = store.into_device();
-    match described {
-        Ok(description) => (Ok(description), device),
-        Err(_) => (Err(OpenFault::NoMemory), device),
+    match read_objects(alloc, store) {
+        Ok(objects) => Ok(objects),
+        Err(_) => Err(AllocError),
+    }
+}
+
+/// What is saved on a device: its description, and all objects by number.
+#[derive(Drop)]
+pub(crate) struct Whole {
+    pub description: Description,
+    pub objects: Vec<Object>,
+}
+
+/// The description and the objects of a store, which are sound at an age. Fails only where memory runs out: it
+/// makes no device call.
+pub(crate) fn whole_in<D: Device>(
+    alloc: Global,
+    store: &mut PlainStore<D>,
+    age: u64,
+) -> Result<Whole, AllocError>
+    requires { IsSoundFrames store.old.durable.books.plan.geometry age
+        (frames_of (parts_of D.disk store.old)) }
+    ensures reported { IfOk result (λ w. IsDescriptionOf store.old.durable.books.plan age
+        (frames_of (parts_of D.disk store.old)) w.description) }
+    ensures objects { IfOk result (λ w. w.objects.items ≡ objects_in (parts_of D.disk store.old)) }
+    ensures same { store.new.durable ≡ store.old.durable }
+{
+    let objects = objects_of(alloc, store)?;
+    match description_in(alloc, store, age) {
+        Ok(description) => Ok(Whole {
+            description,
+            objects,
+        }),
+        Err(_) => Err(AllocError),
     }
 }

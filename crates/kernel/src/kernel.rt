@@ -36,6 +36,8 @@ pub struct Kernel<D: Device, S: ObjectStore<D>> {
     // Memory that a closed store left for the next.
     memory: Option<S::Memory>,
     setting: S::Setting,
+    // For `Show`, `Restart` and `Cut`.
+    alloc: Global,
 }
 
 impl<D: Device, S: ObjectStore<D>> Model for Kernel<D, S> {
@@ -152,6 +154,7 @@ impl<D: Device, S: ObjectStore<D>> Kernel<D, S> {
                 device: None,
                 memory: None,
                 setting,
+                alloc,
             }),
             Err(refused) => Err(refused),
         }
@@ -159,7 +162,7 @@ impl<D: Device, S: ObjectStore<D>> Kernel<D, S> {
 
     // Serves a command that isn't an invocation and doesn't open the device. After a failure the
     // machine is down.
-    fn go_on(&mut self, alloc: Global, command: Command) -> Answer
+    fn go_on(&mut self, command: Command) -> Answer
         requires goes_on { opens command ≡ false }
         requires other { (i : Invocation) → command ≡ Invoke i → ⊥ }
         ensures serves { Serves D.disk S.view S.parts self.old command result self.new }
@@ -169,6 +172,7 @@ impl<D: Device, S: ObjectStore<D>> Kernel<D, S> {
         ensures cause { IsCaused (disk_of D.disk S.view S.parts self.old)
             (disk_of D.disk S.view S.parts self.new) result }
     {
+        let alloc = self.alloc;
         match &mut self.live {
             Some(live) => match serve::<D, S>(alloc, live, command) {
                 Ok(answer) => answer,
@@ -208,7 +212,7 @@ impl<D: Device, S: ObjectStore<D>> Kernel<D, S> {
 
     // Opens the device again.
     #[inline(never)]
-    fn restart(&mut self, alloc: Global) -> Answer
+    fn restart(&mut self) -> Answer
         ensures serves { Serves D.disk S.view S.parts self.old command.Restart result self.new }
         ensures only_reads { IsUnlooked result → ⊥ }
         ensures cause { IsCaused (disk_of D.disk S.view S.parts self.old)
@@ -216,7 +220,7 @@ impl<D: Device, S: ObjectStore<D>> Kernel<D, S> {
     {
         let device = take_device::<D, S>(&mut self.live, &mut self.device, &mut self.memory);
         rise::<D, S>(
-            alloc,
+            self.alloc,
             device,
             self.setting,
             &mut self.memory,
@@ -227,7 +231,7 @@ impl<D: Device, S: ObjectStore<D>> Kernel<D, S> {
 
     // Cuts the power, and opens the device again.
     #[inline(never)]
-    fn cut(&mut self, alloc: Global) -> Answer
+    fn cut(&mut self) -> Answer
         ensures serves { Serves D.disk S.view S.parts self.old command.Cut result self.new }
         ensures only_reads { IsUnlooked result → ⊥ }
         ensures cause { IsCaused (disk_of D.disk S.view S.parts self.old)
@@ -236,7 +240,7 @@ impl<D: Device, S: ObjectStore<D>> Kernel<D, S> {
         let mut device = take_device::<D, S>(&mut self.live, &mut self.device, &mut self.memory);
         device.power_cut();
         rise::<D, S>(
-            alloc,
+            self.alloc,
             device,
             self.setting,
             &mut self.memory,
@@ -255,7 +259,7 @@ impl<D: Device, S: ObjectStore<D>> Kernel<D, S> {
     ///
     /// A crash at any moment leaves the saved part. In a `Commit`, a `Journal`, or the `Migrate` that
     /// brings the last object home, it may leave the part that this command saves.
-    pub fn step(&mut self, alloc: Global, command: Command) -> Answer
+    pub fn step(&mut self, command: Command) -> Answer
         ensures serves { Serves D.disk S.view S.parts self.old command result self.new }
         ensures untouched { IsUnlooked result
             → SameDevice D.disk S.view S.parts self.old self.new }
@@ -265,12 +269,12 @@ impl<D: Device, S: ObjectStore<D>> Kernel<D, S> {
             (disk_of D.disk S.view S.parts self.new) result }
         ensures memory { result ≡ Answer.Refused Refusal.NoMemory → takes_memory command ≡ true }
     {
-        self.step_with_code(alloc, &command).answer
+        self.step_with_code(&command).answer
     }
 
     /// Serves one command, as `step` does, and returns the result code too. The code is that of the
     /// order if the command invoked a kernel object and the answer is `Done`, and else `None`.
-    pub fn step_with_code(&mut self, alloc: Global, command: &Command) -> Served
+    pub fn step_with_code(&mut self, command: &Command) -> Served
         ensures serves { Serves D.disk S.view S.parts self.old command.now result.answer self.new }
         ensures untouched { IsUnlooked result.answer
             → SameDevice D.disk S.view S.parts self.old self.new }
@@ -291,9 +295,9 @@ impl<D: Device, S: ObjectStore<D>> Kernel<D, S> {
                 },
                 Err(why) => Served::from(Answer::Refused(why)),
             },
-            Command::Restart => Served::from(self.restart(alloc)),
-            Command::Cut => Served::from(self.cut(alloc)),
-            other => Served::from(self.go_on(alloc, *other)),
+            Command::Restart => Served::from(self.restart()),
+            Command::Cut => Served::from(self.cut()),
+            other => Served::from(self.go_on(*other)),
         }
     }
 

@@ -18,5 +18,4 @@ mod worlds;
 mod writers;
 
 pub use images::written;
-pub use kernels::opened;
-pub use worlds::{first_world, second_world};
+pub use worlds::Worlds;

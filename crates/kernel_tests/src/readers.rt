@@ -1,5 +1,6 @@
 // Runs of scripts that come in pieces, or whose reader is interrupted or fails.
-use crate::world_runs::{World, device_of, rewritten, run_over};
+use crate::Worlds;
+use crate::world_runs::World;
 use runs::ScriptReader;
 use script::{CountedWriter, RunFault};
 use std::alloc::{AllocError, Global};
@@ -71,10 +72,10 @@ fn is_answered(
     expected: &[u8],
     ends: Result<(), RunFault>,
 ) -> Result<(), Fail> {
-    let alloc = rt.alloc();
-    let mut answers = CountedWriter::new(Vec::new(alloc));
+    let worlds = Worlds::new(rt.alloc());
+    let mut answers = CountedWriter::new(Vec::new(rt.alloc()));
     let mut script = ScriptReader::new(&mut *reader);
-    let outcome = run_over(alloc, device_of(alloc, world)?, &mut script, &mut answers)?;
+    let outcome = worlds.run_over(worlds.device_of(world)?, &mut script, &mut answers)?;
     assert_eq!(rt; outcome, ends);
     assert_eq!(rt; answers.get_ref().as_slice(), expected);
     assert!(rt; !reader.requested_otherwise);
@@ -247,13 +248,11 @@ fn a_failing_reader_ends_the_run(rt: HostRuntime) -> Result<(), Fail> {
 
 #[test]
 fn an_image_takes_the_place_of_one_of_a_greater_age(rt: HostRuntime) -> Result<(), Fail> {
-    let device = rewritten(rt.alloc())?;
+    let worlds = Worlds::new(rt.alloc());
+    let device = worlds.rewritten()?;
     let mut reader = ScriptReader::new(b"cut\nshow 5\n".as_slice());
     let mut answers = CountedWriter::new(Vec::new(rt.alloc()));
-    assert_eq!(rt;
-        run_over(rt.alloc(), device, &mut reader, &mut answers)?,
-        Ok(())
-    );
+    assert_eq!(rt; worlds.run_over(device, &mut reader, &mut answers)?, Ok(()));
     assert_eq!(rt;
         answers.get_ref().as_slice(),
         b"at 0 0\nfree 5\nend\n".as_slice()

@@ -25,116 +25,140 @@ const SMALL: Geometry = Geometry {
 // How many objects they have.
 const SMALL_COUNT: usize = 24;
 
-/// World `f0`: process 1 runs, and holds node 5 in register 5 and page 16 in register 6. Fails only
-/// if memory runs out.
-pub fn first_world(alloc: Global) -> Result<Plain, AllocError>
-    ensures world { IfOk result (λ p. world_at 0 (frames_of (parts_of p)) ≡ f0) }
-    ensures headers { IfOk result (λ p. p.headers ≡ map fresh_header f0.objects) }
-    ensures contents { IfOk result (λ p. p.contents ≡ map fresh_held f0.objects) }
-    ensures geometry { IfOk result (λ p. p.geometry ≡ small) }
-    ensures sound { IfOk result (λ p. IsSoundFrames p.geometry 0 (frames_of (parts_of p))) }
-    ensures keepable { IfOk result (λ p. AreKeepable p.geometry 0 (frames_of (parts_of p))) }
-{
-    prime_world(alloc, f0_contents(alloc)?)
+/// Makes the worlds that tests begin with, devices that hold them, and kernels over these.
+#[derive(Clone, Copy)]
+pub struct Worlds {
+    pub(crate) alloc: Global,
 }
 
-/// World `i0`: process 1 runs, and holds itself, the prime bank, the right to start process 3 with
-/// key 7 and that process, which is available, in registers 1 to 4. Fails only if memory runs out.
-pub fn second_world(alloc: Global) -> Result<Plain, AllocError>
-    ensures world { IfOk result (λ p. world_at 0 (frames_of (parts_of p)) ≡ i0) }
-    ensures headers { IfOk result (λ p. p.headers ≡ map fresh_header i0.objects) }
-    ensures contents { IfOk result (λ p. p.contents ≡ map fresh_held i0.objects) }
-    ensures geometry { IfOk result (λ p. p.geometry ≡ small) }
-    ensures sound { IfOk result (λ p. IsSoundFrames p.geometry 0 (frames_of (parts_of p))) }
-    ensures keepable { IfOk result (λ p. AreKeepable p.geometry 0 (frames_of (parts_of p))) }
-{
-    prime_world(alloc, i0_contents(alloc)?)
-}
-
-// Objects of the prime bank that were never given up or written.
-fn prime_world(alloc: Global, contents: Vec<Content<Cap>>) -> Result<Plain, AllocError>
-    requires { length contents.items ≡ 24 }
-    ensures { IfOk result (λ p. p ≡ record {
-      geometry = small;
-      headers = map prime_header contents.items;
-      contents = contents.items;
-    }) }
-{
-    let headers = prime_headers(alloc, &contents)?;
-    Ok(Plain::new(SMALL, headers, contents))
-}
-
-// The headers of objects of the prime bank, and of free numbers.
-fn prime_headers(alloc: Global, contents: &[Content<Cap>]) -> Result<Vec<ObjectHeader>, AllocError>
-    ensures { IfOk result (λ headers. headers.items ≡ map prime_header contents.now) }
-{
-    let mut headers = Vec::with_capacity(alloc, contents.len())?;
-    for content in contents {
-        headers.push(ObjectHeader {
-            role: content.role(),
-            allocations: 0,
-            calls: 0,
-            owner: 0,
-        })?;
+impl Worlds {
+    /// Returns a maker of worlds in the memory of this allocator.
+    pub fn new(alloc: Global) -> Worlds {
+        Worlds { alloc }
     }
-    Ok(headers)
-}
 
-fn f0_contents(alloc: Global) -> Result<Vec<Content<Cap>>, AllocError>
-    ensures { IfOk result (λ contents. contents.items ≡ map fresh_held f0.objects) }
-{
-    let mut contents = first_contents(alloc)?;
-    contents.push(Content::Annex(f0_registers(alloc)?))?;
-    push_free(&mut contents, 2)?;
-    contents.push(Content::Node(void_slots(alloc)?))?;
-    push_free(&mut contents, 10)?;
-    contents.push(Content::Page(Words::new(alloc)?))?;
-    push_free(&mut contents, 7)?;
-    Ok(contents)
-}
+    /// World `f0`: process 1 runs, and holds node 5 in register 5 and page 16 in register 6. Fails only
+    /// if memory runs out.
+    pub fn first_world(&self) -> Result<Plain, AllocError>
+        ensures world { IfOk result (λ p. world_at 0 (frames_of (parts_of p)) ≡ f0) }
+        ensures headers { IfOk result (λ p. p.headers ≡ map fresh_header f0.objects) }
+        ensures contents { IfOk result (λ p. p.contents ≡ map fresh_held f0.objects) }
+        ensures geometry { IfOk result (λ p. p.geometry ≡ small) }
+        ensures sound { IfOk result (λ p. IsSoundFrames p.geometry 0 (frames_of (parts_of p))) }
+        ensures keepable { IfOk result (λ p. AreKeepable p.geometry 0 (frames_of (parts_of p))) }
+    {
+        self.prime_world(self.f0_contents()?)
+    }
 
-fn f0_registers(alloc: Global) -> Result<Slots<Cap>, AllocError>
-    ensures { IfOk result (λ registers.
-        let held = slice_set (slice_set (all_slots Void) 5 (Node 5 full)) 6 (Page 16 full) in
-        registers ≡ map fresh_cap held) }
-{
-    let access = Access::full();
-    let mut registers = void_slots(alloc)?;
-    registers.set(5, held(Capability::Node { object: 5, access }));
-    registers.set(6, held(Capability::Page { object: 16, access }));
-    Ok(registers)
-}
+    /// World `i0`: process 1 runs, and holds itself, the prime bank, the right to start process 3 with
+    /// key 7 and that process, which is available, in registers 1 to 4. Fails only if memory runs out.
+    pub fn second_world(&self) -> Result<Plain, AllocError>
+        ensures world { IfOk result (λ p. world_at 0 (frames_of (parts_of p)) ≡ i0) }
+        ensures headers { IfOk result (λ p. p.headers ≡ map fresh_header i0.objects) }
+        ensures contents { IfOk result (λ p. p.contents ≡ map fresh_held i0.objects) }
+        ensures geometry { IfOk result (λ p. p.geometry ≡ small) }
+        ensures sound { IfOk result (λ p. IsSoundFrames p.geometry 0 (frames_of (parts_of p))) }
+        ensures keepable { IfOk result (λ p. AreKeepable p.geometry 0 (frames_of (parts_of p))) }
+    {
+        self.prime_world(self.i0_contents()?)
+    }
 
-fn i0_contents(alloc: Global) -> Result<Vec<Content<Cap>>, AllocError>
-    ensures { IfOk result (λ contents. contents.items ≡ map fresh_held i0.objects) }
-{
-    let mut contents = first_contents(alloc)?;
-    contents.push(Content::Annex(i0_registers(alloc)?))?;
-    contents.push(root(State::Available, 4))?;
-    contents.push(Content::Annex(void_slots(alloc)?))?;
-    push_free(&mut contents, 19)?;
-    Ok(contents)
-}
+    // Objects of the prime bank that were never given up or written.
+    fn prime_world(&self, contents: Vec<Content<Cap>>) -> Result<Plain, AllocError>
+        requires { length contents.items ≡ 24 }
+        ensures { IfOk result (λ p. p ≡ record {
+          geometry = small;
+          headers = map prime_header contents.items;
+          contents = contents.items;
+        }) }
+    {
+        let headers = self.prime_headers(&contents)?;
+        Ok(Plain::new(SMALL, headers, contents))
+    }
 
-fn i0_registers(alloc: Global) -> Result<Slots<Cap>, AllocError>
-    ensures { IfOk result (λ registers.
-        let one = slice_set (all_slots Void) 1 (Process 1) in
-        let two = slice_set one 2 (Bank 0) in
-        let three = slice_set two 3 (Start 3 7) in
-        registers ≡ map fresh_cap (slice_set three 4 (Process 3))) }
-{
-    let mut registers = void_slots(alloc)?;
-    registers.set(1, held(Capability::Process(1)));
-    registers.set(2, held(Capability::Bank(0)));
-    registers.set(3, held(Capability::Start { process: 3, key: 7 }));
-    registers.set(4, held(Capability::Process(3)));
-    Ok(registers)
-}
+    // The headers of objects of the prime bank, and of free numbers.
+    fn prime_headers(&self, contents: &[Content<Cap>]) -> Result<Vec<ObjectHeader>, AllocError>
+        ensures { IfOk result (λ headers. headers.items ≡ map prime_header contents.now) }
+    {
+        let mut headers = Vec::with_capacity(self.alloc, contents.len())?;
+        for content in contents {
+            headers.push(ObjectHeader {
+                role: content.role(),
+                allocations: 0,
+                calls: 0,
+                owner: 0,
+            })?;
+        }
+        Ok(headers)
+    }
 
-fn void_slots(alloc: Global) -> Result<Slots<Cap>, AllocError>
-    ensures { IfOk result (λ slots. slots ≡ map fresh_cap (all_slots Void)) }
-{
-    Slots::new(alloc, held(Capability::Void))
+    fn f0_contents(&self) -> Result<Vec<Content<Cap>>, AllocError>
+        ensures { IfOk result (λ contents. contents.items ≡ map fresh_held f0.objects) }
+    {
+        let mut contents = self.first_contents()?;
+        contents.push(Content::Annex(self.f0_registers()?))?;
+        push_free(&mut contents, 2)?;
+        contents.push(Content::Node(self.void_slots()?))?;
+        push_free(&mut contents, 10)?;
+        contents.push(Content::Page(Words::new(self.alloc)?))?;
+        push_free(&mut contents, 7)?;
+        Ok(contents)
+    }
+
+    fn f0_registers(&self) -> Result<Slots<Cap>, AllocError>
+        ensures { IfOk result (λ registers.
+            let held = slice_set (slice_set (all_slots Void) 5 (Node 5 full)) 6 (Page 16 full) in
+            registers ≡ map fresh_cap held) }
+    {
+        let access = Access::full();
+        let mut registers = self.void_slots()?;
+        registers.set(5, held(Capability::Node { object: 5, access }));
+        registers.set(6, held(Capability::Page { object: 16, access }));
+        Ok(registers)
+    }
+
+    fn i0_contents(&self) -> Result<Vec<Content<Cap>>, AllocError>
+        ensures { IfOk result (λ contents. contents.items ≡ map fresh_held i0.objects) }
+    {
+        let mut contents = self.first_contents()?;
+        contents.push(Content::Annex(self.i0_registers()?))?;
+        contents.push(root(State::Available, 4))?;
+        contents.push(Content::Annex(self.void_slots()?))?;
+        push_free(&mut contents, 19)?;
+        Ok(contents)
+    }
+
+    fn i0_registers(&self) -> Result<Slots<Cap>, AllocError>
+        ensures { IfOk result (λ registers.
+            let one = slice_set (all_slots Void) 1 (Process 1) in
+            let two = slice_set one 2 (Bank 0) in
+            let three = slice_set two 3 (Start 3 7) in
+            registers ≡ map fresh_cap (slice_set three 4 (Process 3))) }
+    {
+        let mut registers = self.void_slots()?;
+        registers.set(1, held(Capability::Process(1)));
+        registers.set(2, held(Capability::Bank(0)));
+        registers.set(3, held(Capability::Start { process: 3, key: 7 }));
+        registers.set(4, held(Capability::Process(3)));
+        Ok(registers)
+    }
+
+    fn void_slots(&self) -> Result<Slots<Cap>, AllocError>
+        ensures { IfOk result (λ slots. slots ≡ map fresh_cap (all_slots Void)) }
+    {
+        Slots::new(self.alloc, held(Capability::Void))
+    }
+
+    // The prime bank, and a running process without its annex.
+    fn first_contents(&self) -> Result<Vec<Content<Cap>>, AllocError>
+        ensures { IfOk result (λ contents.
+            contents.items ≡ fresh_held prime_bank ∷ fresh_held (fresh_root states.Running 2) ∷ []) }
+    {
+        let mut contents = Vec::with_capacity(self.alloc, SMALL_COUNT)?;
+        contents.push(Content::Bank { limit: 1000 })?;
+        contents.push(root(State::Running, 2))?;
+        Ok(contents)
+    }
 }
 
 // Pushes free numbers.
@@ -145,17 +169,6 @@ fn push_free(contents: &mut Vec<Content<Cap>>, count: usize) -> Result<(), Alloc
         contents.push(Content::Free)?;
     }
     Ok(())
-}
-
-// The prime bank, and a running process without its annex.
-fn first_contents(alloc: Global) -> Result<Vec<Content<Cap>>, AllocError>
-    ensures { IfOk result (λ contents.
-        contents.items ≡ fresh_held prime_bank ∷ fresh_held (fresh_root states.Running 2) ∷ []) }
-{
-    let mut contents = Vec::with_capacity(alloc, SMALL_COUNT)?;
-    contents.push(Content::Bank { limit: 1000 })?;
-    contents.push(root(State::Running, 2))?;
-    Ok(contents)
 }
 
 // A process in that state, with that annex, nothing delivered and no address space.

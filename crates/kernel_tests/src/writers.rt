@@ -1,5 +1,6 @@
 // Answers to writers that take little, are interrupted, or fail.
-use crate::world_runs::{World, device_of, run_over};
+use crate::Worlds;
+use crate::world_runs::World;
 use model::{Answer, Content, Description, Object, Shown, Words};
 use runs::ScriptReader;
 use script::{BufferedOutput, CountedWriter, RunFault, print_answer};
@@ -110,15 +111,10 @@ fn is_answered(
     expected: &[u8],
     room: usize,
 ) -> Result<(), Fail> {
-    let alloc = rt.alloc();
+    let worlds = Worlds::new(rt.alloc());
     let mut reader = ScriptReader::new(script);
-    let mut writer = CountedWriter::new(Narrow::new(alloc, 4096, room, true));
-    let outcome = run_over(
-        alloc,
-        device_of(alloc, World::First)?,
-        &mut reader,
-        &mut writer,
-    )?;
+    let mut writer = CountedWriter::new(Narrow::new(rt.alloc(), 4096, room, true));
+    let outcome = worlds.run_over(worlds.device_of(World::First)?, &mut reader, &mut writer)?;
     has_taken(rt, writer.get_ref(), room, expected, outcome);
     Ok(())
 }
@@ -138,16 +134,12 @@ fn a_failing_writer_ends_the_run(rt: HostRuntime) -> Result<(), Fail> {
 #[test]
 fn what_is_not_passed_on_ends_the_run(rt: HostRuntime) -> Result<(), Fail> {
     let alloc = rt.alloc();
+    let worlds = Worlds::new(alloc);
     for (room, ends) in [(19, Ok(())), (18, Err(RunFault::Write))] {
         let buffer = BufWriter::new(alloc, Narrow::new(alloc, 4096, room, true))?;
         let mut writer = BufferedOutput::new(buffer);
         let mut reader = ScriptReader::new(b"show 5\n".as_slice());
-        let outcome = run_over(
-            alloc,
-            device_of(alloc, World::First)?,
-            &mut reader,
-            &mut writer,
-        )?;
+        let outcome = worlds.run_over(worlds.device_of(World::First)?, &mut reader, &mut writer)?;
         assert_eq!(rt; outcome, ends);
         assert_eq!(rt; writer.get_ref().taken.len(), room);
     }

@@ -67,37 +67,60 @@ fn copy_words(words: &mut [u64], bytes: &mut [u8], rounds: u64) -> u64
     done
 }
 
-fn page_frames(alloc: Global, rounds: u64) -> Result<u64, AllocError> {
-    let mut bytes = vec![in alloc; 0; PAGE_FRAME_BYTES]?;
-    let mut scratch = Scratch::new(alloc)?;
-    let mut words = Words::new(alloc)?;
-    words.set(3, 99);
-    let page = Content::Page(words);
-    let into = bytes.as_mut_slice();
-    Ok(code(PAGE, header(Role::Page), &page, into, &mut scratch, rounds))
+// What is done some rounds, in the memory of an allocator.
+#[derive(Drop)]
+struct Bench {
+    alloc: Global,
+    rounds: u64,
 }
 
-fn node_frames(alloc: Global, rounds: u64) -> Result<u64, AllocError> {
-    let held = Cap {
-        what: Capability::Node {
-            object: 5,
-            access: Access::READ_ONLY,
-        },
-        count: 7,
-    };
-    let mut bytes = vec![in alloc; 0; NODE_FRAME_BYTES]?;
-    let mut scratch = Scratch::new(alloc)?;
-    let node = Content::Node(Slots::new(alloc, held)?);
-    let into = bytes.as_mut_slice();
-    Ok(code(NODE, header(Role::Node), &node, into, &mut scratch, rounds))
-}
+impl Bench {
+    fn page_frames(&self) -> Result<u64, AllocError> {
+        let mut bytes = vec![in self.alloc; 0; PAGE_FRAME_BYTES]?;
+        let mut scratch = Scratch::new(self.alloc)?;
+        let mut words = Words::new(self.alloc)?;
+        words.set(3, 99);
+        let page = Content::Page(words);
+        let into = bytes.as_mut_slice();
+        Ok(code(
+            PAGE,
+            header(Role::Page),
+            &page,
+            into,
+            &mut scratch,
+            self.rounds,
+        ))
+    }
 
-fn copies(alloc: Global, words: usize, rounds: u64) -> Result<u64, AllocError>
-    requires { words ≤ 512 }
-{
-    let mut values = vec![in alloc; 7u64; words]?;
-    let mut bytes = vec![in alloc; 0; 8 * words]?;
-    Ok(copy_words(values.as_mut_slice(), bytes.as_mut_slice(), rounds))
+    fn node_frames(&self) -> Result<u64, AllocError> {
+        let held = Cap {
+            what: Capability::Node {
+                object: 5,
+                access: Access::READ_ONLY,
+            },
+            count: 7,
+        };
+        let mut bytes = vec![in self.alloc; 0; NODE_FRAME_BYTES]?;
+        let mut scratch = Scratch::new(self.alloc)?;
+        let node = Content::Node(Slots::new(self.alloc, held)?);
+        let into = bytes.as_mut_slice();
+        Ok(code(
+            NODE,
+            header(Role::Node),
+            &node,
+            into,
+            &mut scratch,
+            self.rounds,
+        ))
+    }
+
+    fn copies(&self, words: usize) -> Result<u64, AllocError>
+        requires { words ≤ 512 }
+    {
+        let mut values = vec![in self.alloc; 7u64; words]?;
+        let mut bytes = vec![in self.alloc; 0; 8 * words]?;
+        Ok(copy_words(values.as_mut_slice(), bytes.as_mut_slice(), self.rounds))
+    }
 }
 
 // Does what the words say: a kind and how many times. With no words, each kind once.
@@ -109,12 +132,13 @@ fn main(rt: HostRuntime) -> anyhow::Result<()> {
         Some(word) => word.as_str().parse::<u64>()?,
         None => 1,
     };
+    let bench = Bench { alloc, rounds };
     let done = match kind {
-        "page" => page_frames(alloc, rounds)?,
-        "node" => node_frames(alloc, rounds)?,
-        "page-copy" => copies(alloc, 512, rounds)?,
-        "node-copy" => copies(alloc, 128, rounds)?,
-        _ => u64::wrapping_add(page_frames(alloc, rounds)?, node_frames(alloc, rounds)?),
+        "page" => bench.page_frames()?,
+        "node" => bench.node_frames()?,
+        "page-copy" => bench.copies(512)?,
+        "node-copy" => bench.copies(128)?,
+        _ => u64::wrapping_add(bench.page_frames()?, bench.node_frames()?),
     };
     println!(rt; "{done}")?;
     Ok(())

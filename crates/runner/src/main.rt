@@ -309,7 +309,10 @@ fn upgrade(
     errors: &mut StandardError,
 ) -> Result<u8, Fault> {
     let device = open_to_read(rt, old)?;
-    let image = OldImage::open(rt.alloc(), device).map_err(Fault::Upgrade)?;
+    let image = match OldImage::open(rt.alloc(), device) {
+        Ok(image) => image,
+        Err(fault) => return Err(Fault::Upgrade(fault)),
+    };
     let mut upgraded = create(rt, image.sectors(), old, new)?;
     Ok(upgrade_opened(rt.alloc(), image, &mut upgraded, writer, errors))
 }

@@ -20,7 +20,6 @@ use kernel::Kernel;
 use memchr::memchr;
 use model::Line;
 use script::{LineBuffer, Output, RunFault, parse_line, print_answer, print_bad_line};
-use std::alloc::Global;
 
 // How many bytes a read requests.
 const PIECE_SIZE: usize = 4096;
@@ -29,7 +28,6 @@ const PIECE_SIZE: usize = 4096;
 // whether the observer lets the run go on. The text is the line, or `None` where that is too long.
 #[inline(never)]
 fn take<D: Device, S: ObjectStore<D>, W: Output, O: Observer>(
-    alloc: Global,
     kernel: &mut Kernel<D, S>,
     text: Option<&[u8]>,
     line: &Line,
@@ -52,7 +50,7 @@ fn take<D: Device, S: ObjectStore<D>, W: Output, O: Observer>(
             Ok(goes_on)
         }
         Line::Command(command) => {
-            let served = kernel.step_with_code(alloc, command);
+            let served = kernel.step_with_code(command);
             let goes_on = observer.answer(command, &served.answer, served.code);
             print_answer(&served.answer, writer)?;
             Ok(goes_on)
@@ -63,7 +61,6 @@ fn take<D: Device, S: ObjectStore<D>, W: Output, O: Observer>(
 // Takes the line that ends with `bytes`, and begins another.
 #[inline(always)]
 fn take_line<D: Device, S: ObjectStore<D>, W: Output, O: Observer>(
-    alloc: Global,
     kernel: &mut Kernel<D, S>,
     line: &mut LineBuffer,
     bytes: &[u8],
@@ -80,16 +77,15 @@ fn take_line<D: Device, S: ObjectStore<D>, W: Output, O: Observer>(
 {
     if line.is_empty() {
         let parsed = parse_line(bytes);
-        return take(alloc, kernel, Some(bytes), &parsed, writer, observer);
+        return take(kernel, Some(bytes), &parsed, writer, observer);
     }
     line.extend(bytes);
-    take_held(alloc, kernel, line, writer, observer)
+    take_held(kernel, line, writer, observer)
 }
 
 // Takes the line that was gathered, and begins another.
 #[inline(never)]
 fn take_held<D: Device, S: ObjectStore<D>, W: Output, O: Observer>(
-    alloc: Global,
     kernel: &mut Kernel<D, S>,
     line: &mut LineBuffer,
     writer: &mut W,
@@ -103,14 +99,13 @@ fn take_held<D: Device, S: ObjectStore<D>, W: Output, O: Observer>(
     ensures goes_on { IfOk result (λ on. O.may_end ≡ false → on ≡ true) }
     ensures fault { IfErr result (λ e. e ≡ RunFault.Write) }
 {
-    let taken = take(alloc, kernel, line.text(), &line.says(), writer, observer);
+    let taken = take(kernel, line.text(), &line.says(), writer, observer);
     line.clear();
     taken
 }
 
 // Takes each line that ends in a piece, in place where it lies in it whole, and keeps the beginning of the next.
 fn take_piece<D: Device, S: ObjectStore<D>, W: Output, O: Observer>(
-    alloc: Global,
     kernel: &mut Kernel<D, S>,
     line: &mut LineBuffer,
     piece: &[u8],
@@ -134,7 +129,7 @@ fn take_piece<D: Device, S: ObjectStore<D>, W: Output, O: Observer>(
 {
     let mut rest = piece;
     while let Some(end) = memchr(b'\n', rest) {
-        let goes_on = take_line(alloc, kernel, line, &rest[..end], writer, observer)?;
+        let goes_on = take_line(kernel, line, &rest[..end], writer, observer)?;
         if !goes_on {
             return Err(RunFault::Stopped);
         }
@@ -146,7 +141,6 @@ fn take_piece<D: Device, S: ObjectStore<D>, W: Output, O: Observer>(
 
 // Takes the rest at the end of the input, where it isn't empty.
 fn take_rest<D: Device, S: ObjectStore<D>, W: Output, O: Observer>(
-    alloc: Global,
     kernel: &mut Kernel<D, S>,
     line: &mut LineBuffer,
     writer: &mut W,
@@ -170,7 +164,7 @@ fn take_rest<D: Device, S: ObjectStore<D>, W: Output, O: Observer>(
     if line.is_empty() {
         return Ok(());
     }
-    let goes_on = take_held(alloc, kernel, line, writer, observer)?;
+    let goes_on = take_held(kernel, line, writer, observer)?;
     if !goes_on {
         return Err(RunFault::Stopped);
     }
@@ -179,7 +173,6 @@ fn take_rest<D: Device, S: ObjectStore<D>, W: Output, O: Observer>(
 
 // Runs a script over a kernel, as `run_observed` does.
 fn run_turns<D: Device, S: ObjectStore<D>, R: Script, W: Output, O: Observer>(
-    alloc: Global,
     kernel: &mut Kernel<D, S>,
     reader: &mut R,
     writer: &mut W,
@@ -197,10 +190,10 @@ fn run_turns<D: Device, S: ObjectStore<D>, R: Script, W: Output, O: Observer>(
         writer.pass_on()?;
         match reader.read_piece(writer, &mut piece)? {
             Piece::Bytes(count) => {
-                take_piece(alloc, kernel, &mut line, &piece[..count], writer, observer)?;
+                take_piece(kernel, &mut line, &piece[..count], writer, observer)?;
             }
             Piece::End => {
-                take_rest(alloc, kernel, &mut line, writer, observer)?;
+                take_rest(kernel, &mut line, writer, observer)?;
                 return writer.pass_on();
             }
             Piece::Nothing => {}
@@ -230,7 +223,6 @@ fn run_turns<D: Device, S: ObjectStore<D>, R: Script, W: Output, O: Observer>(
 /// stands where the lines taken left it. A read that was interrupted is tried again. Reading lines
 /// and printing answers takes no memory.
 pub fn run<D: Device, S: ObjectStore<D>, R: Script, W: Output>(
-    alloc: Global,
     kernel: &mut Kernel<D, S>,
     reader: &mut R,
     writer: &mut W,
@@ -243,7 +235,7 @@ pub fn run<D: Device, S: ObjectStore<D>, R: Script, W: Output>(
         (R.unread reader.new) }
     ensures goes_on { IfErr result (λ e. e ≢ RunFault.Stopped) }
 {
-    run_observed(alloc, kernel, reader, writer, &mut Silent)
+    run_observed(kernel, reader, writer, &mut Silent)
 }
 
 /// Runs a script over a kernel as `run` does, and shows an observer each turn, in order. What is
@@ -252,7 +244,6 @@ pub fn run<D: Device, S: ObjectStore<D>, R: Script, W: Output>(
 /// `RunFault::Stopped` exactly where the observer ends the run: then all lines taken were answered,
 /// and the last of them is where it did.
 pub fn run_observed<D: Device, S: ObjectStore<D>, R: Script, W: Output, O: Observer>(
-    alloc: Global,
     kernel: &mut Kernel<D, S>,
     reader: &mut R,
     writer: &mut W,
@@ -268,5 +259,5 @@ pub fn run_observed<D: Device, S: ObjectStore<D>, R: Script, W: Output, O: Obser
     ensures watched { RunsSeen D.disk S.view S.parts O.sees kernel.old kernel.new observer.old observer.new
         (R.unread reader.old) (R.unread reader.new) (W.written writer.old) (W.written writer.new) result }
 {
-    run_turns(alloc, kernel, reader, writer, observer)
+    run_turns(kernel, reader, writer, observer)
 }

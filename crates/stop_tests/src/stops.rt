@@ -27,21 +27,31 @@ fn tell_stop(stop: Option<usize>, reported: &mut Vec<u8>) -> Result<(), RunFault
     writeln!(reported, "= stopped {line}").or(Err(RunFault::Write))
 }
 
-impl Task<'_> {
-    // Reports what is answered to some lines, and returns whether that is one fault.
-    fn tell_run<D: Device, S: ObjectStore<D>>(
-        &self,
-        kernel: &mut Kernel<D, S>,
-        lines: &[u8],
-        reported: &mut Vec<u8>,
-    ) -> Result<bool, RunFault> {
-        let before = reported.len();
-        let mut reader = ScriptReader::new(lines);
-        let mut writer = CountedWriter::new(&mut *reported);
-        run(self.alloc, kernel, &mut reader, &mut writer)?;
-        Ok(reported.get(before..) == Some(FAULT))
-    }
+// Reports what is answered to some lines, and returns whether that is one fault.
+fn tell_run<D: Device, S: ObjectStore<D>>(
+    kernel: &mut Kernel<D, S>,
+    lines: &[u8],
+    reported: &mut Vec<u8>,
+) -> Result<bool, RunFault> {
+    let before = reported.len();
+    let mut reader = ScriptReader::new(lines);
+    let mut writer = CountedWriter::new(&mut *reported);
+    run(kernel, &mut reader, &mut writer)?;
+    Ok(reported.get(before..) == Some(FAULT))
+}
 
+// Reports where a kernel stands, and what it answers to some lines.
+fn tell_standing<D: Device, S: ObjectStore<D>>(
+    kernel: &mut Kernel<D, S>,
+    lines: &[u8],
+    reported: &mut Vec<u8>,
+) -> Result<(), RunFault> {
+    tell_saved(kernel.saved(), reported)?;
+    tell_run(kernel, lines, reported)?;
+    Ok(())
+}
+
+impl Task<'_> {
     // Reports what is answered to the script up to the first fault, and gives the number of its line.
     fn tell_to_fault<D: Device, S: ObjectStore<D>>(
         &self,
@@ -53,23 +63,30 @@ impl Task<'_> {
             .split_inclusive(|byte| *byte == b'\n')
             .enumerate()
         {
-            if self.tell_run(kernel, line, reported)? {
+            if tell_run(kernel, line, reported)? {
                 return Ok(Some(number));
             }
         }
         Ok(None)
     }
 
-    // Reports where a kernel stands, and what it answers to some lines.
-    fn tell_standing<D: Device, S: ObjectStore<D>>(
+    // Reports whether a kernel opens a device, where it then stands, and what it answers.
+    fn tell_opened<D: Device, S: ObjectStore<D>>(
         &self,
-        kernel: &mut Kernel<D, S>,
-        lines: &[u8],
+        device: D,
+        setting: S::Setting,
         reported: &mut Vec<u8>,
     ) -> Result<(), RunFault> {
-        tell_saved(kernel.saved(), reported)?;
-        self.tell_run(kernel, lines, reported)?;
-        Ok(())
+        match Kernel::<D, S>::open(self.alloc, device, setting) {
+            Ok(kernel) => {
+                let mut kernel = kernel;
+                tell_standing(&mut kernel, self.last, reported)
+            }
+            Err(refused) => {
+                let fault = refused.fault;
+                writeln!(reported, "= refused {fault}").or(Err(RunFault::Write))
+            }
+        }
     }
 
     /// Reports what a power cut leaves of a device, and what a kernel that opens it answers.
@@ -80,16 +97,7 @@ impl Task<'_> {
     ) -> Result<(), RunFault> {
         let mut device = device;
         device.power_cut();
-        match Kernel::<D, PlainStore<D>>::open(self.alloc, device, ()) {
-            Ok(kernel) => {
-                let mut kernel = kernel;
-                self.tell_standing(&mut kernel, self.last, reported)
-            }
-            Err(refused) => {
-                let fault = refused.fault;
-                writeln!(reported, "= refused {fault}").or(Err(RunFault::Write))
-            }
-        }
+        self.tell_opened::<D, PlainStore<D>>(device, (), reported)
     }
 
     // Runs the script over a kernel, reports what it answers and what its device then holds, and
@@ -102,7 +110,7 @@ impl Task<'_> {
         let mut kernel = kernel;
         let stop = self.tell_to_fault(&mut kernel, reported)?;
         tell_stop(stop, reported)?;
-        self.tell_standing(&mut kernel, self.tail, reported)?;
+        tell_standing(&mut kernel, self.tail, reported)?;
         self.tell_left(kernel.into_device(), reported)?;
         Ok(stop.is_some())
     }

@@ -1,44 +1,37 @@
 -- Opening a kernel on the host's storage.
-use Rattle.vezhnake.proofs.Names.{ℕ, Bool, true, false, List, length, Result, Ok, Err, sym, subst, arith, Agrees, image_of, sectors_of, fresh, OpenFault}
-use Rattle.vezhnake.proofs.Names.{RefusesToOpen, HostKernel, Status, HostDevice, IsFresh, host_disk, OpensFrom, OpensKernel, status_by}
+use Rattle.vezhnake.proofs.Names.{ℕ, List, length, Ok, Err, sym, subst, arith, Agrees, image_of, sectors_of, fresh, OpenFault, Power, RefusesToOpen, Status}
+use Rattle.vezhnake.proofs.Names.{HostDevice, IsFresh, host_disk, OpensKernel, status_by, Opens, StoreState, parts_of, view_of, RefusesFrom}
 use Rattle.std.proofs.Common.{◌≡◌, ◌/◌, ◌%◌, ◌≤◌}
 use Rattle.layout.specs.declared.open_fault.OpenFault.TheVariants as fault
 use Rattle.vezhnake.specs.declared.host_kernel.HostKernel.TheVariants as store
 use Rattle.vezhnake.specs.declared.status.Status.TheVariants as status
 
-pub refused_from : (d back : HostDevice) (kind : Bool) (why : OpenFault) → RefusesToOpen host_disk d back why → OpensFrom d kind (Err (status_by why))
-refused_from d back kind fault.Failed refuses = (back, refuses.is_why)
-refused_from d back kind fault.NoMemory refuses = tt
-refused_from d back kind (fault.Bad reason) refuses = refuses.is_why.1
+pub refused_from : (d back : HostDevice) (why : OpenFault) (s : Status) → RefusesToOpen host_disk d back why → s ≡ status_by why → RefusesFrom d s
+refused_from d back fault.Failed s refuses is = subst (RefusesFrom d) (sym is) (back, refuses.is_why)
+refused_from d back fault.NoMemory s refuses is = subst (RefusesFrom d) (sym is) tt
+refused_from d back (fault.Bad reason) s refuses is = subst (RefusesFrom d) (sym is) refuses.is_why.1
 
-refusal_from : (bytes : List ℕ) (cache : ℕ) (d : HostDevice) (kind : Bool) (s : Status) → IsFresh bytes d → OpensFrom d kind (Err s)
-    → OpensKernel bytes cache (Err s)
-refusal_from bytes cache d kind (status.Bad reason) fresh opens = (d, fresh, opens)
-refusal_from bytes cache d kind status.NoMemory fresh opens = tt
-refusal_from bytes cache d kind status.Failed fresh opens = (d, opens.0, fresh, opens.1)
-refusal_from bytes cache d kind status.Done fresh opens = absurd opens
-refusal_from bytes cache d kind status.BadSize fresh opens = absurd opens
-refusal_from bytes cache d kind status.BadCache fresh opens = absurd opens
-refusal_from bytes cache d kind status.AlreadyOpen fresh opens = absurd opens
-refusal_from bytes cache d kind status.NotOpen fresh opens = absurd opens
-refusal_from bytes cache d kind status.SmallBuffer fresh opens = absurd opens
-refusal_from bytes cache d kind status.CallsLost fresh opens = absurd opens
+module _ (bytes : List ℕ) (cache : ℕ) (d : HostDevice) (fresh : IsFresh bytes d) where
+  pub refused_by : (s : Status) → RefusesFrom d s → OpensKernel bytes cache (Err s)
+  refused_by (status.Bad reason) refuses = (d, fresh, refuses)
+  refused_by status.NoMemory refuses = tt
+  refused_by status.Failed refuses = (d, refuses.0, fresh, refuses.1)
+  refused_by status.Done refuses = absurd refuses
+  refused_by status.BadSize refuses = absurd refuses
+  refused_by status.BadCache refuses = absurd refuses
+  refused_by status.AlreadyOpen refuses = absurd refuses
+  refused_by status.NotOpen refuses = absurd refuses
+  refused_by status.SmallBuffer refuses = absurd refuses
+  refused_by status.CallsLost refuses = absurd refuses
 
-never : false ≡ true → ⊥
-never h = cc
+  pub opened_plain : (k : Power HostDevice (StoreState HostDevice)) → cache ≡ 0 → Opens host_disk (view_of host_disk) (parts_of host_disk) d k
+      → OpensKernel bytes cache (Ok (store.Plain k))
+  opened_plain k none opens = (d, fresh, opens, none)
 
-module _ (bytes : List ℕ) (cache : ℕ) (d : HostDevice) where
-  pub opened_plain : (result : Result HostKernel Status) → cache ≡ 0 → IsFresh bytes d → OpensFrom d true result → OpensKernel bytes cache result
-  opened_plain (Ok (store.Plain k)) none fresh opens = (d, fresh, opens.0, none)
-  opened_plain (Ok (store.Bounded k)) none fresh opens = absurd (never opens.1)
-  opened_plain (Err s) none fresh opens = refusal_from bytes cache d true s fresh opens
-
-  pub opened_bounded : (capacity : ℕ) (result : Result HostKernel Status) → capacity ≡ cache → 8 ≤ capacity → capacity ≤ 8192 → IsFresh bytes d
-      → OpensFrom d false result → OpensKernel bytes cache result
-  opened_bounded capacity (Ok (store.Plain k)) same least most fresh opens = absurd (never (sym opens.1))
-  opened_bounded capacity (Ok (store.Bounded k)) same least most fresh opens =
-      (d, fresh, opens.0, (subst (λ (n : ℕ). 8 ≤ n) same least, subst (λ (n : ℕ). n ≤ 8192) same most))
-  opened_bounded capacity (Err s) same least most fresh opens = refusal_from bytes cache d false s fresh opens
+  pub opened_bounded : (k : Power HostDevice (StoreState HostDevice)) (capacity : ℕ) → capacity ≡ cache → 8 ≤ capacity → capacity ≤ 8192
+      → Opens host_disk (view_of host_disk) (parts_of host_disk) d k → OpensKernel bytes cache (Ok (store.Bounded k))
+  opened_bounded k capacity same least most opens =
+      (d, fresh, opens, (subst (λ (n : ℕ). 8 ≤ n) same least, subst (λ (n : ℕ). n ≤ 8192) same most))
 
 pub fresh_of : (image copy : List ℕ) (d : HostDevice) → copy ≡ image → length image % 512 ≡ 0 → d.file.history ≡ fresh image
     → (host_disk d).sectors ≡ sectors_of copy → Agrees (host_disk d).seen (image_of copy) → IsFresh image d

@@ -2,9 +2,9 @@
 use Rattle.vezhnake.proofs.Names.{ℕ, List, length, take, drop, sym, ap, subst, append_assoc, arith, length-append, take-append_seam, take-append-drop}
 use Rattle.vezhnake.proofs.Names.{flat_map-append, Image, image_of, Event, MayLeave, at_first, replay, Parts, View, Power, IsDeviceOf, Stands, disk_of}
 use Rattle.vezhnake.proofs.Names.{Geometry, Machine, Turn, IsConfined, IsRunOf, RunsOver, CrashesAreSurvived, RunFault, Option, HostCall, StorageLeaves}
-use Rattle.vezhnake.proofs.Names.{events_by, events_of, HostDevice, RunsText, Survives, Written, calls_beneath, host_disk, in_memory, start_beneath}
+use Rattle.vezhnake.proofs.Names.{events_by, events_of, HostDevice, RunsText, Survives, Written, calls_beneath, host_disk, in_memory, start_beneath, Result}
 use Rattle.std.proofs.Common.{◌≡◌, ◌+◌, ◌≤◌, ◌++◌, ◌∙◌}
-use Rattle.std.specs.Prelude.{Some, Result}
+use Rattle.std.specs.Prelude.{Some}
 use Rattle.kernel.specs.Power as power
 
 -- the events of the first k calls are the first events

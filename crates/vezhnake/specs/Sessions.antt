@@ -22,11 +22,6 @@ abbrev pub OpensOn : HostDevice → HostKernel → Type 0
 OpensOn d (store.Plain k) = Opens host_disk (objects.view_of host_disk) (objects.parts_of host_disk) d k
 OpensOn d (store.Bounded k) = Opens host_disk (objects.view_of host_disk) (objects.parts_of host_disk) d k
 
--- whether a kernel has all objects in memory
-abbrev pub is_plain : HostKernel → Bool
-is_plain (store.Plain k) = true
-is_plain (store.Bounded k) = false
-
 -- the store for a number: without a cache for 0, and otherwise with a cache of this capacity
 abbrev pub IsCapacity : ℕ → Option ℕ → Type 0
 IsCapacity cache None = cache ≡ 0
@@ -36,13 +31,12 @@ abbrev pub IsStoreFor : ℕ → HostKernel → Type 0
 IsStoreFor cache (store.Plain k) = cache ≡ 0
 IsStoreFor cache (store.Bounded k) = (8 ≤ cache) × (cache ≤ 8192)
 
--- a kernel of this kind was opened on a device, or why not
-abbrev pub OpensFrom : HostDevice → Bool → Result HostKernel Status → Type 0
-OpensFrom d kind (Ok k) = OpensOn d k × (is_plain k ≡ kind)
-OpensFrom d kind (Err (status.Bad reason)) = IsBad (host_disk d).sectors (host_disk d).seen reason
-OpensFrom d kind (Err status.NoMemory) = Unit {0}
-OpensFrom d kind (Err status.Failed) = (back : HostDevice) × IsWhy (host_disk d) (host_disk back) fault.Failed
-OpensFrom d kind (Err _) = ⊥
+-- why no kernel was opened on a device
+abbrev pub RefusesFrom : HostDevice → Status → Type 0
+RefusesFrom d (status.Bad reason) = IsBad (host_disk d).sectors (host_disk d).seen reason
+RefusesFrom d status.NoMemory = Unit {0}
+RefusesFrom d status.Failed = (back : HostDevice) × IsWhy (host_disk d) (host_disk back) fault.Failed
+RefusesFrom d _ = ⊥
 
 -- a kernel was opened on storage that holds these bytes, or why not
 abbrev pub OpensKernel : List ℕ → ℕ → Result HostKernel Status → Type 0

@@ -12,6 +12,7 @@ use std::mem;
 #[repr(C)]
 pub struct Handle {
     pointer: SessionPointer,
+    alloc: Global,
     is_open: bool,
     ghost flagged: { (is_open ≡ true) ↔ IsSome pointer.session },
 }
@@ -23,31 +24,27 @@ impl Drop for Handle {
 }
 
 impl Handle {
-    // Holds no session.
-    fn closed(alloc: Global) -> Handle
-        ensures { result.pointer.session ≡ None }
+    // Drops the session, if there is one, and holds this one.
+    fn put(&mut self, session: Box<Session>)
+        ensures { self.new.pointer.session ≡ Some session.value }
     {
-        Handle {
-            pointer: SessionPointer::null(alloc),
-            is_open: false,
-        }
-    }
-
-    // Holds this session.
-    fn opened(session: Box<Session>) -> Handle
-        ensures { result.pointer.session ≡ Some session.value }
-    {
-        Handle {
+        let alloc = self.alloc;
+        *self = Handle {
             pointer: SessionPointer::new(session),
+            alloc,
             is_open: true,
-        }
+        };
     }
 
     // The session, if there is one.
     fn into_session(self) -> Option<Box<Session>>
         ensures { self.pointer.session ≡ option_map (λ session. session.value) result }
     {
-        let Handle { pointer, is_open } = self;
+        let Handle {
+            pointer,
+            alloc: _alloc,
+            is_open,
+        } = self;
         if is_open {
             Some(pointer.into_box())
         } else {
@@ -56,26 +53,32 @@ impl Handle {
     }
 
     // Takes the session out, and closes the handle.
-    fn take(&mut self, alloc: Global) -> Option<Box<Session>>
+    fn take(&mut self) -> Option<Box<Session>>
         ensures taken { self.old.pointer.session ≡ option_map (λ session. session.value) result }
         ensures left { self.new.pointer.session ≡ None }
     {
-        mem::replace(self, Handle::closed(alloc)).into_session()
+        let alloc = self.alloc;
+        let closed = Handle {
+            pointer: SessionPointer::null(alloc),
+            alloc,
+            is_open: false,
+        };
+        mem::replace(self, closed).into_session()
     }
 
     // Opens a session in a handle that holds none. An error changes nothing.
     #[tactic(auto, using(crate::proofs::Handles::opens_new, crate::proofs::Handles::opens_none))]
-    fn open_closed(&mut self, alloc: Global, image: &[u8], cache: u64) -> Status
+    fn open_closed(&mut self, image: &[u8], cache: u64) -> Status
         requires { self.old.pointer.session ≡ None }
         ensures { OpensHandle self.old.pointer.session self.new.pointer.session image.now cache result }
     {
-        let session = match Session::open(alloc, image, cache) {
+        let session = match Session::open(self.alloc, image, cache) {
             Ok(session) => session,
             Err(status) => return status,
         };
         match session.boxed() {
             Some(session) => {
-                *self = Handle::opened(session);
+                self.put(session);
                 Status::Done
             }
             None => Status::NoMemory,
@@ -85,69 +88,63 @@ impl Handle {
     /// Opens a session on storage that holds these bytes, as `HostKernel::open` does.
     /// `AlreadyOpen` if the handle is open. An error changes nothing.
     #[tactic(auto, using(crate::proofs::Handles::without, crate::proofs::Handles::opens_again))]
-    pub fn open(&mut self, alloc: Global, image: &[u8], cache: u64) -> Status
+    pub fn open(&mut self, image: &[u8], cache: u64) -> Status
         ensures { OpensHandle self.old.pointer.session self.new.pointer.session image.now cache result }
     {
         if self.is_open {
             return Status::AlreadyOpen;
         }
-        self.open_closed(alloc, image, cache)
+        self.open_closed(image, cache)
     }
 
     /// Runs a text as a script, as `Session::step` does. `NotOpen` if the handle is not open.
     #[tactic(auto, using(crate::proofs::Handles::on_none, crate::proofs::Handles::on_some))]
-    pub fn step(
-        &mut self,
-        alloc: Global,
-        text: &[u8],
-        buffer: &mut [u8],
-        size: &mut usize,
-    ) -> Status
+    pub fn step(&mut self, text: &[u8], buffer: &mut [u8], size: &mut usize) -> Status
         ensures { OnSession self.old.pointer.session self.new.pointer.session result
             (λ old new. StepsSession old new text.now buffer.old buffer.new size.new result) }
     {
-        let Some(mut session) = self.take(alloc) else {
+        let Some(mut session) = self.take() else {
             return Status::NotOpen;
         };
         let status = session.step(text, buffer, size);
-        *self = Handle::opened(session);
+        self.put(session);
         status
     }
 
     /// Copies the last answers, as `Session::copy_answer` does. `NotOpen` if the handle is not open.
     #[tactic(auto, using(crate::proofs::Handles::on_none, crate::proofs::Handles::on_some))]
-    pub fn copy_answer(&mut self, alloc: Global, buffer: &mut [u8], size: &mut usize) -> Status
+    pub fn copy_answer(&mut self, buffer: &mut [u8], size: &mut usize) -> Status
         ensures { OnSession self.old.pointer.session self.new.pointer.session result
             (λ old new. CopiesAnswer old new buffer.old buffer.new size.new result) }
     {
-        let Some(session) = self.take(alloc) else {
+        let Some(session) = self.take() else {
             return Status::NotOpen;
         };
         let status = session.copy_answer(buffer, size);
-        *self = Handle::opened(session);
+        self.put(session);
         status
     }
 
     /// Copies the next calls, as `Session::take_calls` does. `NotOpen` if the handle is not open.
     #[tactic(auto, using(crate::proofs::Handles::on_none, crate::proofs::Handles::on_some))]
-    pub fn take_calls(&mut self, alloc: Global, buffer: &mut [u8], size: &mut usize) -> Status
+    pub fn take_calls(&mut self, buffer: &mut [u8], size: &mut usize) -> Status
         ensures { OnSession self.old.pointer.session self.new.pointer.session result
             (λ old new. TakesCalls old new buffer.old buffer.new size.new result) }
     {
-        let Some(mut session) = self.take(alloc) else {
+        let Some(mut session) = self.take() else {
             return Status::NotOpen;
         };
         let status = session.take_calls(buffer, size);
-        *self = Handle::opened(session);
+        self.put(session);
         status
     }
 
     /// Drops the session. `NotOpen` if the handle is not open.
     #[tactic(auto, using(crate::proofs::Handles::closes_none, crate::proofs::Handles::closes_some))]
-    pub fn close(&mut self, alloc: Global) -> Status
+    pub fn close(&mut self) -> Status
         ensures { ClosesHandle self.old.pointer.session self.new.pointer.session result }
     {
-        match self.take(alloc) {
+        match self.take() {
             Some(session) => {
                 drop(session);
                 Status::Done

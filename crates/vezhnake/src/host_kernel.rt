@@ -1,9 +1,10 @@
 // A kernel over the host's storage.
 ghost use Rattle.std.specs.Prelude.{◌≡◌, ◌≢◌, ◌⊎◌, ◌<◌, ◌≤◌, ◌%◌, true, false, drop, length, IfErr, IfOk, IfNone};
 ghost use Rattle.std.specs.Prelude.{IfSome, IsErr, Err};
+ghost use Rattle.kernel.specs.Opening.{Opens};
 ghost use Rattle.runs.specs.Reader.{read_from};
-ghost use Rattle.vezhnake.specs.Hosting.{IsFresh, RunsText};
-ghost use Rattle.vezhnake.specs.Sessions.{IsCapacity, OpensFrom, OpensKernel, RunsKernel, calls_in, kept_from};
+ghost use Rattle.vezhnake.specs.Hosting.{IsFresh, RunsText, host_disk};
+ghost use Rattle.vezhnake.specs.Sessions.{IsCapacity, OpensKernel, RefusesFrom, RunsKernel, calls_in, kept_from};
 ghost use Rattle.vezhnake.specs.HostCalls.{encoded};
 
 use crate::recorder::Recorder;
@@ -43,22 +44,18 @@ fn device_over(alloc: Global, image: &[u8]) -> Result<HostDevice, AllocError>
     Ok(CopiedFile::new(copy, recorder))
 }
 
-// Opens a kernel with all objects in memory.
-fn open_plain(alloc: Global, device: HostDevice) -> Result<HostKernel, Status>
-    ensures { OpensFrom device true result }
+// Opens a kernel with an object store.
+#[tactic(auto, using(crate::proofs::Opening::refused_from))]
+fn open_kernel<S: ObjectStore<HostDevice>>(
+    alloc: Global,
+    device: HostDevice,
+    setting: S::Setting,
+) -> Result<Kernel<HostDevice, S>, Status>
+    ensures opened { IfOk result (λ kernel. Opens host_disk S.view S.parts device kernel) }
+    ensures refused { IfErr result (λ status. RefusesFrom device status) }
 {
-    match Kernel::<HostDevice, PlainStore<HostDevice>>::open(alloc, device, ()) {
-        Ok(kernel) => Ok(HostKernel::Plain(kernel)),
-        Err(refused) => Err(Status::from(refused.fault)),
-    }
-}
-
-// Opens a kernel with a cache of this capacity.
-fn open_bounded(alloc: Global, device: HostDevice, capacity: Capacity) -> Result<HostKernel, Status>
-    ensures { OpensFrom device false result }
-{
-    match Kernel::<HostDevice, BoundedCache<HostDevice>>::open(alloc, device, capacity) {
-        Ok(kernel) => Ok(HostKernel::Bounded(kernel)),
+    match Kernel::<HostDevice, S>::open(alloc, device, setting) {
+        Ok(kernel) => Ok(kernel),
         Err(refused) => Err(Status::from(refused.fault)),
     }
 }
@@ -97,7 +94,7 @@ fn run_lines<S: ObjectStore<HostDevice>>(
     crashes_are_survived::<HostDevice, S>();
     let mut reader = reader_of(text);
     let mut writer = CountedWriter::new(replace(answers, Vec::new(alloc)));
-    let outcome = run(alloc, kernel, &mut reader, &mut writer);
+    let outcome = run(kernel, &mut reader, &mut writer);
     *answers = writer.into_inner();
     outcome
 }
@@ -108,7 +105,7 @@ impl HostKernel {
     ///
     /// `BadSize` or `BadCache` if an argument is out of range; `Bad` with the least reason to
     /// refuse the image; `NoMemory` if memory runs out.
-    #[tactic(auto, using(crate::proofs::Opening::opened_plain, crate::proofs::Opening::opened_bounded))]
+    #[tactic(auto, using(crate::proofs::Opening::refused_by))]
     pub fn open(alloc: Global, image: &[u8], cache: u64) -> Result<HostKernel, Status>
         ensures { OpensKernel image.now cache result }
     {
@@ -123,8 +120,16 @@ impl HostKernel {
             return Err(Status::NoMemory);
         };
         match capacity {
-            Some(capacity) => open_bounded(alloc, device, capacity),
-            None => open_plain(alloc, device),
+            Some(capacity) => match open_kernel::<BoundedCache<HostDevice>>(
+                alloc, device, capacity,
+            ) {
+                Ok(kernel) => Ok(HostKernel::Bounded(kernel)),
+                Err(status) => Err(status),
+            },
+            None => match open_kernel::<PlainStore<HostDevice>>(alloc, device, ()) {
+                Ok(kernel) => Ok(HostKernel::Plain(kernel)),
+                Err(status) => Err(status),
+            },
         }
     }
 

@@ -15,17 +15,16 @@ use vezhnake::{Batch, Handle, run_batch};
 /// Opens the image in these bytes. If `cache` is 0, all objects are in memory. Otherwise it is the
 /// capacity of a cache.
 #[unsafe(no_mangle)]
-pub extern "C" fn vezhnake_open(alloc: Global, image: &[u8], cache: u64, handle: &mut Handle) -> u32
+pub extern "C" fn vezhnake_open(image: &[u8], cache: u64, handle: &mut Handle) -> u32
     ensures { (status : Status) × (result ≡ number_of status)
         × OpensHandle (session_of handle.old) (session_of handle.new) image.now cache status }
 {
-    handle.open(alloc, image, cache).number()
+    handle.open(image, cache).number()
 }
 
 /// Runs a text as a script, as `eros run` does, and copies the answers.
 #[unsafe(no_mangle)]
 pub extern "C" fn vezhnake_step(
-    alloc: Global,
     handle: &mut Handle,
     text: &[u8],
     answer: &mut [u8],
@@ -35,47 +34,37 @@ pub extern "C" fn vezhnake_step(
         × OnSession (session_of handle.old) (session_of handle.new) status
         (λ old new. StepsSession old new text.now answer.old answer.new size.new status) }
 {
-    handle.step(alloc, text, answer, size).number()
+    handle.step(text, answer, size).number()
 }
 
 /// Copies the answers to the last text again.
 #[unsafe(no_mangle)]
-pub extern "C" fn vezhnake_answer(
-    alloc: Global,
-    handle: &mut Handle,
-    answer: &mut [u8],
-    size: &mut usize,
-) -> u32
+pub extern "C" fn vezhnake_answer(handle: &mut Handle, answer: &mut [u8], size: &mut usize) -> u32
     ensures { (status : Status) × (result ≡ number_of status)
         × OnSession (session_of handle.old) (session_of handle.new) status
         (λ old new. CopiesAnswer old new answer.old answer.new size.new status) }
 {
-    handle.copy_answer(alloc, answer, size).number()
+    handle.copy_answer(answer, size).number()
 }
 
 /// Copies the calls of the device since the last ones that were copied. The host carries them out in
 /// order before it trusts the answers.
 #[unsafe(no_mangle)]
-pub extern "C" fn vezhnake_calls(
-    alloc: Global,
-    handle: &mut Handle,
-    calls: &mut [u8],
-    size: &mut usize,
-) -> u32
+pub extern "C" fn vezhnake_calls(handle: &mut Handle, calls: &mut [u8], size: &mut usize) -> u32
     ensures { (status : Status) × (result ≡ number_of status)
         × OnSession (session_of handle.old) (session_of handle.new) status
         (λ old new. TakesCalls old new calls.old calls.new size.new status) }
 {
-    handle.take_calls(alloc, calls, size).number()
+    handle.take_calls(calls, size).number()
 }
 
 /// Closes the handle, and frees what it owns.
 #[unsafe(no_mangle)]
-pub extern "C" fn vezhnake_close(alloc: Global, handle: &mut Handle) -> u32
+pub extern "C" fn vezhnake_close(handle: &mut Handle) -> u32
     ensures { (status : Status) × (result ≡ number_of status)
         × ClosesHandle (session_of handle.old) (session_of handle.new) status }
 {
-    handle.close(alloc).number()
+    handle.close().number()
 }
 
 /// Opens the image in these bytes, runs a script, and copies the answers and the calls of the

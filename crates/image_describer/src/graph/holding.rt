@@ -1,11 +1,12 @@
 // Who holds an object.
-ghost use Rattle.std.specs.Prelude.{◌≡◌, ◌<◌, ◌^◌, ◌||◌, ◌==◌, ℕ, map, length, IfOk, IsTrue};
-ghost use Rattle.std.specs.List.{All, filter, list_any};
+ghost use Rattle.std.specs.Prelude.{◌≡◌, ◌<◌, ◌^◌, ◌||◌, ◌==◌, ℕ, length, IfOk, IsTrue};
+ghost use Rattle.std.specs.List.{All, list_any};
 ghost use Rattle.collections.specs.Marks.{is_marked};
 ghost use Rattle.model.specs.Sound.{object_count};
 ghost use Rattle.description.specs.Described.{HasNumbers};
 ghost use Rattle.image_describer.specs.Graph.{boxes};
-ghost use Rattle.image_describer.specs.Part.{holders, holds_in, is_listed, names};
+ghost use Rattle.image_describer.specs.Part.{Adds, holders, holding_nodes, holding_processes, holds_in, is_listed};
+ghost use Rattle.image_describer.specs.Part.{names};
 
 use collections::NumberSet;
 use description::{BankEntry, Description, NodeEntry, PageEntry, ProcessEntry, SlotEntry};
@@ -31,63 +32,36 @@ fn holds_in(object: u64, slots: &[SlotEntry]) -> bool
     slots.iter().any(|slot| names(object, slot.capability))
 }
 
-fn process_holders(
-    alloc: Global,
-    object: u64,
-    processes: &[ProcessEntry],
-) -> Result<Vec<u64>, AllocError>
-    ensures { IfOk result (λ numbers. numbers.items
-        ≡ map (λ p. p.root) (filter (λ p. names object p.space || holds_in object p.registers.items) processes.now)) }
+fn holds(object: u64, process: &ProcessEntry) -> bool
+    ensures { result ≡ (names object process.now.space || holds_in object process.now.registers.items) }
 {
-    let mut numbers = Vec::new(alloc);
-    for process in processes {
-        if names(object, process.space) || holds_in(object, &process.registers) {
-            numbers.push(process.root)?;
-        }
-    }
-    Ok(numbers)
+    names(object, process.space) || holds_in(object, &process.registers)
 }
 
-fn node_holders(alloc: Global, object: u64, nodes: &[NodeEntry]) -> Result<Vec<u64>, AllocError>
-    ensures { IfOk result (λ numbers. numbers.items
-        ≡ map (λ n. n.number) (filter (λ n. holds_in object n.slots.items) nodes.now)) }
+// Puts the processes that hold a capability to an object into a set.
+#[tactic(auto, using(crate::proofs::Listed::adds_none))]
+fn mark_processes(inside: &mut NumberSet, object: u64, processes: &[ProcessEntry])
+    requires { All (λ p. p.root < length inside.old) processes.now }
+    ensures { Adds (holding_processes object processes.now) inside.old inside.new }
 {
-    let mut numbers = Vec::new(alloc);
+    for process in processes {
+        if holds(object, process) {
+            inside.set(process.root as usize, true);
+        }
+    }
+}
+
+// Puts the nodes that hold a capability to an object into a set.
+#[tactic(auto, using(crate::proofs::Listed::adds_none))]
+fn mark_nodes(inside: &mut NumberSet, object: u64, nodes: &[NodeEntry])
+    requires { All (λ n. n.number < length inside.old) nodes.now }
+    ensures { Adds (holding_nodes object nodes.now) inside.old inside.new }
+{
     for node in nodes {
         if holds_in(object, &node.slots) {
-            numbers.push(node.number)?;
+            inside.set(node.number as usize, true);
         }
     }
-    Ok(numbers)
-}
-
-// An object, and the processes and nodes that hold a capability to it. Fails only if memory runs out.
-fn holder_numbers(
-    alloc: Global,
-    description: &Description,
-    object: u64,
-) -> Result<Vec<u64>, AllocError>
-    ensures { IfOk result (λ numbers. numbers.items ≡ holders object description.now) }
-{
-    let processes = process_holders(alloc, object, &description.processes)?;
-    let nodes = node_holders(alloc, object, &description.nodes)?;
-    let mut numbers = Vec::new(alloc);
-    numbers.push(object)?;
-    numbers.extend_from_slice(&processes)?;
-    numbers.extend_from_slice(&nodes)?;
-    Ok(numbers)
-}
-
-// The set of some numbers below `count`.
-fn set_of(alloc: Global, count: u64, numbers: &[u64]) -> Result<NumberSet, AllocError>
-    requires { All (λ n. n < count) numbers.now }
-    ensures { IfOk result (λ inside. (n : ℕ) → is_marked inside n ≡ is_listed n numbers.now) }
-{
-    let mut inside = NumberSet::new(alloc, count as usize)?;
-    for number in numbers {
-        inside.set(*number as usize, true);
-    }
-    Ok(inside)
 }
 
 fn has_bank(banks: &[BankEntry], number: u64) -> bool
@@ -138,7 +112,10 @@ pub fn holders(
     requires drawn { IsTrue (is_listed object (boxes description.now)) }
     ensures { IfOk result (λ inside. (n : ℕ) → is_marked inside n ≡ is_listed n (holders object description.now)) }
 {
-    let numbers = holder_numbers(alloc, description, object)?;
     let count = description.geometry.nodes + description.geometry.pages;
-    set_of(alloc, count, &numbers)
+    let mut inside = NumberSet::new(alloc, count as usize)?;
+    inside.set(object as usize, true);
+    mark_processes(&mut inside, object, &description.processes);
+    mark_nodes(&mut inside, object, &description.nodes);
+    Ok(inside)
 }

@@ -1,4 +1,4 @@
-use Rattle.image_explainer.proofs.Names.{ap, length, refl, subst, arith, Geometry, slot_sector, Plan, BreaksDirectory}
+use Rattle.image_explainer.proofs.Names.{nat_tests, length, refl, subst, arith, Geometry, slot_sector, Plan, BreaksDirectory}
 use Rattle.std.proofs.Common.{◌≡◌, ◌+◌, ◌-◌, ◌∙◌}
 use Rattle.image_explainer.proofs.Whole.{directory_fault, directory_inside}
 use Rattle.image_explainer.proofs.sectors.finding.find_directory.Goals as goal
@@ -6,10 +6,7 @@ use Rattle.image_explainer.proofs.sectors.finding.find_directory.Goals as goal
 pub sectors-requires : goal.sectors-requires
 sectors-requires c =
     let p : Plan = c.args.superblock.now in
-    let at : c.slot_sector-sector.result ≡ slot_sector p c.args.header.generation (p.geometry.log - 1) =
-    c.slot_sector-sector.ensures.value
-    ∙ ap (λ (q : Plan). slot_sector q c.args.header.generation (c.geometry-geometry.result.log - 1)) c.new.ensures
-    ∙ ap (λ (g : Geometry). slot_sector p c.args.header.generation (g.log - 1)) c.geometry-geometry.ensures.value in
+    let at : c.slot_sector-sector.result ≡ slot_sector p c.args.header.generation (p.geometry.log - 1) = grind (arith, nat_tests) in
     record {
       inside = omega (
         arith,
@@ -22,10 +19,7 @@ sectors-requires c =
 pub returns-in-Some-clause-found : goal.returns-in-Some-clause-found
 returns-in-Some-clause-found c = λ image copy plan header.
     let p : Plan = c.args.superblock.now in
-    let at : c.slot_sector-sector.result ≡ slot_sector p c.args.header.generation (p.geometry.log - 1) =
-    c.slot_sector-sector.ensures.value
-    ∙ ap (λ (q : Plan). slot_sector q c.args.header.generation (c.geometry-geometry.result.log - 1)) c.new.ensures
-    ∙ ap (λ (g : Geometry). slot_sector p c.args.header.generation (g.log - 1)) c.geometry-geometry.ensures.value in
+    let at : c.slot_sector-sector.result ≡ slot_sector p c.args.header.generation (p.geometry.log - 1) = grind (arith, nat_tests) in
     directory_fault image c.args.size p c.args.header c.read_entries.new.into c.slot_sector-sector.result (c.slot_sector-sector.result + 9) c.sectors.result.now
     (omega (arith, plan.fits.geometry.least_log)) at refl (length c.args.entries.now) c.requires.length (c.sectors.ensures.value image copy)
     c.read_entries.ensures.bytes

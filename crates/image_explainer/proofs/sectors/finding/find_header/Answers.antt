@@ -1,5 +1,4 @@
-use Rattle.image_explainer.proofs.Names.{ap, subst, MatchControlFlow, Geometry, IsHeader}
-use Rattle.std.specs.Prelude.{⊤}
+use Rattle.image_explainer.proofs.Names.{ap, subst, MatchControlFlow, Geometry, IsHeader, ⊤}
 use Rattle.image_explainer.proofs.SectorCopies.{one_sector}
 use Rattle.image_explainer.proofs.Headers.{header_fits, header_found}
 use Rattle.image_explainer.proofs.sectors.finding.find_header.Goals as goal
