@@ -1,10 +1,10 @@
 -- Bodies by place.
-use Rattle.cache_entries.proofs.Names.{AreBodies, inl, inr, ℕ, true, false, List, [], length, set, get_or, replicate, Option, Some, None, IsSome, true≢false}
-use Rattle.cache_entries.proofs.Names.{refl, sym, ap, subst, arith, length-set, cases_eq, cases_lt, get_or-set_same, get_or-set_other, get_or_past}
-use Rattle.cache_entries.proofs.Names.{get_or_default, get_or-map-range_with_len, length-map-range_with_len, get_or-replicate, length-replicate, set-get_or}
-use Rattle.cache_entries.proofs.Names.{fill_by_all, item_at, Kind, Content, Cap, held_at, with_word_in, with_slot_in, HasRoom, kind_at, kind_of, content_in}
-use Rattle.cache_entries.proofs.Names.{content_at, contents_in, with_words_of, with_slots_of, words_are_of, slots_are_of, kind_with_root, slots_from}
-use Rattle.cache_entries.proofs.Names.{with_root_in, with_slots_in, Root, changed_once}
+use Rattle.cache_entries.proofs.Names.{nat_tests, AreBodies, inl, inr, ℕ, true, false, List, [], length, set, get_or, replicate, Option, Some, None, IsSome}
+use Rattle.cache_entries.proofs.Names.{refl, sym, ap, subst, arith, length-set, cases_eq, get_or-set_same, get_or-set_other, get_or_past, get_or_default}
+use Rattle.cache_entries.proofs.Names.{get_or-map-range_with_len, length-map-range_with_len, get_or-replicate, length-replicate, set-get_or, fill_by_all}
+use Rattle.cache_entries.proofs.Names.{item_at, Kind, Content, Cap, held_at, with_word_in, with_slot_in, HasRoom, kind_at, kind_of, content_in, content_at}
+use Rattle.cache_entries.proofs.Names.{contents_in, with_words_of, with_slots_of, words_are_of, slots_are_of, kind_with_root, slots_from, with_root_in}
+use Rattle.cache_entries.proofs.Names.{with_slots_in, Root, changed_once}
 use Rattle.std.proofs.Common.{◌≡◌, ◌≢◌, ◌+◌, ◌<◌, ◌∷◌, ◌∙◌}
 use Rattle.model.specs.declared.object.Content.TheVariants as content
 use Rattle.cache_entries.specs.declared.bodies.Kind.TheVariants as kind
@@ -15,29 +15,20 @@ length_contents ks ps ns = length-map-range_with_len (content_at ks ps ns) 0 (le
 
 read : (ks : List Kind) (ps : List (Option (List ℕ))) (ns : List (Option (List Cap))) (k : ℕ) → held_at (contents_in ks ps ns) k ≡ content_at ks ps ns k
 unfolding contents_in
-read ks ps ns k = elim (cases_lt k (length ks)) [
-  | inl within ↦ get_or-map-range_with_len (content_at ks ps ns) 0 (length ks) k k content.Free within (omega arith)
-  | inr past ↦ rw (get_or_past ks k kind.Free past) (get_or_past (contents_in ks ps ns) k content.Free (omega (arith, past, length_contents ks ps ns)))
-]
+read ks ps ns k = grind (arith, nat_tests, get_or-map-range_with_len, get_or_past, length_contents)
 
 -- what a body of a kind has
 word_room : (a : Kind) (w : List ℕ) (s : Option (List Cap)) → words_are_of a ≡ true → HasRoom a (Some w) s
-word_room kind.Page w s is = refl
-word_room other w s is = absurd (true≢false (sym is))
+word_room a w s is = grind (arith, nat_tests)
 
 slot_room : (a : Kind) (o : Option (List ℕ)) (t : List Cap) → slots_are_of a ≡ true → HasRoom a o (Some t)
-slot_room kind.Node o t is = refl
-slot_room kind.Annex o t is = refl
-slot_room other o t is = absurd (true≢false (sym is))
+slot_room a o t is = grind (arith, nat_tests)
 
 some_words : (a : Kind) (o : Option (List ℕ)) (s : Option (List Cap)) → words_are_of a ≡ true → HasRoom a o s → IsSome o
-some_words kind.Page o s is room = room
-some_words other o s is room = absurd (true≢false (sym is))
+some_words a o s is room = grind (arith, nat_tests)
 
 some_slots : (a : Kind) (o : Option (List ℕ)) (s : Option (List Cap)) → slots_are_of a ≡ true → HasRoom a o s → IsSome s
-some_slots kind.Node o s is room = room
-some_slots kind.Annex o s is room = room
-some_slots other o s is room = absurd (true≢false (sym is))
+some_slots a o s is room = grind (arith, nat_tests)
 
 -- a body is another one
 pub record Puts (ks : List Kind) (ps : List (Option (List ℕ))) (ns : List (Option (List Cap))) (after : List (Content Cap)) : Type 0 where
@@ -47,25 +38,19 @@ pub record Puts (ks : List Kind) (ps : List (Option (List ℕ))) (ns : List (Opt
 -- a body whose root is changed
 module _ (change : Root Cap → Root Cap) where
   root_in : (a : Kind) (o : Option (List ℕ)) (s : Option (List Cap)) → content_in (kind_with_root change a) o s ≡ with_root_in change (content_in a o s)
-  root_in kind.Free o s = refl
-  root_in other o s = refl
+  root_in a o s = grind (arith, nat_tests)
 
   root_room : (a : Kind) (o : Option (List ℕ)) (s : Option (List Cap)) → HasRoom a o s → HasRoom (kind_with_root change a) o s
-  root_room (kind.Root root) o s room = tt
-  root_room other o s room = room
+  root_room a o s room = grind (arith, nat_tests)
 
 -- a slot of a content
 module _ (slot : ℕ) (c : Cap) where
   slot_in : (o : Option (List ℕ)) (s : List Cap) (a : Kind) → slots_are_of a ≡ true → with_slot_in (content_in a o (Some s)) slot c ≡ content_in a o
       (Some (set s slot c))
-  slot_in o s kind.Node is = refl
-  slot_in o s kind.Annex is = refl
-  slot_in o s other is = absurd (true≢false (sym is))
+  slot_in o s a is = grind (arith, nat_tests)
 
   no_slot : (a : Kind) (o : Option (List ℕ)) (s : Option (List Cap)) → slots_are_of a ≡ false → with_slot_in (content_in a o s) slot c ≡ content_in a o s
-  no_slot kind.Node o s none = absurd (true≢false none)
-  no_slot kind.Annex o s none = absurd (true≢false none)
-  no_slot other o s none = refl
+  no_slot a o s none = grind (arith, nat_tests)
 
 -- slots of a content from one on
 slots_in : (o : Option (List ℕ)) (s : List Cap) (i : ℕ) (cs : List Cap) (a : Kind) → slots_are_of a ≡ true →
@@ -116,19 +101,11 @@ module _ {ks : List Kind} {ps : List (Option (List ℕ))} {ns : List (Option (Li
 
   worded : (b : Kind) (w : List ℕ) (c : Content Cap) → HasRoom b (Some w) (item_at ns k) → content_in b (Some w) (item_at ns k) ≡ c →
       Puts (set ks k b) (set ps k (Some w)) ns (set v k c)
-  worded b w c room is =
-      let here : item_at (set ps k (Some w)) k ≡ Some w = get_or-set_same ps k (Some w) None page_within in
-      replaced (set ps k (Some w)) ns b c (length-set ps k (Some w)) refl (λ m other. get_or-set_other ps k m (Some w) None other) (λ m other. refl)
-      (subst (λ (o : Option (List ℕ)). HasRoom b o (item_at ns k)) (sym here) room)
-      (ap (λ (o : Option (List ℕ)). content_in b o (item_at ns k)) here ∙ is)
+  worded b w c room is = search (get_or-set_same, page_within, replaced, length-set, get_or-set_other)
 
   slotted : (b : Kind) (s : List Cap) (c : Content Cap) → HasRoom b (item_at ps k) (Some s) → content_in b (item_at ps k) (Some s) ≡ c →
       Puts (set ks k b) ps (set ns k (Some s)) (set v k c)
-  slotted b s c room is =
-      let here : item_at (set ns k (Some s)) k ≡ Some s = get_or-set_same ns k (Some s) None node_within in
-      replaced ps (set ns k (Some s)) b c refl (length-set ns k (Some s)) (λ m other. refl) (λ m other. get_or-set_other ns k m (Some s) None other)
-      (subst (λ (o : Option (List Cap)). HasRoom b (item_at ps k) o) (sym here) room)
-      (ap (λ (o : Option (List Cap)). content_in b (item_at ps k) o) here ∙ is)
+  slotted b s c room is = search (get_or-set_same, node_within, replaced, length-set, get_or-set_other)
 
   bare : (b : Kind) (c : Content Cap) → HasRoom b (item_at ps k) (item_at ns k) → content_in b (item_at ps k) (item_at ns k) ≡ c → Puts (set ks k b) ps ns
       (set v k c)
@@ -158,9 +135,7 @@ module _ {ks : List Kind} {ps : List (Option (List ℕ))} {ns : List (Option (Li
     room_of = subst (λ (a : Kind). HasRoom a (item_at ps k) (item_at ns k)) (sym there) (are.room k)
 
     pub held : held_at v k ≡ content_in b (item_at ps k) (item_at ns k)
-    held =
-        ap (λ (cs : List (Content Cap)). held_at cs k) (sym view) ∙ read ks ps ns k
-        ∙ ap (λ (a : Kind). content_in a (item_at ps k) (item_at ns k)) (sym there)
+    held = grind (arith, nat_tests, read, there)
 
     same_kinds : set ks k b ≡ ks
     same_kinds = ap (set ks k) there ∙ set-get_or ks k kind.Free
@@ -171,23 +146,19 @@ module _ {ks : List Kind} {ps : List (Option (List ℕ))} {ns : List (Option (Li
     module _ (index word : ℕ) where
       no_words : (a : Kind) (o : Option (List ℕ)) (s : Option (List Cap)) → words_are_of a ≡ false → content_in a o s ≡ with_word_in (content_in a o s)
           index word
-      no_words kind.Page o s none = absurd (true≢false none)
-      no_words other o s none = refl
+      no_words a o s none = grind (arith, nat_tests)
 
       pub no_page : words_are_of b ≡ false → v ≡ set v k (with_word_in (held_at v k) index word)
       no_page none = rw held (unchanged (with_word_in (content_in b (item_at ps k) (item_at ns k)) index word) (no_words b (item_at ps k) (item_at ns k) none))
 
       word_in : (a : Kind) (w : List ℕ) (s : Option (List Cap)) → words_are_of a ≡ true → with_word_in (content_in a (Some w) s) index word ≡ content_in a
           (Some (set w index word)) s
-      word_in kind.Page w s is = refl
-      word_in other w s is = absurd (true≢false (sym is))
+      word_in a w s is = grind (arith, nat_tests)
 
       pub word_put : words_are_of b ≡ true → (w : List ℕ) → item_at ps k ≡ Some w →
           Puts ks (set ps k (Some (set w index word))) ns (set v k (with_word_in (held_at v k) index word))
       word_put is w here =
-          let after : content_in b (Some (set w index word)) (item_at ns k) ≡ with_word_in (held_at v k) index word =
-          sym (word_in b w (item_at ns k) is) ∙ ap (λ (c : Content Cap). with_word_in c index word)
-          (ap (λ (o : Option (List ℕ)). content_in b o (item_at ns k)) (sym here) ∙ sym held) in
+          let after : content_in b (Some (set w index word)) (item_at ns k) ≡ with_word_in (held_at v k) index word = grind (arith, nat_tests, word_in, held) in
           subst (λ (js : List Kind). Puts js (set ps k (Some (set w index word))) ns (set v k (with_word_in (held_at v k) index word))) same_kinds
           (worded b (set w index word) (with_word_in (held_at v k) index word) (word_room b (set w index word) (item_at ns k) is) after)
 
@@ -202,9 +173,7 @@ module _ {ks : List Kind} {ps : List (Option (List ℕ))} {ns : List (Option (Li
     words_there is = some_words b (item_at ps k) (item_at ns k) is room_of
 
     pub root_put : (change : Root Cap → Root Cap) → Puts (set ks k (kind_with_root change b)) ps ns (set v k (with_root_in change (held_at v k)))
-    root_put change =
-        bare (kind_with_root change b) (with_root_in change (held_at v k)) (root_room change b (item_at ps k) (item_at ns k) room_of)
-        (root_in change b (item_at ps k) (item_at ns k) ∙ sym (ap (with_root_in change) held))
+    root_put change = search (bare, root_room, room_of, root_in, held)
 
     pub root_seen : (change : Root Cap → Root Cap) → contents_in (set ks k (kind_with_root change b)) ps ns ≡ set v k (with_root_in change (held_at v k))
     root_seen change = (root_put change).contents
@@ -214,8 +183,7 @@ module _ {ks : List Kind} {ps : List (Option (List ℕ))} {ns : List (Option (Li
         ((a : Kind) → slots_are_of a ≡ true → change (content_in a (item_at ps k) (Some s)) ≡ content_in a (item_at ps k) (Some t)) →
         Puts ks ps (set ns k (Some t)) (set v k (change (held_at v k)))
     slots_put is s t here change changes =
-        let after : content_in b (item_at ps k) (Some t) ≡ change (held_at v k) =
-        sym (changes b is) ∙ ap change (ap (content_in b (item_at ps k)) (sym here) ∙ sym held) in
+        let after : content_in b (item_at ps k) (Some t) ≡ change (held_at v k) = grind (arith, nat_tests, held) in
         subst (λ (js : List Kind). Puts js ps (set ns k (Some t)) (set v k (change (held_at v k)))) same_kinds
         (slotted b t (change (held_at v k)) (slot_room b (item_at ps k) t is) after)
 
@@ -253,17 +221,4 @@ all_held ks ps ns free =
 pub none_held : (n : ℕ) (ks : List Kind) (ps : List (Option (List ℕ))) (ns : List (Option (List Cap))) → ks ≡ replicate n kind.Free → ps ≡ replicate n
     None → ns ≡ replicate n None →
     Puts ks ps ns (replicate n content.Free)
-none_held n ks ps ns kinds pages nodes =
-    let count : length ks ≡ n = ap length kinds ∙ length-replicate n kind.Free in
-    let free : (k : ℕ) → kind_at ks k ≡ kind.Free = λ k. ap (λ (js : List Kind). kind_at js k) kinds ∙ elim (cases_lt k n) [
-      | inl below ↦ get_or-replicate n k kind.Free kind.Free below
-      | inr past ↦ get_or_past (replicate n kind.Free) k kind.Free (omega (arith, past, length-replicate n kind.Free))
-    ] in
-    record {
-      are = record {
-        pages = omega (arith, ap length pages, length-replicate {A = Option (List ℕ)} n None, count);
-        nodes = omega (arith, ap length nodes, length-replicate {A = Option (List Cap)} n None, count);
-        room = λ k. subst (λ (a : Kind). HasRoom a (item_at ps k) (item_at ns k)) (sym (free k)) tt;
-      };
-      contents = sym (all_held ks ps ns free) ∙ ap (λ (m : ℕ). replicate m content.Free) count;
-    }
+none_held n ks ps ns kinds pages nodes = grind (arith, nat_tests, length-replicate, get_or-replicate, get_or_past, all_held)

@@ -1,6 +1,6 @@
 -- A number is moved to the end of a list, and those behind it move up one after the other.
-use Rattle.cache_entries.proofs.Names.{ℕ, zero, suc, List, [], length, set, take, drop, get_or, Some, sym, ap, subst, arith, slice_get, none-some, same_Some}
-use Rattle.cache_entries.proofs.Names.{AllDiffer, without, refl}
+use Rattle.cache_entries.proofs.Names.{nat_tests, ℕ, zero, suc, List, [], length, set, take, drop, get_or, Some, sym, ap, arith, slice_get, none-some}
+use Rattle.cache_entries.proofs.Names.{same_Some, AllDiffer, without, refl}
 use Rattle.std.proofs.Common.{◌≡◌, ◌∷◌, ◌++◌, ◌<◌, ◌≤◌, ◌∙◌}
 use Rattle.cache_entries.proofs.Orders.{without_here, without_tail}
 use Rattle.cache_entries.proofs.Recent.{apart_from}
@@ -29,34 +29,22 @@ module _ (n : ℕ) where
   move_up : (ns : List ℕ) (place i : ℕ) → slice_get ns place ≡ Some n → AllDiffer ns → place ≤ i → suc i < length ns →
       set (take i (without n ns) ++ drop i ns) i (get_or (take i (without n ns) ++ drop i ns) (suc i) 0) ≡ take (suc i) (without n ns) ++ drop (suc i) ns
   move_up [] place i at once from below = absurd (none-some n at)
-  move_up (m ∷ ms) zero i at once from below =
-      subst (λ (rest : List ℕ). set (take i rest ++ drop i (m ∷ ms)) i (get_or (take i rest ++ drop i (m ∷ ms)) (suc i) 0) ≡ take (suc i) rest ++ drop i ms)
-      (sym (without_here n m ms (sym (same_Some m n at)))) (up_one m ms i (omega (arith, below)))
+  move_up (m ∷ ms) zero i at once from below = grind (arith, nat_tests, without_here, same_Some, up_one)
   move_up (m ∷ ms) (suc place) zero at once from below = absurd (omega (arith, from))
   move_up (m ∷ ms) (suc place) (suc i) at once from below =
-      subst (λ (rest : List ℕ). set (take (suc i) rest ++ drop i ms) (suc i) (get_or (take (suc i) rest ++ drop i ms) (suc (suc i)) 0) ≡ take (suc (suc i))
-      rest ++ drop (suc i) ms)
-      (sym (without_tail n m ms (apart_from n m ms place at once.0)))
-      (ap (λ (rest : List ℕ). m ∷ rest) (move_up ms place i at once.1 (omega (arith, from)) (omega (arith, below))))
+      grind (arith, nat_tests, without_tail, apart_from, move_up ms place i at once.1 (omega (arith, from)) (omega (arith, below)))
 
   pub moved_up : (xs ns : List ℕ) (place i j : ℕ) → slice_get ns place ≡ Some n → AllDiffer ns → place ≤ i → j ≡ suc i → j < length ns →
       xs ≡ take i (without n ns) ++ drop i ns → set xs i (get_or xs j 0) ≡ take j (without n ns) ++ drop j ns
-  moved_up xs ns place i j at once from next below is =
-      ap (λ (ys : List ℕ). set ys i (get_or ys j 0)) is
-      ∙ subst (λ (k : ℕ). set (take i (without n ns) ++ drop i ns) i (get_or (take i (without n ns) ++ drop i ns) k 0) ≡ take k (without n ns) ++ drop k
-      ns) (sym next)
-      (move_up ns place i at once from (omega (arith, next, below)))
+  moved_up xs ns place i j at once from next below is = grind (arith, nat_tests, move_up ns place i at once from (omega (arith, next, below)))
 
   move_last : (ns : List ℕ) (place i : ℕ) → slice_get ns place ≡ Some n → AllDiffer ns → place ≤ i → suc i ≡ length ns →
       set (take i (without n ns) ++ drop i ns) i n ≡ without n ns ++ n ∷ []
   move_last [] place i at once from last = absurd (none-some n at)
-  move_last (m ∷ ms) zero i at once from last =
-      subst (λ (rest : List ℕ). set (take i rest ++ drop i (m ∷ ms)) i n ≡ rest ++ n ∷ []) (sym (without_here n m ms (sym (same_Some m n at))))
-      (up_last m n ms i (omega (arith, last)))
+  move_last (m ∷ ms) zero i at once from last = grind (arith, nat_tests, without_here, same_Some, up_last)
   move_last (m ∷ ms) (suc place) zero at once from last = absurd (omega (arith, from))
   move_last (m ∷ ms) (suc place) (suc i) at once from last =
-      subst (λ (rest : List ℕ). set (take (suc i) rest ++ drop i ms) (suc i) n ≡ rest ++ n ∷ []) (sym (without_tail n m ms (apart_from n m ms place at once.0)))
-      (ap (λ (rest : List ℕ). m ∷ rest) (move_last ms place i at once.1 (omega (arith, from)) (omega (arith, last))))
+      grind (arith, nat_tests, without_tail, apart_from, move_last ms place i at once.1 (omega (arith, from)) (omega (arith, last)))
 
   pub moved_last : (xs ns : List ℕ) (place i : ℕ) → slice_get ns place ≡ Some n → AllDiffer ns → place ≤ i → suc i ≡ length ns →
       xs ≡ take i (without n ns) ++ drop i ns → set xs i n ≡ without n ns ++ n ∷ []

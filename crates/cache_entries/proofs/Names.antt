@@ -5,7 +5,7 @@ pub use Rattle.collections.proofs.Positions.{filled}
 pub use Rattle.collections.specs.SparseVec.{item_at}
 pub use Rattle.lru.proofs.CallerLemmas.{Contains-lookup_entry}
 pub use Rattle.lru.specs.LruCache.{LruCache, demoted, promoted, put_entries}
-pub use Rattle.model.specs.Frame.{content_behind, held_at}
+pub use Rattle.model.specs.Frame.{held_at}
 pub use Rattle.model.specs.Object.{with_slot_in, with_word_in}
 pub use Rattle.model.specs.Revoke.{is_member}
 pub use Rattle.model.specs.declared.capability.Cap.{Cap}
@@ -15,7 +15,8 @@ pub use Rattle.std.proofs.Common.{Bool, IsSome, List, None, Option, Some, [], ad
 pub use Rattle.std.proofs.Common.{length-append, length-set, map, nat_eq, option_map, refl, replicate, rules, set, subst, suc, sym, take, true, true≢false}
 pub use Rattle.std.proofs.Common.{vec_capacity, vec_len, zero, ℕ}
 pub use Rattle.std.proofs.lemmas.Bool.{cases_eq, cases_lt, eq-eqb, eqb-true, false_from_ne_true, le-ltb, lt-ltb, ne_eqb, or_cases, or_parts, or_right}
-pub use Rattle.std.proofs.lemmas.Bool.Decides.{Decides-eqb}
+pub use Rattle.std.proofs.lemmas.Bool.Decides.{Decides-eqb, nat_tests}
+pub use Rattle.std.proofs.lemmas.Grind.{common_steps}
 pub use Rattle.std.proofs.lemmas.List.{get_or-replicate, get_or-set_other, get_or-set_same, get_or_default, get_or_past, length-map, length-replicate}
 pub use Rattle.std.proofs.lemmas.List.{length-take-le, set-get_or, take-append-drop, take-append-le, take_all, take_more}
 pub use Rattle.std.proofs.lemmas.List.Folds.{list_any-append}
@@ -29,7 +30,6 @@ pub use Rattle.std.specs.List.{remove, slice_get}
 pub use Rattle.std.specs.Map.{keys_of, lookup_entry, remove_entry}
 pub use Rattle.std.specs.NonZero.{non_zero_usize_get}
 pub use Rattle.std.specs.Option.{option_map_or}
-pub use Rattle.std.specs.Prelude.{nat_lt}
 pub use Rattle.cache_entries.specs.Bodies.{AreBodies, HasRoom, content_at, content_in, kind_at, kind_of, kind_with_root, slots_are_of, slots_from}
 pub use Rattle.cache_entries.specs.Bodies.{with_slots_of, with_words_of, words_are_of}
 unfoldable pub use Rattle.cache_entries.specs.Bodies.{contents_in}

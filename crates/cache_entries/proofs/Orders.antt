@@ -1,8 +1,8 @@
 -- Numbers in the order of their last use, and pairs of a cache with them as its keys.
-use Rattle.cache_entries.proofs.Names.{IsFilled, inl, inr, ℕ, nat_eq, Bool, true, false, cond, true≢false, List, [], length, take, Option, Some, None, is_some}
-use Rattle.cache_entries.proofs.Names.{refl, sym, ap, arith, keys_of, lookup_entry, remove_entry, option_map_or, eqb-true, eq-eqb, ne_eqb, cases_eq, take_all}
-use Rattle.cache_entries.proofs.Names.{LruCache, promoted, demoted, put_entries, Contains-lookup_entry, is_member, AllDiffer, without, or_right, or_cases}
-use Rattle.cache_entries.proofs.Names.{or_parts, false_from_ne_true, any_passes_from_place, list_any-append, take-append-drop, slice_get, drop}
+use Rattle.cache_entries.proofs.Names.{nat_tests, IsFilled, inl, inr, ℕ, nat_eq, Bool, true, false, cond, true≢false, List, [], length, take, Option, Some}
+use Rattle.cache_entries.proofs.Names.{None, is_some, refl, sym, ap, arith, keys_of, lookup_entry, remove_entry, option_map_or, eqb-true, eq-eqb, ne_eqb}
+use Rattle.cache_entries.proofs.Names.{take_all, LruCache, promoted, demoted, put_entries, Contains-lookup_entry, is_member, AllDiffer, without, or_right}
+use Rattle.cache_entries.proofs.Names.{or_cases, or_parts, false_from_ne_true, any_passes_from_place, list_any-append, take-append-drop, slice_get, drop}
 use Rattle.std.proofs.Common.{◌≡◌, ◌≢◌, ◌+◌, ◌-◌, ◌<◌, ◌||◌, ◌∷◌, ◌++◌, ◌∙◌, ◌⊎◌}
 
 -- ---- the keys of pairs
@@ -18,8 +18,7 @@ module _ (n : ℕ) where
       go false later = ap (λ (ns : List ℕ). e.0 ∷ ns) later
 
   entry_found : (t : Bool) (e : ℕ × Unit {0}) (o : Option (ℕ × Unit {0})) (b : Bool) → is_some o ≡ b → is_some (cond t (Some e) o) ≡ (t || b)
-  entry_found true e o b same = refl
-  entry_found false e o b same = same
+  entry_found t e o b same = grind (arith, nat_tests)
 
   member_entries : (es : List (ℕ × Unit {0})) → is_some (lookup_entry (nat_eq n) es) ≡ is_member (keys_of es) n
   member_entries [] = refl
@@ -96,9 +95,7 @@ pub in_behind : (front ns : List ℕ) (n : ℕ) → is_member ns n ≡ true → 
 in_behind front ns n is = list_any-append (nat_eq n) front ns ∙ or_right (is_member front n) (is_member ns n) is
 
 pub in_front : (k : ℕ) (ns : List ℕ) (n : ℕ) → is_member (take k ns) n ≡ true → is_member ns n ≡ true
-in_front k ns n is =
-    ap (λ (ms : List ℕ). is_member ms n) (sym (take-append-drop k ns)) ∙ list_any-append (nat_eq n) (take k ns) (drop k ns)
-    ∙ ap (λ (t : Bool). t || is_member (drop k ns) n) is
+in_front k ns n is = cc (take-append-drop k ns, list_any-append (nat_eq n) (take k ns) (drop k ns))
 
 -- a list with a number at its end has the members of one with it in front
 pub member_end : (ns : List ℕ) (n m : ℕ) → is_member (ns ++ n ∷ []) m ≡ is_member (n ∷ ns) m
@@ -128,43 +125,19 @@ length_without n (m ∷ ms) is = go (nat_eq n m) is (length_without n ms)
 
 pub gone : (n : ℕ) (ns : List ℕ) → AllDiffer ns → is_member (without n ns) n ≡ false
 gone n [] once = refl
-gone n (m ∷ ms) once = elim (cases_eq n m) [
-  | inl same ↦
-      ap (λ (t : Bool). is_member (cond t ms (m ∷ without n ms)) n) (eq-eqb n m same)
-      ∙ ap (is_member ms) same ∙ once.0
-  | inr other ↦
-      ap (λ (t : Bool). is_member (cond t ms (m ∷ without n ms)) n) (ne_eqb n m other)
-      ∙ member_tail n m (without n ms) (λ same. other (sym same)) ∙ gone n ms once.1
-]
+gone n (m ∷ ms) once = grind (arith, nat_tests, member_tail, gone n ms once.1)
 
 pub still : (n : ℕ) (ns : List ℕ) (k : ℕ) → k ≢ n → is_member (without n ns) k ≡ is_member ns k
 still n [] k other = refl
-still n (m ∷ ms) k other = elim (cases_eq n m) [
-  | inl same ↦
-      ap (λ (t : Bool). is_member (cond t ms (m ∷ without n ms)) k) (eq-eqb n m same)
-      ∙ sym (member_tail k m ms (λ is. other (sym is ∙ sym same)))
-  | inr differs ↦
-      ap (λ (t : Bool). is_member (cond t ms (m ∷ without n ms)) k) (ne_eqb n m differs)
-      ∙ ap (λ (b : Bool). nat_eq k m || b) (still n ms k other)
-]
+still n (m ∷ ms) k other = grind (arith, nat_tests, member_tail, still n ms k other)
 
 pub differ_without : (n : ℕ) (ns : List ℕ) → AllDiffer ns → AllDiffer (without n ns)
 differ_without n [] once = tt
-differ_without n (m ∷ ms) once = elim (cases_eq n m) [
-  | inl same ↦ rw (eq-eqb n m same) once.1
-  | inr other ↦ rw (ne_eqb n m other) (still n ms m (λ is. other (sym is)) ∙ once.0, differ_without n ms once.1)
-]
+differ_without n (m ∷ ms) once = grind (arith, nat_tests, still, differ_without n ms once.1)
 
 pub not_yet : (keys : List ℕ) (k : ℕ) → ((p : ℕ) → is_member keys p ≡ true → p < k) → is_member keys k ≡ false
 not_yet keys k known = false_from_ne_true (is_member keys k) (λ is. omega (arith, known k is))
 
 -- one more key, greater than all others
 pub filled_more : (keys : List ℕ) (k : ℕ) → IsFilled keys k → IsFilled (k ∷ keys) (k + 1)
-filled_more keys k is = record {
-  once = (not_yet keys k is.known, is.once);
-  all = omega (arith, is.all);
-  known = λ p here. elim (cases_eq p k) [
-    | inl same ↦ omega (arith, same)
-    | inr other ↦ omega (arith, is.known p (sym (member_tail p k keys (λ same. other (sym same))) ∙ here))
-  ];
-}
+filled_more keys k is = grind (arith, nat_tests, not_yet, member_tail)

@@ -1,6 +1,6 @@
 -- The numbers used last, and the one used longest ago.
-use Rattle.cache_entries.proofs.Names.{ℕ, zero, suc, true, false, true≢false, List, [], length, take, Some, refl, sym, ap, arith, slice_get, none-some}
-use Rattle.cache_entries.proofs.Names.{same_Some, is_member, AllDiffer, without, remove}
+use Rattle.cache_entries.proofs.Names.{nat_tests, ℕ, zero, suc, true, false, true≢false, List, [], length, take, Some, refl, sym, ap, arith, slice_get}
+use Rattle.cache_entries.proofs.Names.{none-some, same_Some, is_member, AllDiffer, without, remove}
 use Rattle.std.proofs.Common.{◌≡◌, ◌≢◌, ◌+◌, ◌<◌, ◌∷◌, ◌∙◌}
 use Rattle.cache_entries.proofs.Orders.{listed_member, in_front, without_here, without_tail, gone}
 
@@ -14,8 +14,7 @@ module _ (n : ℕ) where
   front_stays (m ∷ ms) i zero last once at below = refl
   front_stays (m ∷ ms) zero (suc k) last once at below = absurd (omega (arith, last, below))
   front_stays (m ∷ ms) (suc i) (suc k) last once at below =
-      ap (take (suc k)) (without_tail n m ms (apart_from m ms i at once.0))
-      ∙ ap (λ (rest : List ℕ). m ∷ rest) (front_stays ms i k (omega (arith, last)) once.1 at (omega (arith, below)))
+      grind (arith, nat_tests, without_tail, apart_from, front_stays ms i k (omega (arith, last)) once.1 at (omega (arith, below)))
 
   -- and none of them is the last
   pub front_apart : (ns : List ℕ) (i k m : ℕ) → i + 1 ≡ length ns → AllDiffer ns → slice_get ns i ≡ Some n → k < length ns → is_member (take k ns) m ≡
@@ -28,5 +27,4 @@ module _ (n : ℕ) where
   pub taken_out : (ns : List ℕ) (place : ℕ) → slice_get ns place ≡ Some n → AllDiffer ns → remove ns place ≡ without n ns
   taken_out [] place at once = absurd (none-some n at)
   taken_out (m ∷ ms) zero at once = sym (without_here n m ms (sym (same_Some m n at)))
-  taken_out (m ∷ ms) (suc place) at once =
-      ap (λ (rest : List ℕ). m ∷ rest) (taken_out ms place at once.1) ∙ sym (without_tail n m ms (apart_from m ms place at once.0))
+  taken_out (m ∷ ms) (suc place) at once = grind (arith, nat_tests, without_tail, apart_from, taken_out ms place at once.1)

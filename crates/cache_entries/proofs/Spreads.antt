@@ -1,10 +1,10 @@
 -- Places of numbers.
-use Rattle.cache_entries.proofs.Names.{ArePlaced, AreSpread, inl, inr, ℕ, zero, suc, Bool, true, false, true≢false, List, [], length, map, set, take, get_or}
-use Rattle.cache_entries.proofs.Names.{Option, Some, None, is_some, refl, sym, ap, subst, arith, nat_lt, cond, cases_eq, cases_lt, lt-ltb, le-ltb, length-map}
+use Rattle.cache_entries.proofs.Names.{nat_tests, ArePlaced, AreSpread, inl, inr, ℕ, zero, suc, Bool, true, false, true≢false, List, [], length, map, set, take}
+use Rattle.cache_entries.proofs.Names.{get_or, Option, Some, None, is_some, refl, sym, ap, subst, arith, cond, cases_eq, cases_lt, lt-ltb, le-ltb, length-map}
 use Rattle.cache_entries.proofs.Names.{length-set, length-take-le, take_all, get_or_default, get_or-replicate, length-replicate, replicate, get_or-set_same}
-use Rattle.cache_entries.proofs.Names.{get_or-set_other, get_or_past, none-some, same_Some, slice_get, is_member, AllDiffer, OrderState, order_of, place_at}
-use Rattle.cache_entries.proofs.Names.{place_below, used_last, used_longest_ago, without, changed_once, get_map, IsFilled, false_from_ne_true, take-append-le}
-use Rattle.cache_entries.proofs.Names.{slice_get-map, add-one, option_map}
+use Rattle.cache_entries.proofs.Names.{get_or-set_other, get_or_past, none-some, same_Some, is_member, AllDiffer, OrderState, order_of, place_at, place_below}
+use Rattle.cache_entries.proofs.Names.{used_last, used_longest_ago, without, changed_once, get_map, IsFilled, false_from_ne_true, take-append-le, slice_get-map}
+use Rattle.cache_entries.proofs.Names.{add-one}
 use Rattle.std.proofs.Common.{◌≡◌, ◌≢◌, ◌+◌, ◌-◌, ◌<◌, ◌≤◌, ◌∷◌, ◌++◌, ◌∙◌}
 use Rattle.cache_entries.proofs.Turns.{filled_back, filled_front, member_used}
 use Rattle.cache_entries.proofs.Orders.{gone, length_without, member_head, still, in_tail, either_of, listed_member, in_front, without_here, without_tail}
@@ -26,8 +26,7 @@ front_used p (m ∷ ms) (suc k) is = elim (cases_eq p m) [
 differ_front : (k : ℕ) (ns : List ℕ) → AllDiffer ns → AllDiffer (take k ns)
 differ_front zero ns once = tt
 differ_front (suc k) [] once = tt
-differ_front (suc k) (m ∷ ms) once =
-    (false_from_ne_true (is_member (take k ms) m) (λ is. true≢false (sym (in_front k ms m is) ∙ once.0)), differ_front k ms once.1)
+differ_front (suc k) (m ∷ ms) once = grind (arith, nat_tests, false_from_ne_true, in_front, differ_front k ms once.1)
 
 -- ---- the numbers of places
 
@@ -84,22 +83,13 @@ pub place_of : (ps : List ℕ) (most n : ℕ) → place_at (map (place_below mos
 place_of ps most n = get_map (place_below most) ps n most None (past_is most most (omega arith))
 
 placed_at : (most p q : ℕ) → place_below most p ≡ Some q → (p ≡ q) × (p < most)
-placed_at most p q is = elim (cases_lt p most) [
-  | inl below ↦ (same_Some p q (sym (below_is most p below) ∙ is), below)
-  | inr past ↦ absurd (none-some q (sym (past_is most p past) ∙ is))
-]
+placed_at most p q is = grind (arith, nat_tests, same_Some, below_is, none-some, past_is)
 
 some_below : (most p : ℕ) → is_some (place_below most p) ≡ true → p < most
-some_below most p is = elim (cases_lt p most) [
-  | inl below ↦ below
-  | inr past ↦ absurd (true≢false (sym is ∙ ap is_some (past_is most p past)))
-]
+some_below most p is = grind (arith, nat_tests, past_is)
 
 none_past : (most p : ℕ) → place_below most p ≡ None → most ≤ p
-none_past most p is = elim (cases_lt p most) [
-  | inl below ↦ absurd (none-some p (sym is ∙ below_is most p below))
-  | inr past ↦ past
-]
+none_past most p is = grind (arith, nat_tests, none-some, below_is)
 
 -- an order that is seen as a value is another one
 pub record Spreads (keys numbers places : List ℕ) (count : ℕ) (s : OrderState) : Type 0 where
@@ -126,10 +116,7 @@ module _ {keys numbers places : List ℕ} {count : ℕ} (are : ArePlaced keys nu
   injective p q is_p is_q same = sym (are.back p is_p) ∙ ap place same ∙ are.back q is_q
 
   pub place_known : (n : ℕ) → place n < most → n < length places
-  place_known n below = elim (cases_lt n (length places)) [
-    | inl known ↦ known
-    | inr past ↦ absurd (omega (arith, below, get_or_past places n most past))
-  ]
+  place_known n below = grind (arith, nat_tests, get_or_past)
 
   places_set : (n p : ℕ) (o : Option ℕ) → n < length places → place_below most p ≡ o → map (place_below most) (set places n p) ≡ set
       (map (place_below most) places) n o
@@ -156,10 +143,7 @@ module _ {keys numbers places : List ℕ} {count : ℕ} (are : ArePlaced keys nu
     once = differ_map number used (differ_front count keys are.filled.once) injective;
     few = omega (arith, length_used, are.few);
     within = λ n p is. let at = placed_at most (place n) p (sym (place_of places most n) ∙ is) in omega (arith, at.0, at.1);
-    apart = λ n m p is_n is_m.
-        let at = placed_at most (place n) p (sym (place_of places most n) ∙ is_n) in
-        let same = placed_at most (place m) p (sym (place_of places most m) ∙ is_m) in
-        sym (are.forth n at.1) ∙ ap number (at.0 ∙ sym same.0) ∙ are.forth m same.1;
+    apart = grind (arith, nat_tests, placed_at, place_of);
   }
 
   -- the same of an order that is seen as a value
@@ -188,33 +172,21 @@ module _ {keys numbers places : List ℕ} {count : ℕ} (are : ArePlaced keys nu
     pub no_place : (n : ℕ) → place_at s.places n ≡ None → most ≤ place n
     no_place n is = none_past most (place n) (sym (place_is n) ∙ is)
 
-    pub has_place : (n q : ℕ) → n < length s.places → q ≡ get_or places n q → nat_lt q most ≡ is_some (place_at s.places n)
-    has_place n q known is =
-        let same : q ≡ place n = is ∙ get_or_default places n q most (omega (arith, known, known_is)) in
-        elim (cases_lt q most) [
-          | inl below ↦ lt-ltb q most below ∙ sym (ap is_some (place_is n ∙ below_is most (place n) (omega (arith, below, same))))
-          | inr past ↦ le-ltb q most past ∙ sym (ap is_some (place_is n ∙ past_is most (place n) (omega (arith, past, same))))
-        ]
-
   module _ (n : ℕ) (below : place n < most) where
     here : is_member used (place n) ≡ true
     here = are.used n below
 
     front : (k : ℕ) → count ≡ suc k → take k (without (place n) keys) ≡ without (place n) used
-    front k is = front_used (place n) keys k (ap (λ (c : ℕ). is_member (take c keys) (place n)) (sym is) ∙ here) ∙ ap
-        (λ (c : ℕ). without (place n) (take c keys)) (sym is)
+    front k is = grind (arith, nat_tests, front_used, here)
 
     pub listed : is_member keys (place n) ≡ true
     listed = in_front count keys (place n) here
 
     numbers_left : map number (without (place n) used) ≡ without n (map number used)
-    numbers_left =
-        map_without number (place n) used (λ q is. injective (place n) q here is)
-        ∙ ap (λ (m : ℕ). without m (map number used)) (are.forth n below)
+    numbers_left = grind (arith, nat_tests, map_without, injective, here)
 
     some_used : (c : ℕ) → is_member (take c keys) (place n) ≡ true → (k : ℕ) × (c ≡ suc k)
-    some_used zero is = absurd (true≢false (sym is))
-    some_used (suc k) is = (k, refl)
+    some_used c is = grind (arith, nat_tests)
 
     pub count_some : 1 ≤ count
     count_some = let k = some_used count here in omega (arith, k.1)
@@ -227,20 +199,11 @@ module _ {keys numbers places : List ℕ} {count : ℕ} (are : ArePlaced keys nu
       pub promoted_last : (after : List ℕ) → after ≡ place n ∷ without (place n) keys → Spreads after numbers places count (used_last n s)
       promoted_last after is =
           let k = some_used count here in
-          let front_is : take count after ≡ place n ∷ without (place n) used =
-          ap (take count) is ∙ ap (λ (c : ℕ). take c (place n ∷ without (place n) keys)) k.1
-          ∙ ap (λ (rest : List ℕ). place n ∷ rest) (front k.0 k.1) in
+          let front_is : take count after ≡ place n ∷ without (place n) used = grind (arith, nat_tests, front) in
           let same : (p : ℕ) → is_member (take count after) p ≡ is_member used p =
           λ p. ap (λ (ps : List ℕ). is_member ps p) front_is ∙ member_used (place n) used p here in
           record {
-            are = record {
-              filled = subst (λ (ks : List ℕ). IsFilled ks most) (sym is) (filled_front are.filled (place n) listed);
-              some = are.some;
-              few = are.few;
-              back = λ p known. are.back p (sym (same p) ∙ known);
-              used = λ m below. same (place m) ∙ are.used m below;
-              forth = are.forth;
-            };
+            are = grind (arith, nat_tests, filled_front are.filled (place n) listed);
             view =
                 ap (λ (ns : List ℕ). let o : OrderState = record { numbers = ns; places = map (place_below most) places; most = most } in o)
                 (ap (map number) front_is ∙ ap (λ (m : ℕ). m ∷ map number (without (place n) used)) (are.forth n below) ∙ ap (λ (ns : List ℕ). n ∷ ns)
@@ -252,47 +215,24 @@ module _ {keys numbers places : List ℕ} {count : ℕ} (are : ArePlaced keys nu
       pub removed : (after : List ℕ) (c : ℕ) → after ≡ without (place n) keys ++ place n ∷ [] → c + 1 ≡ count →
           Spreads after numbers (set places n most) c (record { numbers = without n s.numbers; places = set s.places n None; most = s.most })
       removed after c is less =
-          let left : length (without (place n) keys) + 1 ≡ length keys = length_without (place n) keys listed in
-          let front_is : take c after ≡ without (place n) used =
-          ap (take c) is ∙ take-append-le c (without (place n) keys) (place n ∷ []) (omega (arith, left, less, are.few, are.filled.all))
-          ∙ front c (omega (arith, less)) in
-          let once : AllDiffer used = differ_front count keys are.filled.once in
-          let size : n < length places = place_known n below in
-          let other_place : (m : ℕ) → m ≢ n → get_or (set places n most) m most ≡ place m = λ m other. get_or-set_other places n m most most other in
-          let no_place : get_or (set places n most) n most ≡ most = get_or-set_same places n most most size in
-          let apart : (p : ℕ) → is_member (take c after) p ≡ true → p ≢ place n =
-          λ p known same. true≢false (sym known ∙ ap (λ (ps : List ℕ). is_member ps p) front_is ∙ ap (is_member (without (place n) used)) same ∙ gone
-          (place n) used once) in
-          let was : (p : ℕ) → is_member (take c after) p ≡ true → is_member used p ≡ true =
-          λ p known. sym (still (place n) used p (apart p known)) ∙ ap (λ (ps : List ℕ). is_member ps p) (sym front_is) ∙ known in
-          let others : (m : ℕ) → get_or (set places n most) m most < most → m ≢ n =
-          λ m less same. omega (arith, less, ap (λ (i : ℕ). get_or (set places n most) i most) same, no_place) in
-          record {
-            are = record {
-              filled = subst (λ (ks : List ℕ). IsFilled ks most) (sym is) (filled_back are.filled (place n) listed);
-              some = are.some;
-              few = omega (arith, less, are.few);
-              back = λ p known.
-                  let old = was p known in
-                  other_place (number p) (λ same. apart p known (sym (are.back p old) ∙ ap place same)) ∙ are.back p old;
-              used = λ m less.
-                  let other = others m less in
-                  let old : place m < most = omega (arith, less, other_place m other) in
-                  ap (λ (i : ℕ). is_member (take c after) i) (other_place m other)
-                  ∙ ap (λ (ps : List ℕ). is_member ps (place m)) front_is
-                  ∙ still (place n) used (place m) (λ same. other (sym (are.forth m old) ∙ ap number same ∙ are.forth n below))
-                  ∙ are.used m old;
-              forth = λ m less.
-                  let other = others m less in
-                  ap number (other_place m other) ∙ are.forth m (omega (arith, less, other_place m other));
-            };
-            view =
-                ap (λ (ns : List ℕ). let o : OrderState = record { numbers = ns; places = map (place_below most) (set places n most); most = most } in o)
-                (ap (map number) front_is ∙ numbers_left)
-                ∙ ap (λ (os : List (Option ℕ)). let o : OrderState = record { numbers = without n (map number used); places = os; most = most } in o)
-                (places_set n most None size (past_is most most (omega arith)))
-                ∙ ap (λ (o : OrderState). let t : OrderState = record { numbers = without n o.numbers; places = set o.places n None; most = o.most } in t) view;
-          }
+          grind (
+            arith,
+            nat_tests,
+            length_without,
+            listed,
+            take-append-le,
+            front,
+            differ_front,
+            place_known,
+            get_or-set_other,
+            get_or-set_same,
+            gone,
+            still,
+            filled_back,
+            numbers_left,
+            places_set,
+            past_is,
+          )
 
   pub last_below : (p : ℕ) → used_longest_ago keys ≡ Some p → p < most
   last_below p last = are.filled.known p (listed_member keys (length keys - 1) p last)
@@ -300,8 +240,7 @@ module _ {keys numbers places : List ℕ} {count : ℕ} (are : ArePlaced keys nu
   -- a number gets the place that was used longest ago
   module _ (p n : ℕ) (last : used_longest_ago keys ≡ Some p) (short : count < most) (known : n < length places) (absent : most ≤ place n) where
     p_free : is_member used p ≡ false
-    p_free = false_from_ne_true (is_member used p) (λ is.
-        front_apart p keys (length keys - 1) count p (omega (arith, short, are.filled.all)) are.filled.once last (omega (arith, short, are.filled.all)) is refl)
+    p_free = grind (arith, nat_tests, false_from_ne_true, front_apart)
 
     abbrev numbers_after : List ℕ
     numbers_after = set numbers p n
@@ -319,9 +258,7 @@ module _ {keys numbers places : List ℕ} {count : ℕ} (are : ArePlaced keys nu
     number_after q is = get_or-set_other numbers p q n 0 (λ same. true≢false (sym is ∙ ap (is_member used) same ∙ p_free))
 
     pub fresh : (m : ℕ) → place_at (map (place_below most) places) m ≢ Some p
-    fresh m is =
-        let at = placed_at most (place m) p (sym (place_of places most m) ∙ is) in
-        true≢false (sym (are.used m at.1) ∙ ap (is_member used) at.0 ∙ p_free)
+    fresh m is = grind (arith, nat_tests, placed_at, place_of, p_free)
 
     pub inserted : {s : OrderState} → order_of keys numbers places count ≡ s → (after : List ℕ) (c : ℕ) → after ≡ p ∷ without p keys → c ≡ count + 1 →
         Spreads after numbers_after places_after c (record { numbers = n ∷ s.numbers; places = set s.places n (Some p); most = s.most })
@@ -377,12 +314,7 @@ module _ {keys numbers places : List ℕ} {count : ℕ} (are : ArePlaced keys nu
       n ≡ get_or numbers p n →
       Some n ≡ used_longest_ago s.numbers
   least_number {s = s} view many p n last is =
-      let full : most ≤ count = omega (arith, many, count_is view, most_is view) in
-      let whole : used ≡ keys = take_all count keys (omega (arith, full, are.filled.all)) in
-      ap Some (is ∙ get_or_default numbers p n 0 (last_below p last)) ∙ sym (
-      ap (slice_get (map number used)) (omega (arith, length_used, full, are.few, are.filled.all))
-      ∙ ap (λ (ps : List ℕ). slice_get (map number ps) (length keys - 1)) whole
-      ∙ slice_get-map number keys (length keys - 1) ∙ ap (option_map number) last) ∙ ap (λ (o : OrderState). used_longest_ago o.numbers) view
+      grind (arith, nat_tests, count_is, most_is, take_all, get_or_default, last_below, length_used, slice_get-map)
 
 -- no number has a place at first
 pub none_placed : (keys numbers places : List ℕ) (most count : ℕ) → 0 < most → IsFilled keys most → length numbers ≡ most → places ≡ replicate count most →
@@ -394,14 +326,7 @@ none_placed keys numbers places most count some filled size is =
       | inr past ↦ get_or_past (replicate count most) n most (omega (arith, past, length-replicate count most))
     ] ∙ sym size in
     record {
-      are = record {
-        filled = subst (IsFilled keys) (sym size) filled;
-        some = omega (arith, some, size);
-        few = omega arith;
-        back = λ p here. absurd (true≢false (sym here));
-        used = λ n below. absurd (omega (arith, below, past n));
-        forth = λ n below. absurd (omega (arith, below, past n));
-      };
+      are = grind (arith, nat_tests);
       view =
           ap (λ (m : ℕ). let o : OrderState = record { numbers = []; places = map (place_below m) places; most = m } in o) size
           ∙ ap (λ (os : List (Option ℕ)). let o : OrderState = record { numbers = []; places = os; most = most } in o)

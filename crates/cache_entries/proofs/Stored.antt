@@ -1,25 +1,19 @@
 -- Entries by number, whose bodies are at places.
-use Rattle.cache_entries.proofs.Names.{AreStored, AreSpread, AreOrdered, inl, inr, ℕ, zero, suc, [], Bool, true, false, true≢false, List, length, map, set}
-use Rattle.cache_entries.proofs.Names.{get_or, replicate, Option, Some, None, is_some, option_map, cond, refl, sym, ap, subst, arith, length-map, length-set}
-use Rattle.cache_entries.proofs.Names.{get_or-set_same, get_or-set_other, cases_lt, get_or_past, Content, Cap, held_at, Entry, changing, entry_at, EntriesState}
-use Rattle.cache_entries.proofs.Names.{OrderState, entries_of, entry_in, place_at, with_entry_of, with_new, without, without_entry, AllDiffer, is_member}
-use Rattle.cache_entries.proofs.Names.{changed_once, get_map}
-use Rattle.std.proofs.Common.{◌≡◌, ◌≢◌, ◌<◌, ◌≤◌, ◌∷◌, ◌∙◌}
+use Rattle.cache_entries.proofs.Names.{nat_tests, AreStored, AreSpread, AreOrdered, ℕ, zero, suc, [], Bool, true, false, List, length, map, set, get_or}
+use Rattle.cache_entries.proofs.Names.{replicate, Option, Some, None, is_some, option_map, cond, refl, sym, ap, arith, length-map, length-set, get_or-set_same}
+use Rattle.cache_entries.proofs.Names.{get_or-set_other, get_or_past, Content, Cap, held_at, Entry, changing, entry_at, EntriesState, OrderState, entries_of}
+use Rattle.cache_entries.proofs.Names.{entry_in, place_at, with_entry_of, with_new, without, without_entry, changed_once, get_map}
+use Rattle.std.proofs.Common.{◌≡◌, ◌≢◌, ◌<◌, ◌∷◌, ◌∙◌}
 use Rattle.model.specs.declared.object.Content.TheVariants as content
 
 pub some_map : {X Y : Type 0} (f : X → Y) (o : Option X) → is_some (option_map f o) ≡ is_some o
-some_map f None = refl
-some_map f (Some x) = refl
+some_map f o = grind (arith, nat_tests)
 
 pub some_within : {X : Type 0} (os : List (Option X)) (n : ℕ) → is_some (get_or os n None) ≡ true → n < length os
-some_within os n is = elim (cases_lt n (length os)) [
-  | inl within ↦ within
-  | inr past ↦ absurd (true≢false (sym is ∙ ap is_some (get_or_past os n None past)))
-]
+some_within os n is = grind (arith, nat_tests, get_or_past)
 
 elsewhere : (f g : ℕ → Entry) (r : Option ℕ) → ((q : ℕ) → r ≡ Some q → f q ≡ g q) → option_map f r ≡ option_map g r
-elsewhere f g None same = refl
-elsewhere f g (Some q) same = ap Some (same q refl)
+elsewhere f g r same = grind (arith, nat_tests)
 
 module _ (o : OrderState) {ps ks : List (Content Cap)} {ms : List Bool} (are : AreStored o.most ps ks ms) {s : EntriesState}
     (view : entries_of o ps ks ms ≡ s) where
@@ -36,12 +30,7 @@ module _ (o : OrderState) {ps ks : List (Content Cap)} {ms : List Bool} (are : A
   known_is = sym (length-map o.places (option_map entry)) ∙ ap (λ (t : EntriesState). length t.at) view
 
   pub ordered : AreSpread o → AreOrdered s
-  ordered spread = record {
-    listed = λ n. ap (λ (t : EntriesState). is_member t.order n) (sym view) ∙ spread.listed n ∙ some_is n;
-    once = subst (λ (t : EntriesState). AllDiffer t.order) view spread.once;
-    few = subst (λ (t : EntriesState). length t.order ≤ t.most) view spread.few;
-    least = subst (λ (t : EntriesState). 8 ≤ t.most) view are.least;
-  }
+  ordered spread = grind (arith, nat_tests, some_is)
 
   -- a number that has a place
   module _ (n : ℕ) {p : ℕ} (at : place_at o.places n ≡ Some p) (spread : AreSpread o) where
@@ -91,12 +80,7 @@ module _ (o : OrderState) {ps ks : List (Content Cap)} {ms : List Bool} (are : A
         ∙ ap (kept_by (get_or ms q false)) (get_or-set_other ks p q c content.Free other)))
 
     pub kept_dropped : entries_of o ps ks (set ms p false) ≡ with_entry_of (λ e. record e { kept = None }) n s
-    kept_dropped =
-        replaced ps ks (set ms p false) (λ e. record e { kept = None })
-        (ap (λ (t : Bool). let e : Entry = record { present = held_at ps p; kept = kept_by t (held_at ks p) } in e)
-        (get_or-set_same ms p false false mark_within))
-        (λ q other. ap (λ (t : Bool). let e : Entry = record { present = held_at ps q; kept = kept_by t (held_at ks q) } in e)
-        (get_or-set_other ms p q false false other))
+    kept_dropped = search (replaced, get_or-set_same, mark_within, get_or-set_other)
 
   -- a number gets a place that none has
   pub entered : (n p : ℕ) (c : Content Cap) → n < length s.at → p < o.most → ((m : ℕ) → place_at o.places m ≢ Some p) →
@@ -106,11 +90,7 @@ module _ (o : OrderState) {ps ks : List (Content Cap)} {ms : List Bool} (are : A
       let qs = set ps p c in
       let ls = set ms p false in
       let new : Entry = record { present = c; kept = None } in
-      let here : entry_in qs ks ls p ≡ new =
-      ap (λ (d : Content Cap). let e : Entry = record { present = d; kept = (entry_in qs ks ls p).kept } in e)
-      (get_or-set_same ps p c content.Free (omega (arith, within, are.presents)))
-      ∙ ap (λ (t : Bool). let e : Entry = record { present = c; kept = cond t (Some (held_at ks p)) None } in e)
-      (get_or-set_same ms p false false (omega (arith, within, are.marks))) in
+      let here : entry_in qs ks ls p ≡ new = grind (arith, nat_tests, get_or-set_same) in
       let other_entry : (q : ℕ) → q ≢ p → entry_in qs ks ls q ≡ entry q =
       λ q other. ap (λ (d : Content Cap). let e : Entry = record { present = d; kept = (entry_in qs ks ls q).kept } in e)
       (get_or-set_other ps p q c content.Free other)

@@ -1,7 +1,7 @@
 -- Numbers that are used in turn, and those whose use the order doesn't have yet.
-use Rattle.cache_entries.proofs.Names.{Uses, AreLatest, AreSpread, inl, inr, ℕ, nat_eq, Bool, true, false, true≢false, List, [], length, take, drop, get_or}
-use Rattle.cache_entries.proofs.Names.{Some, refl, sym, ap, subst, arith, slice_get, take_more, cases_eq, is_member, AllDiffer, OrderState, used_in_turn}
-use Rattle.cache_entries.proofs.Names.{used_last, without, keys_of, length-append, promoted, IsFilled, used_all, remove}
+use Rattle.cache_entries.proofs.Names.{nat_tests, Uses, AreLatest, AreSpread, inl, inr, ℕ, nat_eq, Bool, true, false, true≢false, List, [], length, take, drop}
+use Rattle.cache_entries.proofs.Names.{get_or, Some, refl, sym, ap, subst, arith, slice_get, take_more, cases_eq, is_member, AllDiffer, OrderState}
+use Rattle.cache_entries.proofs.Names.{used_in_turn, used_last, without, keys_of, length-append, promoted, IsFilled, used_all, remove}
 use Rattle.std.proofs.Common.{◌≡◌, ◌≢◌, ◌+◌, ◌∷◌, ◌++◌, ◌<◌, ◌∙◌}
 use Rattle.cache_entries.proofs.Orders.{used_keys, unused_keys, differ_without, gone, length_without, member_head, member_tail, still, in_tail, either_of}
 use Rattle.cache_entries.proofs.Orders.{not_here, listed_member, member_end, without_here, without_tail}
@@ -9,10 +9,7 @@ use Rattle.cache_entries.proofs.Recent.{taken_out}
 
 -- a number that is listed keeps its place among the members when it is used
 pub member_used : (n : ℕ) (ns : List ℕ) (m : ℕ) → is_member ns n ≡ true → is_member (n ∷ without n ns) m ≡ is_member ns m
-member_used n ns m is = elim (cases_eq m n) [
-  | inl same ↦ member_head m n (without n ns) same ∙ sym (ap (is_member ns) same ∙ is)
-  | inr other ↦ member_tail m n (without n ns) (λ same. other (sym same)) ∙ still n ns m other
-]
+member_used n ns m is = grind (arith, nat_tests, member_head, member_tail, still)
 
 pub member_in_turn : (ns order : List ℕ) (m : ℕ) → ((k : ℕ) → is_member ns k ≡ true → is_member order k ≡ true) → is_member (used_in_turn ns order) m ≡
     is_member order m
@@ -40,23 +37,7 @@ without_absent n (m ∷ ms) none =
 -- two numbers are taken out in any turn
 without_both : (n m : ℕ) (ns : List ℕ) → n ≢ m → without n (without m ns) ≡ without m (without n ns)
 without_both n m [] other = refl
-without_both n m (k ∷ ks) other = elim (cases_eq n k) [
-  | inl first ↦
-      let apart : m ≢ k = λ same. other (first ∙ sym same) in
-      ap (without n) (without_tail m k ks apart)
-      ∙ without_here n k (without m ks) first
-      ∙ sym (ap (without m) (without_here n k ks first))
-  | inr apart ↦ elim (cases_eq m k) [
-    | inl second ↦
-        ap (without n) (without_here m k ks second)
-        ∙ sym (ap (without m) (without_tail n k ks apart) ∙ without_here m k (without n ks) second)
-    | inr differs ↦
-        ap (without n) (without_tail m k ks differs)
-        ∙ without_tail n k (without m ks) apart
-        ∙ ap (λ (rest : List ℕ). k ∷ rest) (without_both n m ks other)
-        ∙ sym (ap (without m) (without_tail n k ks apart) ∙ without_tail m k (without n ks) differs)
-  ]
-]
+without_both n m (k ∷ ks) other = grind (arith, nat_tests, without_tail, without_here, without_both n m ks other)
 
 -- a number is used after others
 pub used_at_end : (ns : List ℕ) (n : ℕ) (order : List ℕ) → used_in_turn (ns ++ n ∷ []) order ≡ n ∷ without n (used_in_turn ns order)
@@ -74,17 +55,8 @@ without_in_turn n (m ∷ ms) order none =
 -- what is used once more needn't have been used before
 without_earlier : (n : ℕ) (ns order : List ℕ) → AllDiffer ns → without n (used_in_turn (without n ns) order) ≡ without n (used_in_turn ns order)
 without_earlier n [] order once = refl
-without_earlier n (m ∷ ms) order once = elim (cases_eq n m) [
-  | inl same ↦
-      let none : is_member ms n ≡ false = ap (is_member ms) same ∙ once.0 in
-      ap (λ (ks : List ℕ). without n (used_in_turn ks order)) (without_here n m ms same)
-      ∙ without_in_turn n ms order none
-      ∙ ap (used_in_turn ms) (ap (λ (k : ℕ). without k order) same ∙ sym (without_here n m (without m order) same))
-      ∙ sym (without_in_turn n ms (m ∷ without m order) none)
-  | inr other ↦
-      ap (λ (ks : List ℕ). without n (used_in_turn ks order)) (without_tail n m ms other)
-      ∙ without_earlier n ms (m ∷ without m order) once.1
-]
+without_earlier n (m ∷ ms) order once =
+    grind (arith, nat_tests, without_here, without_in_turn, without_tail, without_earlier n ms (m ∷ without m order) once.1)
 
 used_once_more : (n : ℕ) (ns order : List ℕ) → AllDiffer ns → used_in_turn (without n ns ++ n ∷ []) order ≡ n ∷ without n (used_in_turn ns order)
 used_once_more n ns order once = used_at_end (without n ns) n order ∙ ap (λ (rest : List ℕ). n ∷ rest) (without_earlier n ns order once)
@@ -103,8 +75,7 @@ used_behind : (ns front order : List ℕ) → AllDiffer ns → ((k : ℕ) → is
 used_behind [] front order once apart = refl
 used_behind (n ∷ ns) front order once apart =
     let here = apart n (member_head n n ns refl) in
-    let moved : without n (used_in_turn ns (n ∷ without n order)) ≡ used_in_turn ns (without n order) =
-    without_in_turn n ns (n ∷ without n order) once.0 ∙ ap (used_in_turn ns) (without_here n n (without n order) refl) in
+    let moved : without n (used_in_turn ns (n ∷ without n order)) ≡ used_in_turn ns (without n order) = search (without_in_turn, without_here) in
     ap (λ (rest : List ℕ). used_in_turn ns (n ∷ rest))
     (without_behind n front (used_in_turn ns (n ∷ without n order)) here ∙ ap (λ (rest : List ℕ). front ++ rest) moved)
     ∙ used_behind ns (n ∷ front) (without n order) once.1 (λ k is.
@@ -140,10 +111,7 @@ used_front (m ∷ ms) ns order = used_front ms ns (m ∷ without m order)
 
 -- what was used last, in turn, is used again
 pub used_again : (front ns order : List ℕ) → AllDiffer (front ++ ns) → used_in_turn (front ++ ns) order ≡ used_in_turn ns (used_in_turn (front ++ ns) order)
-used_again front ns order once =
-    used_front front ns order
-    ∙ sym (used_behind ns [] (used_in_turn front order) (differ_behind front ns once) (λ k is. refl))
-    ∙ ap (used_in_turn ns) (sym (used_front front ns order))
+used_again front ns order once = cc (used_front front ns order, used_behind ns [] (used_in_turn front order) (differ_behind front ns once) (λ k is. refl))
 
 pub all_at_end : (ns : List ℕ) (n : ℕ) (s : OrderState) → used_all (ns ++ n ∷ []) s ≡ used_last n (used_all ns s)
 all_at_end [] n s = refl
@@ -152,22 +120,12 @@ all_at_end (m ∷ ms) n s = all_at_end ms n (used_last m s)
 -- one more of a list is used
 pub one_more : (s t : List ℕ) (ns : List ℕ) (i : ℕ) → i < length ns → t ≡ used_in_turn (take i ns) s →
     get_or ns i 0 ∷ without (get_or ns i 0) t ≡ used_in_turn (take (i + 1) ns) s
-one_more s t ns i below is =
-    ap (λ (ks : List ℕ). get_or ns i 0 ∷ without (get_or ns i 0) ks) is
-    ∙ sym (used_at_end (take i ns) (get_or ns i 0) s)
-    ∙ ap (λ (ks : List ℕ). used_in_turn ks s) (sym (take_more ns i 0 below))
+one_more s t ns i below is = cc (used_at_end (take i ns) (get_or ns i 0) s, take_more ns i 0 below)
 
 pub listed_more : (s t : List ℕ) (ns : List ℕ) (i : ℕ) → i < length ns → t ≡ used_in_turn (take i ns) s → is_member t (get_or ns i 0) ≡ true →
     ((n : ℕ) → is_member (take i ns) n ≡ true → is_member s n ≡ true) → (n : ℕ) → is_member (take (i + 1) ns) n ≡ true → is_member s n ≡ true
 listed_more s t ns i below is here listed n has =
-    elim (either_of (get_or ns i 0) (take i ns) n (sym (ap (λ (ks : List ℕ). is_member ks n) (take_more ns i 0 below) ∙ member_end (take i ns)
-    (get_or ns i 0) n) ∙ has)) [
-      | inl same ↦
-          ap (is_member s) same
-          ∙ sym (member_in_turn (take i ns) s (get_or ns i 0) listed)
-          ∙ ap (λ (ks : List ℕ). is_member ks (get_or ns i 0)) (sym is) ∙ here
-      | inr there ↦ listed n there
-    ]
+    grind (arith, nat_tests, take_more ns i 0 below, member_end (take i ns) (get_or ns i 0) n, member_in_turn (take i ns) s (get_or ns i 0) listed)
 
 -- ---- the latest
 
@@ -198,13 +156,7 @@ used_again_at latest after place n at once is =
 -- another one is used
 pub more_latest : (latest order : List ℕ) → AreLatest latest order → (n : ℕ) → is_member latest n ≡ false → is_member order n ≡ true →
     AreLatest (latest ++ n ∷ []) order
-more_latest latest order are n none here = record {
-  once = differ_end latest n are.once none;
-  listed = λ m is. elim (either_of n latest m (sym (member_end latest n m) ∙ is)) [
-    | inl same ↦ ap (is_member order) same ∙ here
-    | inr has ↦ are.listed m has
-  ];
-}
+more_latest latest order are n none here = grind (arith, nat_tests, differ_end, either_of, member_end)
 
 -- what is left once the first of them moved to the end of the order
 pub record Settles (latest rest : List ℕ) (order after : OrderState) : Type 0 where
@@ -216,32 +168,12 @@ pub record Settles (latest rest : List ℕ) (order after : OrderState) : Type 0 
 
 pub settles : (latest rest : List ℕ) (order after : OrderState) (n : ℕ) → 0 < length latest → n ≡ get_or latest 0 n → rest ≡ take 0 latest ++ drop 1 latest →
     after ≡ used_last n order → AreLatest latest order.numbers → Settles latest rest order after
-settles [] rest order after n some first is used are = absurd (omega (arith, some))
-settles (m ∷ ms) rest order after n some first is used are =
-    let here : is_member order.numbers m ≡ true = are.listed m (member_head m m ms refl) in
-    let on : after ≡ used_last m order = subst (λ (k : ℕ). after ≡ used_last k order) first used in
-    record {
-      same = λ k. used_all (is k) (on k);
-      are = subst (λ (ks : List ℕ). AreLatest ks after.numbers) (sym is)
-          (subst (λ (s : OrderState). AreLatest ms s.numbers) (sym on) (record {
-            once = are.once.1;
-            listed = λ k is. member_used m order.numbers k here ∙ are.listed k (in_tail m ms k is);
-          }));
-      others = λ k none. ap (λ (ks : List ℕ). is_member ks k) is ∙ (not_here m ms k none).1;
-      members = λ k. ap (λ (s : OrderState). is_member s.numbers k) on ∙ member_used m order.numbers k here;
-      fewer = omega (arith, ap length is);
-    }
+settles latest rest order after n some first is used are = grind (arith, nat_tests, member_head, member_used, in_tail, not_here)
 
 -- ---- an order with places
 
 pub spread_used : (s : OrderState) (n : ℕ) → is_member s.numbers n ≡ true → AreSpread s → AreSpread (used_last n s)
-spread_used s n here are = record {
-  listed = λ m. member_used n s.numbers m here ∙ are.listed m;
-  once = (gone n s.numbers are.once, differ_without n s.numbers are.once);
-  few = omega (arith, are.few, length_without n s.numbers here);
-  within = are.within;
-  apart = are.apart;
-}
+spread_used s n here are = grind (arith, nat_tests, member_used, gone, differ_without, length_without)
 
 pub spread_in_turn : (ns : List ℕ) (s : OrderState) → ((n : ℕ) → is_member ns n ≡ true → is_member s.numbers n ≡ true) → AreSpread s →
     AreSpread (used_all ns s)
@@ -257,18 +189,10 @@ spread_uses s t ns said uses are = subst AreSpread (sym uses.used) (spread_in_tu
 
 module _ {keys : List ℕ} {count : ℕ} (are : IsFilled keys count) (p : ℕ) (has : is_member keys p ≡ true) where
   pub filled_front : IsFilled (p ∷ without p keys) count
-  filled_front = record {
-    once = (gone p keys are.once, differ_without p keys are.once);
-    all = omega (arith, length_without p keys has, are.all);
-    known = λ q here. are.known q (sym (member_used p keys q has) ∙ here);
-  }
+  filled_front = grind (arith, nat_tests, gone, differ_without, length_without, member_used)
 
   pub filled_back : IsFilled (without p keys ++ p ∷ []) count
-  filled_back = record {
-    once = differ_end (without p keys) p (differ_without p keys are.once) (gone p keys are.once);
-    all = omega (arith, length-append (without p keys) (p ∷ []), length_without p keys has, are.all);
-    known = λ q here. are.known q (sym (member_end (without p keys) p q ∙ member_used p keys q has) ∙ here);
-  }
+  filled_back = grind (arith, nat_tests, differ_end, differ_without, gone, length-append, length_without, member_end, member_used)
 
 pub filled_used : (p : ℕ) (es : List (ℕ × Unit {0})) {count : ℕ} → IsFilled (keys_of es) count → IsFilled (keys_of (promoted (nat_eq p) es)) count
 filled_used p es {count} are = go (is_member (keys_of es) p) refl

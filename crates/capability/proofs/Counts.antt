@@ -1,11 +1,11 @@
 -- What frames stand for once counts have risen: the capabilities that they were compared with are void. Frames stay sound then.
-use Rattle.capability.proofs.Names.{ℕ, inl, inr, nat_lt, Bool, true, false, List, [], map, length, slice_index_or, slice_set, refl, sym, ap, subst, arith}
-use Rattle.capability.proofs.Names.{zero-add, All, enumerate_from, cases_eq, eq-eqb, ne_eqb, nat_tests, get_or-set_other, get_or-set_same, length-map}
-use Rattle.capability.proofs.Names.{length-set, get_or-enumerate_from, length-enumerate_from, Cap, Capability, Void, Number, Page, Node, Space, Process, Start}
-use Rattle.capability.proofs.Names.{Resume, Bank, Discrim, ObjectHeader, Geometry, Content, Object, blank_header, called, conveyed, current_count, frames_in}
-use Rattle.capability.proofs.Names.{given_up, header_at, held_at, objects_of, AreCurrent, AreKeepable, IsCurrent, IsKeepable, caps_in, free, map_content}
-use Rattle.capability.proofs.Names.{consume, is_member, names_member, rescind, resumes, void_where, without, object_at, AreGivenUp, Parts, frames_of}
-use Rattle.capability.proofs.Names.{with_header, objects_in, IsSound, ConsumeKeepsSoundFrames, RescindKeepsSoundFrames}
+use Rattle.capability.proofs.Names.{ℕ, nat_lt, Bool, List, [], map, length, slice_index_or, slice_set, refl, sym, ap, subst, arith, zero-add, All}
+use Rattle.capability.proofs.Names.{enumerate_from, nat_tests, get_or-set_other, get_or-set_same, length-map, length-set, get_or-enumerate_from}
+use Rattle.capability.proofs.Names.{length-enumerate_from, Cap, Capability, Void, Number, Page, Node, Space, Process, Start, Resume, Bank, Discrim}
+use Rattle.capability.proofs.Names.{ObjectHeader, Geometry, Content, Object, called, conveyed, current_count, frames_in, given_up, header_at, held_at}
+use Rattle.capability.proofs.Names.{objects_of, AreCurrent, AreKeepable, IsCurrent, IsKeepable, caps_in, free, map_content, consume, is_member, names_member}
+use Rattle.capability.proofs.Names.{rescind, resumes, void_where, without, object_at, AreGivenUp, Parts, frames_of, with_header, objects_in, IsSound}
+use Rattle.capability.proofs.Names.{ConsumeKeepsSoundFrames, RescindKeepsSoundFrames}
 use Rattle.std.proofs.Common.{◌≡◌, ◌+◌, ◌^◌, ◌<◌, ◌≤◌, ◌==◌, if◌then◌else◌, ◌∷◌, ◌∙◌}
 use Rattle.std.proofs.lemmas.List.{get_or-map}
 use Rattle.model.specs.declared.object.Content.TheVariants as content
@@ -18,27 +18,20 @@ abbrev raised : Bool → ℕ → ℕ
 raised b n = if b then n + 1 else n
 
 void_either : (b : Bool) → Void ≡ (if b then Void else Void)
-void_either true = refl
-void_either false = refl
+void_either b = grind (arith, nat_tests)
 
 -- A capability w held with count n, whose object's count was m: it goes exactly where that is raised.
 stale_cases : (goes : Capability → Bool) (w : Capability) (n m : ℕ) (b stale : Bool) → goes w ≡ b → nat_lt n m ≡ stale → n ≤ m →
     (if nat_lt n (raised b m) then Void else w) ≡ void_where goes (if nat_lt n m then Void else w)
-stale_cases goes w n m true true g s le = let past : nat_lt n (m + 1) ≡ true = grind (arith, nat_tests) in rw (s, past) (void_either (goes Void))
-stale_cases goes w n m true false g s le = let past : nat_lt n (m + 1) ≡ true = grind (arith, nat_tests) in rw (s, past, g) refl
-stale_cases goes w n m false true g s le = rw s (void_either (goes Void))
-stale_cases goes w n m false false g s le = rw (s, g) refl
+stale_cases goes w n m b stale g s le = grind (arith, nat_tests, void_either)
 
 -- two tables: the later one counts one more for the capabilities that go
 module _ (goes : Capability → Bool) (hs ks : List ObjectHeader) (raises : (w : Capability) → current_count ks w ≡ raised (goes w) (current_count hs w)) where
   stale : (c : Cap) → IsCurrent hs c → conveyed ks c ≡ void_where goes (conveyed hs c)
-  stale c current =
-      ap (λ (m : ℕ). if nat_lt c.count m then Void else c.what) (raises c.what)
-      ∙ stale_cases goes c.what c.count (current_count hs c.what) (goes c.what) (nat_lt c.count (current_count hs c.what)) refl refl current
+  stale c current = grind (arith, nat_tests, stale_cases)
 
   grown : (b : Bool) (n m k : ℕ) → n ≤ m → k ≡ raised b m → n ≤ k
-  grown true n m k le is = omega arith
-  grown false n m k le is = omega arith
+  grown b n m k le is = grind (arith, nat_tests)
 
   stays_current : (c : Cap) → IsCurrent hs c → IsCurrent ks c
   stays_current c current = grown (goes c.what) c.count (current_count hs c.what) (current_count ks c.what) current (raises c.what)
@@ -51,66 +44,34 @@ module _ (goes : Capability → Bool) (hs ks : List ObjectHeader) (raises : (w :
   twice (x ∷ xs) = ap (λ (t : List Capability). void_where goes (conveyed hs x) ∷ t) (twice xs)
 
   content_twice : (c : Content Cap) → map_content (void_where goes) (map_content (conveyed hs) c) ≡ map_content (λ d. void_where goes (conveyed hs d)) c
-  content_twice (content.Node slots) = ap content.Node (twice slots)
-  content_twice (content.Annex registers) = ap content.Annex (twice registers)
-  content_twice other = refl
+  content_twice c = grind (arith, nat_tests, twice)
 
   -- what a content conveys later is what it conveyed, without what goes
   conveyed_without : (c : Content Cap) → All (IsCurrent hs) (caps_in c) →
       map_content (conveyed ks) c ≡ map_content (void_where goes) (map_content (conveyed hs) c)
-  conveyed_without c all =
-      content_agree (conveyed ks) (λ d. void_where goes (conveyed hs d)) c (λ k d inside. stale (slice_index_or (caps_in c) k d) (all k d inside))
-      ∙ sym (content_twice c)
+  conveyed_without c all = search (content_agree, stale, content_twice)
 
 -- Giving a set up.
 allocations_given : (b : Bool) (h k : ObjectHeader) → k ≡ (if b then given_up h else h) → k.allocations ≡ raised b h.allocations
-allocations_given true h k is = ap (λ (h : ObjectHeader). h.allocations) is
-allocations_given false h k is = ap (λ (h : ObjectHeader). h.allocations) is
+allocations_given b h k is = grind (arith, nat_tests)
 
 calls_given : (b : Bool) (h k : ObjectHeader) → k ≡ (if b then given_up h else h) → k.calls ≡ raised b h.calls
-calls_given true h k is = ap (λ (h : ObjectHeader). h.calls) is
-calls_given false h k is = ap (λ (h : ObjectHeader). h.calls) is
+calls_given b h k is = grind (arith, nat_tests)
 
 given_object : (set : List ℕ) (hs ks : List ObjectHeader) → ((w : Capability) → current_count ks w ≡ raised (names_member set w) (current_count hs w)) →
     (b : Bool) (h k : ObjectHeader) (c d : Content Cap) → k ≡ (if b then given_up h else h) → d ≡ (if b then content.Free else c) →
     All (IsCurrent hs) (caps_in c) →
     (let o : Object = record { owner = k.owner; content = map_content (conveyed ks) d } in o)
     ≡ (if b then free else without (names_member set) (record { owner = h.owner; content = map_content (conveyed hs) c }))
-given_object set hs ks raises true h k c d is are all =
-    ap (λ (m : ObjectHeader). let o : Object = record { owner = m.owner; content = map_content (conveyed ks) d } in o) is
-    ∙ ap (λ (e : Content Cap). let o : Object = record { owner = 0; content = map_content (conveyed ks) e } in o) are
-given_object set hs ks raises false h k c d is are all =
-    ap (λ (m : ObjectHeader). let o : Object = record { owner = m.owner; content = map_content (conveyed ks) d } in o) is
-    ∙ ap (λ (e : Content Cap). let o : Object = record { owner = h.owner; content = map_content (conveyed ks) e } in o) are
-    ∙ ap (λ (e : Content Capability). let o : Object = record { owner = h.owner; content = e } in o) (conveyed_without (names_member set) hs ks raises c all)
+given_object set hs ks raises b h k c d is are all = grind (arith, nat_tests, conveyed_without)
 
 given_kept : (g : Geometry) (age n : ℕ) → age + 1 < 2 ^ 64 → (b : Bool) (h k : ObjectHeader) (c d : Content Cap) →
     k ≡ (if b then given_up h else h) → d ≡ (if b then content.Free else c) →
     IsKeepable g age n (record { header = h; content = c }) → IsKeepable g (age + 1) n (record { header = k; content = d })
-given_kept g age n few true h k c d is are old =
-    let a = old.kept.allocations in
-    let b = old.kept.calls in
-    let new : IsKeepable g (age + 1) n (record { header = given_up h; content = content.Free }) = record {
-      kind = tt;
-      kept = record {
-        role = refl;
-        allocations = (omega (arith, a.0), omega (arith, a.0));
-        calls = (omega (arith, b.0), omega (arith, b.0));
-        owner = omega arith;
-        unowned = λ _. refl;
-        content = tt;
-      };
-    } in
-    subst (λ (m : ObjectHeader). IsKeepable g (age + 1) n (record { header = m; content = d })) (sym is)
-    (subst (λ (e : Content Cap). IsKeepable g (age + 1) n (record { header = given_up h; content = e })) (sym are) new)
-given_kept g age n few false h k c d is are old =
-    subst (λ (m : ObjectHeader). IsKeepable g (age + 1) n (record { header = m; content = d })) (sym is)
-    (subst (λ (e : Content Cap). IsKeepable g (age + 1) n (record { header = h; content = e })) (sym are)
-    (frame_later g age (age + 1) n (record { header = h; content = c }) (omega arith) old))
+given_kept g age n few b h k c d is are old = grind (arith, nat_tests, frame_later)
 
 given_current : (b : Bool) (P : Cap → Type 0) (c d : Content Cap) → d ≡ (if b then content.Free else c) → All P (caps_in c) → All P (caps_in d)
-given_current true P c d are all = subst (λ (e : Content Cap). All P (caps_in e)) (sym are) (λ k x inside. absurd (omega arith))
-given_current false P c d are all = subst (λ (e : Content Cap). All P (caps_in e)) (sym are) all
+given_current b P c d are all = grind (arith, nat_tests)
 
 module _ (set : List ℕ) (p q : Parts) (given : AreGivenUp set p q) where
   given_raises : (w : Capability) → current_count q.headers w ≡ raised (names_member set w) (current_count p.headers w)
@@ -154,10 +115,7 @@ module _ (set : List ℕ) (p q : Parts) (given : AreGivenUp set p q) where
       ∙ ap (λ (o : Object). if is_member set n then free else without (names_member set) o) (object_in p.headers p.contents n old)))
 
   pub current_given_up : AreCurrent (frames_of p) → AreCurrent (frames_of q)
-  current_given_up current = current_from q (λ n known.
-      let old : n < length p.headers = omega (arith, given.header_count) in
-      given_current (is_member set n) (IsCurrent q.headers) (held_at p.contents n) (held_at q.contents n) (given.contents n)
-      (all_current (names_member set) p.headers q.headers given_raises (caps_in (held_at p.contents n)) (current_held p current n old)))
+  current_given_up current = grind (arith, nat_tests, current_from, given_current, all_current, given_raises, current_held)
 
   pub keepable_given_up : (g : Geometry) (age : ℕ) → age + 1 < 2 ^ 64 → AreKeepable g age (frames_of p) → AreKeepable g (age + 1) (frames_of q)
   keepable_given_up g age few k = keepable_from g (age + 1) q (given.header_count ∙ keepable_count g age p k) (λ n known.
@@ -171,25 +129,13 @@ module _ (r : ℕ) (p q : Parts) (known : r < length p.headers) (is : q ≡ with
   next = slice_set p.headers r (called (header_at p.headers r))
 
   called_raises_calls : (m : ℕ) → (header_at next m).calls ≡ raised (m == r) (header_at p.headers m).calls
-  called_raises_calls m = elim (cases_eq m r) [
-    | inl e ↦ rw (e, eq-eqb r r refl, get_or-set_same p.headers r (called (header_at p.headers r)) blank_header known) refl
-    | inr differ ↦ rw (ne_eqb m r differ, get_or-set_other p.headers r m (called (header_at p.headers r)) blank_header differ) refl
-  ]
+  called_raises_calls m = grind (arith, nat_tests, get_or-set_same, get_or-set_other)
 
   called_allocations : (m : ℕ) → (header_at next m).allocations ≡ (header_at p.headers m).allocations
   called_allocations = field_same (λ (k : ObjectHeader). k.allocations) p.headers r (called (header_at p.headers r)) refl
 
   called_raises : (w : Capability) → current_count next w ≡ raised (resumes r w) (current_count p.headers w)
-  called_raises Void = refl
-  called_raises (Number n) = refl
-  called_raises (Page o a) = called_allocations o
-  called_raises (Node o a) = called_allocations o
-  called_raises (Space o h a) = called_allocations o
-  called_raises (Process o) = called_allocations o
-  called_raises (Start o key) = called_allocations o
-  called_raises (Resume o) = called_raises_calls o
-  called_raises (Bank o) = called_allocations o
-  called_raises Discrim = refl
+  called_raises w = grind (arith, nat_tests, called_allocations, called_raises_calls)
 
   consumed_objects : AreCurrent (frames_of p) → objects_of (frames_in next p.contents) ≡ consume r (objects_in p)
   unfolding consume
@@ -212,11 +158,7 @@ module _ (r : ℕ) (p q : Parts) (known : r < length p.headers) (is : q ≡ with
   objects_called current = ap (λ (k : Parts). objects_in k) is ∙ consumed_objects current
 
   pub current_called : AreCurrent (frames_of p) → AreCurrent (frames_of q)
-  current_called current =
-      subst (λ (k : Parts). AreCurrent (frames_of k)) (sym is)
-      (current_from (with_header p r (called (header_at p.headers r))) (λ n within.
-      let old : n < length p.headers = omega (arith, length-set p.headers r (called (header_at p.headers r))) in
-      all_current (resumes r) p.headers next called_raises (caps_in (held_at p.contents n)) (current_held p current n old)))
+  current_called current = grind (arith, nat_tests, current_from, length-set, all_current, called_raises, current_held)
 
 pub rescind_keeps_sound_frames : RescindKeepsSoundFrames
 rescind_keeps_sound_frames g age set old new frames given world = record {

@@ -1,13 +1,13 @@
 -- What frames stand for once the header or the content at one number is another, or the root of a process. What an edit of present frames leaves.
-use Rattle.capability.proofs.Names.{rules, ℕ, suc, inl, inr, nat_lt, List, [], map, length, slice_index_or, slice_set, refl, sym, ap, subst, arith, All}
-use Rattle.capability.proofs.Names.{get_or-map, map-set_same, cases_lt, nat_tests, length-set, map-set, set-get_or, All-replicate, All-set, Cap, Capability}
-use Rattle.capability.proofs.Names.{Void, Page, Node, Space, Process, Start, Resume, Bank, Frame, ObjectHeader, Content, Object, blank_header, conveyed}
-use Rattle.capability.proofs.Names.{current_count, frames_in, header_at, headers, held_at, object_of, objects_of, void_held, owned_by, claimed, AreCurrent}
-use Rattle.capability.proofs.Names.{IsCurrent, caps_in, all_slots, map_content, role_of, with_slot_in, with_word_in, content_at, with_content, Fresh, Parts}
-use Rattle.capability.proofs.Names.{frames_of, fresh_content, with_both, with_header, with_held, objects_in, true, Geometry, Root, State, AreKeptWords}
-use Rattle.capability.proofs.Names.{IsKeepable, IsKeptCap, MayBeKept, with_space, IsSpace, is_root, root_in, root_at, with_root, with_state, live_cap}
-use Rattle.capability.proofs.Names.{with_root_in, IsTrue, AreKeepable, is_annex, is_process, with_slot, with_word, Becomes, Edits, with_slots_in}
-use Rattle.capability.proofs.Names.{with_slots_from, set-set, get_or-set_same}
+use Rattle.capability.proofs.Names.{ℕ, suc, inl, inr, nat_lt, List, [], map, length, slice_index_or, slice_set, refl, sym, ap, subst, arith, All, get_or-map}
+use Rattle.capability.proofs.Names.{map-set_same, cases_lt, nat_tests, length-set, map-set, set-get_or, All-replicate, All-set, Cap, Capability, Void, Page}
+use Rattle.capability.proofs.Names.{Node, Space, Process, Start, Resume, Bank, Frame, ObjectHeader, Content, Object, blank_header, conveyed, current_count}
+use Rattle.capability.proofs.Names.{frames_in, header_at, headers, held_at, object_of, objects_of, void_held, owned_by, claimed, AreCurrent, IsCurrent, caps_in}
+use Rattle.capability.proofs.Names.{all_slots, map_content, role_of, with_slot_in, with_word_in, content_at, with_content, Fresh, Parts, frames_of}
+use Rattle.capability.proofs.Names.{fresh_content, with_both, with_header, with_held, objects_in, true, Geometry, Root, State, AreKeptWords, IsKeepable}
+use Rattle.capability.proofs.Names.{IsKeptCap, MayBeKept, with_space, IsSpace, is_root, root_in, root_at, with_root, with_state, live_cap, with_root_in, IsTrue}
+use Rattle.capability.proofs.Names.{AreKeepable, is_annex, is_process, with_slot, with_word, Becomes, Edits, with_slots_in, with_slots_from, set-set}
+use Rattle.capability.proofs.Names.{get_or-set_same}
 use Rattle.std.proofs.Common.{◌≡◌, ◌<◌, if◌then◌else◌, ◌∷◌, ◌∙◌, ◌^◌, ◌+◌}
 use Rattle.model.specs.declared.object.Content.TheVariants as content
 use Rattle.capability.specs.declared.present.Fresh.TheVariants as fresh
@@ -37,9 +37,7 @@ HasCounts h k = (h.allocations ≡ k.allocations) × (h.calls ≡ k.calls)
 pub field_same : (field : ObjectHeader → ℕ) (hs : List ObjectHeader) (n : ℕ) (h : ObjectHeader) → field h ≡ field (header_at hs n) → (m : ℕ) →
     field (header_at (slice_set hs n h) m) ≡ field (header_at hs m)
 field_same field hs n h same m =
-    sym (get_or-map field (slice_set hs n h) m blank_header)
-    ∙ ap (λ (xs : List ℕ). slice_index_or xs m (field blank_header)) (map-set_same field hs n h blank_header same)
-    ∙ get_or-map field hs m blank_header
+    cc (get_or-map field (slice_set hs n h) m blank_header, map-set_same field hs n h blank_header same, get_or-map field hs m blank_header)
 
 module _ (hs : List ObjectHeader) (n : ℕ) (h : ObjectHeader) (same : HasCounts h (header_at hs n)) where
   allocations_same : (m : ℕ) → (header_at (slice_set hs n h) m).allocations ≡ (header_at hs m).allocations
@@ -60,12 +58,10 @@ module _ (hs : List ObjectHeader) (n : ℕ) (h : ObjectHeader) (same : HasCounts
 
 -- what is read of parts that hold another content, and no other header
 pub header_kept : (p : Parts) (n : ℕ) (c : Content Cap) → with_held p n c ≡ with_both p n (header_at p.headers n) c
-header_kept p n c = ap (λ (hs : List ObjectHeader). let q : Parts = record p { headers = hs; contents = slice_set p.contents n c } in q)
-    (sym (set-get_or p.headers n blank_header))
+header_kept p n c = grind (arith, nat_tests, set-get_or)
 
 pub content_kept : (p : Parts) (n : ℕ) (h : ObjectHeader) → with_header p n h ≡ with_both p n h (held_at p.contents n)
-content_kept p n h = ap (λ (cs : List (Content Cap)). let q : Parts = record p { headers = slice_set p.headers n h; contents = cs } in q)
-    (sym (set-get_or p.contents n content.Free))
+content_kept p n h = grind (arith, nat_tests, set-get_or)
 
 -- capabilities of each frame, by the two lists
 pub current_held : (p : Parts) → AreCurrent (frames_of p) → (n : ℕ) → n < length p.headers → All (IsCurrent p.headers) (caps_in (held_at p.contents n))
@@ -116,26 +112,18 @@ module _ (p : Parts) (n : ℕ) (h : ObjectHeader) (c : Content Cap) (inside : n 
 module _ (p : Parts) (n : ℕ) (c : Content Cap) (known : n < length p.headers) (inside : n < length p.contents) where
   pub held_objects : objects_in (with_held p n c) ≡ with_content (objects_in p) n (map_content (conveyed p.headers) c)
   unfolding with_content
-  held_objects =
-      ap (λ (q : Parts). objects_in q) (header_kept p n c)
-      ∙ objects_set p n (header_at p.headers n) c inside (refl, refl)
-      ∙ ap (λ (owner : ℕ). slice_set (objects_in p) n (record { owner = owner; content = map_content (conveyed p.headers) c }))
-      (sym (owner_in p.headers p.contents n))
+  held_objects = grind (arith, nat_tests, header_kept, objects_set, owner_in)
 
   pub held_current : All (IsCurrent p.headers) (caps_in c) → AreCurrent (frames_of p) → AreCurrent (frames_of (with_held p n c))
-  held_current new current =
-      subst (λ (q : Parts). AreCurrent (frames_of q)) (sym (header_kept p n c)) (current_set p n (header_at p.headers n) c inside (refl, refl) new current)
+  held_current new current = grind (arith, nat_tests, header_kept, current_set)
 
 -- a change of a slot, a word or a message goes through the map
 pub slot_through_map : (f : Cap → Capability) (c : Content Cap) (i : ℕ) (held : Cap) → map_content f (with_slot_in c i held) ≡ with_slot_in (map_content f c) i
     (f held)
-slot_through_map f (content.Node slots) i held = ap content.Node (map-set f slots i held)
-slot_through_map f (content.Annex registers) i held = ap content.Annex (map-set f registers i held)
-slot_through_map f other i held = refl
+slot_through_map f c i held = grind (arith, nat_tests, map-set)
 
 pub word_through_map : (f : Cap → Capability) (c : Content Cap) (i word : ℕ) → map_content f (with_word_in c i word) ≡ with_word_in (map_content f c) i word
-word_through_map f content.Free i word = refl
-word_through_map f other i word = refl
+word_through_map f c i word = grind (arith, nat_tests)
 
 -- what a content holds after it is live or stale where what it held was
 pub slot_current : (hs : List ObjectHeader) (c : Content Cap) (i : ℕ) (held : Cap) → IsCurrent hs held → All (IsCurrent hs) (caps_in c) →
@@ -146,62 +134,40 @@ slot_current hs other i held is all = all
 
 pub word_current : (hs : List ObjectHeader) (c : Content Cap) (i word : ℕ) → All (IsCurrent hs) (caps_in c) →
     All (IsCurrent hs) (caps_in (with_word_in c i word))
-word_current hs content.Free i word all = all
-word_current hs other i word all = all
+word_current hs c i word all = grind (arith, nat_tests)
 
 -- a capability that is given its object's count conveys itself
 pub live : (hs : List ObjectHeader) (c : Capability) → conveyed hs (record { what = c; count = current_count hs c }) ≡ c
-live hs c = let P : ℕ → Type 0 = λ n. (if nat_lt n n then Void else c) ≡ c in let all : (n : ℕ) →
-    P n = λ n. grind (arith, nat_tests) in all (current_count hs c)
+live hs c = grind (arith, nat_tests)
 
 -- The helpers' edits. The new parts are q.
 module _ (p q : Parts) (n : ℕ) (known : n < length p.headers) (inside : n < length p.contents) where
   pub owner_objects : (bank : ℕ) → q ≡ with_header p n (owned_by bank (header_at p.headers n)) →
       objects_in q ≡ slice_set (objects_in p) n (record { owner = bank; content = content_at (objects_in p) n })
-  owner_objects bank is =
-      let h = owned_by bank (header_at p.headers n) in
-      ap (λ (r : Parts). objects_in r) (is ∙ content_kept p n h)
-      ∙ objects_set p n h (held_at p.contents n) inside (refl, refl)
-      ∙ ap (λ (d : Content Capability). slice_set (objects_in p) n (record { owner = bank; content = d }))
-      (sym (content_there p n known (held_at p.contents n) refl))
+  owner_objects bank is = grind (arith, nat_tests, content_kept, objects_set, content_there)
 
   pub owner_stays_current : (bank : ℕ) → q ≡ with_header p n (owned_by bank (header_at p.headers n)) → AreCurrent (frames_of p) → AreCurrent (frames_of q)
-  owner_stays_current bank is current =
-      let h = owned_by bank (header_at p.headers n) in
-      subst (λ (r : Parts). AreCurrent (frames_of r)) (sym (is ∙ content_kept p n h))
-      (current_set p n h (held_at p.contents n) inside (refl, refl) (current_held p current n known) current)
+  owner_stays_current bank is current = grind (arith, nat_tests, content_kept, current_set, current_held)
 
 -- A new object.
 fresh_conveyed : (hs : List ObjectHeader) (f : Fresh) → map_content (conveyed hs) (fresh_content void_held f) ≡ fresh_content Void f
 unfolding all_slots
-fresh_conveyed hs fresh.Page = refl
-fresh_conveyed hs other = refl
+fresh_conveyed hs f = grind (arith, nat_tests)
 
 slots_current : (hs : List ObjectHeader) → All (IsCurrent hs) (all_slots void_held)
 unfolding all_slots
 slots_current hs = All-replicate (IsCurrent hs) 32 void_held (omega arith)
 
 fresh_current : (hs : List ObjectHeader) (f : Fresh) → All (IsCurrent hs) (caps_in (fresh_content void_held f))
-fresh_current hs fresh.Page = λ k d inside. absurd (omega arith)
-fresh_current hs fresh.Node = slots_current hs
-fresh_current hs (fresh.Root annex) = search rules
-fresh_current hs fresh.Annex = slots_current hs
-fresh_current hs (fresh.Bank limit) = λ k d inside. absurd (omega arith)
+fresh_current hs f = grind (arith, nat_tests, slots_current)
 
 module _ (p q : Parts) (n : ℕ) (inside : n < length p.contents) (f : Fresh) (owner : ℕ)
     (is : q ≡ with_both p n (claimed (role_of (fresh_content void_held f)) owner (header_at p.headers n)) (fresh_content void_held f)) where
   pub claim_objects : objects_in q ≡ slice_set (objects_in p) n (record { owner = owner; content = fresh_content Void f })
-  claim_objects =
-      let h = claimed (role_of (fresh_content void_held f)) owner (header_at p.headers n) in
-      ap (λ (r : Parts). objects_in r) is
-      ∙ objects_set p n h (fresh_content void_held f) inside (refl, refl)
-      ∙ ap (λ (d : Content Capability). slice_set (objects_in p) n (record { owner = owner; content = d })) (fresh_conveyed p.headers f)
+  claim_objects = grind (arith, nat_tests, objects_set, fresh_conveyed)
 
   pub claim_stays_current : AreCurrent (frames_of p) → AreCurrent (frames_of q)
-  claim_stays_current current =
-      let h = claimed (role_of (fresh_content void_held f)) owner (header_at p.headers n) in
-      subst (λ (r : Parts). AreCurrent (frames_of r)) (sym is)
-      (current_set p n h (fresh_content void_held f) inside (refl, refl) (fresh_current p.headers f) current)
+  claim_stays_current current = grind (arith, nat_tests, current_set, fresh_current)
 
 -- a change that goes through the map of capabilities
 abbrev pub GoesThrough : (Root Cap → Root Cap) → (Root Capability → Root Capability) → (Cap → Capability) → Type 0
@@ -210,24 +176,17 @@ GoesThrough change after f = (r : Root Cap) → map_content f (content.Root (cha
 pub through_map : (change : Root Cap → Root Cap) (after : Root Capability → Root Capability) (f : Cap → Capability) → GoesThrough change after f →
     (c : Content Cap) →
     is_root (map_content f c) ≡ true → map_content f (with_root_in change c) ≡ content.Root (after (root_in (map_content f c)))
-through_map change after f through (content.Root r) is = through r
-through_map change after f through other is = cc
+through_map change after f through c is = grind (arith, nat_tests)
 
 pub root_current : (hs : List ObjectHeader) (change : Root Cap → Root Cap) → ((r : Root Cap) → IsCurrent hs r.space → IsCurrent hs (change r).space) →
     (c : Content Cap) →
     All (IsCurrent hs) (caps_in c) → All (IsCurrent hs) (caps_in (with_root_in change c))
-root_current hs change stays (content.Root r) all = one (IsCurrent hs) (change r).space (stays r (all 0 r.space (omega arith)))
-  where
-    one : (P : Cap → Type 0) (c : Cap) → P c → All P (c ∷ [])
-    one P c is = λ k d inside. let first : k ≡ 0 = omega arith in rw first is
-root_current hs change stays other all = all
+root_current hs change stays c all = grind (arith, nat_tests)
 
 pub root_keeps : (g : Geometry) (age n : ℕ) (h : ObjectHeader) (change : Root Cap → Root Cap) →
     ((r : Root Cap) → MayBeKept g age (content.Root r) → MayBeKept g age (content.Root (change r))) → (c : Content Cap) →
     IsKeepable g age n (record { header = h; content = c }) → IsKeepable g age n (record { header = h; content = with_root_in change c })
-root_keeps g age n h change stays (content.Root r) k =
-    refilled g age n h (content.Root r) (content.Root (change r)) refl k.kind (stays r k.kept.content) k
-root_keeps g age n h change stays other k = k
+root_keeps g age n h change stays c k = grind (arith, nat_tests, refilled)
 
 -- another word, state or address space
 pub word_kept : (i word : ℕ) (ws : List ℕ) → word < 2 ^ 64 → AreKeptWords 4 ws → AreKeptWords 4 (slice_set ws i word)
@@ -239,15 +198,12 @@ state_is os p s = refl
 
 pub space_through : (hs : List ObjectHeader) (w : Capability) (held : Cap) → held ≡ live_cap hs w →
     GoesThrough (λ (r : Root Cap). record r { space = held }) (λ (r : Root Capability). with_space r w) (conveyed hs)
-space_through hs w held is r =
-    ap (λ (s : Capability). content.Root (record (root_in (map_content (conveyed hs) (content.Root r))) { space = s }))
-    (ap (conveyed hs) is ∙ live hs w)
+space_through hs w held is r = grind (arith, nat_tests, live)
 
 pub space_kept : (g : Geometry) (age : ℕ) (hs : List ObjectHeader) (w : Capability) (held : Cap) → held ≡ live_cap hs w →
     IsKeptCap g age (live_cap hs w) → IsSpace w → (r : Root Cap) →
     MayBeKept g age (content.Root r) → MayBeKept g age (content.Root (record r { space = held }))
-space_kept g age hs w held is kept space r k =
-    (k.0, k.1, k.2, subst (IsKeptCap g age) (sym is) kept, subst (λ (c : Cap). IsSpace c.what) (sym is) space)
+space_kept g age hs w held is kept space r k = grind (arith, nat_tests)
 
 -- the objects after an edit, and when the frames can be kept
 pub record IsEdit (p q : Parts) (after : List Object) (may : ℕ → Type 0) : Type 0 where
@@ -279,10 +235,7 @@ module _ (p q : Parts) (n : ℕ) (known : n < length p.headers) (inside : n < le
 
   pub word_edit : (i word : ℕ) → word < 2 ^ 64 → q ≡ with_held p n (with_word_in held i word) → IsEdit p q (with_word (objects_in p) n i word) (λ age. Unit {0})
   unfolding with_word
-  word_edit i word fits =
-      content_edit (with_word_in held i word) (with_word_in (content_at (objects_in p) n) i word) (λ age. Unit {0})
-      (word_through_map (conveyed p.headers) held i word ∙ ap (λ (d : Content Capability). with_word_in d i word) (sym there))
-      (word_current p.headers held i word) (λ age may. with_word_keeps p.geometry age n (header_at p.headers n) held i word fits)
+  word_edit i word fits h1 = search (content_edit, word_through_map, there, word_current, with_word_keeps)
 
   pub slot_edit : (i : ℕ) (w : Capability) → q ≡ with_held p n (with_slot_in held i (live_cap p.headers w)) →
       IsEdit p q (with_slot (objects_in p) n i w) (λ age. IsKeptCap p.geometry age (live_cap p.headers w) × (IsTrue (is_annex held) → i ≡ 0 → w ≡ Void))
@@ -313,21 +266,13 @@ module _ (p q : Parts) (n : ℕ) (known : n < length p.headers) (inside : n < le
 pub slots_edit : (p q : Parts) (n : ℕ) → n < length p.headers → n < length p.contents → (i : ℕ) → 0 < i → (cs : List Capability) →
     q ≡ with_held p n (with_slots_in (held_at p.contents n) i (map (live_cap p.headers) cs)) →
     IsEdit p q (with_slots_from (objects_in p) n i cs) (λ age. All (λ c. IsKeptCap p.geometry age (live_cap p.headers c)) cs)
-slots_edit p q n known inside i behind [] is =
-    let same : q ≡ p = is ∙ ap (λ (held : List (Content Cap)). let r : Parts = record p { contents = held } in r) (set-get_or p.contents n content.Free) in
-    record {
-      objects = ap (λ (r : Parts). objects_in r) same;
-      current = subst (λ (r : Parts). AreCurrent (frames_of r)) (sym same);
-      keepable = λ age may. subst (λ (r : Parts). AreKeepable p.geometry age (frames_of r)) (sym same);
-    }
+slots_edit p q n known inside i behind [] is = grind (arith, nat_tests, set-get_or)
 slots_edit p q n known inside i behind (c ∷ cs) is =
     let first : Content Cap = with_slot_in (held_at p.contents n) i (live_cap p.headers c) in
     let mid : Parts = with_held p n first in
     let step = slot_edit p mid n known inside i c refl in
     let last : Content Cap → Parts = λ d. with_held mid n (with_slots_in d (i + 1) (map (live_cap p.headers) cs)) in
-    let again : with_held p n (with_slots_in first (i + 1) (map (live_cap p.headers) cs)) ≡ last first =
-    ap (λ (held : List (Content Cap)). let r : Parts = record p { contents = held } in r)
-    (sym (set-set p.contents n first (with_slots_in first (i + 1) (map (live_cap p.headers) cs)))) in
+    let again : with_held p n (with_slots_in first (i + 1) (map (live_cap p.headers) cs)) ≡ last first = grind (arith, nat_tests, set-set) in
     let rest = slots_edit mid q n known (omega (arith, length-set p.contents n first)) (i + 1) (omega arith) cs
     (is ∙ again ∙ ap last (sym (get_or-set_same p.contents n first content.Free inside))) in
     record {
@@ -342,21 +287,4 @@ slots_edit p q n known inside i behind (c ∷ cs) is =
 pub edited : {S : Type 0} (parts : S → Parts) (Fetched Announced : S → ℕ → Type 0) (Continues : S → S → Type 0) (old new : S) (n : ℕ) (c : Content Cap)
     (after : List Object) (may : ℕ → Type 0) → Becomes parts Fetched Announced Continues old new (with_held (parts old) n c) →
     IsEdit (parts old) (parts new) after may → Edits parts Fetched Announced Continues old new after may
-edited parts Fetched Announced Continues old new n c after may becomes edit =
-    let is = becomes.parts_are in
-    record {
-      objects = edit.objects;
-      headers = ap (λ (p : Parts). p.headers) is;
-      current = edit.current;
-      keepable = edit.keepable;
-      snapshots = record {
-        count = ap (λ (p : Parts). length p.headers) is;
-        allocations = λ m. ap (λ (p : Parts). (header_at p.headers m).allocations) is;
-        touched = ap (λ (p : Parts). p.touched) is;
-        geometry = ap (λ (p : Parts). p.geometry) is;
-        failures = ap (λ (p : Parts). p.failures) is;
-        fetched = becomes.fetched;
-        announced = becomes.announced;
-        continues = becomes.continues;
-      };
-    }
+edited parts Fetched Announced Continues old new n c after may becomes edit = grind (arith, nat_tests)

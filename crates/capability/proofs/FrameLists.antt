@@ -1,10 +1,9 @@
 -- Frames are headers with contents beside them: what stands at a number.
-use Rattle.capability.proofs.Names.{ℕ, zero, suc, inl, inr, true, false, List, [], map, length, slice_index, slice_index_or, slice_set, refl, sym, ap, subst}
-use Rattle.capability.proofs.Names.{arith, ⊎_elim, IsTrue, get_or-map, cases_eq, cases_lt, ext_get_or, get_or_past, get_or-set_same, get_or-set_other, set_past}
-use Rattle.capability.proofs.Names.{length-map, Cap, Capability, Void, Frame, ObjectHeader, Content, Object, Root, blank_frame, blank_header, conveyed}
-use Rattle.capability.proofs.Names.{frame_at, frames_in, header_at, headers, held_at, object_of, objects_of, free, is_annex, is_bank, is_free, is_node, is_page}
-use Rattle.capability.proofs.Names.{is_root, map_content, root_in, slots_in, words_in, content_at, is_process, object_at, owner_at, slot_at, word_at, Parts}
-use Rattle.capability.proofs.Names.{objects_in}
+use Rattle.capability.proofs.Names.{nat_tests, ℕ, zero, suc, true, false, List, [], map, length, slice_index, slice_index_or, slice_set, refl, sym, ap, subst}
+use Rattle.capability.proofs.Names.{arith, ⊎_elim, IsTrue, get_or-map, cases_lt, ext_get_or, get_or_past, get_or-set_same, get_or-set_other, set_past}
+use Rattle.capability.proofs.Names.{length-map, Cap, Capability, Void, Frame, ObjectHeader, Content, Object, Root, blank_frame, conveyed, frame_at, frames_in}
+use Rattle.capability.proofs.Names.{header_at, headers, held_at, object_of, objects_of, free, is_annex, is_bank, is_free, is_node, is_page, is_root}
+use Rattle.capability.proofs.Names.{map_content, root_in, slots_in, words_in, content_at, is_process, object_at, owner_at, slot_at, word_at, Parts, objects_in}
 use Rattle.std.proofs.Common.{◌≡◌, ◌<◌, ◌≤◌, ◌∷◌, ◌∙◌}
 use Rattle.model.specs.declared.object.Content.TheVariants as content
 use Rattle.std.proofs.lemmas.List.{get_or-map as read_through}
@@ -13,13 +12,7 @@ use Rattle.capability.proofs.Mapped.{mapped}
 -- what holds of the new item at its place and of an old item at another holds after a set
 pub at_set : {X : Type 0} (P : ℕ → X → Type 0) (xs : List X) (n m : ℕ) (x d : X) → P n x → P m (slice_index_or xs m d) →
     P m (slice_index_or (slice_set xs n x) m d)
-at_set P xs n m x d new old = elim (cases_eq m n) [
-  | inr differ ↦ rw (get_or-set_other xs n m x d differ) old
-  | inl e ↦ elim (cases_lt n (length xs)) [
-    | inl lt ↦ rw (e, get_or-set_same xs n x d lt) new
-    | inr past ↦ rw (set_past xs n x past) old
-  ]
-]
+at_set P xs n m x d new old = grind (arith, nat_tests, get_or-set_other, get_or-set_same, set_past)
 
 -- the headers of frames are those that they were made of
 pub headers_in : (hs : List ObjectHeader) (cs : List (Content Cap)) → headers (frames_in hs cs) ≡ hs
@@ -65,10 +58,7 @@ unfolding objects_of
 object_at_frame fs n = get_or-map (object_of (headers fs)) fs n blank_frame
 
 pub object_in : (hs : List ObjectHeader) (cs : List (Content Cap)) (n : ℕ) → n < length hs → object_at (objects_of (frames_in hs cs)) n ≡ shown_at hs cs n
-object_in hs cs n inside =
-    object_at_frame (frames_in hs cs) n
-    ∙ ap (object_of (headers (frames_in hs cs))) (frame_in hs cs n inside)
-    ∙ ap (λ (ks : List ObjectHeader). object_of ks (pair_at hs cs n)) (headers_in hs cs)
+object_in hs cs n inside = search (object_at_frame, frame_in, headers_in)
 
 pub length_objects : (hs : List ObjectHeader) (cs : List (Content Cap)) → length (objects_of (frames_in hs cs)) ≡ length hs
 unfolding objects_of
@@ -91,15 +81,11 @@ free_past p n past = ap (λ (o : Object). is_free o.content) (object_past p.head
 
 -- the owner of what stands at a number is its header's
 pub owner_in : (hs : List ObjectHeader) (cs : List (Content Cap)) (n : ℕ) → owner_at (objects_of (frames_in hs cs)) n ≡ (header_at hs n).owner
-owner_in hs cs n = elim (cases_lt n (length hs)) [
-  | inl inside ↦ ap (λ (o : Object). o.owner) (object_in hs cs n inside)
-  | inr past ↦ ap (λ (o : Object). o.owner) (object_past hs cs n past) ∙ sym (ap (λ (h : ObjectHeader). h.owner) (get_or_past hs n blank_header past))
-]
+owner_in hs cs n = grind (arith, nat_tests, object_in, object_past, get_or_past)
 
 -- what the table of headers says of an owner
 pub owner_read : (p : Parts) (hs : List ObjectHeader) (h : ObjectHeader) (n : ℕ) → hs ≡ p.headers → h ≡ header_at hs n → h.owner ≡ owner_at (objects_in p) n
-owner_read p hs h n table is =
-    ap (λ (k : ObjectHeader). k.owner) (is ∙ ap (λ (ks : List ObjectHeader). header_at ks n) table) ∙ sym (owner_in p.headers p.contents n)
+owner_read p hs h n table is = grind (arith, nat_tests, owner_in)
 
 -- what isn't free has a header
 pub known_used : (p : Parts) (n : ℕ) → is_free (content_at (objects_in p) n) ≡ false → n < length p.headers
@@ -107,24 +93,19 @@ known_used p n used = ⊎_elim (λ (within : n < length p.headers). within) (λ 
 
 -- a content of a kind isn't free
 pub root_used : {C : Type 0} (c : Content C) → is_root c ≡ true → is_free c ≡ false
-root_used content.Free is = sym is
-root_used other is = refl
+root_used c is = grind (arith, nat_tests)
 
 pub annex_used : {C : Type 0} (c : Content C) → is_annex c ≡ true → is_free c ≡ false
-annex_used content.Free is = sym is
-annex_used other is = refl
+annex_used c is = grind (arith, nat_tests)
 
 pub page_used : {C : Type 0} (c : Content C) → is_page c ≡ true → is_free c ≡ false
-page_used content.Free is = sym is
-page_used other is = refl
+page_used c is = grind (arith, nat_tests)
 
 pub node_used : {C : Type 0} (c : Content C) → is_node c ≡ true → is_free c ≡ false
-node_used content.Free is = sym is
-node_used other is = refl
+node_used c is = grind (arith, nat_tests)
 
 pub bank_used : {C : Type 0} (c : Content C) → is_bank c ≡ true → is_free c ≡ false
-bank_used content.Free is = sym is
-bank_used other is = refl
+bank_used c is = grind (arith, nat_tests)
 
 -- a process has a header
 pub process_known : (p : Parts) (n : ℕ) → IsTrue (is_process (objects_in p) n) → n < length p.headers
@@ -132,27 +113,21 @@ process_known p n is = known_used p n (root_used (content_at (objects_in p) n) i
 
 -- a content that is no page has no words
 no_words : {C : Type 0} (c : Content C) → ((x : List ℕ) → c ≡ content.Page x → ⊥) → words_in c ≡ []
-no_words (content.Page words) page = absurd (page words refl)
-no_words other page = refl
+no_words c page = grind (arith, nat_tests)
 
 no_root : {C : Type 0} (c : Content C) → ((x : Root C) → c ≡ content.Root x → ⊥) → is_root c ≡ false
-no_root (content.Root r) root = absurd (root r refl)
-no_root other root = refl
+no_root c root = grind (arith, nat_tests)
 
 no_annex : {C : Type 0} (c : Content C) → ((x : List C) → c ≡ content.Annex x → ⊥) → is_annex c ≡ false
-no_annex (content.Annex registers) annex = absurd (annex registers refl)
-no_annex other annex = refl
+no_annex c annex = grind (arith, nat_tests)
 
 blank_annex : (f : Cap → Capability) (c : Content Cap) → ((x : Root Cap) → c ≡ content.Root x → ⊥) → (root_in (map_content f c)).annex ≡ 0
-blank_annex f (content.Root r) root = absurd (root r refl)
-blank_annex f other root = refl
+blank_annex f c root = grind (arith, nat_tests)
 
 -- what stands at a number with that content
 module _ (p : Parts) (n : ℕ) (known : n < length p.headers) (c : Content Cap) (is : held_at p.contents n ≡ c) where
   pub content_there : content_at (objects_in p) n ≡ map_content (conveyed p.headers) c
-  content_there =
-      ap (λ (o : Object). o.content) (object_in p.headers p.contents n known)
-      ∙ ap (map_content (conveyed p.headers)) is
+  content_there = grind (arith, nat_tests, object_in)
 
   pub slot_there : (slots : List Cap) → slots ≡ slots_in c → (hs : List ObjectHeader) → hs ≡ p.headers → (i : ℕ) (default : Cap) (r : Capability) →
       r ≡ conveyed hs (slice_index_or slots i default) → i < length slots → r ≡ slot_at (objects_in p) n i
@@ -165,15 +140,10 @@ module _ (p : Parts) (n : ℕ) (known : n < length p.headers) (c : Content Cap) 
       ∙ sym (ap (λ (d : Content Capability). slice_index_or (slots_in d) i Void) content_there)
 
   pub no_slot_there : (i : ℕ) → slots_in c ≡ [] → slot_at (objects_in p) n i ≡ Void
-  no_slot_there i none =
-      ap (λ (d : Content Capability). slice_index_or (slots_in d) i Void) content_there
-      ∙ ap (λ (cs : List Capability). slice_index_or cs i Void) ((mapped (conveyed p.headers) c).slots)
-      ∙ ap (λ (cs : List Cap). slice_index_or (map (conveyed p.headers) cs) i Void) none
+  no_slot_there i none = grind (arith, nat_tests, content_there, mapped)
 
   pub word_there : (i : ℕ) → word_at (objects_in p) n i ≡ slice_index (words_in c) i
-  word_there i =
-      ap (λ (d : Content Capability). slice_index (words_in d) i) content_there
-      ∙ ap (λ (ws : List ℕ). slice_index ws i) ((mapped (conveyed p.headers) c).words)
+  word_there i = grind (arith, nat_tests, content_there, mapped)
 
   pub no_word_there : (i : ℕ) → ((x : List ℕ) → c ≡ content.Page x → ⊥) → word_at (objects_in p) n i ≡ 0
   no_word_there i page = word_there i ∙ ap (λ (ws : List ℕ). slice_index ws i) (no_words c page)
@@ -192,9 +162,4 @@ pub object_there : (p : Parts) (n : ℕ) → n < length p.headers → (hs ks : L
     →
     hs ≡ p.headers → ks ≡ p.headers → h ≡ header_at hs n → now ≡ held_at p.contents n → shown ≡ map_content (conveyed ks) now →
     record { owner = h.owner; content = shown } ≡ object_at (objects_in p) n
-object_there p n known hs ks h now shown first second is held made =
-    ap (λ (owner : ℕ). let o : Object = record { owner = owner; content = shown } in o)
-    (ap (λ (k : ObjectHeader). k.owner) (is ∙ ap (λ (t : List ObjectHeader). header_at t n) first))
-    ∙ ap (λ (d : Content Capability). let o : Object = record { owner = (header_at p.headers n).owner; content = d } in o)
-    (made ∙ ap (λ (t : List ObjectHeader). map_content (conveyed t) now) second ∙ ap (map_content (conveyed p.headers)) held)
-    ∙ sym (object_in p.headers p.contents n known)
+object_there p n known hs ks h now shown first second is held made = grind (arith, nat_tests, object_in)

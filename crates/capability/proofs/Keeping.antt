@@ -1,10 +1,10 @@
 -- Frames that can be kept stay so through each change.
-use Rattle.capability.proofs.Names.{rules, ℕ, inl, inr, List, length, slice_index_or, slice_set, refl, sym, ap, subst, arith, IsTrue, cases_lt, get_or_past}
-use Rattle.capability.proofs.Names.{length-set, All-replicate, All-set, All-weaker, Cap, Capability, Page, Node, Space, Process, Start, Resume, Bank, Frame}
-use Rattle.capability.proofs.Names.{ObjectHeader, Geometry, Content, blank_frame, blank_header, called, claimed, frame_at, header_at, held_at, owned_by}
-use Rattle.capability.proofs.Names.{void_held, AreKeepable, AreKeptSlots, AreKeptWords, Follows, IsCount, IsKeepable, IsKeptCap, MayBeKept, all_slots, is_annex}
-use Rattle.capability.proofs.Names.{role_of, with_slot_in, with_word_in, zero_words, IsOfKind, object_count, Fresh, FreshFits, HaveTheirRoles, IsFreshAt, Parts}
-use Rattle.capability.proofs.Names.{frames_of, fresh_content, with_both, with_header}
+use Rattle.capability.proofs.Names.{nat_tests, rules, ℕ, List, length, slice_index_or, slice_set, refl, sym, ap, subst, arith, IsTrue, get_or_past, length-set}
+use Rattle.capability.proofs.Names.{All-replicate, All-set, All-weaker, Cap, Capability, Page, Node, Bank, Frame, ObjectHeader, Geometry, Content, blank_frame}
+use Rattle.capability.proofs.Names.{blank_header, called, claimed, frame_at, header_at, held_at, owned_by, void_held, AreKeepable, AreKeptSlots, AreKeptWords}
+use Rattle.capability.proofs.Names.{Follows, IsCount, IsKeepable, IsKeptCap, MayBeKept, all_slots, is_annex, role_of, with_slot_in, with_word_in, zero_words}
+use Rattle.capability.proofs.Names.{IsOfKind, object_count, Fresh, FreshFits, HaveTheirRoles, IsFreshAt, Parts, frames_of, fresh_content, with_both}
+use Rattle.capability.proofs.Names.{with_header}
 use Rattle.std.proofs.Common.{◌≡◌, ◌+◌, ◌^◌, ◌<◌, ◌≤◌, ◌∙◌}
 use Rattle.model.specs.declared.object.Content.TheVariants as content
 use Rattle.model.specs.declared.object.Role.TheVariants as role
@@ -16,46 +16,20 @@ count_later : (age later n : ℕ) → age ≤ later → IsCount age n → IsCoun
 count_later age later n le c = (omega (arith, c.0), c.1)
 
 follows_later : (g : Geometry) (age later count : ℕ) → age ≤ later → (w : Capability) → Follows g age count w → Follows g later count w
-follows_later g age later count le (Page o a) f = (f.0, f.1, count_later age later count le f.2)
-follows_later g age later count le (Node o a) f = (f.0, f.1, count_later age later count le f.2)
-follows_later g age later count le (Space o h a) f = (f.0, f.1, f.2, f.3, count_later age later count le f.4)
-follows_later g age later count le (Process p) f = (f.0, count_later age later count le f.1)
-follows_later g age later count le (Start p key) f = (f.0, f.1, count_later age later count le f.2)
-follows_later g age later count le (Resume p) f = (f.0, count_later age later count le f.1)
-follows_later g age later count le (Bank b) f = (f.0, count_later age later count le f.1)
-follows_later g age later count le other f = f
+follows_later g age later count le w f = grind (arith, nat_tests, count_later)
 
 slots_later : (g : Geometry) (age later : ℕ) → age ≤ later → (slots : List Cap) → AreKeptSlots g age slots → AreKeptSlots g later slots
-slots_later g age later le slots s = record {
-  count = s.count;
-  each = All-weaker (IsKeptCap g age) (IsKeptCap g later) (λ c f. follows_later g age later c.count le c.what f) slots s.each;
-}
+slots_later g age later le slots s = grind (arith, nat_tests, All-weaker, follows_later)
 
 content_later : (g : Geometry) (age later : ℕ) → age ≤ later → (c : Content Cap) → MayBeKept g age c → MayBeKept g later c
-content_later g age later le (content.Node slots) k = slots_later g age later le slots k
-content_later g age later le (content.Root r) k = (k.0, k.1, k.2, follows_later g age later r.space.count le r.space.what k.3, k.4)
-content_later g age later le (content.Annex registers) k = (slots_later g age later le registers k.0, k.1)
-content_later g age later le other k = k
+content_later g age later le c k = grind (arith, nat_tests, slots_later, follows_later)
 
 pub frame_later : (g : Geometry) (age later n : ℕ) (f : Frame) → age ≤ later → IsKeepable g age n f → IsKeepable g later n f
-frame_later g age later n f le k = record {
-  kind = k.kind;
-  kept = record {
-    role = k.kept.role;
-    allocations = count_later age later f.header.allocations le k.kept.allocations;
-    calls = count_later age later f.header.calls le k.kept.calls;
-    owner = k.kept.owner;
-    unowned = k.kept.unowned;
-    content = content_later g age later le f.content k.kept.content;
-  };
-}
+frame_later g age later n f le k = grind (arith, nat_tests, count_later, content_later)
 
 -- frames that can be kept at an age can be at a later one
 pub keepable_later : (g : Geometry) (age later : ℕ) (fs : List Frame) → age ≤ later → AreKeepable g age fs → AreKeepable g later fs
-keepable_later g age later fs le k = record {
-  count = k.count;
-  each = λ n inside. frame_later g age later n (frame_at fs n) le (k.each n inside);
-}
+keepable_later g age later fs le k = grind (arith, nat_tests, frame_later)
 
 -- what parts have at a number can be kept, where their frames can; and the other way round
 pub keepable_count : (g : Geometry) (age : ℕ) (p : Parts) → AreKeepable g age (frames_of p) → length p.headers ≡ object_count g
@@ -63,24 +37,15 @@ keepable_count g age p k = sym (length_in p.headers p.contents) ∙ k.count
 
 pub keepable_at : (g : Geometry) (age : ℕ) (p : Parts) (n : ℕ) → n < length p.headers → AreKeepable g age (frames_of p) →
     IsKeepable g age n (pair_at p.headers p.contents n)
-keepable_at g age p n known k =
-    subst (λ (f : Frame). IsKeepable g age n f) (frame_in p.headers p.contents n known) (k.each n (subst (λ m. n < m) (keepable_count g age p k) known))
+keepable_at g age p n known k = grind (arith, nat_tests, frame_in p.headers p.contents n known, keepable_count g age p k)
 
 pub keepable_from : (g : Geometry) (age : ℕ) (p : Parts) → length p.headers ≡ object_count g →
     ((n : ℕ) → n < length p.headers → IsKeepable g age n (pair_at p.headers p.contents n)) → AreKeepable g age (frames_of p)
-keepable_from g age p count each = record {
-  count = length_in p.headers p.contents ∙ count;
-  each = λ n inside.
-      let known : n < length p.headers = subst (λ m. n < m) (sym count) inside in
-      subst (λ (f : Frame). IsKeepable g age n f) (sym (frame_in p.headers p.contents n known)) (each n known);
-}
+keepable_from g age p count each = grind (arith, nat_tests, length_in, frame_in)
 
 -- frames that can be kept have their roles
 pub keepable_roles : (g : Geometry) (age : ℕ) (fs : List Frame) → AreKeepable g age fs → HaveTheirRoles fs
-keepable_roles g age fs k n = elim (cases_lt n (object_count g)) [
-  | inl known ↦ (k.each n known).kept.role
-  | inr past ↦ subst (λ (f : Frame). f.header.role ≡ role_of f.content) (sym (get_or_past fs n blank_frame (omega (arith, k.count)))) refl
-]
+keepable_roles g age fs k n = grind (arith, nat_tests, get_or_past)
 
 -- one object is another that can be kept
 module _ (g : Geometry) (age later : ℕ) (le : age ≤ later) (p q : Parts) (n : ℕ) (h : ObjectHeader) (c : Content Cap) (inside : n < length p.contents) where
@@ -98,17 +63,7 @@ module _ (g : Geometry) (age later : ℕ) (le : age ≤ later) (p q : Parts) (n 
 -- another content of its kind
 pub refilled : (g : Geometry) (age n : ℕ) (h : ObjectHeader) (c d : Content Cap) → role_of d ≡ role_of c → IsOfKind g n d → MayBeKept g age d →
     IsKeepable g age n (record { header = h; content = c }) → IsKeepable g age n (record { header = h; content = d })
-refilled g age n h c d same kind may k = record {
-  kind = kind;
-  kept = record {
-    role = k.kept.role ∙ sym same;
-    allocations = k.kept.allocations;
-    calls = k.kept.calls;
-    owner = k.kept.owner;
-    unowned = k.kept.unowned;
-    content = may;
-  };
-}
+refilled g age n h c d same kind may k = grind (arith, nat_tests)
 
 slots_set : (g : Geometry) (age : ℕ) (slots : List Cap) (i : ℕ) (held : Cap) → IsKeptCap g age held → AreKeptSlots g age slots →
     AreKeptSlots g age (slice_set slots i held)
@@ -119,8 +74,7 @@ pub with_slot_keeps : (g : Geometry) (age n : ℕ) (h : ObjectHeader) (c : Conte
     IsKeepable g age n (record { header = h; content = with_slot_in c i held })
 with_slot_keeps g age n h content.Free i held new first k = k
 with_slot_keeps g age n h (content.Page words) i held new first k = k
-with_slot_keeps g age n h (content.Node slots) i held new first k =
-    refilled g age n h (content.Node slots) (content.Node (slice_set slots i held)) refl k.kind (slots_set g age slots i held new k.kept.content) k
+with_slot_keeps g age n h (content.Node slots) i held new first k = search (refilled, slots_set)
 with_slot_keeps g age n h (content.Root r) i held new first k = k
 with_slot_keeps g age n h (content.Annex registers) i held new first k =
     refilled g age n h (content.Annex registers) (content.Annex (slice_set registers i held)) refl k.kind (
@@ -132,9 +86,7 @@ with_slot_keeps g age n h (content.Bank limit) i held new first k = k
 pub with_word_keeps : (g : Geometry) (age n : ℕ) (h : ObjectHeader) (c : Content Cap) (i word : ℕ) → word < 2 ^ 64 →
     IsKeepable g age n (record { header = h; content = c }) → IsKeepable g age n (record { header = h; content = with_word_in c i word })
 with_word_keeps g age n h content.Free i word fits k = k
-with_word_keeps g age n h (content.Page words) i word fits k =
-    refilled g age n h (content.Page words) (content.Page (slice_set words i word)) refl k.kind
-    (record { count_is = length-set words i word ∙ k.kept.content.count_is; each = All-set (λ w. w < 2 ^ 64) words i word fits k.kept.content.each }) k
+with_word_keeps g age n h (content.Page words) i word fits k = search (refilled, length-set, All-set)
 with_word_keeps g age n h (content.Node slots) i word fits k = k
 with_word_keeps g age n h other i word fits k = k
 
@@ -158,14 +110,7 @@ module _ (g : Geometry) (age : ℕ) (p q : Parts) (n : ℕ) (known : n < length 
       header_keepable g age age (omega arith) p q n (owned_by bank (header_at p.headers n)) is
       (record {
         kind = old.kind;
-        kept = record {
-          role = old.kept.role;
-          allocations = old.kept.allocations;
-          calls = old.kept.calls;
-          owner = fits;
-          unowned = unowned;
-          content = old.kept.content;
-        };
+        kept = grind (arith, nat_tests);
       }) k
 
   -- one more call is counted, at the next age
@@ -177,14 +122,7 @@ module _ (g : Geometry) (age : ℕ) (p q : Parts) (n : ℕ) (known : n < length 
       header_keepable g age (age + 1) (omega arith) p q n (called (header_at p.headers n)) is
       (record {
         kind = old.kind;
-        kept = record {
-          role = old.kept.role;
-          allocations = old.kept.allocations;
-          calls = (omega (arith, before.kept.calls.0), omega (arith, before.kept.calls.0));
-          owner = old.kept.owner;
-          unowned = old.kept.unowned;
-          content = old.kept.content;
-        };
+        kept = grind (arith, nat_tests);
       }) k
 
 -- A new object can be kept.
@@ -208,12 +146,10 @@ fresh_kept g age fresh.Annex fits = (blank_slots g age, first_blank)
 fresh_kept g age (fresh.Bank limit) fits = fits
 
 fresh_kind : (g : Geometry) (n : ℕ) (f : Fresh) → n < object_count g → IsFreshAt g n f → IsOfKind g n (fresh_content void_held f)
-fresh_kind g n fresh.Page known place = (place, known)
-fresh_kind g n other known place = place
+fresh_kind g n f known place = grind (arith, nat_tests)
 
 fresh_used : (f : Fresh) → role_of (fresh_content void_held f) ≡ role.Free → ⊥
-fresh_used fresh.Page is = cc
-fresh_used other is = cc
+fresh_used f is = grind (arith, nat_tests)
 
 pub claim_stays_keepable : (age : ℕ) (p q : Parts) (n : ℕ) → n < length p.headers → n < length p.contents → (f : Fresh) (owner : ℕ) → owner < 2 ^ 64 →
     FreshFits f → IsFreshAt p.geometry n f →
@@ -226,12 +162,5 @@ claim_stays_keepable age p q n known inside f owner fits fresh_fits place is k =
     one_keepable g age age (omega arith) p q n h (fresh_content void_held f) inside is
     (record {
       kind = fresh_kind g n f (subst (λ m. n < m) (keepable_count g age p k) known) place;
-      kept = record {
-        role = refl;
-        allocations = old.kept.allocations;
-        calls = old.kept.calls;
-        owner = fits;
-        unowned = λ free. absurd (fresh_used f free);
-        content = fresh_kept g age f fresh_fits;
-      };
+      kept = grind (arith, nat_tests, fresh_kept g age f fresh_fits);
     }) k

@@ -1,24 +1,20 @@
 -- A content of a kind stands at a number of its kind.
-use Rattle.capability.proofs.Names.{ℕ, true, Capability, Geometry, Content, is_annex, is_bank, is_node, is_page, is_root, IsOfKind, object_count}
+use Rattle.capability.proofs.Names.{arith, nat_tests, ℕ, true, Capability, Geometry, Content, is_annex, is_bank, is_node, is_page, is_root, IsOfKind}
+use Rattle.capability.proofs.Names.{object_count}
 use Rattle.std.proofs.Common.{◌≡◌, ◌<◌, ◌≤◌}
 use Rattle.model.specs.declared.object.Content.TheVariants as content
 
 pub node_number : (g : Geometry) (n : ℕ) (c : Content Capability) → IsOfKind g n c → is_node c ≡ true → n < g.nodes
-node_number g n (content.Node slots) kind is = kind
-node_number g n other kind is = cc
+node_number g n c kind is = grind (arith, nat_tests)
 
 pub root_number : (g : Geometry) (n : ℕ) (c : Content Capability) → IsOfKind g n c → is_root c ≡ true → n < g.nodes
-root_number g n (content.Root r) kind is = kind
-root_number g n other kind is = cc
+root_number g n c kind is = grind (arith, nat_tests)
 
 pub annex_number : (g : Geometry) (n : ℕ) (c : Content Capability) → IsOfKind g n c → is_annex c ≡ true → n < g.nodes
-annex_number g n (content.Annex registers) kind is = kind
-annex_number g n other kind is = cc
+annex_number g n c kind is = grind (arith, nat_tests)
 
 pub bank_number : (g : Geometry) (n : ℕ) (c : Content Capability) → IsOfKind g n c → is_bank c ≡ true → n < g.nodes
-bank_number g n (content.Bank limit) kind is = kind
-bank_number g n other kind is = cc
+bank_number g n c kind is = grind (arith, nat_tests)
 
 pub page_number : (g : Geometry) (n : ℕ) (c : Content Capability) → IsOfKind g n c → is_page c ≡ true → (g.nodes ≤ n) × (n < object_count g)
-page_number g n (content.Page words) kind is = kind
-page_number g n other kind is = cc
+page_number g n c kind is = grind (arith, nat_tests)

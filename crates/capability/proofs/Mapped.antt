@@ -1,5 +1,6 @@
 -- A content with each capability in it changed is as it was in all else.
-use Rattle.capability.proofs.Names.{ℕ, map, refl, Geometry, Content, is_annex, is_bank, is_root, limit_in, map_content, role_of, slots_in, words_in, IsOfKind}
+use Rattle.capability.proofs.Names.{arith, nat_tests, ℕ, map, Geometry, Content, is_annex, is_bank, is_root, limit_in, map_content, role_of, slots_in, words_in}
+use Rattle.capability.proofs.Names.{IsOfKind}
 use Rattle.std.proofs.Common.{◌≡◌}
 use Rattle.model.specs.declared.object.Content.TheVariants as content
 
@@ -13,9 +14,7 @@ pub record IsMapped {B C : Type 0} (f : B → C) (c : Content B) (d : Content C)
   pub slots : slots_in d ≡ map f (slots_in c)
 
 pub mapped : {B C : Type 0} (f : B → C) (c : Content B) → IsMapped f c (map_content f c)
-mapped f content.Free = record { role = refl; root = refl; annex = refl; bank = refl; words = refl; limit = refl; slots = refl }
-mapped f other = record { role = refl; root = refl; annex = refl; bank = refl; words = refl; limit = refl; slots = refl }
+mapped f c = grind (arith, nat_tests)
 
 pub kind_map : {B C : Type 0} (g : Geometry) (n : ℕ) (f : B → C) (c : Content B) → IsOfKind g n c → IsOfKind g n (map_content f c)
-kind_map g n f content.Free kind = kind
-kind_map g n f other kind = kind
+kind_map g n f c kind = grind (arith, nat_tests)

@@ -29,7 +29,7 @@ pub use Rattle.std.proofs.Common.{Bool, Bor, List, [], ap, arith, cond, false, g
 pub use Rattle.std.proofs.Common.{slice_index_or, slice_set, subst, suc, sym, take, true, zero, zero-add, ℕ, ⊎_elim}
 pub use Rattle.std.proofs.Math.ListN.{get_or-map}
 pub use Rattle.std.proofs.Math.Seq.{map-set_same}
-pub use Rattle.std.proofs.lemmas.Bool.{cases_eq, cases_lt, eq-eqb, ne_eqb}
+pub use Rattle.std.proofs.lemmas.Bool.{cases_lt}
 pub use Rattle.std.proofs.lemmas.Bool.Decides.{nat_tests}
 pub use Rattle.std.proofs.lemmas.List.{ext_get_or, get_or-set_other, get_or-set_same, get_or_past, length-map, length-set, map-set, set-get_or, set-set}
 pub use Rattle.std.proofs.lemmas.List.{set_past, take_all}

@@ -1,7 +1,8 @@
 -- What the roles in headers say of the objects that frames stand for.
-use Rattle.capability.proofs.Names.{ℕ, Bool, true, false, List, length, ⊎_elim, refl, sym, ap, subst, cases_lt, get_or_past, get_or-map, Cap, Capability, Frame}
-use Rattle.capability.proofs.Names.{ObjectHeader, Content, Object, Role, blank_frame, blank_header, conveyed, frame_at, header_at, headers, held_at, object_of}
-use Rattle.capability.proofs.Names.{objects_of, is_free, is_root, map_content, role_of, content_at, is_process, HaveTheirRoles, Parts, frames_of, objects_in}
+use Rattle.capability.proofs.Names.{arith, nat_tests, ℕ, Bool, true, false, List, length, ⊎_elim, sym, ap, subst, cases_lt, get_or_past, get_or-map, Cap}
+use Rattle.capability.proofs.Names.{Capability, Frame, ObjectHeader, Content, Object, Role, blank_frame, blank_header, conveyed, frame_at, header_at, headers}
+use Rattle.capability.proofs.Names.{held_at, object_of, objects_of, is_free, is_root, map_content, role_of, content_at, is_process, HaveTheirRoles, Parts}
+use Rattle.capability.proofs.Names.{frames_of, objects_in}
 use Rattle.std.proofs.Common.{◌≡◌, ◌<◌, ◌≤◌, ◌∙◌}
 use Rattle.model.specs.declared.object.Content.TheVariants as content
 use Rattle.model.specs.declared.object.Role.TheVariants as role
@@ -13,34 +14,25 @@ is_root_role role.Root = true
 is_root_role _ = false
 
 root_of : (c : Content Cap) → is_root c ≡ is_root_role (role_of c)
-root_of content.Free = refl
-root_of other = refl
+root_of c = grind (arith, nat_tests)
 
 content_there : (fs : List Frame) (n : ℕ) → content_at (objects_of fs) n ≡ map_content (conveyed (headers fs)) (frame_at fs n).content
 unfolding objects_of
 content_there fs n = ap (λ (o : Object). o.content) (get_or-map (object_of (headers fs)) fs n blank_frame)
 
 header_there : (p : Parts) (n : ℕ) → header_at p.headers n ≡ (frame_at (frames_of p) n).header
-header_there p n =
-    ap (λ (hs : List ObjectHeader). header_at hs n) (sym (headers_in p.headers p.contents))
-    ∙ get_or-map (λ (f : Frame). f.header) (frames_of p) n blank_frame
+header_there p n = cc (headers_in p.headers p.contents, get_or-map (λ (f : Frame). f.header) (frames_of p) n blank_frame)
 
 -- a number is that of a process exactly where its role is that of a root
 pub process_by_role : (p : Parts) (n : ℕ) → HaveTheirRoles (frames_of p) → is_process (objects_in p) n ≡ is_root_role (header_at p.headers n).role
-process_by_role p n roles =
-    ap is_root (content_there (frames_of p) n)
-    ∙ (mapped (conveyed (headers (frames_of p))) (frame_at (frames_of p) n).content).root
-    ∙ root_of (frame_at (frames_of p) n).content
-    ∙ ap is_root_role (sym (roles n))
-    ∙ ap (λ (h : ObjectHeader). is_root_role h.role) (sym (header_there p n))
+process_by_role p n roles = grind (arith, nat_tests, content_there, mapped, root_of, header_there)
 
 pub role_there : (p : Parts) (n : ℕ) (hs : List ObjectHeader) (h : ObjectHeader) → hs ≡ p.headers → h ≡ header_at hs n →
     is_root_role (header_at p.headers n).role ≡ is_root_role h.role
 role_there p n hs h same is = ap (λ (k : ObjectHeader). is_root_role k.role) (sym (is ∙ ap (λ (ks : List ObjectHeader). header_at ks n) same))
 
 pub no_root_role : (r : Role) → (r ≡ role.Root → ⊥) → is_root_role r ≡ false
-no_root_role role.Root other = absurd (other refl)
-no_root_role one other = refl
+no_root_role r other = grind (arith, nat_tests)
 
 -- a role decides what a content is, and whether it is free or a bank
 pub role_read : (p : Parts) (hs : List ObjectHeader) (h : ObjectHeader) (n : ℕ) → HaveTheirRoles (frames_of p) → hs ≡ p.headers → h ≡ header_at hs n →
@@ -59,15 +51,7 @@ role_read p hs h n roles table is =
 
 module _ (r : Role) (c : Content Capability) (is : r ≡ role_of c) where
   pub role_free : r ≡ role.Free → is_free c ≡ true
-  role_free free = go c (sym is ∙ free)
-    where
-      go : (d : Content Capability) → role_of d ≡ role.Free → is_free d ≡ true
-      go content.Free e = refl
-      go other e = cc
+  role_free free = grind (arith, nat_tests)
 
   pub role_used : (r ≡ role.Free → ⊥) → is_free c ≡ false
-  role_used other = go c (λ e. other (is ∙ e))
-    where
-      go : (d : Content Capability) → (role_of d ≡ role.Free → ⊥) → is_free d ≡ false
-      go content.Free e = absurd (e refl)
-      go other e = refl
+  role_used other = grind (arith, nat_tests)

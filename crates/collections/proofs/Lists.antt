@@ -1,7 +1,7 @@
 -- What stands at a place of a list.
-use Rattle.std.proofs.Common.{inl, inr, ℕ, zero, suc, Bool, true, false, List, [], length, map, set, get_or, Some, refl, sym, ap, arith, cond}
+use Rattle.std.proofs.lemmas.Bool.Decides.{nat_tests}
+use Rattle.std.proofs.Common.{ℕ, zero, suc, Bool, true, false, List, [], length, map, set, get_or, Some, refl, ap, arith}
 use Rattle.std.proofs.Common.{length-set}
-use Rattle.std.proofs.lemmas.Bool.{cases_lt}
 use Rattle.std.proofs.lemmas.List.{get_or-map, get_or_past, length-map}
 use Rattle.std.proofs.lemmas.List.Sums.{count_by-le-length, sum_by-set}
 use Rattle.std.specs.List.{count_by, slice_get}
@@ -56,12 +56,7 @@ module _ {X : Type 0} where
   -- one that is not counted is replaced by one that is
   pub one_counted : (p : X → Bool) (xs : List X) (n : ℕ) (d y : X) → n < length xs → p (get_or xs n d) ≡ false → p y ≡ true → count_by p (set xs n y) ≡
       count_by p xs + 1
-  one_counted p xs n d y within was is =
-      let f : X → ℕ = λ x. cond (p x) 1 0 in
-      let there : f (get_or xs n d) ≡ 0 = ap (λ (t : Bool). cond t 1 0) was in
-      let here : f y ≡ 1 = ap (λ (t : Bool). cond t 1 0) is in
-      let sum : count_by p (set xs n y) + f (get_or xs n d) ≡ count_by p xs + f y = sum_by-set f xs n y d within in
-      omega (arith, sum, there, here)
+  one_counted p xs n d y within was is = grind (arith, nat_tests, sum_by-set)
 
   -- where one isn't counted, not all are
   pub not_all_counted : (p : X → Bool) (xs : List X) (n : ℕ) (d y : X) → n < length xs → p (get_or xs n d) ≡ false → p y ≡ true → count_by p xs < length xs
@@ -69,7 +64,4 @@ module _ {X : Type 0} where
 
 -- what is read behind a map whose value at the default is the default
 pub get_map : {X Y : Type 0} (f : X → Y) (xs : List X) (k : ℕ) (d : X) (e : Y) → f d ≡ e → get_or (map f xs) k e ≡ f (get_or xs k d)
-get_map f xs k d e is = elim (cases_lt k (length xs)) [
-  | inl within ↦ get_or-map f xs k d e within
-  | inr past ↦ get_or_past (map f xs) k e (omega (arith, past, length-map xs f)) ∙ sym is ∙ ap f (sym (get_or_past xs k d past))
-]
+get_map f xs k d e is = grind (arith, nat_tests, get_or-map, get_or_past, length-map)

@@ -1,6 +1,7 @@
 -- The marks of numbers, and the bits that they are kept in.
-use Rattle.std.proofs.Common.{◌≡◌, ◌≢◌, ℕ, zero, suc, ◌+◌, ◌-◌, ◌*◌, ◌/◌, ◌%◌, ◌^◌, ◌<◌, ◌≤◌, min, Bool, true, false, not, Option, Some, None, IfSome, List, []}
-use Rattle.std.proofs.Common.{◌++◌, length, get_or, set, take, replicate, slice_index, slice_set, nat_eq, bit_and, bit_or, w64, refl, sym, ap, ◌∙◌, inl, inr}
+use Rattle.std.proofs.lemmas.Bool.Decides.{nat_tests}
+use Rattle.std.proofs.Common.{◌≡◌, ◌≢◌, ℕ, ◌+◌, ◌-◌, ◌*◌, ◌/◌, ◌%◌, ◌^◌, ◌<◌, ◌≤◌, min, Bool, true, false, not, Option, Some, None, IfSome, List, []}
+use Rattle.std.proofs.Common.{◌++◌, length, get_or, set, take, replicate, slice_index, slice_set, nat_eq, bit_and, bit_or, w64, sym, ap, ◌∙◌, inl, inr}
 use Rattle.std.proofs.Common.{arith, length-set, get_or-set_same, get_or-set_other}
 use Rattle.std.specs.Int.{bit_at, bit_not, div_ceil, trailing_zeros}
 use Rattle.std.proofs.lemmas.Bool.{cases_eq, cases_lt}
@@ -11,23 +12,19 @@ use Rattle.std.proofs.Math.Dec.{eqb-suc-zero}
 use Rattle.std.proofs.Math.Nat.{div-le_self}
 use Rattle.std.proofs.lemmas.Nat.Bits.{bit_at-zero, bit_at-lt, bit_at-trailing_zeros, bit_at_above, bit_at_not, shr_and_one, bit_at_set_same, bit_at_clear_same}
 use Rattle.collections.specs.Marks.{is_marked, IsNextMarked, HasNoneMarked, IsNextUnmarked, HasAllMarked}
-use Rattle.collections.specs.Bits.{bit_of, digit, marks_of, IsLowestFrom, IsFirstSet, HasNoneSet, IsFirstClear, HasNoneClear, IsBitPut, SumsUp, IsSummed}
+use Rattle.collections.specs.Bits.{bit_of, digit, marks_of, IsLowestFrom, IsFirstSet, HasNoneSet, IsFirstClear, IsBitPut, SumsUp, IsSummed}
 
 -- ---- a bit and a Boolean
 
 digit_one : (b : Bool) → nat_eq (digit b) 1 ≡ b
-digit_one true = refl
-digit_one false = refl
+digit_one b = grind (arith, nat_tests)
 
 digit_of_bit : (d : ℕ) → d < 2 → digit (nat_eq d 1) ≡ d
-digit_of_bit zero small = refl
-digit_of_bit (suc zero) small = refl
-digit_of_bit (suc (suc d)) small = absurd (omega arith)
+digit_of_bit d small = grind (arith, nat_tests)
 
 -- a word that is not 0
 digit_some : (n : ℕ) → digit (not (nat_eq n 0)) ≡ min 1 n
-digit_some zero = refl
-digit_some (suc n) = let one : 1 ≡ min 1 (suc n) = omega arith in ap (λ b. digit (not b)) (eqb-suc-zero n) ∙ one
+digit_some n = grind (arith, nat_tests, eqb-suc-zero)
 
 -- ---- the bits of one word
 
@@ -38,9 +35,7 @@ bit_past word from k = ap (λ x. x % 2) (shr-shr word from k)
 module _ (word from : ℕ) where
   -- past a word's last bit that is 1 all are 0
   pub none_from : word / 2 ^ from ≡ 0 → (other : ℕ) → from ≤ other → bit_at word other ≡ 0
-  none_from rest other after =
-      let split : from + (other - from) ≡ other = omega arith in
-      sym (ap (bit_at word) split) ∙ sym (bit_past word from (other - from)) ∙ ap (λ x. bit_at x (other - from)) rest ∙ bit_at-zero (other - from)
+  none_from rest other after = grind (arith, nat_tests, bit_past word from (other - from), bit_at-zero (other - from))
 
   -- the lowest bit of what is left of a word
   pub lowest_from : word < 2 ^ 64 → (word / 2 ^ from ≡ 0 → ⊥) → IsLowestFrom word from (from + trailing_zeros w64 (word / 2 ^ from))
@@ -76,17 +71,12 @@ module _ (words : List ℕ) where
   -- a number's bit in the word that it is in
   bit_in_word : (w i : ℕ) → i < 64 → bit_of words (w * 64 + i) ≡ bit_at (slice_index words w) i
   unfolding bit_of
-  bit_in_word w i within =
-      let at : (w * 64 + i) / 64 ≡ w = omega arith in
-      let index : (w * 64 + i) % 64 ≡ i = omega arith in
-      rw (at, index) refl
+  bit_in_word w i within = grind (arith, nat_tests)
 
   -- how a number's bit is read
   pub read_bit : (n : ℕ) → bit_of words n ≡ digit (nat_eq (bit_and (slice_index words (n / 64) / 2 ^ (n % 64)) 1) 1)
   unfolding bit_of
-  read_bit n =
-      let word = slice_index words (n / 64) in
-      rw (shr_and_one word (n % 64)) (sym (digit_of_bit (bit_at word (n % 64)) (bit_at-lt word (n % 64))))
+  read_bit n = grind (arith, nat_tests, shr_and_one, digit_of_bit, bit_at-lt)
 
   -- a word that is 0, or that isn't there, has no bit
   bit_of_zero : (n : ℕ) → slice_index words (n / 64) ≡ 0 → bit_of words n ≡ 0
@@ -99,11 +89,7 @@ module _ (words : List ℕ) where
 
   -- nor where all words before have none
   pub none_past_all : (from w : ℕ) → length words ≤ w → ((m : ℕ) → from ≤ m → m < w * 64 → bit_of words m ≡ 0) → HasNoneSet words from
-  none_past_all from w past_all before m past =
-      elim (cases_lt m (w * 64)) [
-        | inl lower ↦ before m past lower
-        | inr out ↦ bit_of_zero m (get_or_past words (m / 64) 0 (omega arith))
-      ]
+  none_past_all from w past_all before m past = grind (arith, nat_tests, bit_of_zero, get_or_past)
 
   -- the first of a word is the first, if there is none before the word
   pub first_by_word : (from w low bit : ℕ) → low ≡ from - w * 64 → from / 64 ≤ w → ((m : ℕ) → from ≤ m → m < w * 64 → bit_of words m ≡ 0) →
@@ -123,29 +109,14 @@ module _ (words : List ℕ) where
   -- a word with no bit goes on with what has none
   pub none_by_word : (from w low : ℕ) → low ≡ from - w * 64 → from / 64 ≤ w → ((m : ℕ) → from ≤ m → m < w * 64 → bit_of words m ≡ 0) →
       ((other : ℕ) → low ≤ other → other < 64 → bit_at (slice_index words w) other ≡ 0) → (m : ℕ) → from ≤ m → m < (w + 1) * 64 → bit_of words m ≡ 0
-  none_by_word from w low is_low after before none m past within =
-      elim (cases_lt m (w * 64)) [
-        | inl lower ↦ before m past lower
-        | inr here ↦
-            let split : w * 64 + (m - w * 64) ≡ m = omega arith in
-            sym (ap (bit_of words) split) ∙ bit_in_word w (m - w * 64) (omega arith) ∙ none (m - w * 64) (omega arith) (omega arith)
-      ]
+  none_by_word from w low is_low after before none m past within = grind (arith, nat_tests, bit_in_word w (m - w * 64) (omega arith))
 
   -- a word is written that has all other bits as they were
   pub bit_put : (n word bit : ℕ) → n / 64 < length words → bit_at word (n % 64) ≡ bit →
       ((other : ℕ) → other < 64 → other ≢ n % 64 → bit_at word other ≡ bit_at (slice_index words (n / 64)) other) →
       IsBitPut words n bit (slice_set words (n / 64) word)
   unfolding bit_of
-  bit_put n word bit within here others = record {
-    same_length = length-set words (n / 64) word;
-    here = ap (λ x. bit_at x (n % 64)) (get_or-set_same words (n / 64) word 0 within) ∙ here;
-    others = λ m differs.
-        elim (cases_eq (m / 64) (n / 64)) [
-          | inl same ↦ rw (same, get_or-set_same words (n / 64) word 0 within) (others (m % 64) (omega arith) (λ index. differs (omega arith)))
-          | inr apart ↦ ap (λ x. bit_at x (m % 64)) (get_or-set_other words (n / 64) (m / 64) word 0 apart)
-        ];
-    other_words = λ w apart. get_or-set_other words (n / 64) w word 0 apart;
-  }
+  bit_put n word bit within here others = grind (arith, nat_tests, length-set, get_or-set_same, get_or-set_other)
 
 -- a bit that is 0 in the complement of a word is 1 in it, and the other way round
 flipped_zero : (word i : ℕ) → word < 2 ^ 64 → i < 64 → bit_at (bit_not w64 word) i ≡ 0 → bit_at word i ≡ 1
@@ -158,42 +129,23 @@ module _ (words : List ℕ) (from w low : ℕ) (fits : slice_index words w < 2 ^
     (before : (m : ℕ) → from ≤ m → m < w * 64 → bit_of words m ≡ 1) where
   -- a number's bit in this word
   here_is : (m : ℕ) → w * 64 ≤ m → m < (w + 1) * 64 → bit_of words m ≡ bit_at (slice_index words w) (m - w * 64)
-  here_is m past within =
-      let split : w * 64 + (m - w * 64) ≡ m = omega arith in
-      sym (ap (bit_of words) split) ∙ bit_in_word words w (m - w * 64) (omega arith)
+  here_is m past within = grind (arith, nat_tests, bit_in_word words w (m - w * 64) (omega arith))
 
   -- the first clear bit of a word is the first, if there is none before the word
   pub clear_by_word : (bit : ℕ) → IsLowestFrom (bit_not w64 (slice_index words w)) low bit → IsFirstClear words from (w * 64 + bit)
-  clear_by_word bit lowest = record {
-    past = omega (arith, lowest.past);
-    clear = bit_in_word words w bit lowest.inside ∙ flipped_one (slice_index words w) bit fits lowest.inside lowest.set;
-    least = λ m past within.
-        elim (cases_lt m (w * 64)) [
-          | inl lower ↦ before m past lower
-          | inr here ↦ here_is m here (omega (arith, lowest.inside)) ∙ flipped_zero (slice_index words w) (m - w * 64) fits (omega (arith, lowest.inside))
-              (lowest.least (m - w * 64) (omega arith) (omega arith))
-        ];
-  }
+  clear_by_word bit lowest = grind (arith, nat_tests, bit_in_word, flipped_one, here_is, flipped_zero)
 
   -- a word with no clear bit goes on with what has none
   pub full_by_word : ((other : ℕ) → low ≤ other → other < 64 → bit_at (bit_not w64 (slice_index words w)) other ≡ 0)
       → (m : ℕ) → from ≤ m → m < (w + 1) * 64 → bit_of words m ≡ 1
-  full_by_word none m past within =
-      elim (cases_lt m (w * 64)) [
-        | inl lower ↦ before m past lower
-        | inr here ↦ here_is m here within ∙ flipped_zero (slice_index words w) (m - w * 64) fits (omega arith) (none (m - w * 64) (omega arith) (omega arith))
-      ]
+  full_by_word none m past within = grind (arith, nat_tests, here_is, flipped_zero)
 
 -- ---- words with a summary
 
 module _ (words summary : List ℕ) (summed : SumsUp words summary) where
   -- a word whose bit in the summary is set is there
   later_within : (w : ℕ) → bit_of summary w ≡ 1 → w < length words
-  later_within w is_set =
-      elim (cases_lt w (length words)) [
-        | inl within ↦ within
-        | inr out ↦ absurd (omega (arith, summed w, get_or_past words w 0 out, is_set))
-      ]
+  later_within w is_set = grind (arith, nat_tests, get_or_past)
 
   -- and its lowest bit is a machine number
   pub later_fits : (later : ℕ) → 64 * length words ≤ 2 ^ 64 → bit_of summary later ≡ 1 → slice_index words later < 2 ^ 64 →
@@ -224,11 +176,7 @@ module _ (words summary : List ℕ) (summed : SumsUp words summary) where
 
     -- and there is none if all later words are 0
     pub none_later : HasNoneSet summary (from / 64 + 1) → HasNoneSet words from
-    none_later none_summed m past =
-        elim (cases_lt m ((from / 64 + 1) * 64)) [
-          | inl here ↦ none_here m past here
-          | inr after ↦ bit_of_zero words m (omega (arith, summed (m / 64), none_summed (m / 64) (omega arith)))
-        ]
+    none_later none_summed m past = grind (arith, nat_tests, none_here, bit_of_zero)
 
 -- ---- marks
 
@@ -255,24 +203,11 @@ module _ (count : ℕ) (words : List ℕ) where
   module _ (none_past : HasNoneSet words count) where
     -- a number with no bit is not marked, even past the last
     unmarked : (n : ℕ) → bit_of words n ≡ 0 → is_marked (marks_of count words) n ≡ false
-    unmarked n is_zero =
-        elim (cases_lt n count) [
-          | inl within ↦ mark_within n within ∙ ap (λ d. nat_eq d 1) is_zero
-          | inr out ↦ get_or_past (marks_of count words) n false (omega (arith, length_marks))
-        ]
+    unmarked n is_zero = grind (arith, nat_tests, mark_within, get_or_past, length_marks)
 
     -- the first bit that is 1 is the next marked number
     next_by_bits : (from n : ℕ) → IsFirstSet words from n → IsNextMarked (marks_of count words) from n
-    next_by_bits from n first =
-        elim (cases_lt n count) [
-          | inl within ↦ record {
-            past = first.past;
-            inside = omega (arith, length_marks);
-            marked = mark_within n within ∙ ap (λ d. nat_eq d 1) first.set;
-            least = λ m past before. unmarked m (first.least m past before);
-          }
-          | inr out ↦ absurd (omega (arith, none_past n out, first.set))
-        ]
+    next_by_bits from n first = grind (arith, nat_tests, length_marks, mark_within, unmarked)
 
     -- and with no bit no number is marked
     none_by_bits : (from : ℕ) → HasNoneSet words from → HasNoneMarked (marks_of count words) from
@@ -340,8 +275,7 @@ module _ (count : ℕ) (words summary : List ℕ) (sums : IsSummed count words s
 
     -- where all numbers below a number have their bits, all are marked
     pub all_are_marked : (from : ℕ) → ((m : ℕ) → from ≤ m → m < count → bit_of seen m ≡ 1) → HasAllMarked marks from
-    all_are_marked from each = λ m past within.
-        rw (← is_marks) (marked count words sums.past m (omega (arith, count_is, within)) (rw is_seen at each m past (omega (arith, count_is, within))))
+    all_are_marked from each = grind (arith, nat_tests, marked, count_is)
 
     -- each number is in a word
     pub words_hold : (m : ℕ) → m < count → m < length seen * 64
@@ -361,37 +295,17 @@ module _ (count : ℕ) (words summary : List ℕ) (sums : IsSummed count words s
         (put_above : IsBitPut seen_summary (n / 64) (digit (not (nat_eq word 0))) new_summary) where
       -- the summary still sums up, once the word's bit is put in it
       pub set_summed : (stored_summary : List ℕ) → stored_summary ≡ new_summary → IsSummed count stored stored_summary
-      set_summed stored_summary is_stored_summary = rw (is_stored, is_stored_summary) (record {
-        fits = sums.fits;
-        words_each = put.same_length ∙ ap length is_seen ∙ sums.words_each;
-        summary_each = put_above.same_length ∙ ap length is_seen_summary ∙ sums.summary_each ∙
-            ap (λ k. div_ceil k 64) (sym (put.same_length ∙ ap length is_seen));
-        past = λ m out. put.others m (λ same. omega (arith, count_is)) ∙ ap (λ ws. bit_of ws m) is_seen ∙ sums.past m out;
-        summed = λ w.
-            elim (cases_eq w (n / 64)) [
-              | inl same ↦ rw same (put_above.here ∙ digit_some word ∙ ap (min 1) is_word)
-              | inr differs ↦
-                  put_above.others w differs ∙ ap (λ ws. bit_of ws w) is_seen_summary ∙ sums.summed w
-                  ∙ sym (ap (min 1) (put.other_words w differs ∙ ap (λ ws. slice_index ws w) is_seen))
-            ];
-      })
+      set_summed stored_summary is_stored_summary = grind (arith, nat_tests, count_is, digit_some)
 
 -- ---- no number is marked
 
 -- a word of a list of zeros is 0, also past its end
 zeros : (k i : ℕ) → slice_index (replicate k 0) i ≡ 0
-zeros k i =
-    elim (cases_lt i k) [
-      | inl within ↦ get_or-replicate k i 0 0 within
-      | inr out ↦ get_or_past (replicate k 0) i 0 (omega (arith, length-replicate {A = ℕ} k 0))
-    ]
+zeros k i = grind (arith, nat_tests, get_or-replicate, get_or_past, length-replicate)
 
 -- a list that was made longer from none
 pub fresh : (k n : ℕ) (none zeros : List ℕ) → none ≡ [] → n ≡ 0 → zeros ≡ take k none ++ replicate (k - n) 0 → zeros ≡ replicate k 0
-fresh k n none zeros is_none is_zero made =
-    let all : k - n ≡ k = omega arith in
-    let nothing : take k none ≡ [] = ap (take k) is_none ∙ take_all k [] (omega arith) in
-    made ∙ rw (all, nothing) refl
+fresh k n none zeros is_none is_zero made = grind (arith, nat_tests, take_all)
 
 module _ (count k : ℕ) (words : List ℕ) (are_zero : words ≡ replicate k 0) where
   -- words that are 0 have no bit
@@ -406,16 +320,7 @@ module _ (count k : ℕ) (words : List ℕ) (are_zero : words ≡ replicate k 0)
   -- and a summary of zeros sums up
   pub zeros_summed : (l : ℕ) (summary : List ℕ) → count < 2 ^ 64 → summary ≡ replicate l 0 → k ≡ div_ceil count 64 → l ≡ div_ceil k 64 →
       IsSummed count words summary
-  zeros_summed l summary fits summary_zero is_k is_l = record {
-    fits = fits;
-    words_each = ap length are_zero ∙ length-replicate {A = ℕ} k 0 ∙ is_k;
-    summary_each = ap length summary_zero ∙ length-replicate {A = ℕ} l 0 ∙ is_l ∙
-        ap (λ j. div_ceil j 64) (sym (ap length are_zero ∙ length-replicate {A = ℕ} k 0));
-    past = λ n _. none_set n (omega arith);
-    summed = λ w.
-        bit_of_zero summary w (ap (λ ws. get_or ws (w / 64) 0) summary_zero ∙ zeros l (w / 64))
-        ∙ sym (ap (min 1) (ap (λ ws. get_or ws w 0) are_zero ∙ zeros k w));
-  }
+  zeros_summed l summary fits summary_zero is_k is_l = grind (arith, nat_tests, length-replicate, none_set, bit_of_zero, zeros)
 
 -- the words of a set, and their summary, are made 0
 module _ (count : ℕ) (words summary : List ℕ) (sums : IsSummed count words summary) (marks : List Bool) (is_marks : marks_of count words ≡ marks)
@@ -424,5 +329,4 @@ module _ (count : ℕ) (words summary : List ℕ) (sums : IsSummed count words s
   cleared = no_marks count (length words) zero_words are_zero ∙ ap (λ k. replicate k false) (sym (count_is count words summary sums marks is_marks))
 
   pub cleared_sums : (zero_summary : List ℕ) → zero_summary ≡ replicate (length summary) 0 → IsSummed count zero_words zero_summary
-  cleared_sums zero_summary are_zero_too = zeros_summed count (length words) zero_words are_zero (length summary) zero_summary sums.fits are_zero_too
-      sums.words_each sums.summary_each
+  cleared_sums zero_summary are_zero_too = search zeros_summed

@@ -1,11 +1,12 @@
 -- Items by place.
+use Rattle.std.proofs.lemmas.Bool.Decides.{nat_tests}
 use Rattle.std.proofs.Common.{inl, inr, ℕ, false, List, [], length, set, get_or, replicate, Option, Some, None, IsSome, is_some, true≢false}
 use Rattle.std.proofs.Common.{refl, sym, ap, arith, length-append, length-set, map, zero, suc, take, nat_lt}
-use Rattle.std.proofs.lemmas.Bool.{cases_eq, cases_lt, le-ltb, lt-ltb}
+use Rattle.std.proofs.lemmas.Bool.{cases_lt, le-ltb, lt-ltb}
 use Rattle.std.proofs.lemmas.List.{get_or-set_same, get_or-set_other, get_or_past, get_or_default, length-map, take_all}
 use Rattle.std.proofs.lemmas.List.Sums.{count_by-le-length}
 use Rattle.std.proofs.lemmas.Option.{slice_get_past, slice_get_read}
-use Rattle.std.specs.List.{count_by, slice_get}
+use Rattle.std.specs.List.{slice_get}
 use Rattle.collections.specs.SparseVec.{ArePositions, item_at, position}
 unfoldable use Rattle.collections.specs.SparseVec.{items_in}
 use Rattle.std.proofs.Common.{◌≡◌, ◌≢◌, ◌+◌, ◌-◌, ◌<◌, ◌≤◌, ◌∷◌, ◌++◌, ◌∙◌}
@@ -32,10 +33,7 @@ module _ {X : Type 0} where
       placed within = omega (arith, within, ap length view, length_items items at)
 
       inside : IsSome (item_at v k) → position at k < length items
-      inside some = elim (cases_lt (position at k) (length items)) [
-        | inl within ↦ within
-        | inr past ↦ absurd (true≢false (sym some ∙ ap is_some (read ∙ slice_get_past items (position at k) past)))
-      ]
+      inside some = grind (arith, nat_tests, read, slice_get_past)
 
       outside : is_some (item_at v k) ≡ false → length at ≤ position at k
       outside none = elim (cases_lt (position at k) (length at)) [
@@ -44,10 +42,7 @@ module _ {X : Type 0} where
       ]
 
       pub has_place : IsSome (item_at v k) → k < length at
-      has_place some = elim (cases_lt k (length at)) [
-        | inl within ↦ within
-        | inr past ↦ absurd (omega (arith, few, inside some, get_or_past at k (length at) past))
-      ]
+      has_place some = grind (arith, nat_tests, few, inside, get_or_past)
 
       module _ (p : ℕ) (p_is : p ≡ get_or at k p) where
         here : k < length at → p ≡ position at k
@@ -115,27 +110,7 @@ module _ {X : Type 0} where
           elsewhere m other same = omega (arith, is.known m (omega (arith, still m other, same, room)), still m other, same)
 
           pub added_positions : ArePositions after (length more)
-          added_positions = record {
-            known = λ m below. elim (cases_eq m k) [
-              | inl same ↦ omega (arith, ap (position after) same, now_here, one_more)
-              | inr other ↦ omega (arith, is.known m (omega (arith, below, still m other, same_length)), still m other, one_more)
-            ];
-            apart = λ j m same below. elim (cases_eq j k) [
-              | inl first ↦ elim (cases_eq m k) [
-                | inl second ↦ first ∙ sym second
-                | inr other ↦ absurd (elsewhere m other (sym same ∙ ap (position after) first ∙ now_here))
-              ]
-              | inr other ↦ elim (cases_eq m k) [
-                | inl second ↦ absurd (elsewhere j other (same ∙ ap (position after) second ∙ now_here))
-                | inr differs ↦ is.apart j m (sym (still j other) ∙ same ∙ still m differs) (omega (arith, below, still j other, same_length))
-              ]
-            ];
-            each =
-                ap (λ (n : ℕ). count_by (λ a. nat_lt a n) after) same_length
-                ∙ one_counted (λ a. nat_lt a (length at)) at k (length at) (length items) (placed within)
-                (le-ltb (position at k) (length at) (outside none)) (lt-ltb (length items) (length at) room)
-                ∙ ap (λ (n : ℕ). n + 1) is.each ∙ sym one_more;
-          }
+          added_positions = grind (arith, nat_tests, now_here, one_more, still, same_length, elsewhere, one_counted, placed, outside, room)
 
           fits_more : length more ≤ length after
           fits_more = omega (arith, room, one_more, same_length)
@@ -165,7 +140,4 @@ module _ (n : ℕ) (at : List ℕ) (at_is : at ≡ replicate n n) where
 
 -- a vector that is filled from nothing
 pub filled : (n d k : ℕ) (xs at : List ℕ) → at ≡ take n xs ++ replicate (n - k) d → xs ≡ [] → k ≡ 0 → at ≡ replicate n d
-filled n d k xs at is none zero_is =
-    is ∙ ap (λ (ys : List ℕ). take n ys ++ replicate (n - k) d) none
-    ∙ ap (λ (ys : List ℕ). ys ++ replicate (n - k) d) (take_all n [] (omega arith))
-    ∙ ap (λ (m : ℕ). replicate m d) (omega (arith, zero_is))
+filled n d k xs at is none zero_is = grind (arith, nat_tests, take_all)

@@ -1,6 +1,6 @@
 -- Words that the command takes name a job, unless they are an upgrade of one word to itself.
-use Rattle.command_line.proofs.Names.{is_some, not, suc, arith, length, option_map, refl, sym, subst, ap, List, [], Bool, drop, true, false, Option, Some, None}
-use Rattle.command_line.proofs.Names.{true≢false, codes, inl, inr, list_any, option_map_or, bytes_eq, eqb-true, bytes_eq-Decides, answers_to, is_empty}
+use Rattle.command_line.proofs.Names.{nat_tests, is_some, not, suc, arith, length, option_map, refl, sym, subst, ap, List, [], Bool, drop, true, false, Option}
+use Rattle.command_line.proofs.Names.{Some, None, true≢false, codes, list_any, option_map_or, bytes_eq, eqb-true, bytes_eq-Decides, answers_to, is_empty}
 use Rattle.command_line.proofs.Names.{nothing_held, stop_after, Command, ArgMatches, HasMatchesOf, Shape, app_of, built, entered, is_simple, label_of, names_of}
 use Rattle.command_line.proofs.Names.{rows_at, subcommand_of, entered_passes, level_passes, takes, both, has_all, is_whole, subcommand_named, eros_app}
 use Rattle.command_line.proofs.Names.{NamesJob, NamesNone, Job, AsksForSame}
@@ -29,9 +29,7 @@ its_name s name plain answers = go s.aliases plain (bytes_eq s.name name) refl a
     go (x ∷ xs) none b e is = let bad : suc (length xs) ≡ 0 = eqb-true _ _ none in absurd (omega arith)
 
 no_help : (name : Text) → is_no_help whole.top name ≡ true → name ≡ codes "help" → ⊥
-no_help name other help =
-    let bad : is_no_help whole.top (codes "help") ≡ true = subst (λ n. is_no_help whole.top n ≡ true) help other in
-    true≢false (sym bad)
+no_help name other help = grind (arith, nat_tests)
 
 module _ (p : Text × List Text) (well : is_no_help whole.top p.0 ≡ true) where
   shape_named : (s : Shape) → subcommand_named p.0 ≡ Some s → level_passes s [] nothing_held p.1 false ≡ true
@@ -43,10 +41,7 @@ module _ (p : Text × List Text) (well : is_no_help whole.top p.0 ≡ true) wher
       let plain = go (bytes_eq s.name (codes "help")) refl name ready.1 in
       let kept = level_keeps s [] p.1 false plain.0 plain.1 level in
       let has : has_all s.name (rows_at s p.1).1 ≡ true = whole_named s.name (ap subcommand_named name ∙ is) kept.0 in
-      elim (none has) [
-        | inl help ↦ absurd (no_help p.0 well (sym name ∙ help))
-        | inr same ↦ same
-      ]
+      grind (arith, nat_tests, no_help)
     where
       negated : (b : Bool) → not b ≡ true → b ≡ false
       negated false e = refl

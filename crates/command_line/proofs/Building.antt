@@ -1,14 +1,11 @@
 -- What a command is once a subcommand or an argument is added.
-use Rattle.command_line.proofs.Names.{false, ap, ap₂, AddsArg, AddsSubcommand, App, Rule, rule_of, with_rule, with_subcommand, Arg, Command, IsCommand, ℕ, List}
-use Rattle.command_line.proofs.Names.{[], map, take, get_or, length, refl, subst, sym, add-one, take-length, take-suc, map-append, argument_rule}
+use Rattle.command_line.proofs.Names.{nat_tests, arith, false, ap, ap₂, AddsArg, AddsSubcommand, App, Rule, rule_of, with_rule, with_subcommand, Arg, Command}
+use Rattle.command_line.proofs.Names.{IsCommand, ℕ, List, [], map, take, get_or, length, refl, add-one, take-length, take-suc, map-append, argument_rule}
 use Rattle.command_line.proofs.Names.{subcommand_app, with_rules, with_subcommands, Argument, Subcommand}
 use Rattle.std.proofs.Common.{◌≡◌, ◌∙◌, ◌||◌, ◌∷◌, ◌++◌, ◌+◌, ◌<◌}
 
 pub added : (a b : App) (old sub new : Command) → AddsSubcommand old sub new → IsCommand a old → IsCommand b sub → IsCommand (with_subcommand a b.top) new
-added a b old sub new adds is_old is_sub = (
-  adds.shape is_sub.1 ∙ ap₂ with_subcommand is_old.0 (ap (λ (x : App). x.top) is_sub.0),
-  adds.globals ∙ ap₂ (λ x y. x || y) is_old.1 is_sub.1,
-)
+added a b old sub new adds is_old is_sub = grind (arith, nat_tests)
 
 -- and of an argument
 pub argued : (app : App) (old new : Command) (arg : Arg) (rule : Rule) → AddsArg old arg new → IsCommand app old → rule_of arg ≡ rule → arg.global ≡ false
@@ -35,9 +32,7 @@ rules_more app xs i d inside =
 pub argued_more : (app : App) (xs : List Argument) (i : ℕ) (d : Argument) (old new : Command) (arg : Arg) → i < length xs →
     IsCommand (with_rules app (map argument_rule (take i xs))) old → AddsArg old arg new → rule_of arg ≡ argument_rule (get_or xs i d) →
     arg.global ≡ false → IsCommand (with_rules app (map argument_rule (take (i + 1) xs))) new
-argued_more app xs i d old new arg inside is adds ruled local =
-    subst (λ (a : App). IsCommand a new) (sym (rules_more app xs i d inside))
-    (argued (with_rules app (map argument_rule (take i xs))) old new arg (argument_rule (get_or xs i d)) adds is ruled local)
+argued_more app xs i d old new arg inside is adds ruled local = rw (rules_more app xs i d inside) (argued _ old new arg _ adds is ruled local)
 
 subcommands_more : (app : App) (ss : List Subcommand) (i : ℕ) (d : Subcommand) → i < length ss →
     with_subcommands app (take (i + 1) ss) ≡ with_subcommand (with_subcommands app (take i ss)) (subcommand_app (get_or ss i d)).top
@@ -48,18 +43,13 @@ subcommands_more app ss i d inside =
 pub added_more : (app : App) (ss : List Subcommand) (i : ℕ) (d : Subcommand) (old sub new : Command) → i < length ss →
     IsCommand (with_subcommands app (take i ss)) old → AddsSubcommand old sub new → IsCommand (subcommand_app (get_or ss i d)) sub →
     IsCommand (with_subcommands app (take (i + 1) ss)) new
-added_more app ss i d old sub new inside is adds is_sub =
-    subst (λ (a : App). IsCommand a new) (sym (subcommands_more app ss i d inside))
-    (added (with_subcommands app (take i ss)) (subcommand_app (get_or ss i d)) old sub new adds is is_sub)
+added_more app ss i d old sub new inside is adds is_sub = rw (subcommands_more app ss i d inside) (added _ _ old sub new adds is is_sub)
 
 -- with all of them
 pub has_all : (app : App) (xs : List Argument) (rs : List Rule) (i : ℕ) (command : Command) → i ≡ length xs → map argument_rule xs ≡ rs →
     IsCommand (with_rules app (map argument_rule (take i xs))) command → IsCommand (with_rules app rs) command
-has_all app xs rs i command all same is =
-    subst (λ (ys : List Rule). IsCommand (with_rules app ys) command) (ap (λ (ys : List Argument). map argument_rule ys)
-    (ap (λ (n : ℕ). take n xs) all ∙ take-length xs) ∙ same) is
+has_all app xs rs i command all same is = grind (arith, nat_tests, take-length)
 
 pub has_each : (app : App) (ss : List Subcommand) (i : ℕ) (command : Command) → i ≡ length ss → IsCommand (with_subcommands app (take i ss)) command →
     IsCommand (with_subcommands app ss) command
-has_each app ss i command all is =
-    subst (λ (ys : List Subcommand). IsCommand (with_subcommands app ys) command) (ap (λ (n : ℕ). take n ss) all ∙ take-length ss) is
+has_each app ss i command all is = rw (← ap (λ (n : ℕ). take n ss) all ∙ take-length ss) is

@@ -1,21 +1,14 @@
 -- What the getters of the matches give.
-use Rattle.command_line.proofs.Names.{ap, subst, sym, Bool, true, false, true≢false, Option, Some, None, List, codes, map, option_map, Bor, Box, IfSome}
-use Rattle.command_line.proofs.Names.{unwrap_or, box_value, bytes_eq, bytes_eq-Decides, Row, Text, all_of, first_of, first_value, matched_of, raw_values}
-use Rattle.command_line.proofs.Names.{rows_of, subcommand_name_of, subcommand_rows, subcommand_rows_of, ArgMatches, SubCommand, out-ArgMatches, out-SubCommand}
-use Rattle.command_line.proofs.Names.{Found, first_value-rows, raw_values-rows, IsFlag, IsGiven}
+use Rattle.command_line.proofs.Names.{nat_tests, arith, ap, subst, sym, Bool, false, Option, Some, None, List, codes, map, option_map, Bor, IfSome, unwrap_or}
+use Rattle.command_line.proofs.Names.{bytes_eq, bytes_eq-Decides, Row, Text, all_of, first_of, first_value, matched_of, raw_values, rows_of, subcommand_name_of}
+use Rattle.command_line.proofs.Names.{subcommand_rows, subcommand_rows_of, ArgMatches, out-ArgMatches, Found, first_value-rows, raw_values-rows, IsFlag}
+use Rattle.command_line.proofs.Names.{IsGiven}
 use Rattle.std.proofs.Common.{◌≡◌, ◌∙◌}
 
 -- the subcommand that was met is that of its name and its rows
-module _ {Z : Type 0} where
-  met_by_parts : (o : Option (Box SubCommand Z)) (name : Text) (rows : List Row)
-      → Some name ≡ option_map (λ b. (out-SubCommand (box_value b)).name.now) o
-      → Some rows ≡ option_map (λ p. p.1) (subcommand_rows o) → subcommand_rows o ≡ Some (name, rows)
-  met_by_parts None name rows named rowed = absurd cc
-  met_by_parts (Some b) name rows named rowed = cc
-
 pub met : (m : ArgMatches) (name : Text) (rows : List Row) → Some name ≡ subcommand_name_of m
     → Some rows ≡ option_map (λ p. p.1) (subcommand_rows (out-ArgMatches m).subcommand) → subcommand_rows_of m ≡ Some (name, rows)
-met m name rows named rowed = met_by_parts (out-ArgMatches m).subcommand name rows named rowed
+met m name rows named rowed = grind (arith, nat_tests)
 
 -- what a getter answers is what the rows give
 pub given : (f : Found) (id : Text) (o : Option (Bor Text)) (text : Bor Text) → option_map (λ s. s.now) o ≡ first_value f id → o ≡ Some text
@@ -42,10 +35,7 @@ held P (Some y) x holds is = let same : y ≡ x = ap (λ (o : Option _). unwrap_
 
 -- a flag is given where its value is `true`
 pub flagged : (rows : List Row) (id word : Text) (b : Bool) → IsGiven rows id word → bytes_eq word (codes "true") ≡ b → IsFlag rows id b
-flagged rows id word true given e = given ∙ ap Some ((bytes_eq-Decides _ _).0 e)
-flagged rows id word false given e = λ set.
-    let same : word ≡ codes "true" = ap (λ (o : Option Text). unwrap_or o word) (sym given ∙ set) in
-    true≢false (sym ((bytes_eq-Decides word (codes "true")).1 same) ∙ e)
+flagged rows id word b given e = grind (arith, nat_tests, bytes_eq-Decides)
 
 pub unflagged : (rows : List Row) (id : Text) → first_of id rows ≡ None → IsFlag rows id false
 unflagged rows id none = λ set. let bad : None ≡ Some (codes "true") = sym none ∙ set in cc

@@ -1,22 +1,17 @@
 -- Rows that lack an argument, or have a wrong one, name no job.
-use Rattle.command_line.proofs.Names.{ap, refl, subst, sym, Bool, ℕ, suc, arith, not, Option, Some, None, List, [], length, option_map, true, false, true≢false}
-use Rattle.command_line.proofs.Names.{inl, inr, codes, ⊤, cond, find, nat_lt, option_and_then, slice_get, unwrap_or, All, list_all, list_any, slice_index_or}
-use Rattle.command_line.proofs.Names.{option_map_or, bytes_eq, eqb-true, AllPass-from_list_all, bytes_eq-Decides, parser_of_value, Shape, built, label_of}
-use Rattle.command_line.proofs.Names.{values_pass, accepts, answers_to, arg_by_id, is_empty, IsUnsignedIn, Row, Rule, Text, all_of, first_of, ValueParser}
-use Rattle.command_line.proofs.Names.{Unsigned, accepts-Accepts, both, GivesNoNumber, has_all, is_filled, is_whole, subcommand_named, eros_app, IsNoJob}
-use Rattle.command_line.proofs.Names.{IsSameTwice}
+use Rattle.command_line.proofs.Names.{nat_tests, ap, refl, subst, sym, Bool, ℕ, suc, arith, not, Option, Some, None, List, [], length, option_map, true, false}
+use Rattle.command_line.proofs.Names.{true≢false, inl, inr, codes, ⊤, cond, find, nat_lt, option_and_then, slice_get, unwrap_or, All, list_all, list_any}
+use Rattle.command_line.proofs.Names.{slice_index_or, option_map_or, bytes_eq, eqb-true, AllPass-from_list_all, bytes_eq-Decides, parser_of_value, Shape, built}
+use Rattle.command_line.proofs.Names.{label_of, values_pass, accepts, answers_to, arg_by_id, is_empty, IsUnsignedIn, Row, Rule, Text, all_of, first_of}
+use Rattle.command_line.proofs.Names.{ValueParser, Unsigned, accepts-Accepts, both, GivesNoNumber, has_all, is_whole, subcommand_named, eros_app, IsNoJob}
+use Rattle.command_line.proofs.Names.{IsSameTwice, Found, Bor, first_value, rows_of}
 use Rattle.std.proofs.Common.{◌≡◌, ◌∙◌, ◌&&◌, ◌||◌, ◌⊎◌, ◌∷◌}
+use Rattle.command_line.proofs.Getters.{missing}
 
 -- what is found passes its test, and each test that all pass
 pub found : {X : Type 0} (p q : X → Bool) (xs : List X) (x : X) → find p xs ≡ Some x → list_all q xs ≡ true → (p x ≡ true) × (q x ≡ true)
 found p q [] x is all = let bad : None ≡ Some x = is in cc
-found p q (y ∷ ys) x is all = go (p y) refl is (λ e. found p q ys x e (both _ _ all).1)
-  where
-    go : (b : Bool) → p y ≡ b → cond b (Some y) (find p ys) ≡ Some x → (find p ys ≡ Some x → (p x ≡ true) × (q x ≡ true)) → (p x ≡ true) × (q x ≡ true)
-    go true e is rest =
-        let same : y ≡ x = ap (λ (o : Option _). unwrap_or o y) is in
-        (subst (λ z. p z ≡ true) same e, subst (λ z. q z ≡ true) same (both _ _ all).0)
-    go false e is rest = rest is
+found p q (y ∷ ys) x is all = grind (arith, nat_tests, found p q ys x)
 
 -- the rule of an argument of a subcommand, by their names
 abbrev pub rule_named : Text → Text → Option Rule
@@ -32,10 +27,7 @@ row_named id rows = find (λ r. bytes_eq r.id id) rows
 module _ (name id : Text) (rows : List Row) where
   filled_in : (o : Option Shape) (a : Rule) → option_and_then (λ s. arg_by_id s.rules id) o ≡ Some a → option_map_or (λ s. is_whole s.rules rows) o false ≡ true
       → fills a (row_named id rows) ≡ true
-  filled_in None a is has = absurd (true≢false (sym has))
-  filled_in (Some s) a is has =
-      let at = found (λ b. bytes_eq b.id id) (is_filled rows) s.rules a is has in
-      subst (λ (t : Text). fills a (row_named t rows) ≡ true) ((bytes_eq-Decides a.id id).0 at.0) at.1
+  filled_in o a is has = grind (arith, nat_tests, found, bytes_eq-Decides)
 
   -- rows that lack what is required name no job
   lacks_row : (o : Option Rule) → rule_named name id ≡ o → option_map_or (λ a. a.required) o false ≡ true
@@ -137,3 +129,8 @@ unknown name rows differs has = go (bytes_eq name (codes "help")) refl
     go false e =
         let other : name ≡ codes "help" → ⊥ = λ is. true≢false (sym ((bytes_eq-Decides name (codes "help")).1 is) ∙ e) in
         absurd (none_found (subcommand_named name) (not_found name (built eros_app).subs (differs other) refl) has)
+
+-- nor do rows that lack an argument which a getter did not find
+pub lacking : (name id : Text) (f : Found) (o : Option (Bor Text)) → option_map_or (λ a. a.required) (rule_named name id) false ≡ true
+    → option_map (λ s. s.now) o ≡ first_value f id → o ≡ None → IsNoJob name (rows_of f)
+lacking name id f o required got is = lacks name id (rows_of f) required (missing f id o got is)

@@ -1,27 +1,22 @@
 -- The names that the proofs here cite: of other crates, and of the definitions of this one.
 pub use Rattle.clap.proofs.ValueTestLemmas.{accepts-Accepts}
 pub use Rattle.clap.proofs.WalkLemmas.{both, first_value-rows, raw_values-rows}
-pub use Rattle.clap.specs.Facts.{explicit_source, parser_of_value, unwrap_or_range}
-pub use Rattle.clap.specs.Lexer.{long_of, short_of}
+pub use Rattle.clap.specs.Facts.{parser_of_value, unwrap_or_range}
 pub use Rattle.clap.specs.Simple.{HasMatchesOf, Shape, app_of, built, entered, is_simple, label_of, names_of, rows_at, subcommand_of}
-pub use Rattle.clap.specs.Takes.{action_passes, bundle_passes, bundle_step_passes, default_passes, entered_passes, flag_word_passes, is_given, level_passes}
-pub use Rattle.clap.specs.Takes.{long_passes, option_passes, other_passes, positional_passes, react_passes, settle_passes, short_passes, step_passes, takes}
-pub use Rattle.clap.specs.Takes.{use_passes, values_pass, word_passes}
+pub use Rattle.clap.specs.Takes.{action_passes, bundle_step_passes, default_passes, entered_passes, flag_word_passes, is_given, level_passes, option_passes}
+pub use Rattle.clap.specs.Takes.{react_passes, settle_passes, short_passes, step_passes, takes, use_passes, values_pass, word_passes}
 unfoldable pub use Rattle.clap.specs.Takes.{flags_pass, walk_passes}
 pub use Rattle.clap.specs.ValueTests.{accepts}
 pub use Rattle.clap.specs.Values.{is_request}
-pub use Rattle.clap.specs.Walk.{Held, Names, Outcome, Step, Waiting, Walk, action_of, after_flag, after_step, answers_to, arg_by_id, arg_by_index, arg_by_long}
-pub use Rattle.clap.specs.Walk.{arg_by_short, at_row, attached_value, bundle, bundle_step, default_rows, done, finished, flag_met, has_row, idle, is_empty}
-pub use Rattle.clap.specs.Walk.{is_pending, long_met, long_or_other, more_values, next, nothing_held, option, option_met, option_word, plain, plain_word}
-pub use Rattle.clap.specs.Walk.{positional, positional_held, reacted, reading_by, refused, settled, settled_rows, short_met, short_or_plain, stop_after}
-pub use Rattle.clap.specs.Walk.{subcommand, subcommand_met, subcommand_or_other, takes_several, takes_values, to_positional, trailing, used, used_as}
-pub use Rattle.clap.specs.Walk.{used_by_id, value, values_or_missing, waits, walk, walk_from, walked_from, with_default, with_values, without, word_met}
+pub use Rattle.clap.specs.Walk.{Held, Names, Outcome, Step, Waiting, Walk, action_of, after_flag, after_step, answers_to, arg_by_id, at_row, attached_value}
+pub use Rattle.clap.specs.Walk.{bundle_step, finished, flag_met, is_empty, long_or_other, nothing_held, option_met, plain_word, positional, reacted, reading_by}
+pub use Rattle.clap.specs.Walk.{settled, short_met, stop_after, subcommand, takes_values, used, used_as, values_or_missing, walk, walk_from, walked_from}
+pub use Rattle.clap.specs.Walk.{with_default, with_values, without, word_met}
 unfoldable pub use Rattle.clap.specs.Walk.{bundle_met, walked}
 pub use Rattle.clap.specs.Words.{AddsArg, AddsSubcommand, App, HasKind, IsUnsignedIn, Row, Rule, Text, all_of, fault_of, first_of, first_value, found_of}
 pub use Rattle.clap.specs.Words.{is_simple_and_free, kind_of, matched_of, new_app, raw_values, rows_of, rule_of, subcommand_name_of, subcommand_rows}
 pub use Rattle.clap.specs.Words.{subcommand_rows_of, with_rule, with_subcommand}
 pub use Rattle.clap.specs.declared.builder.action.ArgAction.{ArgAction}
-pub use Rattle.clap.specs.declared.builder.action.ArgAction.TheVariants.{Append, Count, Help, HelpLong, HelpShort, Set, SetFalse, SetTrue, Version}
 pub use Rattle.clap.specs.declared.builder.arg.Arg.{Arg}
 pub use Rattle.clap.specs.declared.builder.command.Command.{Command}
 pub use Rattle.clap.specs.declared.builder.value_parser.ValueParser.{ValueParser}
@@ -29,15 +24,15 @@ pub use Rattle.clap.specs.declared.builder.value_parser.ValueParser.TheVariants.
 pub use Rattle.clap.specs.declared.error.Error.{Error}
 pub use Rattle.clap.specs.declared.error.kind.ErrorKind.TheVariants.{OutOfMemory, ValueValidation}
 pub use Rattle.clap.specs.declared.parser.matches.ArgMatches.{ArgMatches}
-pub use Rattle.clap.specs.declared.parser.matches.ArgMatches.TheViews.{out-ArgMatches, out-SubCommand}
+pub use Rattle.clap.specs.declared.parser.matches.ArgMatches.TheViews.{out-ArgMatches}
 pub use Rattle.clap.specs.declared.parser.matches.Found.{Found}
-pub use Rattle.clap.specs.declared.parser.matches.SubCommand.{SubCommand}
 pub use Rattle.clap.specs.declared.parser.matches.ValueSource.{ValueSource}
-pub use Rattle.clap.specs.declared.parser.matches.ValueSource.TheVariants.{CommandLine, DefaultValue}
 pub use Rattle.std.proofs.Common.{Bool, IfOk, IsNone, List, None, Option, Some, [], add-one, ap, ap₂, arith, codes, drop, false, get_or, inl, inr, is_some}
 pub use Rattle.std.proofs.Common.{length, map, not, option_map, refl, rules, subst, suc, sym, take, true, true≢false, zero, ℕ}
 pub use Rattle.std.proofs.Math.Seq.{take-length, take-suc}
 pub use Rattle.std.proofs.lemmas.Bool.{eqb-true, leb-true, lt-ltb}
+pub use Rattle.std.proofs.lemmas.Bool.Decides.{nat_tests}
+pub use Rattle.std.proofs.lemmas.Grind.{common_steps}
 pub use Rattle.std.proofs.lemmas.List.{get_or-map, length-map, map-append, take_all, take_more}
 pub use Rattle.std.proofs.lemmas.List.Elements.{All-get_or, All-more}
 pub use Rattle.std.proofs.lemmas.List.Folds.{list_all-append}
@@ -45,12 +40,10 @@ pub use Rattle.std.proofs.lemmas.List.Sums.{AllPass-from_list_all}
 pub use Rattle.std.proofs.lemmas.Result.{err_from_is_err_and}
 pub use Rattle.std.proofs.lemmas.Slice.Eq.{bytes_eq-Decides}
 pub use Rattle.std.specs.Borrow.{Bor}
-pub use Rattle.std.specs.Box.{box_value}
 pub use Rattle.std.specs.List.{All, list_all, list_any, slice_index_or}
 pub use Rattle.std.specs.Option.{option_map_or}
-pub use Rattle.std.specs.Prelude.{Box, IfSome, cond, encode_utf8, find, fold, nat_le, nat_lt, option_and_then, slice_get, unwrap_or, ⊤}
+pub use Rattle.std.specs.Prelude.{IfSome, cond, find, fold, nat_le, nat_lt, option_and_then, slice_get, unwrap_or, ⊤}
 pub use Rattle.std.specs.Str.{bytes_eq}
-unfoldable pub use Rattle.std.specs.Str.{chars}
 pub use Rattle.command_line.specs.Arguments.{GivesNoNumber, IsFlag, IsGiven, IsNumber, IsNumberOption, has_all, is_filled, is_whole, number_of}
 pub use Rattle.command_line.specs.Arguments.{subcommand_named, texts_of}
 pub use Rattle.command_line.specs.Commands.{IsCommand, argument_rule, bare_app, eros_app, greatest_number, subcommand_app, subcommand_name, subcommands}

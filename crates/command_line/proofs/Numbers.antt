@@ -31,12 +31,10 @@ module _ (words : List (Bor Text)) (i : ℕ) (d : Bor Text) (lt : i < length wor
   )
 
   pub numbers_bad : (IsUnsignedIn 0 greatest_number word.now → ⊥) → All (IsUnsignedIn 0 greatest_number) (texts_of words) → ⊥
-  numbers_bad bad all = bad
-      (subst (IsUnsignedIn 0 greatest_number) text_here (All-get_or (IsUnsignedIn 0 greatest_number) (texts_of words) i word.now within all))
+  numbers_bad bad all = bad (subst (IsUnsignedIn 0 greatest_number) text_here (All-get_or (IsUnsignedIn 0 greatest_number) _ i _ within all))
 
 pub numbers_all : (words : List (Bor Text)) (i : ℕ) (numbers : List ℕ) → length words ≤ i → NumbersBefore words i numbers
     → (numbers ≡ map number_of (texts_of words)) × All (IsUnsignedIn 0 greatest_number) (texts_of words)
 numbers_all words i numbers le before =
-    let whole : take i (texts_of words) ≡ texts_of words = take_all i (texts_of words)
-    (subst (λ n. n ≤ i) (sym (length-map words (λ (w : Bor Text). w.now))) le) in
-    (before.0 ∙ ap (map number_of) whole, subst (All (IsUnsignedIn 0 greatest_number)) whole before.1)
+    let whole : take i (texts_of words) ≡ texts_of words = take_all i (texts_of words) (rw (length-map words (λ (w : Bor Text). w.now)) le) in
+    (before.0 ∙ ap (map number_of) whole, rw (← whole) before.1)

@@ -1,17 +1,12 @@
 -- What the error of a parse becomes.
-use Rattle.command_line.proofs.Names.{inl, inr, refl, subst, sym, Bool, true, false, List, App, HasKind, Text, fault_of, is_simple_and_free, kind_of, Command}
-use Rattle.command_line.proofs.Names.{Error, OutOfMemory, ValueValidation, eros_app, Explains, IsFaultOf, IsRefused, AsksForSame, JobFault}
+use Rattle.command_line.proofs.Names.{nat_tests, arith, inl, inr, refl, subst, Bool, true, false, List, App, HasKind, Text, fault_of, is_simple_and_free}
+use Rattle.command_line.proofs.Names.{kind_of, Command, Error, OutOfMemory, ValueValidation, eros_app, Explains, IsFaultOf, IsRefused, AsksForSame, JobFault}
 use Rattle.std.proofs.Common.{◌≡◌, ◌⊎◌}
 use Rattle.clap.specs.Words.{app_of, subcommand_of, takes}
-use Rattle.command_line.specs.declared.fault.JobFault.TheVariants as fault
 
 -- words are refused as bad ones by an error that explains it
 pub refused : (words : List Text) (e : Error) (f : JobFault) → IsFaultOf e f → (kind_of e ≡ OutOfMemory) ⊎ Explains words e → IsRefused words f
-refused words e fault.NoMemory is reported = tt
-refused words e (fault.BadWords why) is reported = elim reported [
-  | inl memory ↦ absurd (is.1 memory)
-  | inr explains ↦ (subst (λ (x : Error). Explains words x) (sym is.0) explains, λ memory. is.1 (subst (λ (x : Error). kind_of x ≡ OutOfMemory) is.0 memory))
-]
+refused words e f is reported = grind (arith, nat_tests)
 
 -- an error of the parse explains why the command doesn't take the words
 parse_explains : (words : List Text) (e : Error) → (takes eros_app words ≡ true → kind_of e ≡ OutOfMemory) → HasKind (fault_of eros_app words) e

@@ -1,11 +1,9 @@
 -- A description is that of one list of frames.
-use Rattle.description.proofs.Names.{ℕ, inl, inr, List, [], Option, map, slice_index_or, sym, ap, arith, All, Contains, cases_eq, ext_get_or, All-append}
-use Rattle.description.proofs.Names.{All-contains, All-map, Contains-append_right, Contains-tail, get_or_from_slice_get, Cap, Capability, Frame, State}
-use Rattle.description.proofs.Names.{blank_frame, frame_at, void_held, fresh_cap, Description, NodeEntry, PageEntry, ProcessEntry, SlotEntry, WordEntry}
-use Rattle.description.proofs.Names.{HasNamedWords, HoldsNamed, IsDescribedAnnex, IsDescribed, IsDescribedNode, IsDescribedPage, IsDescribedRoot, first_frame}
-use Rattle.description.proofs.Names.{named_at, node_numbers, page_numbers, word_named_at}
+use Rattle.description.proofs.Names.{nat_tests, ℕ, inl, inr, List, [], map, slice_index_or, sym, ap, arith, All, Contains, cases_eq, ext_get_or, All-append}
+use Rattle.description.proofs.Names.{All-contains, All-map, Contains-append_right, Contains-tail, get_or_from_slice_get, Cap, Frame, blank_frame, frame_at}
+use Rattle.description.proofs.Names.{void_held, Description, NodeEntry, PageEntry, ProcessEntry, SlotEntry, WordEntry, HasNamedWords, HoldsNamed}
+use Rattle.description.proofs.Names.{IsDescribedAnnex, IsDescribed, IsDescribedNode, IsDescribedPage, IsDescribedRoot, first_frame, node_numbers, page_numbers}
 use Rattle.std.proofs.Common.{◌≡◌, ◌<◌, ◌++◌, ◌⊎◌, ◌∷◌, ◌∙◌}
-use Rattle.std.specs.Prelude.{unwrap_or}
 use Rattle.model.specs.declared.object.Content.TheVariants as content
 
 -- a number is in a list or it isn't
@@ -20,41 +18,28 @@ in_or_out (m ∷ ns) n = elim (cases_eq m n) [
 ]
 
 slots_once : (entries : List SlotEntry) (xs ys : List Cap) → HoldsNamed entries xs → HoldsNamed entries ys → xs ≡ ys
-slots_once entries xs ys one other = ext_get_or void_held xs ys (one.count ∙ sym other.count)
-    (λ i inside.
+slots_once entries xs ys one other = ext_get_or void_held xs ys (one.count ∙ sym other.count) (λ i inside.
     let known : i < 32 = omega (arith, inside, one.count) in
-    get_or_from_slice_get xs i (fresh_cap (named_at entries i)) void_held (one.each i known)
-    ∙ sym (get_or_from_slice_get ys i (fresh_cap (named_at entries i)) void_held (other.each i known)))
+    get_or_from_slice_get xs i _ _ (one.each i known)
+    ∙ sym (get_or_from_slice_get ys i _ _ (other.each i known)))
 
 words_once : (entries : List WordEntry) (xs ys : List ℕ) → HasNamedWords entries xs → HasNamedWords entries ys → xs ≡ ys
-words_once entries xs ys one other = ext_get_or 0 xs ys (one.count ∙ sym other.count)
-    (λ i inside.
+words_once entries xs ys one other = ext_get_or 0 xs ys (one.count ∙ sym other.count) (λ i inside.
     let known : i < 512 = omega (arith, inside, one.count) in
-    get_or_from_slice_get xs i (word_named_at entries i) 0 (one.each i known)
-    ∙ sym (get_or_from_slice_get ys i (word_named_at entries i) 0 (other.each i known)))
+    get_or_from_slice_get xs i _ 0 (one.each i known)
+    ∙ sym (get_or_from_slice_get ys i _ 0 (other.each i known)))
 
 root_once : (p : ProcessEntry) (f g : Frame) → IsDescribedRoot p f → IsDescribedRoot p g → f ≡ g
-root_once p f g one other =
-    let state : one.0 ≡ other.0 = ap (λ (o : Option State). unwrap_or o one.0) (sym one.2 ∙ other.2) in
-    let space : one.1 ≡ other.1 = ap (λ (o : Option Capability). unwrap_or o one.1) (sym one.3 ∙ other.3) in
-    one.4
-    ∙ ap (λ (s : State). first_frame p.owner (content.Root (record { state = s; words = p.words; key = p.key; annex = p.annex; space = fresh_cap one.1 })))
-    state
-    ∙ ap (λ (c : Capability). first_frame p.owner
-    (content.Root (record { state = other.0; words = p.words; key = p.key; annex = p.annex; space = fresh_cap c }))) space
-    ∙ sym other.4
+root_once p f g one other = grind (arith, nat_tests)
 
 annex_once : (p : ProcessEntry) (f g : Frame) → IsDescribedAnnex p f → IsDescribedAnnex p g → f ≡ g
-annex_once p f g one other =
-    one.2 ∙ ap (λ (slots : List Cap). first_frame p.owner (content.Annex slots)) (slots_once p.registers.items one.0 other.0 one.1 other.1) ∙ sym other.2
+annex_once p f g one other = one.2 ∙ ap (λ (slots : List Cap). first_frame p.owner (content.Annex slots)) (slots_once _ one.0 _ one.1 other.1) ∙ sym other.2
 
 node_once : (n : NodeEntry) (f g : Frame) → IsDescribedNode n f → IsDescribedNode n g → f ≡ g
-node_once n f g one other =
-    one.2 ∙ ap (λ (slots : List Cap). first_frame n.owner (content.Node slots)) (slots_once n.slots.items one.0 other.0 one.1 other.1) ∙ sym other.2
+node_once n f g one other = one.2 ∙ ap (λ (slots : List Cap). first_frame n.owner (content.Node slots)) (slots_once _ one.0 _ one.1 other.1) ∙ sym other.2
 
 page_once : (p : PageEntry) (f g : Frame) → IsDescribedPage p f → IsDescribedPage p g → f ≡ g
-page_once p f g one other =
-    one.2 ∙ ap (λ (words : List ℕ). first_frame p.owner (content.Page words)) (words_once p.words.items one.0 other.0 one.1 other.1) ∙ sym other.2
+page_once p f g one other = one.2 ∙ ap (λ (words : List ℕ). first_frame p.owner (content.Page words)) (words_once _ one.0 _ one.1 other.1) ∙ sym other.2
 
 module _ (d : Description) (fs gs : List Frame) (one : IsDescribed d fs) (other : IsDescribed d gs) where
   -- the frames of a number are the same
@@ -62,25 +47,19 @@ module _ (d : Description) (fs gs : List Frame) (one : IsDescribed d fs) (other 
   Same n = frame_at fs n ≡ frame_at gs n
 
   same_nodes : All Same (node_numbers d)
-  same_nodes =
-      All-append Same (map (λ b. b.number) d.banks.items ++ map (λ p. p.root) d.processes.items ++ map (λ p. p.annex) d.processes.items)
+  same_nodes = All-append Same (map (λ b. b.number) d.banks.items ++ map (λ p. p.root) d.processes.items ++ map (λ p. p.annex) d.processes.items)
       (map (λ n. n.number) d.nodes.items)
       (All-append Same (map (λ b. b.number) d.banks.items ++ map (λ p. p.root) d.processes.items) (map (λ p. p.annex) d.processes.items)
       (All-append Same (map (λ b. b.number) d.banks.items) (map (λ p. p.root) d.processes.items)
       (All-map Same (λ b. b.number) d.banks.items (λ k b inside. one.banks k b inside ∙ sym (other.banks k b inside)))
-      (All-map Same (λ p. p.root) d.processes.items
-      (λ k p inside. let e = slice_index_or d.processes.items k p in root_once e (frame_at fs e.root) (frame_at gs e.root) (one.roots k p inside)
-      (other.roots k p inside))))
-      (All-map Same (λ p. p.annex) d.processes.items
-      (λ k p inside. let e = slice_index_or d.processes.items k p in annex_once e (frame_at fs e.annex) (frame_at gs e.annex) (one.annexes k p inside)
-      (other.annexes k p inside))))
-      (All-map Same (λ n. n.number) d.nodes.items
-      (λ k n inside. let e = slice_index_or d.nodes.items k n in node_once e (frame_at fs e.number) (frame_at gs e.number) (one.nodes k n inside)
+      (All-map Same (λ p. p.root) d.processes.items (λ k p inside. let e = slice_index_or d.processes.items k p in root_once e _ _ (one.roots k p inside)
+      (other.roots k p inside)))) (All-map Same (λ p. p.annex) d.processes.items
+      (λ k p inside. let e = slice_index_or d.processes.items k p in annex_once e _ _ (one.annexes k p inside) (other.annexes k p inside))))
+      (All-map Same (λ n. n.number) d.nodes.items (λ k n inside. let e = slice_index_or d.nodes.items k n in node_once e _ _ (one.nodes k n inside)
       (other.nodes k n inside)))
 
   same_pages : All Same (page_numbers d)
-  same_pages = All-map Same (λ p. p.number) d.pages.items
-      (λ k p inside. let e = slice_index_or d.pages.items k p in page_once e (frame_at fs e.number) (frame_at gs e.number) (one.pages k p inside)
+  same_pages = All-map Same (λ p. p.number) d.pages.items (λ k p inside. let e = slice_index_or d.pages.items k p in page_once e _ _ (one.pages k p inside)
       (other.pages k p inside))
 
   same_at : (n : ℕ) → frame_at fs n ≡ frame_at gs n

@@ -1,6 +1,6 @@
 -- Lists of values, element by element.
-use Rattle.description.proofs.Names.{ℕ, zero, suc, List, [], length, get_or, take, refl, sym, ap, arith, take_more, same_Some, Data, Items, no_items, item}
-use Rattle.description.proofs.Names.{array, as_array, view, items_view, Value, AreItems, IsList}
+use Rattle.description.proofs.Names.{nat_tests, ℕ, zero, suc, List, [], length, get_or, take, refl, sym, ap, arith, take_more, same_Some, Data, Items, no_items}
+use Rattle.description.proofs.Names.{item, array, as_array, view, items_view, Value, AreItems, IsList}
 use Rattle.std.proofs.Common.{◌≡◌, ◌+◌, ◌<◌, ◌∷◌, ◌++◌, ◌∙◌}
 
 abbrev pub item_count : Items → ℕ
@@ -21,9 +21,8 @@ items_length d vs ds is at = sym (count_viewed vs) ∙ ap item_count (same_items
 pub last_read : {A : Type 0} (P : Data → A → Type 0) (vs : List Value) (xs : List A) (v : Value) (x : A) → AreItems P (items_view vs) xs → P (view v) x →
     AreItems P (items_view (vs ++ v ∷ [])) (xs ++ x ∷ [])
 last_read P [] [] v x are is = (is, tt)
-last_read P [] (y ∷ ys) v x are is = absurd are
-last_read P (w ∷ ws) [] v x are is = absurd are
 last_read P (w ∷ ws) (y ∷ ys) v x are is = (are.0, last_read P ws ys v x are.1 is)
+last_read P vs xs v x are is = absurd are
 
 -- one more is read
 pub one_more : {A : Type 0} (P : Data → A → Type 0) (vs : List Value) (i : ℕ) (xs : List A) (v : Value) (x : A) → i < length vs → get_or vs i v ≡ v →
@@ -32,10 +31,9 @@ one_more P vs i xs v x within at are is = rw (take_more vs i v within, at) (last
 
 pub element : {A : Type 0} (P : Data → A → Type 0) (vs : List Value) (i : ℕ) (xs : List A) (v : Value) → i < length vs → AreItems P (items_view vs) xs →
     (x : A) × P (view (get_or vs i v)) x
-element P [] i xs v within are = absurd (omega arith)
-element P (w ∷ ws) i [] v within are = absurd are
 element P (w ∷ ws) zero (x ∷ xs) v within are = (x, are.0)
 element P (w ∷ ws) (suc i) (x ∷ xs) v within are = element P ws i xs v (omega arith) are.1
+element P vs i xs v within are = absurd (grind (arith, nat_tests))
 
 pub items_read : {A : Type 0} (P : Data → A → Type 0) (d : Data) (vs : List Value) (xs : List A) → d ≡ array (items_view vs) → IsList P d xs →
     AreItems P (items_view vs) xs
@@ -43,9 +41,8 @@ items_read P d vs xs is list = rw (← same_items (items_view vs) list.0 (sym is
 
 pub count_read : {A : Type 0} (P : Data → A → Type 0) (vs : List Value) (xs : List A) → AreItems P (items_view vs) xs → length xs ≡ length vs
 count_read P [] [] are = refl
-count_read P [] (x ∷ xs) are = absurd are
-count_read P (v ∷ vs) [] are = absurd are
 count_read P (v ∷ vs) (x ∷ xs) are = ap suc (count_read P vs xs are.1)
+count_read P vs xs are = absurd are
 
 -- each value of a list that is read is one that can be
 pub each_read : {A : Type 0} (P : Data → A → Type 0) (d : Data) (vs : List Value) (i : ℕ) (xs : List A) (v : Value) → d ≡ array (items_view vs) →

@@ -1,9 +1,9 @@
 -- The objects that a description names.
-use Rattle.description.proofs.Names.{inl, inr, ℕ, List, map, sym, ap, subst, Contains, All-contains, Contains-append_cases, Contains-append_left}
+use Rattle.description.proofs.Names.{nat_tests, arith, inl, inr, ℕ, List, map, sym, subst, Contains, All-contains, Contains-append_cases, Contains-append_left}
 use Rattle.description.proofs.Names.{Contains-append_right, Frame, Geometry, blank_frame, frame_at, object_count, Description, AreDistinct, HasNumbers}
 use Rattle.description.proofs.Names.{IsDescribedAnnex, IsDescribed, IsDescribedNode, IsDescribedPage, IsDescribedRoot, first_frame, node_numbers, page_numbers}
 use Rattle.description.proofs.Names.{Entry, OfBank, OfRoot, OfAnnex, OfNode, OfPage, entries, number_of}
-use Rattle.std.proofs.Common.{◌≡◌, ◌⊎◌, ◌<◌, ◌≤◌, ◌++◌, ◌∙◌}
+use Rattle.std.proofs.Common.{◌≡◌, ◌⊎◌, ◌<◌, ◌≤◌, ◌++◌}
 use Rattle.model.specs.declared.object.Content.TheVariants as content
 use Rattle.description.proofs.Lists.{contains_either, contains_map, map_again, map_both, map_contains}
 
@@ -32,11 +32,8 @@ abbrev pages_of : Description → List Entry
 pages_of d = map OfPage d.pages.items
 
 pub of_entries : (d : Description) (e : Entry) → IsOf d e → Contains (entries d) e
-of_entries d (OfBank b) h =
-    Contains-append_left (banks_of d ++ roots_of d ++ annexes_of d ++ nodes_of d) (pages_of d) (OfBank b)
-    (Contains-append_left (banks_of d ++ roots_of d ++ annexes_of d) (nodes_of d) (OfBank b)
-    (Contains-append_left (banks_of d ++ roots_of d) (annexes_of d) (OfBank b)
-    (Contains-append_left (banks_of d) (roots_of d) (OfBank b) (contains_map OfBank b d.banks.items h))))
+of_entries d (OfBank b) h = Contains-append_left _ _ _ (Contains-append_left _ _ _ (Contains-append_left _ _ _
+    (Contains-append_left _ _ _ (contains_map OfBank b _ h))))
 of_entries d (OfRoot p) h =
     Contains-append_left (banks_of d ++ roots_of d ++ annexes_of d ++ nodes_of d) (pages_of d) (OfRoot p)
     (Contains-append_left (banks_of d ++ roots_of d ++ annexes_of d) (nodes_of d) (OfRoot p)
@@ -73,20 +70,7 @@ entries_of d e h = elim (Contains-append_cases (banks_of d ++ roots_of d ++ anne
 
 -- their numbers are those that are named
 pub numbers_are : (d : Description) → map number_of (entries d) ≡ node_numbers d ++ page_numbers d
-numbers_are d =
-    map_both number_of (banks_of d ++ roots_of d ++ annexes_of d ++ nodes_of d) (pages_of d)
-    ∙ ap (λ ns. ns ++ map number_of (pages_of d))
-    (map_both number_of (banks_of d ++ roots_of d ++ annexes_of d) (nodes_of d)
-    ∙ ap (λ ns. ns ++ map number_of (nodes_of d))
-    (map_both number_of (banks_of d ++ roots_of d) (annexes_of d)
-    ∙ ap (λ ns. ns ++ map number_of (annexes_of d))
-    (map_both number_of (banks_of d) (roots_of d)
-    ∙ ap (λ ns. ns ++ map number_of (roots_of d)) (map_again number_of OfBank d.banks.items)
-    ∙ ap (λ ns. map (λ b. b.number) d.banks.items ++ ns) (map_again number_of OfRoot d.processes.items))
-    ∙ ap (λ ns. map (λ b. b.number) d.banks.items ++ map (λ p. p.root) d.processes.items ++ ns) (map_again number_of OfAnnex d.processes.items))
-    ∙ ap (λ ns. map (λ b. b.number) d.banks.items ++ map (λ p. p.root) d.processes.items ++ map (λ p. p.annex) d.processes.items ++ ns)
-    (map_again number_of OfNode d.nodes.items))
-    ∙ ap (λ ns. node_numbers d ++ ns) (map_again number_of OfPage d.pages.items)
+numbers_are d = grind (arith, nat_tests, map_both, map_again)
 
 pub entries_distinct : (d : Description) → HasNumbers d → AreDistinct (map number_of (entries d))
 entries_distinct d has = subst AreDistinct (sym (numbers_are d)) has.distinct
@@ -113,10 +97,8 @@ abbrev plain_numbers : Description → List ℕ
 plain_numbers d = map (λ n. n.number) d.nodes.items
 
 pub in_range : (d : Description) (e : Entry) → HasNumbers d → IsOf d e → HasRange d.geometry e
-in_range d (OfBank b) has h = All-contains (λ n. n < d.geometry.nodes) (node_numbers d) b.number has.nodes
-    (Contains-append_left (bank_numbers d ++ root_numbers d ++ annex_numbers d) (plain_numbers d) b.number
-    (Contains-append_left (bank_numbers d ++ root_numbers d) (annex_numbers d) b.number
-    (Contains-append_left (bank_numbers d) (root_numbers d) b.number (contains_map (λ c. c.number) b d.banks.items h))))
+in_range d (OfBank b) has h = All-contains (λ n. n < d.geometry.nodes) _ _ has.nodes (Contains-append_left _ _ _ (Contains-append_left _ _ _
+    (Contains-append_left _ _ _ (contains_map (λ c. c.number) b _ h))))
 in_range d (OfRoot p) has h = All-contains (λ n. n < d.geometry.nodes) (node_numbers d) p.root has.nodes
     (Contains-append_left (bank_numbers d ++ root_numbers d ++ annex_numbers d) (plain_numbers d) p.root
     (Contains-append_left (bank_numbers d ++ root_numbers d) (annex_numbers d) p.root

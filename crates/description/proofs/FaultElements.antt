@@ -1,11 +1,7 @@
 -- Lists with a number outside a range or with a number twice, and what holds of an element.
-use Rattle.description.proofs.Names.{ℕ, zero, suc, List, [], length, map, get_or, take, Option, slice_get, slice_index, IsSomeAnd, refl, sym, subst, arith, All}
-use Rattle.description.proofs.Names.{take_all, All-cons, All-head, All-more, All-tail, slice_get_read, AreDistinct}
+use Rattle.description.proofs.Names.{ℕ, zero, suc, List, [], length, map, get_or, take, slice_index, subst, arith, All, take_all, All-cons, All-head, All-more}
+use Rattle.description.proofs.Names.{All-tail, AreDistinct}
 use Rattle.std.proofs.Common.{◌≡◌, ◌≢◌, ◌+◌, ◌<◌, ◌≤◌, ◌∷◌}
-
--- an element of an index, and what holds of it
-pub element_at : {A : Type 0} (P : A → Type 0) (xs : List A) (i : ℕ) (x : A) → i < length xs → x ≡ get_or xs i x → P x → IsSomeAnd (slice_get xs i) P
-element_at {A = A} P xs i x within is holds = subst (λ (o : Option A). IsSomeAnd o P) (sym (slice_get_read xs (length xs) i x refl within is)) holds
 
 -- all hold at the end of a loop
 pub all_taken : {A : Type 0} (P : A → Type 0) (xs : List A) (i : ℕ) → length xs ≤ i → All P (take i xs) → All P xs

@@ -1,6 +1,6 @@
 -- Where a table isn't that of a description.
-use Rattle.description.proofs.Names.{ℕ, List, map, codes, Option, None, Some, IsSomeAnd, refl, sym, subst, arith, IsTrue, MatchOption, All, Contains, none-some}
-use Rattle.description.proofs.Names.{same_Some, Data, Items, Members, array, table, get_item, get_member, view, Value, IsList, IsRange, has_only, whole_ranges}
+use Rattle.description.proofs.Names.{nat_tests, ℕ, List, map, Option, None, Some, IsSomeAnd, refl, sym, subst, arith, IsTrue, MatchOption, All, Contains}
+use Rattle.description.proofs.Names.{none-some, same_Some, Data, Items, Members, array, table, get_item, get_member, view, Value, IsList, IsRange, has_only}
 use Rattle.description.proofs.Names.{Key, Nodes, Pages, Log, Layout, Age, Ranges, Banks, Processes, NodeList, PageList, BankNumber, BankOwner, BankLimit}
 use Rattle.description.proofs.Names.{ProcessRoot, ProcessAnnex, ProcessOwner, ProcessState, ProcessKey, ProcessWords, ProcessSpace, ProcessRegisters}
 use Rattle.description.proofs.Names.{NodeNumber, NodeOwner, NodeSlots, PageNumber, PageOwner, PageWords, Flaw, Item, TableName, HasBadItem, HasItemAs, IsBadAt}
@@ -15,11 +15,7 @@ abbrev pub IsPlain : Key → Type 0
 IsPlain key = (i : ℕ) → object_at key i ≡ None
 
 pub plain_item : (key : Key) (i : ℕ) → object_at key i ≡ None → (d : Data) → IsItem key d → IsWholeItem key d
-plain_item Banks i plain d said = absurd (none-some (name.Bank i) (sym plain))
-plain_item Processes i plain d said = absurd (none-some (name.Process i) (sym plain))
-plain_item NodeList i plain d said = absurd (none-some (name.Node i) (sym plain))
-plain_item PageList i plain d said = absurd (none-some (name.Page i) (sym plain))
-plain_item other i plain d said = said
+plain_item key i plain d said = grind (arith, nat_tests, none-some)
 
 -- a table with all its keys, and no others, says what it has to
 module _ (ms : Members) where
@@ -31,8 +27,7 @@ module _ (ms : Members) where
       let layout : Fits Layout ms = all 3 Nodes (omega arith) in
       let age : Fits Age ms = all 4 Nodes (omega arith) in
       let ranges : Fits Ranges ms = all 5 Nodes (omega arith) in
-      let ranged = with_default (IsList IsRange) (get_member (codes "ranges") ms) (whole_ranges (record { nodes = nodes.0; pages = pages.0; log = log.0 }))
-      (omega arith) ranges.0 ranges.1 in
+      let ranged = with_default (IsList IsRange) _ _ (omega arith) ranges.0 ranges.1 in
       let banks : Fits Banks ms = all 6 Nodes (omega arith) in
       let processes : Fits Processes ms = all 7 Nodes (omega arith) in
       let plain : Fits NodeList ms = all 8 Nodes (omega arith) in
@@ -127,26 +122,15 @@ bad_found P key ms d None is found = unlisted_at key ms d is found
 bad_found P key ms d (Some p) is found = bad_at P key ms p.0 (view p.1.now) d is found
 
 pub flaw_found : (key : Key) (ms : Members) (i : ℕ) (e : Data) → IsPlain key → HasItemAs key i e ms → IsFlawAt key ms (Item key i)
-flaw_found key ms i e plain at =
-    (refl, has_item (key_name key) i ms e (λ d. IsItem key d → ⊥) at.0 at.1 at.2 (λ item. at.3 (plain_item key 0 (plain 0) e item)))
+flaw_found key ms i e plain at = (refl, has_item _ i ms e (λ d. IsItem key d → ⊥) at.0 at.1 at.2 (λ item. at.3 (plain_item key 0 (plain 0) e item)))
 
 -- the item of an index has what one has that it is
 pub item_has : (key : List ℕ) (i : ℕ) (ms : Members) (e : Data) (P : Data → Type 0) → HasItem key i (λ d. d ≡ e) ms → P e → HasItem key i P ms
-item_has key i ms e P at holds = (at.0, at.1, go (get_item i at.0) at.2)
-  where
-    go : (o : Option Data) → IsSomeAnd o (λ d. d ≡ e) → IsSomeAnd o P
-    go None is = absurd is
-    go (Some d) is = subst P (sym is) holds
+item_has key i ms e P at holds = grind (arith, nat_tests)
 
 -- the table of an object says nothing where its item in the list doesn't
 pub table_refused : (key : Key) (i : ℕ) (which : TableName) (d : Data) (t : Members) → object_at key i ≡ Some which → d ≡ table t → (IsWholeItem key d → ⊥) →
     IsTableOf which t → ⊥
-table_refused Nodes i which d t object is none said = absurd (none-some which object)
-table_refused Pages i which d t object is none said = absurd (none-some which object)
-table_refused Log i which d t object is none said = absurd (none-some which object)
-table_refused Layout i which d t object is none said = absurd (none-some which object)
-table_refused Age i which d t object is none said = absurd (none-some which object)
-table_refused Ranges i which d t object is none said = absurd (none-some which object)
 table_refused Banks i which d t object is none said = let x = subst (λ w. IsTableOf w t) (sym (same_Some (name.Bank i) which object)) said in none
     (x.0, (t, is, x.1))
 table_refused Processes i which d t object is none said = let x = subst (λ w. IsTableOf w t) (sym (same_Some (name.Process i) which object)) said in none
@@ -155,34 +139,14 @@ table_refused NodeList i which d t object is none said = let x = subst (λ w. Is
     (x.0, (t, is, x.1))
 table_refused PageList i which d t object is none said = let x = subst (λ w. IsTableOf w t) (sym (same_Some (name.Page i) which object)) said in none
     (x.0, (t, is, x.1))
-table_refused BankNumber i which d t object is none said = absurd (none-some which object)
-table_refused other i which d t object is none said = absurd (none-some which object)
+table_refused key i which d t object is none said = absurd (none-some which object)
 
 pub table_there : (key : Key) (i : ℕ) (which : TableName) (ms : Members) (d : Data) (t : Members) → object_at key i ≡ Some which →
     HasItem (key_name key) i (λ x. x ≡ d) ms → d ≡ table t → IsTableAt ms which t
-table_there Nodes i which ms d t object at is = absurd (none-some which object)
-table_there Pages i which ms d t object at is = absurd (none-some which object)
-table_there Log i which ms d t object at is = absurd (none-some which object)
-table_there Layout i which ms d t object at is = absurd (none-some which object)
-table_there Age i which ms d t object at is = absurd (none-some which object)
-table_there Ranges i which ms d t object at is = absurd (none-some which object)
-table_there Banks i which ms d t object at is = subst (λ w. IsTableAt ms w t) (same_Some (name.Bank i) which object)
-    (item_has (key_name Banks) i ms d (λ x. x ≡ table t) at is)
-table_there Processes i which ms d t object at is = subst (λ w. IsTableAt ms w t) (same_Some (name.Process i) which object)
-    (item_has (key_name Processes) i ms d (λ x. x ≡ table t) at is)
-table_there NodeList i which ms d t object at is = subst (λ w. IsTableAt ms w t) (same_Some (name.Node i) which object)
-    (item_has (key_name NodeList) i ms d (λ x. x ≡ table t) at is)
-table_there PageList i which ms d t object at is = subst (λ w. IsTableAt ms w t) (same_Some (name.Page i) which object)
-    (item_has (key_name PageList) i ms d (λ x. x ≡ table t) at is)
-table_there BankNumber i which ms d t object at is = absurd (none-some which object)
-table_there other i which ms d t object at is = absurd (none-some which object)
+table_there key i which ms d t object at is = grind (arith, nat_tests, none-some, same_Some, item_has)
 
 pub not_table : (key : Key) (i : ℕ) (which : TableName) (d : Data) → object_at key i ≡ Some which → ((ms : Members) → d ≡ table ms → ⊥) → IsItem key d → ⊥
-not_table Banks i which d object none said = none said.0 said.1
-not_table Processes i which d object none said = none said.0 said.1
-not_table NodeList i which d object none said = none said.0 said.1
-not_table PageList i which d object none said = none said.0 said.1
-not_table other i which d object none said = absurd (none-some which object)
+not_table key i which d object none said = grind (arith, nat_tests, none-some)
 
 -- the place of an item that isn't of its form, and of an object in whose table something is wrong
 pub item_place : (key : Key) (i : ℕ) (e : Data) → Contains (keys_of name.Whole) key → (IsItem key e → ⊥) → (ms : Members) →

@@ -1,15 +1,15 @@
 -- Laid frames are those that are described, and can be kept.
-use Rattle.description.proofs.Names.{inl, inr, ℕ, Option, None, Some, List, map, length, replicate, slice_index_or, unwrap_or, refl, sym, ap, subst, arith, All}
-use Rattle.description.proofs.Names.{Contains, length-replicate, All-contains, All-replicate, slice_get-get_or, Cap, Capability, Void, Number, Page, Node}
-use Rattle.description.proofs.Names.{Space, Process, Start, Resume, Bank, Discrim, Frame, Geometry, Available, IsWellFormed, blank_frame, frame_at, void_held}
-use Rattle.description.proofs.Names.{AreKeepable, AreKeptSlots, Follows, IsCount, IsKept, IsKeptCap, IsKeepable, IsOfKind, IsSpace, object_count, fresh_cap}
-use Rattle.description.proofs.Names.{BankEntry, Description, NodeEntry, PageEntry, ProcessEntry, SlotEntry, WordEntry, World, AreSlots, AreWords, HasFields}
-use Rattle.description.proofs.Names.{HasNamedWords, HasNumbers, HoldsNamed, IsSomeCapability, IsDescribed, IsProcessEntry, IsSpaceEntry, first_named}
-use Rattle.description.proofs.Names.{AreTargets, Entry, HasProcessTargets, HasTargets, IsLaid, OfAnnex, OfBank, IsTarget, OfNode, OfPage, OfRoot, entries}
-use Rattle.description.proofs.Names.{frame_of, laid, number_of, slot_held, slots_of, words_of}
+use Rattle.description.proofs.Names.{nat_tests, inl, inr, ℕ, Option, None, Some, List, map, length, replicate, slice_index_or, unwrap_or, refl, sym, ap, subst}
+use Rattle.description.proofs.Names.{arith, All, Contains, length-replicate, All-contains, All-replicate, slice_get-get_or, Cap, Capability, Void, Frame}
+use Rattle.description.proofs.Names.{Geometry, Available, IsWellFormed, blank_frame, frame_at, void_held, AreKeepable, AreKeptSlots, Follows, IsCount, IsKept}
+use Rattle.description.proofs.Names.{IsKeptCap, IsKeepable, IsOfKind, IsSpace, object_count, fresh_cap, BankEntry, Description, NodeEntry, PageEntry}
+use Rattle.description.proofs.Names.{ProcessEntry, SlotEntry, WordEntry, World, AreSlots, AreWords, HasFields, HasNamedWords, HasNumbers, HoldsNamed}
+use Rattle.description.proofs.Names.{IsSomeCapability, IsDescribed, IsProcessEntry, IsSpaceEntry, first_named, AreTargets, Entry, HasProcessTargets, HasTargets}
+use Rattle.description.proofs.Names.{IsLaid, OfAnnex, OfBank, IsTarget, OfNode, OfPage, OfRoot, entries, frame_of, laid, number_of, slot_held, slots_of}
+use Rattle.description.proofs.Names.{words_of}
 use Rattle.layout.specs.Superblock.{IsGeometry}
 use Rattle.description.specs.Laid.{Fits}
-use Rattle.std.proofs.Common.{◌≡◌, ◌≢◌, ◌+◌, ◌^◌, ◌<◌, ◌≤◌, ◌++◌, ◌∙◌}
+use Rattle.std.proofs.Common.{◌≡◌, ◌≢◌, ◌+◌, ◌^◌, ◌<◌, ◌≤◌, ◌∙◌}
 use Rattle.description.proofs.Entries.{IsFrameOf, IsOf, entries_distinct, entries_of, in_range, numbers_are, of_entries}
 use Rattle.description.proofs.LaidFrames.{laid_both}
 use Rattle.description.proofs.Lists.{all_from, contains_either, each_at, each_holds, each_of, each_other, first_map, length_each, map_contains, same_at}
@@ -28,10 +28,9 @@ holds_named first es are = record {
   count = length_each (λ s. s.index) slot_held es void_slots ∙ length-replicate 32 void_held;
   each = λ i lt.
       let size : length (slots_of es) ≡ 32 = length_each (λ s. s.index) slot_held es void_slots ∙ length-replicate 32 void_held in
-      slice_get-get_or (slots_of es) i void_held (subst (λ n. i < n) (sym size) lt)
-      ∙ ap Some
-      (each_at (λ s. s.index) slot_held es void_slots i void_held are.distinct
-      (λ k d inside. subst (λ n. (slice_index_or es k d).index < n) (sym (length-replicate 32 void_held)) (are.places k d inside).1)
+      slice_get-get_or (slots_of es) i void_held (rw size lt)
+      ∙ ap Some (each_at (λ s. s.index) slot_held es void_slots i void_held are.distinct
+      (λ k d inside. rw (length-replicate 32 void_held) (are.places k d inside).1)
       ∙ ap (λ v. first_named (λ s. s.index) slot_held v es i) (same_at 32 i void_held)
       ∙ first_map (λ s. s.index) (λ s. unwrap_or s.capability Void) fresh_cap Void es i);
 }
@@ -42,22 +41,18 @@ holds_words es are = record {
   count = length_each (λ w. w.index) (λ w. w.word) es zeros ∙ length-replicate {A = ℕ} 512 0;
   each = λ i lt.
       let size : length (words_of es) ≡ 512 = length_each (λ w. w.index) (λ w. w.word) es zeros ∙ length-replicate {A = ℕ} 512 0 in
-      slice_get-get_or (words_of es) i 0 (subst (λ n. i < n) (sym size) lt)
-      ∙ ap Some
-      (each_at (λ w. w.index) (λ w. w.word) es zeros i 0 are.distinct
-      (λ k d inside. subst (λ n. (slice_index_or es k d).index < n) (sym (length-replicate {A = ℕ} 512 0)) (are.places k d inside))
+      slice_get-get_or (words_of es) i 0 (rw size lt)
+      ∙ ap Some (each_at (λ w. w.index) (λ w. w.word) es zeros i 0 are.distinct (λ k d inside. rw (length-replicate {A = ℕ} 512 0) (are.places k d inside))
       ∙ ap (λ v. first_named (λ w. w.index) (λ w. w.word) v es i) (same_at 512 i 0));
 }
 
 -- what isn't named is void, as register 0 is
 pub first_void : (es : List SlotEntry) → AreSlots 1 es → slice_index_or (slots_of es) 0 void_held ≡ void_held
 unfolding slots_of
-first_void es are =
-    each_other (λ s. s.index) slot_held es void_slots 0 void_held
-    (λ h. let found = map_contains (λ s. s.index) 0 es h in
-    let place = All-contains (λ s. (1 ≤ s.index) × (s.index < 32)) es found.0 are.places found.1 in
+first_void es are = each_other (λ s. s.index) slot_held es _ 0 _ (λ h. let found = map_contains (λ s. s.index) 0 es h in
+    let place = All-contains (λ s. (1 ≤ s.index) × (s.index < 32)) es _ are.places found.1 in
     omega (arith, place.0, found.2))
-    ∙ same_at 32 0 void_held
+    ∙ same_at 32 0 _
 
 -- Capabilities.
 
@@ -71,16 +66,7 @@ no_count : IsCount 0 0
 no_count = (omega arith, omega arith)
 
 pub follows : (g : Geometry) (c : Capability) → IsGeometry g → IsWellFormed c → IsTarget g c → Follows g 0 0 c
-follows g Void is formed target = refl
-follows g (Number n) is formed target = (formed, refl)
-follows g (Page o a) is formed target = (formed, (target.0, target.1, page_fits g o is target.1), no_count)
-follows g (Node o a) is formed target = (formed, (target, node_fits g o is target), no_count)
-follows g (Space o h a) is formed target = (formed.2, formed.0, formed.1, (target, node_fits g o is target), no_count)
-follows g (Process p) is formed target = ((target, node_fits g p is target), no_count)
-follows g (Start p key) is formed target = (formed, (target, node_fits g p is target), no_count)
-follows g (Resume p) is formed target = ((target, node_fits g p is target), no_count)
-follows g (Bank b) is formed target = ((target, node_fits g b is target), no_count)
-follows g Discrim is formed target = refl
+follows g c is formed target = grind (arith, nat_tests, page_fits, no_count, node_fits)
 
 slot_kept : (g : Geometry) (o : Option Capability) → IsGeometry g → IsSomeCapability o → IsTarget g (unwrap_or o Void) →
     IsKeptCap g 0 (fresh_cap (unwrap_or o Void))
@@ -135,16 +121,15 @@ kept_entry d (OfAnnex p) is numbers fields targets of fits =
       unowned = λ free. absurd cc;
       content = (slots_kept d.geometry 1 p.registers.items is good.registers target.registers, first_void p.registers.items good.registers);
     }
-kept_entry d (OfNode n) is numbers fields targets of fits =
-    record {
-      role = refl;
-      allocations = no_count;
-      calls = no_count;
-      owner = fits;
-      unowned = λ free. absurd cc;
-      content = slots_kept d.geometry 0 n.slots.items is (All-contains (λ m. AreSlots 0 m.slots.items) d.nodes.items n fields.nodes of)
-          (All-contains (λ m. AreTargets d.geometry m.slots.items) d.nodes.items n targets.nodes of);
-    }
+kept_entry d (OfNode n) is numbers fields targets of fits = record {
+  role = refl;
+  allocations = no_count;
+  calls = no_count;
+  owner = fits;
+  unowned = λ free. absurd cc;
+  content = slots_kept _ 0 _ is (All-contains (λ m. AreSlots 0 m.slots.items) _ n fields.nodes of)
+      (All-contains (λ m. AreTargets d.geometry m.slots.items) _ n targets.nodes of);
+}
 kept_entry d (OfPage p) is numbers fields targets of fits =
     record {
       role = refl;
@@ -159,11 +144,7 @@ kept_entry d (OfPage p) is numbers fields targets of fits =
     }
 
 kind_entry : (d : Description) (e : Entry) → HasNumbers d → IsOf d e → IsOfKind d.geometry (number_of e) (frame_of e).content
-kind_entry d (OfBank b) numbers of = in_range d (OfBank b) numbers of
-kind_entry d (OfRoot p) numbers of = in_range d (OfRoot p) numbers of
-kind_entry d (OfAnnex p) numbers of = in_range d (OfAnnex p) numbers of
-kind_entry d (OfNode n) numbers of = in_range d (OfNode n) numbers of
-kind_entry d (OfPage p) numbers of = in_range d (OfPage p) numbers of
+kind_entry d e numbers of = grind (arith, nat_tests, in_range)
 
 -- what is there is what a default leaves
 there : {X : Type 0} → (o : Option X) (d : X) → o ≢ None → o ≡ Some (unwrap_or o d)
@@ -177,15 +158,13 @@ space_there (Some c) space = refl
 is_frame : (d : Description) (e : Entry) → HasFields d → IsOf d e → IsFrameOf e (frame_of e)
 is_frame d (OfBank b) fields of = refl
 is_frame d (OfRoot p) fields of =
-    let good : IsProcessEntry p = All-contains IsProcessEntry d.processes.items p fields.processes of in
-    (unwrap_or p.state Available, unwrap_or p.space Void, there p.state Available good.state, space_there p.space good.space, refl)
+    let good : IsProcessEntry p = All-contains IsProcessEntry _ p fields.processes of in
+    (unwrap_or p.state Available, unwrap_or p.space Void, there _ _ good.state, space_there _ good.space, refl)
 is_frame d (OfAnnex p) fields of =
-    let good : IsProcessEntry p = All-contains IsProcessEntry d.processes.items p fields.processes of in
-    (slots_of p.registers.items, holds_named 1 p.registers.items good.registers, refl)
-is_frame d (OfNode n) fields of =
-    (slots_of n.slots.items, holds_named 0 n.slots.items (All-contains (λ m. AreSlots 0 m.slots.items) d.nodes.items n fields.nodes of), refl)
-is_frame d (OfPage p) fields of =
-    (words_of p.words.items, holds_words p.words.items (All-contains (λ q. AreWords q.words.items) d.pages.items p fields.pages of), refl)
+    let good : IsProcessEntry p = All-contains IsProcessEntry _ p fields.processes of in
+    (slots_of p.registers.items, holds_named 1 _ good.registers, refl)
+is_frame d (OfNode n) fields of = (slots_of n.slots.items, holds_named 0 _ (All-contains (λ m. AreSlots 0 m.slots.items) _ n fields.nodes of), refl)
+is_frame d (OfPage p) fields of = (words_of p.words.items, holds_words _ (All-contains (λ q. AreWords q.words.items) _ p fields.pages of), refl)
 
 -- All frames.
 
@@ -193,19 +172,12 @@ abbrev pub blanks : Description → List Frame
 blanks d = replicate (object_count d.geometry) blank_frame
 
 below : (d : Description) (e : Entry) → HasNumbers d → IsOf d e → number_of e < object_count d.geometry
-below d (OfBank b) numbers of = omega (arith, in_range d (OfBank b) numbers of)
-below d (OfRoot p) numbers of = omega (arith, in_range d (OfRoot p) numbers of)
-below d (OfAnnex p) numbers of = omega (arith, in_range d (OfAnnex p) numbers of)
-below d (OfNode n) numbers of = omega (arith, in_range d (OfNode n) numbers of)
-below d (OfPage p) numbers of = (in_range d (OfPage p) numbers of).1
+below d e numbers of = grind (arith, nat_tests, in_range)
 
 pub laid_entry : (d : Description) (e : Entry) → HasNumbers d → IsOf d e → frame_at (laid (entries d) (blanks d)) (number_of e) ≡ frame_of e
 unfolding laid
-laid_entry d e numbers of =
-    each_of number_of frame_of (entries d) (blanks d) e blank_frame (entries_distinct d numbers)
-    (all_from (λ f. number_of f < length (blanks d)) (entries d)
-    (λ f h. subst (λ n. number_of f < n) (sym (length-replicate (object_count d.geometry) blank_frame)) (below d f numbers (entries_of d f h))))
-    (of_entries d e of)
+laid_entry d e numbers of = each_of number_of frame_of _ _ e _ (entries_distinct d numbers) (all_from (λ f. number_of f < length (blanks d)) _
+    (λ f h. subst (λ n. number_of f < n) (sym (length-replicate _ _)) (below d f numbers (entries_of d f h)))) (of_entries d e of)
 
 pub laid_free : (d : Description) (n : ℕ) → (Contains (map number_of (entries d)) n → ⊥) → frame_at (laid (entries d) (blanks d)) n ≡ blank_frame
 unfolding laid
@@ -230,10 +202,7 @@ laid_described d numbers fields = record {
 }
 
 blank_kept : (g : Geometry) (n : ℕ) → IsKeepable g 0 n blank_frame
-blank_kept g n = record {
-  kind = tt;
-  kept = record { role = refl; allocations = no_count; calls = no_count; owner = omega arith; unowned = λ free. refl; content = tt };
-}
+blank_kept g n = grind (arith, nat_tests, no_count)
 
 pub laid_keepable : (d : Description) → IsGeometry d.geometry → HasNumbers d → HasFields d → HasTargets d.geometry d → All Fits (entries d)
     → AreKeepable d.geometry 0 (laid (entries d) (blanks d))
@@ -247,9 +216,8 @@ laid_keepable d is numbers fields targets fits = record {
           kind = kind_entry d found.0 numbers of;
           kept = kept_entry d found.0 is numbers fields targets of (All-contains Fits (entries d) found.0 fits found.1);
         } in
-        subst (λ m. IsKeepable d.geometry 0 m (frame_at (laid (entries d) (blanks d)) m)) found.2
-        (subst (IsKeepable d.geometry 0 (number_of found.0)) (sym (laid_entry d found.0 numbers of)) whole)
-    | inr none ↦ subst (IsKeepable d.geometry 0 n) (sym (laid_free d n none)) (blank_kept d.geometry n)
+        rw (← found.2) (rw (laid_entry d found.0 numbers of) whole)
+    | inr none ↦ rw (laid_free d n none) (blank_kept d.geometry n)
   ];
 }
 
@@ -257,9 +225,7 @@ laid_keepable d is numbers fields targets fits = record {
 
 pub all_within : {E : Type 0} → (d : Description) (entry : E → Entry) (es xs : List E) (n : ℕ) → HasNumbers d → ((e : E) → Contains es e → IsOf d (entry e))
     → xs ≡ es → n ≡ object_count d.geometry → All (λ e. number_of (entry e) < n) xs
-all_within d entry es xs n numbers each same size =
-    subst (λ ys. All (λ e. number_of (entry e) < n) ys) (sym same)
-    (all_from (λ e. number_of (entry e) < n) es (λ e h. subst (λ m. number_of (entry e) < m) (sym size) (below d (entry e) numbers (each e h))))
+all_within d entry es xs n numbers each same size = rw same (all_from (λ e. number_of (entry e) < n) es (λ e h. rw size (below d (entry e) numbers (each e h))))
 
 laid_same : {E : Type 0} → (entry : E → Entry) (xs ys : List E) (old new : World) → xs ≡ ys → IsLaid (map entry xs) old new → IsLaid (map entry ys) old new
 laid_same entry xs ys old new same is = subst (λ zs. IsLaid (map entry zs) old new) same is
@@ -270,12 +236,8 @@ pub laid_five : (d : Description) (bs : List BankEntry) (rs annexes : List Proce
     IsLaid (map OfPage ps) w4 w5
     → IsLaid (entries d) w0 w5
 laid_five d bs rs annexes ns ps w0 w1 w2 w3 w4 w5 eb er ea en ep b r a n p =
-    let one = laid_same OfBank bs d.banks.items w0 w1 eb b in
-    let two = laid_both (map OfBank d.banks.items) (map OfRoot d.processes.items) w0 w1 w2 one (laid_same OfRoot rs d.processes.items w1 w2 er r) in
-    let three = laid_both (map OfBank d.banks.items ++ map OfRoot d.processes.items) (map OfAnnex d.processes.items) w0 w2 w3 two
-    (laid_same OfAnnex annexes d.processes.items w2 w3 ea a) in
-    let four = laid_both (map OfBank d.banks.items ++ map OfRoot d.processes.items ++ map OfAnnex d.processes.items) (map OfNode d.nodes.items) w0 w3 w4 three
-    (laid_same OfNode ns d.nodes.items w3 w4 en n) in
-    laid_both (map OfBank d.banks.items ++ map OfRoot d.processes.items ++ map OfAnnex d.processes.items ++ map OfNode d.nodes.items) (map OfPage d.pages.items)
-    w0 w4 w5 four
-    (laid_same OfPage ps d.pages.items w4 w5 ep p)
+    let one = laid_same OfBank bs _ w0 w1 eb b in
+    let two = laid_both _ _ w0 w1 w2 one (laid_same OfRoot rs _ w1 w2 er r) in
+    let three = laid_both _ _ w0 w2 w3 two (laid_same OfAnnex _ _ w2 w3 ea a) in
+    let four = laid_both _ _ w0 w3 w4 three (laid_same OfNode ns _ w3 w4 en n) in
+    laid_both _ _ w0 w4 w5 four (laid_same OfPage ps _ w4 w5 ep p)

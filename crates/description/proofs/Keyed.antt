@@ -1,11 +1,7 @@
 -- What is at a key, and what isn't.
-use Rattle.description.proofs.Names.{ℕ, List, Option, Some, None, IsSomeAnd, Result, Vec, Global, refl, sym, none-some, same_Some, Data, Members, get_member}
-use Rattle.description.proofs.Names.{AtOr, ReadsList, BuildFault}
+use Rattle.description.proofs.Names.{ℕ, List, Option, Some, None, Result, Vec, Global, refl, sym, none-some, same_Some, Data, Members, get_member, AtOr}
+use Rattle.description.proofs.Names.{ReadsList, BuildFault}
 use Rattle.std.proofs.Common.{MatchOption, ◌≡◌}
-
-pub missing : {A : Type 0} (P : Data → A → Type 0) (o : Option Data) → None ≡ o → (x : A) → IsSomeAnd o (λ d. P d x) → ⊥
-missing P None is x at = at
-missing P (Some d) is x at = none-some d is
 
 pub defaulted : {A : Type 0} (P : Data → A → Type 0) (o : Option Data) → None ≡ o → (x : A) → MatchOption o (x ≡ x) (λ d. P d x)
 defaulted P None is x = refl

@@ -1,6 +1,7 @@
 -- Frames that are laid one after the other.
-use Rattle.description.proofs.Names.{ℕ, List, drop, length, map, slice_index_or, refl, sym, ap, subst, arith, vec_len, All, drop_all, drop_more, All-append}
-use Rattle.description.proofs.Names.{All-cons, All-nil, Frame, Cap, Content, World, first_frame, Entry, IsLaid, IsPut, frame_of, frames_of, laid, number_of}
+use Rattle.description.proofs.Names.{nat_tests, ℕ, List, drop, length, map, slice_index_or, refl, sym, ap, subst, arith, vec_len, All, drop_all, drop_more}
+use Rattle.description.proofs.Names.{All-append, All-cons, All-nil, Frame, Cap, Content, World, first_frame, Entry, IsLaid, IsPut, frame_of, frames_of, laid}
+use Rattle.description.proofs.Names.{number_of}
 use Rattle.description.specs.Laid.{Fits}
 use Rattle.std.proofs.Common.{◌≡◌, ◌+◌, ◌<◌, ◌≤◌, ◌∷◌, ◌++◌, ◌∙◌}
 use Rattle.description.proofs.Lists.{each_append}
@@ -31,22 +32,12 @@ none_laid entry es old = record { frames = refl; fits = λ h. h; headers = refl;
 pub more_laid : {E : Type 0} → (entry : E → Entry) (es : List E) (old now next : World) (i : ℕ) (e : E) → drop i es ≡ e ∷ drop (i + 1) es → Fits (entry e)
     → IsPut (number_of (entry e)) (frame_of (entry e)) now next → IsLaying entry es old now i → IsLaying entry es old next (i + 1)
 unfolding laid
-more_laid entry es old now next i e split fits put was = record {
-  frames = ap (laid (map entry (drop (i + 1) es))) put.frames ∙ sym (ap (λ fs. laid (map entry fs) (frames_of now)) split) ∙ was.frames;
-  fits = λ rest. was.fits (subst (λ fs. All Fits (map entry fs)) (sym split) (All-cons Fits (entry e) (map entry (drop (i + 1) es)) fits rest));
-  headers = put.headers ∙ was.headers;
-  contents = put.contents ∙ was.contents;
-}
+more_laid {E} entry es old now next i e split fits put was = grind (arith, nat_tests, All-cons)
 
 pub all_laid : {E : Type 0} → (entry : E → Entry) (es : List E) (old now : World) (i : ℕ) → length es ≤ i → IsLaying entry es old now i →
     IsLaid (map entry es) old now
 unfolding laid
-all_laid entry es old now i done was = record {
-  frames = sym (ap (λ fs. laid (map entry fs) (frames_of now)) (drop_all i es done)) ∙ was.frames;
-  fits = was.fits (subst (λ fs. All Fits (map entry fs)) (sym (drop_all i es done)) (All-nil Fits));
-  headers = was.headers;
-  contents = was.contents;
-}
+all_laid {E} entry es old now i done was = grind (arith, nat_tests, drop_all, All-nil)
 
 -- an element that was read is the first from its index on
 pub split_at : {E : Type 0} → (es : List E) (i : ℕ) (e : E) → i < length es → e ≡ slice_index_or es i e → drop i es ≡ e ∷ drop (i + 1) es

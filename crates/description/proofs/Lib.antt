@@ -18,7 +18,6 @@ pub mod Flaws
 pub mod FaultElements
 pub mod Ranges
 pub mod NumberPlaces
-pub mod FaultParts
 pub mod Refuted
 pub mod NamedCapabilities
 pub mod Slots

@@ -60,10 +60,8 @@ module _ {E V : Type 0} (index : E → ℕ) (value : E → V) where
   -- nothing is named for an index that isn't there
   pub first_none : (default : V) (es : List E) (i : ℕ) → (Contains (map index es) i → ⊥) → first_named index value default es i ≡ default
   first_none default [] i none = refl
-  first_none default (e ∷ es) i none = elim (cases_eq (index e) i) [
-    | inl is ↦ absurd (none (subst (Contains (map index (e ∷ es))) is (contains_here (index e) (map index es))))
-    | inr differ ↦ first_beyond default e es i differ ∙ first_none default es i (λ h. none (contains_there i (index e) (map index es) h))
-  ]
+  first_none default (e ∷ es) i none =
+      grind (arith, nat_tests, first_none default es i (λ h. none (contains_there i (index e) (map index es) h)), contains_here, first_beyond, contains_there)
 
   -- and what is there is named, where no index comes twice
   pub first_of : (default : V) (es : List E) (e : E) → AreDistinct (map index es) → Contains es e → first_named index value default es (index e) ≡ value e
@@ -83,9 +81,8 @@ module _ {E V : Type 0} (index : E → ℕ) (value : E → V) where
   pub each_other : (es : List E) (xs : List V) (i : ℕ) (d : V) → (Contains (map index es) i → ⊥) →
       slice_index_or (set_each index value es xs) i d ≡ slice_index_or xs i d
   each_other [] xs i d none = refl
-  each_other (e ∷ es) xs i d none =
-      each_other es (slice_set xs (index e) (value e)) i d (λ h. none (contains_there i (index e) (map index es) h))
-      ∙ get_or-set_other xs (index e) i (value e) d (λ is. none (subst (Contains (map index (e ∷ es))) (sym is) (contains_here (index e) (map index es))))
+  each_other (e ∷ es) xs i d none = each_other es _ i d (λ h. none (contains_there i _ _ h))
+      ∙ get_or-set_other xs _ i _ d (λ is. none (subst (Contains (map index (e ∷ es))) (sym is) (contains_here _ _)))
 
   -- each place has what is named for it, else what it had
   pub each_at : (es : List E) (xs : List V) (i : ℕ) (d : V) → AreDistinct (map index es) → All (λ e. index e < length xs) es
@@ -95,15 +92,12 @@ module _ {E V : Type 0} (index : E → ℕ) (value : E → V) where
       let next : List V = slice_set xs (index e) (value e) in
       let size : length next ≡ length xs = length-set xs (index e) (value e) in
       let lt : index e < length xs = All-head (λ e. index e < length xs) e es within in
-      let rest : All (λ e. index e < length next) es = λ k f inside. subst (λ n. index (slice_index_or es k f) < n) (sym size)
-      (All-tail (λ e. index e < length xs) e es within k f inside) in
+      let rest : All (λ e. index e < length next) es = λ k f inside. rw size (All-tail (λ e. index e < length xs) e es within k f inside) in
       elim (cases_eq (index e) i) [
-        | inl is ↦
-            each_other es next i d (λ h. distinct.0 (subst (Contains (map index es)) (sym is) h))
+        | inl is ↦ each_other es next i d (λ h. distinct.0 (rw is h))
             ∙ ap (λ j. slice_index_or next j d) (sym is) ∙ get_or-set_same xs (index e) (value e) d lt
             ∙ sym (first_there (slice_index_or xs i d) e es i is)
-        | inr differ ↦
-            each_at es next i d distinct.1 rest
+        | inr differ ↦ each_at es next i d distinct.1 rest
             ∙ ap (λ v. first_named index value v es i) (get_or-set_other xs (index e) i (value e) d (λ is. differ (sym is)))
             ∙ sym (first_beyond (slice_index_or xs i d) e es i differ)
       ]
@@ -116,11 +110,7 @@ module _ {E V : Type 0} (index : E → ℕ) (value : E → V) where
 pub first_map : {E V W : Type 0} → (index : E → ℕ) (value : E → V) (f : V → W) (default : V) (es : List E) (i : ℕ)
     → first_named index (λ e. f (value e)) (f default) es i ≡ f (first_named index value default es i)
 first_map index value f default [] i = refl
-first_map index value f default (e ∷ es) i = elim (cases_eq (index e) i) [
-  | inl is ↦ first_there index (λ e. f (value e)) (f default) e es i is ∙ ap f (sym (first_there index value default e es i is))
-  | inr differ ↦ first_beyond index (λ e. f (value e)) (f default) e es i differ ∙ first_map index value f default es i ∙
-      ap f (sym (first_beyond index value default e es i differ))
-]
+first_map index value f default (e ∷ es) i = grind (arith, nat_tests, first_map index value f default es i, first_there, first_beyond)
 
 module _ {E V : Type 0} (index : E → ℕ) (value : E → V) where
   -- all is written
@@ -135,9 +125,7 @@ module _ {E V : Type 0} (index : E → ℕ) (value : E → V) where
   -- what holds of all that was there and of all that is written holds of all
   pub each_holds : (P : V → Type 0) (es : List E) (xs : List V) → All P xs → All (λ e. P (value e)) es → All P (set_each index value es xs)
   each_holds P [] xs old new = old
-  each_holds P (e ∷ es) xs old new =
-      each_holds P es (slice_set xs (index e) (value e)) (All-set P xs (index e) (value e) (All-head (λ f. P (value f)) e es new) old)
-      (All-tail (λ f. P (value f)) e es new)
+  each_holds P (e ∷ es) xs old new = each_holds P es _ (All-set P xs _ _ (All-head (λ f. P (value f)) e es new) old) (All-tail (λ f. P (value f)) e es new)
 
 -- a slice from an index on is what is left from there
 pub rest_is : {X : Type 0} → (xs : List X) (k : ℕ) → take (length xs - k) (drop k xs) ≡ drop k xs
@@ -146,9 +134,8 @@ rest_is xs k = take_all (length xs - k) (drop k xs) (omega (arith, length-drop k
 -- Numbers that are gone through in order, with those before marked.
 
 none_marked : (count m : ℕ) → is_marked (replicate count false) m ≡ false
-none_marked zero m = refl
-none_marked (suc c) zero = refl
 none_marked (suc c) (suc m) = none_marked c m
+none_marked count m = refl
 
 -- the numbers differ, and none is marked
 pub record AreNew (marks : List Bool) (ns : List ℕ) : Type 0 where
@@ -194,8 +181,7 @@ still_new ns marks i lt within unmarked was =
     )
 
 pub ended_new : (ns : List ℕ) (marks : List Bool) (i : ℕ) → length ns ≤ i → (AreDistinct ns ↔ AreNew marks (drop i ns)) → AreDistinct ns
-ended_new ns marks i done was =
-    was.1 (subst (AreNew marks) (sym (drop_all i ns done)) (record { distinct = tt; unmarked = λ m h. absurd (contains_none m h) }))
+ended_new ns marks i done was = was.1 (rw (drop_all i ns done) (record { distinct = tt; unmarked = λ m h. absurd (contains_none m h) }))
 
 -- The same of the indexes of entries.
 module _ {E : Type 0} (index : E → ℕ) where
@@ -221,11 +207,7 @@ module _ {E : Type 0} (index : E → ℕ) where
 
   pub index_twice : (es : List E) (i : ℕ) (d : E) → i < length es → (AreDistinct (map index es) ↔ AreDistinct (map index (drop i es)))
       → Any (λ e. index e ≡ index (slice_index_or es i d)) (take (length es - (i + 1)) (drop (i + 1) es)) → AreDistinct (map index es) → ⊥
-  index_twice es i d lt was found distinct =
-      let there = subst (Any (λ e. index e ≡ index (slice_index_or es i d))) (rest_is es (i + 1)) found in
-      let now : AreDistinct (map index (slice_index_or es i d ∷ drop (i + 1) es)) = subst (λ (t : List E). AreDistinct (map index t)) (drop_more es i d lt)
-      (was.0 distinct) in
-      now.0 (any_index (drop (i + 1) es) (index (slice_index_or es i d)) there)
+  index_twice es i d lt was found distinct = grind (arith, nat_tests, rest_is, drop_more, any_index)
 
   pub index_apart : (es : List E) (i : ℕ) (d : E) → i < length es → (AreDistinct (map index es) ↔ AreDistinct (map index (drop i es)))
       → (Any (λ e. index e ≡ index (slice_index_or es i d)) (take (length es - (i + 1)) (drop (i + 1) es)) → ⊥) →
@@ -233,8 +215,7 @@ module _ {E : Type 0} (index : E → ℕ) where
   index_apart es i d lt was apart = (
     λ distinct. (subst (λ (t : List E). AreDistinct (map index t)) (drop_more es i d lt) (was.0 distinct)).1,
     λ rest. was.1 (subst (λ (t : List E). AreDistinct (map index t)) (sym (drop_more es i d lt)) (
-      (λ h. apart (subst (Any (λ e. index e ≡ index (slice_index_or es i d))) (sym (rest_is es (i + 1)))
-          (index_any (drop (i + 1) es) (index (slice_index_or es i d)) h))),
+      (λ h. apart (subst (Any (λ e. index e ≡ index (slice_index_or es i d))) (sym (rest_is es _)) (index_any _ _ h))),
       rest,
     )),
   )
@@ -252,8 +233,7 @@ each_wrote index value es now next all i d v lt made is was =
 -- what an entry names is there in the end
 pub each_of : {E V : Type 0} → (index : E → ℕ) (value : E → V) (es : List E) (xs : List V) (e : E) (d : V) → AreDistinct (map index es)
     → All (λ f. index f < length xs) es → Contains es e → slice_index_or (set_each index value es xs) (index e) d ≡ value e
-each_of index value es xs e d distinct within there =
-    each_at index value es xs (index e) d distinct within ∙ first_of index value (slice_index_or xs (index e) d) es e distinct there
+each_of index value es xs e d distinct within there = each_at index value es xs _ d distinct within ∙ first_of index value _ es e distinct there
 
 -- a fact of each member, and of one at a place
 pub all_from : {X : Type 0} → (P : X → Type 0) (xs : List X) → ((x : X) → Contains xs x → P x) → All P xs
@@ -274,6 +254,5 @@ map_again f g (x ∷ xs) = ap (λ zs. f (g x) ∷ zs) (map_again f g xs)
 
 -- where all are the same, each place has that
 pub same_at : {X : Type 0} → (n i : ℕ) (x : X) → slice_index_or (replicate n x) i x ≡ x
-same_at zero i x = refl
-same_at (suc n) zero x = refl
 same_at (suc n) (suc i) x = same_at n i x
+same_at n i x = refl

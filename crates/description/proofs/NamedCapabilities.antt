@@ -1,9 +1,9 @@
 -- The capabilities that a description names, and those that its frames hold.
-use Rattle.description.proofs.Names.{ℕ, inl, inr, List, [], Option, None, Some, slice_get, unwrap_or, IsSomeAnd, sym, ap, subst, arith, All, cases_eq, All-cons}
-use Rattle.description.proofs.Names.{All-contains, All-head, All-tail, get_or_from_slice_get, Cap, Capability, Void, Frame, frame_at, caps_in, fresh_cap}
-use Rattle.description.proofs.Names.{AreNamed, IsNamed, NamesItsRole, Description, NodeEntry, SlotEntry, AreSlots, HasFields, HasNumbers, HoldsNamed}
-use Rattle.description.proofs.Names.{IsDescribed, IsProcessEntry, named_at, AreTargets, Entry, HasProcessTargets, HasTargets, OfAnnex, OfBank, OfNode, OfPage}
-use Rattle.description.proofs.Names.{OfRoot, IsTarget, Held, BreaksTarget, AllHave, AllIn, AllOfProcess, IfNamed, OneLacks}
+use Rattle.description.proofs.Names.{nat_tests, ℕ, inl, inr, List, [], Option, None, Some, slice_get, unwrap_or, IsSomeAnd, sym, ap, subst, arith, All}
+use Rattle.description.proofs.Names.{cases_eq, All-cons, All-contains, All-head, All-tail, get_or_from_slice_get, Cap, Capability, Void, Frame, frame_at}
+use Rattle.description.proofs.Names.{caps_in, fresh_cap, AreNamed, IsNamed, NamesItsRole, Description, NodeEntry, SlotEntry, AreSlots, HasFields, HasNumbers}
+use Rattle.description.proofs.Names.{HoldsNamed, IsDescribed, IsProcessEntry, named_at, Entry, HasTargets, OfAnnex, OfBank, OfNode, OfPage, OfRoot, IsTarget}
+use Rattle.description.proofs.Names.{Held, BreaksTarget, AllHave, AllIn, AllOfProcess, IfNamed, OneLacks}
 use Rattle.std.proofs.Common.{◌≡◌, ◌<◌, ◌≤◌, ◌∷◌, ◌∙◌}
 use Rattle.description.proofs.DescribedOnce.{described_once}
 use Rattle.description.proofs.Entries.{IsFrameOf, IsOf, described_cases, described_of}
@@ -27,36 +27,24 @@ if_some P (Some c) is = is
 
 first_has : (P : Capability → Type 0) (es : List SlotEntry) (i : ℕ) → P Void → AllIn P es → P (named_at es i)
 first_has P [] i void all = void
-first_has P (e ∷ es) i void all = elim (cases_eq e.index i) [
-  | inl is ↦
-      subst P (sym (first_there (λ (s : SlotEntry). s.index) (λ s. unwrap_or s.capability Void) Void e es i is))
-      (or_void P e.capability void (All-head (λ (s : SlotEntry). IfNamed P s.capability) e es all))
-  | inr differ ↦
-      subst P (sym (first_beyond (λ (s : SlotEntry). s.index) (λ s. unwrap_or s.capability Void) Void e es i differ))
+first_has P (e ∷ es) i void all = elim (cases_eq _ i) [
+  | inl is ↦ subst P (sym (first_there (λ (s : SlotEntry). s.index) (λ s. unwrap_or s.capability Void) Void e es i is))
+      (or_void P _ void (All-head (λ (s : SlotEntry). IfNamed P s.capability) e es all))
+  | inr differ ↦ subst P (sym (first_beyond (λ (s : SlotEntry). s.index) (λ s. unwrap_or s.capability Void) Void e es i differ))
       (first_has P es i void (All-tail (λ (s : SlotEntry). IfNamed P s.capability) e es all))
 ]
 
 -- all name numbers of their kinds
 pub has_targets : (d : Description) → AllHave (IsTarget d.geometry) d → HasTargets d.geometry d
-has_targets d all = record {
-  processes = all_from (HasProcessTargets d.geometry) d.processes.items (λ p of.
-      let have = All-contains (AllOfProcess (IsTarget d.geometry)) d.processes.items p all.processes of in
-      record { space = or_void (IsTarget d.geometry) p.space tt have.0; registers = slots p.registers.items have.1 });
-  nodes = all_from (λ (m : NodeEntry). AreTargets d.geometry m.slots.items) d.nodes.items (λ n of.
-      slots n.slots.items (All-contains (λ (m : NodeEntry). AllIn (IsTarget d.geometry) m.slots.items) d.nodes.items n all.nodes of));
-}
-  where
-    slots : (es : List SlotEntry) → AllIn (IsTarget d.geometry) es → AreTargets d.geometry es
-    slots es have k e lt = or_void (IsTarget d.geometry) _ tt (have k e lt)
+has_targets d all = grind (arith, nat_tests, all_from, All-contains, or_void)
 
 module _ (d : Description) (fs : List Frame) (is : IsDescribed d fs) where
   named_fresh : (c : Capability) → NamesItsRole fs c → IsNamed fs (fresh_cap c)
   named_fresh c names = record { current = omega arith; live = λ _. names }
 
   slots_named : (es : List SlotEntry) (slots : List Cap) → HoldsNamed es slots → AllIn (NamesItsRole fs) es → All (IsNamed fs) slots
-  slots_named es slots holds all k e lt =
-      subst (IsNamed fs) (sym (get_or_from_slice_get slots k (fresh_cap (named_at es k)) e (holds.each k (omega (arith, lt, holds.count)))))
-      (named_fresh (named_at es k) (first_has (NamesItsRole fs) es k tt all))
+  slots_named es slots holds all k e lt = subst (IsNamed fs) (sym (get_or_from_slice_get slots k _ e (holds.each k (omega (arith, lt, holds.count)))))
+      (named_fresh _ (first_has (NamesItsRole fs) es k tt all))
 
   none_named : All (IsNamed fs) []
   none_named k e lt = absurd (omega arith)
@@ -66,21 +54,17 @@ module _ (d : Description) (fs : List Frame) (is : IsDescribed d fs) where
     entry_named (OfBank b) f of frame = subst (λ (g : Frame). All (IsNamed fs) (caps_in g.content)) (sym frame) none_named
     entry_named (OfRoot p) f of frame =
         let have = All-contains (AllOfProcess (NamesItsRole fs)) d.processes.items p all.processes of in
-        subst (λ (g : Frame). All (IsNamed fs) (caps_in g.content)) (sym frame.4)
-        (All-cons (IsNamed fs) (fresh_cap frame.1) [] (named_fresh frame.1 (of_some (NamesItsRole fs) p.space frame.1 frame.3 have.0)) none_named)
+        rw frame.4 (All-cons (IsNamed fs) (fresh_cap frame.1) [] (named_fresh frame.1 (of_some (NamesItsRole fs) p.space frame.1 frame.3 have.0)) none_named)
     entry_named (OfAnnex p) f of frame =
         let have = All-contains (AllOfProcess (NamesItsRole fs)) d.processes.items p all.processes of in
-        subst (λ (g : Frame). All (IsNamed fs) (caps_in g.content)) (sym frame.2) (slots_named p.registers.items frame.0 frame.1 have.1)
+        rw frame.2 (slots_named p.registers.items frame.0 frame.1 have.1)
     entry_named (OfNode n) f of frame =
         let have = All-contains (λ (m : NodeEntry). AllIn (NamesItsRole fs) m.slots.items) d.nodes.items n all.nodes of in
-        subst (λ (g : Frame). All (IsNamed fs) (caps_in g.content)) (sym frame.2) (slots_named n.slots.items frame.0 frame.1 have)
+        rw frame.2 (slots_named n.slots.items frame.0 frame.1 have)
     entry_named (OfPage p) f of frame = subst (λ (g : Frame). All (IsNamed fs) (caps_in g.content)) (sym frame.2) none_named
 
     pub all_named : AreNamed fs
-    all_named n = elim (described_cases d fs n is) [
-      | inl c ↦ entry_named c.0 (frame_at fs n) c.1 c.3
-      | inr blank ↦ subst (λ (g : Frame). All (IsNamed fs) (caps_in g.content)) (sym blank) none_named
-    ]
+    all_named n = elim (described_cases d fs n is) [ inl c ↦ entry_named c.0 (frame_at fs n) c.1 c.3 | inr blank ↦ rw blank none_named ]
 
   module _ (numbers : HasNumbers d) (fields : HasFields d) (named : AreNamed fs) where
     names_role : (c : Capability) → IsNamed fs (fresh_cap c) → NamesItsRole fs c
@@ -117,25 +101,22 @@ module _ (d : Description) (fs : List Frame) (is : IsDescribed d fs) where
 -- no capability lacks what all have
 pub lacks_refuted : (P : Capability → Type 0) (d : Description) (at : Held) → AllHave P d → OneLacks P d at → ⊥
 lacks_refuted P d (held.Space k) all lacks =
-    all_refuted (AllOfProcess P) (λ p. p.space ≡ Some lacks.0) d.processes.items k lacks.1 (λ p have is. lacks.2 (of_some P p.space lacks.0 is have.0))
-    all.processes
+    all_refuted (AllOfProcess P) (λ p. p.space ≡ Some lacks.0) _ k lacks.1 (λ p have is. lacks.2 (of_some P _ _ is have.0)) all.processes
 lacks_refuted P d (held.Register k i) all lacks =
-    all_refuted (AllOfProcess P) (λ p. IsSomeAnd (slice_get p.registers.items i) (λ s. s.capability ≡ Some lacks.0)) d.processes.items k lacks.1
+    all_refuted (AllOfProcess P) (λ p. IsSomeAnd (slice_get p.registers.items i) (λ s. s.capability ≡ Some lacks.0)) _ k lacks.1
     (λ p have there. all_refuted (λ (s : SlotEntry). IfNamed P s.capability) (λ s. s.capability ≡ Some lacks.0) p.registers.items i there
-    (λ s held is. lacks.2 (of_some P s.capability lacks.0 is held)) have.1) all.processes
+    (λ s held is. lacks.2 (of_some P _ _ is held)) have.1) all.processes
 lacks_refuted P d (held.Slot k i) all lacks =
-    all_refuted (λ (n : NodeEntry). AllIn P n.slots.items) (λ n. IsSomeAnd (slice_get n.slots.items i) (λ s. s.capability ≡ Some lacks.0)) d.nodes.items k
-    lacks.1
+    all_refuted (λ (n : NodeEntry). AllIn P n.slots.items) (λ n. IsSomeAnd (slice_get n.slots.items i) (λ s. s.capability ≡ Some lacks.0)) _ k lacks.1
     (λ n have there. all_refuted (λ (s : SlotEntry). IfNamed P s.capability) (λ s. s.capability ≡ Some lacks.0) n.slots.items i there
-    (λ s held is. lacks.2 (of_some P s.capability lacks.0 is held)) have) all.nodes
+    (λ s held is. lacks.2 (of_some P _ _ is held)) have) all.nodes
 
 -- one that names no number of its kind, or no object of its kind in some frames, names none in any frames of the description
 pub kind_broken : (d : Description) (at : Held) → HasNumbers d → OneLacks (IsTarget d.geometry) d at → BreaksTarget d at
 kind_broken d at numbers lacks = (lacks.0, lacks.1, λ fs is names. lacks.2 (role_target d fs numbers is lacks.0 names))
 
 pub role_broken : (d : Description) (at : Held) (fs : List Frame) → IsDescribed d fs → OneLacks (NamesItsRole fs) d at → BreaksTarget d at
-role_broken d at fs described lacks =
-    (lacks.0, lacks.1, λ gs is names. lacks.2 (subst (λ (hs : List Frame). NamesItsRole hs lacks.0) (described_once d gs fs is described) names))
+role_broken d at fs described lacks = (lacks.0, lacks.1, λ gs is names. lacks.2 (rw (← described_once d gs fs is described) names))
 
 pub target_refuted : (d : Description) (at : Held) → HasNumbers d → HasFields d → BreaksTarget d at → (fs : List Frame) → IsDescribed d fs → AreNamed fs → ⊥
 target_refuted d at numbers fields broken fs is named = lacks_refuted (NamesItsRole fs) d at (all_roles d fs is numbers fields named)

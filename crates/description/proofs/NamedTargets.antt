@@ -1,10 +1,9 @@
 -- In described frames in which each capability is named, each names a number of its kind.
-use Rattle.description.proofs.Names.{inl, inr, ℕ, List, [], Option, Some, unwrap_or, refl, sym, ap, subst, IsTrue, All, get_or-map, All-contains, All-head, Cap}
-use Rattle.description.proofs.Names.{Capability, Void, Page, Node, Space, Process, Start, Resume, Bank, Frame, ObjectHeader, Geometry, Content, blank_frame}
-use Rattle.description.proofs.Names.{current_count, frame_at, header_at, headers, caps_in, role_of, IsOfKind, object_count, fresh_cap, Description, NodeEntry}
-use Rattle.description.proofs.Names.{SlotEntry, AreNamed, IsNamed, NamesItsRole, is_waiting_root, AreSlots, HasFields, HasNumbers, HoldsNamed, IsDescribed}
-use Rattle.description.proofs.Names.{IsProcessEntry, first_frame, AreTargets, Entry, HasProcessTargets, HasTargets, IsTarget, OfAnnex, OfBank, OfNode, OfPage}
-use Rattle.description.proofs.Names.{OfRoot, number_of}
+use Rattle.description.proofs.Names.{nat_tests, arith, inl, inr, ℕ, List, [], Option, Some, unwrap_or, refl, sym, ap, subst, IsTrue, All, get_or-map}
+use Rattle.description.proofs.Names.{All-contains, All-head, Cap, Capability, Void, Frame, ObjectHeader, Geometry, Content, blank_frame, current_count}
+use Rattle.description.proofs.Names.{frame_at, header_at, headers, caps_in, role_of, IsOfKind, object_count, fresh_cap, Description, NodeEntry, SlotEntry}
+use Rattle.description.proofs.Names.{AreNamed, IsNamed, NamesItsRole, is_waiting_root, AreSlots, HasFields, HasNumbers, HoldsNamed, IsDescribed, IsProcessEntry}
+use Rattle.description.proofs.Names.{first_frame, AreTargets, Entry, HasProcessTargets, HasTargets, IsTarget, OfAnnex, OfNode, OfRoot, number_of}
 use Rattle.std.proofs.Common.{◌≡◌, ◌≢◌, ◌<◌, ◌≤◌, ◌∙◌}
 use Rattle.model.specs.declared.object.Content.TheVariants as content
 use Rattle.model.specs.declared.object.Role.TheVariants as role
@@ -22,11 +21,7 @@ first_is : (g : Geometry) (n owner : ℕ) (c : Content Cap) → IsOfKind g n c �
 first_is g n owner c kind = record { role = refl; allocations = refl; calls = refl; kind = kind }
 
 first_entry : (g : Geometry) (e : Entry) (f : Frame) → HasRange g e → IsFrameOf e f → IsFirst g (number_of e) f
-first_entry g (OfBank b) f range frame = subst (IsFirst g b.number) (sym frame) (first_is g b.number b.owner (content.Bank b.limit) range)
-first_entry g (OfRoot p) f range frame = subst (IsFirst g p.root) (sym frame.4) (first_is g p.root p.owner _ range)
-first_entry g (OfAnnex p) f range frame = subst (IsFirst g p.annex) (sym frame.2) (first_is g p.annex p.owner (content.Annex frame.0) range)
-first_entry g (OfNode n) f range frame = subst (IsFirst g n.number) (sym frame.2) (first_is g n.number n.owner (content.Node frame.0) range)
-first_entry g (OfPage p) f range frame = subst (IsFirst g p.number) (sym frame.2) (first_is g p.number p.owner (content.Page frame.0) range)
+first_entry g e f range frame = grind (arith, nat_tests, first_is)
 
 blank_first : (g : Geometry) (n : ℕ) → IsFirst g n blank_frame
 blank_first g n = record { role = refl; allocations = refl; calls = refl; kind = tt }
@@ -48,14 +43,7 @@ no_calls : (d : Description) (fs : List Frame) (n : ℕ) → HasNumbers d → Is
 no_calls d fs n numbers is = sym (ap (λ (h : ObjectHeader). h.calls) (header_in fs n) ∙ (first_at d fs n numbers is).calls)
 
 pub never_raised : (d : Description) (fs : List Frame) (c : Capability) → HasNumbers d → IsDescribed d fs → 0 ≡ current_count (headers fs) c
-never_raised d fs (Page o a) numbers is = no_allocations d fs o numbers is
-never_raised d fs (Node o a) numbers is = no_allocations d fs o numbers is
-never_raised d fs (Space o h a) numbers is = no_allocations d fs o numbers is
-never_raised d fs (Process p) numbers is = no_allocations d fs p numbers is
-never_raised d fs (Start p key) numbers is = no_allocations d fs p numbers is
-never_raised d fs (Resume p) numbers is = no_calls d fs p numbers is
-never_raised d fs (Bank b) numbers is = no_allocations d fs b numbers is
-never_raised d fs other numbers is = refl
+never_raised d fs c numbers is = grind (arith, nat_tests, no_allocations, no_calls)
 
 -- The numbers of a kind.
 
@@ -107,14 +95,7 @@ module _ (d : Description) (fs : List Frame) (numbers : HasNumbers d) (is : IsDe
       of_node d.geometry o (frame_at fs o).content first.kind (λ e. not_free_bank (sym role ∙ first.role ∙ e)) (λ e. not_page_bank (sym role ∙ first.role ∙ e))
 
   pub role_target : (c : Capability) → NamesItsRole fs c → IsTarget d.geometry c
-  role_target (Page o a) names = a_page o names
-  role_target (Node o a) names = a_node o names
-  role_target (Space o h a) names = a_node o names
-  role_target (Process p) names = a_root p names
-  role_target (Start p key) names = a_root p names
-  role_target (Resume p) names = of_waiting d.geometry p (frame_at fs p).content (first_at d fs p numbers is).kind names
-  role_target (Bank b) names = a_bank b names
-  role_target other names = tt
+  role_target c names = grind (arith, nat_tests, a_page, a_node, a_root, of_waiting, first_at, a_bank)
 
   held_target : (c : Capability) → IsNamed fs (fresh_cap c) → IsTarget d.geometry c
   held_target c named = role_target c (named.live (never_raised d fs c numbers is))

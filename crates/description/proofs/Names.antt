@@ -16,7 +16,7 @@ pub use Rattle.model.specs.Text.{state_text}
 unfoldable pub use Rattle.model.specs.Text.{capability_text}
 pub use Rattle.model.specs.declared.capability.Cap.{Cap}
 pub use Rattle.model.specs.declared.capability.Capability.{Capability}
-pub use Rattle.model.specs.declared.capability.Capability.TheVariants.{Bank, Discrim, Node, Number, Page, Process, Resume, Space, Start, Void}
+pub use Rattle.model.specs.declared.capability.Capability.TheVariants.{Number, Void}
 pub use Rattle.model.specs.declared.frame.Frame.{Frame}
 pub use Rattle.model.specs.declared.frame.ObjectHeader.{ObjectHeader}
 pub use Rattle.model.specs.declared.geometry.Geometry.{Geometry}
@@ -43,24 +43,24 @@ pub use Rattle.std.proofs.lemmas.List.{length-map, length-replicate, length-set,
 pub use Rattle.std.proofs.lemmas.List.Elements.{All-append, All-cons, All-contains, All-head, All-map, All-more, All-nil, All-replicate, All-set, All-tail}
 pub use Rattle.std.proofs.lemmas.List.Elements.{Contains-append_cases, Contains-append_left, Contains-append_right, Contains-get_or}
 pub use Rattle.std.proofs.lemmas.Map.Made.{Contains-tail}
-pub use Rattle.std.proofs.lemmas.Option.{get_or_from_slice_get, none-some, same_Some, slice_get-get_or, slice_get-map, slice_get_read, slice_get_within}
+pub use Rattle.std.proofs.lemmas.Option.{get_or_from_slice_get, none-some, same_Some, slice_get-get_or, slice_get-map, slice_get_within}
 pub use Rattle.std.specs.Cmp.Lexicographic.{pointwise, slice_cmp}
 pub use Rattle.std.specs.Int.{is_negative}
 pub use Rattle.std.specs.List.{All, Any, Contains, list_any}
 pub use Rattle.std.specs.Prelude.{IsTrue, MatchOption, unsigned_abs}
 pub use Rattle.std.specs.Str.{bytes_eq}
 pub use Rattle.std.specs.Vec.{with_item}
-pub use Rattle.toml.specs.Data.{Data, Items, Members, array, as_array, as_integer, as_str, as_table, boolean, datetime, float, get_item, get_member, integer}
-pub use Rattle.toml.specs.Data.{item, no_items, same_key, string, table}
+pub use Rattle.toml.specs.Data.{Data, Items, Members, array, as_array, as_integer, as_str, as_table, get_item, get_member, integer, item, no_items, same_key}
+pub use Rattle.toml.specs.Data.{string, table}
 pub use Rattle.toml.specs.View.{items_view, members_view, table_view, view}
 pub use Rattle.toml.specs.declared.value.Value.{Value}
 pub use Rattle.description.specs.Broken.{BreaksField, BreaksIndexed, BreaksNumber, BreaksRanges, BreaksSlots, BreaksTarget, GoesOn, IsOfItsKind, IsOutside}
 pub use Rattle.description.specs.Broken.{IsTwice, count_in, number_at}
 pub use Rattle.description.specs.Described.{AreDistinct, AreSlots, AreWords, HasFields, HasNamedWords, HasNumbers, HoldsNamed, IsDescribed, IsDescribedAnnex}
 pub use Rattle.description.specs.Described.{IsDescribedNode, IsDescribedPage, IsDescribedRoot, IsProcessEntry, IsSomeCapability, IsSpaceEntry, first_frame}
-pub use Rattle.description.specs.Described.{first_named, named_at, node_numbers, page_numbers, word_named_at}
-pub use Rattle.description.specs.FaultOutcomes.{AllHave, AllIn, AllOfProcess, BreaksIt, BreaksProcess, BreaksProcesses, HasBadItem, HasItemAs, IfNamed, IsBadAt}
-pub use Rattle.description.specs.FaultOutcomes.{IsFlawAt, IsTableOf, IsWholeItem, LacksIt, OneLacks, place_of}
+pub use Rattle.description.specs.Described.{first_named, named_at, node_numbers, page_numbers}
+pub use Rattle.description.specs.FaultOutcomes.{AllHave, AllIn, AllOfProcess, BreaksIt, HasBadItem, HasItemAs, IfNamed, IsBadAt, IsFlawAt, IsTableOf}
+pub use Rattle.description.specs.FaultOutcomes.{IsWholeItem, OneLacks, place_of}
 pub use Rattle.description.specs.Laid.{AreTargets, Entry, HasProcessTargets, HasTargets, IsLaid, IsPut, OfAnnex, OfBank, OfNode, OfPage, OfRoot, entries}
 pub use Rattle.description.specs.Laid.{frame_of, frames_of, number_of, set_each, slot_held}
 unfoldable pub use Rattle.description.specs.Laid.{laid, slots_of, words_of}

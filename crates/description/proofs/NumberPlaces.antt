@@ -1,7 +1,7 @@
 -- The numbers of a description, by their places among all.
-use Rattle.description.proofs.Names.{ℕ, zero, suc, List, [], length, map, Option, None, Some, option_map, slice_get, IsSomeAnd, refl, sym, ap, subst, arith}
-use Rattle.description.proofs.Names.{All, length-append, length-map, slice_get-map, Geometry, object_count, Description, AreDistinct, HasNumbers, node_numbers}
-use Rattle.description.proofs.Names.{page_numbers, Named, BreaksNumber, IsOfItsKind, IsOutside, IsTwice, number_at, BreaksIt, place_of}
+use Rattle.description.proofs.Names.{nat_tests, ℕ, zero, suc, List, [], length, map, Option, None, Some, option_map, slice_get, IsSomeAnd, refl, sym, ap, subst}
+use Rattle.description.proofs.Names.{arith, All, length-append, length-map, slice_get-map, Geometry, object_count, Description, AreDistinct, HasNumbers}
+use Rattle.description.proofs.Names.{node_numbers, page_numbers, Named, BreaksNumber, IsOfItsKind, IsOutside, IsTwice, number_at, BreaksIt, place_of}
 use Rattle.std.proofs.Common.{◌≡◌, ◌+◌, ◌-◌, ◌<◌, ◌≤◌, ◌∷◌, ◌++◌, ◌∙◌}
 use Rattle.description.specs.declared.faults.place.Misnumbered.TheVariants as misnumbered
 use Rattle.description.specs.declared.faults.place.Named.TheVariants as named
@@ -50,11 +50,9 @@ module _ (d : Description) where
     annex_number less =
         let at : length (banks ++ roots) + annex ≡ place = omega (arith, front_length, low, is_root, more, is_annex) in
         let within : place < length (banks ++ roots ++ annexes) = omega (arith, rest_length, low, is_root, more, is_annex, less) in
-        let mapped : slice_get annexes annex ≡ option_map (λ q. q.annex) (slice_get d.processes.items annex) = slice_get-map (λ q. q.annex) d.processes.items
-        annex in
-        let after : slice_get (banks ++ roots ++ annexes) (length (banks ++ roots) + annex) ≡ slice_get annexes annex = behind (banks ++ roots) annexes annex in
-        let before : slice_get (banks ++ roots ++ annexes ++ plain) place ≡ slice_get (banks ++ roots ++ annexes) place = front (banks ++ roots ++ annexes)
-        plain place within in
+        let mapped : slice_get annexes annex ≡ option_map (λ q. q.annex) (slice_get d.processes.items annex) = slice_get-map (λ q. q.annex) _ annex in
+        let after : slice_get (banks ++ roots ++ annexes) (length (banks ++ roots) + annex) ≡ slice_get annexes annex = behind _ _ annex in
+        let before : slice_get (banks ++ roots ++ annexes ++ plain) place ≡ slice_get (banks ++ roots ++ annexes) place = front _ plain place within in
         sym mapped ∙ sym after ∙ ap (slice_get (banks ++ roots ++ annexes)) at ∙ sym before
 
     pub node_number : p ≤ annex → option_map (λ n. n.number) (slice_get d.nodes.items (annex - p)) ≡ slice_get (node_numbers d) place
@@ -86,16 +84,11 @@ module _ (d : Description) where
       → BreaksIt (BreaksNumber d) (HasNumbers d) (misnumbered.OutOfRange (named.Page i))
   page_outside ps i end is last out =
       let there = subst (λ e. IsOutside d.geometry.nodes e (page_numbers d) i) last (subst (λ ms. IsOutside d.geometry.nodes end ms i) is out) in
-      let found = found_in (slice_get (page_numbers d) i) there in (
-        (found.0, sym (slice_get-map (λ p. p.number) d.pages.items i) ∙ found.1, found.2),
+      let found = found_in _ there in (
+        (found.0, sym (slice_get-map (λ p. p.number) _ i) ∙ found.1, found.2),
         λ has. all_refuted (λ n. (d.geometry.nodes ≤ n) × (n < object_count d.geometry)) (λ n. (d.geometry.nodes ≤ n) × (n < object_count d.geometry) → ⊥)
-            (page_numbers d) i there
-            (λ n within never. never within) has.pages,
+            (page_numbers d) i there (λ n within never. never within) has.pages,
       )
-
-  pub node_named : (who : Named) (nodes place : ℕ) → nodes ≡ length (node_numbers d) → place < nodes → number_at d who ≡ slice_get (node_numbers d) place
-      → number_at d who ≡ slice_get (node_numbers d ++ page_numbers d) place
-  node_named who nodes place count within is = is ∙ sym (front (node_numbers d) (page_numbers d) place (omega (arith, count, within)))
 
   pub named_twice : (ns : List ℕ) (i j : ℕ) (one other : Named) → ns ≡ node_numbers d ++ page_numbers d → IsTwice ns i j →
       number_at d one ≡ slice_get (node_numbers d ++ page_numbers d) i
@@ -110,9 +103,4 @@ module _ (d : Description) where
   pub has_numbers : (end : ℕ) (ms ps ns : List ℕ) → ms ≡ node_numbers d → ps ≡ page_numbers d → ns ≡ node_numbers d ++ page_numbers d →
       end ≡ object_count d.geometry
       → All (λ n. (0 ≤ n) × (n < d.geometry.nodes)) ms → All (λ n. (d.geometry.nodes ≤ n) × (n < end)) ps → AreDistinct ns → HasNumbers d
-  has_numbers end ms ps ns is_nodes is_pages all last nodes pages distinct = record {
-    nodes = λ k f lt. (subst (All (λ n. (0 ≤ n) × (n < d.geometry.nodes))) is_nodes nodes k f lt).1;
-    pages = subst (λ e. All (λ n. (d.geometry.nodes ≤ n) × (n < e)) (page_numbers d)) last
-        (subst (All (λ n. (d.geometry.nodes ≤ n) × (n < end))) is_pages pages);
-    distinct = subst AreDistinct all distinct;
-  }
+  has_numbers end ms ps ns is_nodes is_pages all last nodes pages distinct = grind (arith, nat_tests)

@@ -1,9 +1,10 @@
 -- A value says one thing, and so a table says one description.
-use Rattle.description.proofs.Names.{inl, inr, ℕ, pos, Option, Some, None, List, [], codes, IsSomeAnd, refl, sym, ap, subst, arith, bytes_eq, same_Some}
-use Rattle.description.proofs.Names.{capability_text, state_text, Capability, Number, Void, Geometry, State, Available, Running, Waiting, Data, integer, string}
-use Rattle.description.proofs.Names.{array, table, Items, no_items, item, Members, get_member, text_once, Each, IsSame, IsSameNode, IsSamePage, IsSameProcess}
-use Rattle.description.proofs.Names.{NumberIsSpelledOnce, AreFour, AreItems, At, AtOr, IsBank, IsCapability, IsDescription, IsGeometry, IsList, IsNode}
-use Rattle.description.proofs.Names.{IsNumber, IsPage, IsPair, IsProcess, IsRange, IsSlot, IsState, IsTable, IsWideNumber, IsWord, whole_ranges, Description}
+use Rattle.description.proofs.Names.{nat_tests, inl, inr, ℕ, pos, Option, Some, None, List, [], codes, IsSomeAnd, refl, sym, ap, subst, arith, bytes_eq}
+use Rattle.description.proofs.Names.{same_Some, capability_text, state_text, Capability, Number, Void, Geometry, State, Available, Running, Waiting, Data}
+use Rattle.description.proofs.Names.{integer, string, array, table, Items, no_items, item, Members, get_member, text_once, Each, IsSame, IsSameNode, IsSamePage}
+use Rattle.description.proofs.Names.{IsSameProcess, NumberIsSpelledOnce, AreFour, AreItems, At, AtOr, IsBank, IsCapability, IsDescription, IsGeometry, IsList}
+use Rattle.description.proofs.Names.{IsNode, IsNumber, IsPage, IsPair, IsProcess, IsRange, IsSlot, IsState, IsTable, IsWideNumber, IsWord, whole_ranges}
+use Rattle.description.proofs.Names.{Description}
 use Rattle.std.proofs.Common.{MatchOption, ◌≡◌, if◌then◌else◌, ◌∷◌, ◌∙◌}
 
 -- ---- values
@@ -32,10 +33,9 @@ Once {A = A} {B = B} P R = (d : B) (x y : A) → P d x → P d y → R x y
 
 pub capability_once : Once IsCapability ◌≡◌
 capability_once d None None one other = refl
-capability_once d None (Some c) one other = absurd (one.2 c other.0 other.1 (same_string (capability_text c) one.0 (sym other.2 ∙ one.1)))
-capability_once d (Some c) None one other = absurd (other.2 c one.0 one.1 (same_string (capability_text c) other.0 (sym one.2 ∙ other.1)))
 capability_once d (Some b) (Some c) one other =
     ap Some (text_once b c (one.0, one.1) (other.0, other.1) (same_string (capability_text b) (capability_text c) (sym one.2 ∙ other.2)))
+capability_once d a b one other = absurd (grind (arith, nat_tests))
 
 same_number : (m n : ℕ) → (let x : Option Capability = Some (Number m) in x) ≡ Some (Number n) → m ≡ n
 same_number m n e = cc
@@ -56,10 +56,7 @@ wide_once d m n (inr one) (inr other) = same_number m n (capability_once d (Some
 -- a number has one spelling
 pub number_spelled_once : NumberIsSpelledOnce
 unfolding IsWideNumber
-number_spelled_once n d e (inl one) (inl other) = one.1 ∙ sym other.1
-number_spelled_once n d e (inl one) (inr other) = absurd (omega (arith, one.0, other.0))
-number_spelled_once n d e (inr one) (inl other) = absurd (omega (arith, one.0, other.0))
-number_spelled_once n d e (inr one) (inr other) = one.1.2 ∙ sym other.1.2
+number_spelled_once = grind (arith, nat_tests)
 
 abbrev state_found : List ℕ → Option State
 state_found text =
@@ -71,20 +68,11 @@ state_again Available = refl
 state_again other = refl
 
 state_once : Once IsState ◌≡◌
-state_once d None None one other = refl
-state_once d None (Some s) one other = absurd (one.2 s (same_string (state_text s) one.0 (sym other ∙ one.1)))
-state_once d (Some s) None one other = absurd (other.2 s (same_string (state_text s) other.0 (sym one ∙ other.1)))
-state_once d (Some s) (Some t) one other =
-    ap Some (same_Some s t (sym (state_again s) ∙ ap state_found (same_string (state_text s) (state_text t) (sym one ∙ other)) ∙ state_again t))
+state_once = grind (arith, nat_tests, same_string, same_Some, state_again)
 
 module _ {A B : Type 0} (P : Data → A → Type 0) (Q : Data → B → Type 0) (first : Once P ◌≡◌) (second : Once Q ◌≡◌) where
   pair_once : (d : Data) (x u : A) (y v : B) → IsPair P Q d x y → IsPair P Q d u v → (x ≡ u) × (y ≡ v)
-  pair_once d x u y v one other =
-      let same = same_array (item one.0 (item one.1 no_items)) (item other.0 (item other.1 no_items)) (sym one.2 ∙ other.2) in
-      let rest = same_rest one.0 other.0 (item one.1 no_items) (item other.1 no_items) same in (
-        first other.0 x u (subst (λ (a : Data). P a x) (same_first one.0 other.0 (item one.1 no_items) (item other.1 no_items) same) one.3) other.3,
-        second other.1 y v (subst (λ (b : Data). Q b y) (same_first one.1 other.1 no_items no_items rest) one.4) other.4,
-      )
+  pair_once d x u y v one other = grind (arith, nat_tests, same_array, same_rest, same_first)
 
 slot_once : Once IsSlot ◌≡◌
 slot_once d e f one other =
@@ -105,22 +93,17 @@ range_once d q r one other =
 
 each_same : {A : Type 0} (xs ys : List A) → Each ◌≡◌ xs ys → xs ≡ ys
 each_same [] [] each = refl
-each_same [] (y ∷ ys) each = absurd each
-each_same (x ∷ xs) [] each = absurd each
 each_same (x ∷ xs) (y ∷ ys) each = ap (λ z. z ∷ xs) each.0 ∙ ap (λ zs. y ∷ zs) (each_same xs ys each.1)
+each_same xs ys each = absurd each
 
 module _ {A : Type 0} (P : Data → A → Type 0) (R : A → A → Type 0) (once : Once P R) where
   items_once : (ds : Items) (xs ys : List A) → AreItems P ds xs → AreItems P ds ys → Each R xs ys
   items_once no_items [] [] one other = tt
-  items_once no_items [] (y ∷ ys) one other = absurd other
-  items_once no_items (x ∷ xs) ys one other = absurd one
-  items_once (item d ds) [] ys one other = absurd one
-  items_once (item d ds) (x ∷ xs) [] one other = absurd other
   items_once (item d ds) (x ∷ xs) (y ∷ ys) one other = (once d x y one.0 other.0, items_once ds xs ys one.1 other.1)
+  items_once ds xs ys one other = absurd (grind (arith, nat_tests))
 
   list_once : Once (IsList P) (Each R)
-  list_once d xs ys one other =
-      items_once other.0 xs ys (subst (λ (ds : Items). AreItems P ds xs) (same_array one.0 other.0 (sym one.1 ∙ other.1)) one.2) other.2
+  list_once d xs ys one other = items_once _ xs ys (subst (λ (ds : Items). AreItems P ds xs) (same_array one.0 _ (sym one.1 ∙ other.1)) one.2) other.2
 
 list_same : {A : Type 0} (P : Data → A → Type 0) → Once P ◌≡◌ → Once (IsList P) ◌≡◌
 list_same P once d xs ys one other = each_same xs ys (list_once P ◌≡◌ once d xs ys one other)
@@ -129,8 +112,7 @@ four_once : Once AreFour ◌≡◌
 four_once d xs ys one other = list_same IsWideNumber wide_once d xs ys one.1 other.1
 
 table_once : {A : Type 0} (P : Members → A → Type 0) (R : A → A → Type 0) → Once P R → Once (IsTable P) R
-table_once P R once d x y one other =
-    once other.0 x y (subst (λ (ms : Members). P ms x) (same_table one.0 other.0 (sym one.1 ∙ other.1)) one.2) other.2
+table_once P R once d x y one other = once other.0 x y (subst (λ (ms : Members). P ms x) (same_table one.0 _ (sym one.1 ∙ other.1)) one.2) other.2
 
 -- ---- keys
 
@@ -167,10 +149,7 @@ tables_at P R once ms = or_once (IsList (IsTable P)) (Each R) (list_once (IsTabl
 -- ---- entries
 
 bank_once : Once IsBank ◌≡◌
-bank_once ms a b one other =
-    ap (λ (n : ℕ). record { number = n; owner = a.owner; limit = a.limit }) (number_at ms (codes "number") a.number b.number one.number other.number)
-    ∙ ap (λ (n : ℕ). record { number = b.number; owner = n; limit = a.limit }) (number_at ms (codes "owner") a.owner b.owner one.owner other.owner)
-    ∙ ap (λ (n : ℕ). record { number = b.number; owner = b.owner; limit = n }) (wide_at ms (codes "limit") a.limit b.limit one.limit other.limit)
+bank_once = grind (arith, nat_tests, number_at, wide_at)
 
 process_once : Once IsProcess IsSameProcess
 process_once ms p q one other = record {
@@ -199,10 +178,7 @@ page_once ms p q one other = record {
 }
 
 geometry_once : Once IsGeometry ◌≡◌
-geometry_once ms g h one other =
-    ap (λ (n : ℕ). record { nodes = n; pages = g.pages; log = g.log }) (number_at ms (codes "nodes") g.nodes h.nodes one.nodes other.nodes)
-    ∙ ap (λ (n : ℕ). record { nodes = h.nodes; pages = n; log = g.log }) (number_at ms (codes "pages") g.pages h.pages one.pages other.pages)
-    ∙ ap (λ (n : ℕ). record { nodes = h.nodes; pages = h.pages; log = n }) (number_at ms (codes "log") g.log h.log one.log other.log)
+geometry_once = grind (arith, nat_tests, number_at)
 
 pub description_once : (ms : Members) (d e : Description) → IsDescription ms d → IsDescription ms e → IsSame d e
 description_once ms d e one other =

@@ -39,11 +39,6 @@ same_members ms ns same = same_Some ms ns (ap as_table same)
 pub in_table : {A : Type 0} (P : Members → A → Type 0) (d : Data) (ms : Members) (x : A) → d ≡ table ms → IsTable P d x → P ms x
 in_table P d ms x is said = subst (λ ns. P ns x) (same_members said.0 ms (sym said.1 ∙ is)) said.2
 
-pub table_read : {A : Type 0} (P : Members → A → Type 0) (d : Data) (ms : Members) (r : Result A BuildFault) → d ≡ table ms → Finds (P ms) r →
-    Reads (IsTable P d) r
-table_read P d ms (Ok x) is reads = (ms, is, reads)
-table_read P d ms (Err e) is none = rw none.0 (λ x said. none.1 x (in_table P d ms x is said))
-
 pub no_whole : {A B : Type 0} (P : A → Type 0) (Q : B → Type 0) → ((x : A) → P x → ⊥) → ((y : B) → Q y → (x : A) × P x) → IsTrue false ↔ ((y : B) × Q y)
 no_whole P Q none part = (λ so. absurd (false≢true so), λ y. let x = part y.0 y.1 in absurd (none x.0 x.1))
 

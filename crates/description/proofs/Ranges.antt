@@ -1,6 +1,6 @@
 -- Ranges that go on from number to number.
-use Rattle.description.proofs.Names.{ℕ, List, [], length, map, get_or, take, drop, sym, ap, subst, arith, drop_more, get_or_default, take_more, Geometry}
-use Rattle.description.proofs.Names.{object_count, Cover, placed, NumberRange, GoesOn, count_in}
+use Rattle.description.proofs.Names.{ℕ, List, [], length, map, get_or, take, drop, sym, ap, arith, drop_more, get_or_default, take_more, Geometry, object_count}
+use Rattle.description.proofs.Names.{Cover, placed, NumberRange, GoesOn, count_in}
 use Rattle.std.proofs.Common.{◌≡◌, ◌+◌, ◌<◌, ◌≤◌, ◌∷◌, ◌++◌, ◌∙◌}
 
 count_more : (rs : List NumberRange) (r : NumberRange) → count_in (rs ++ r ∷ []) ≡ count_in rs + r.count
@@ -19,8 +19,7 @@ pub gone_more : (g : Geometry) (rs : List NumberRange) (i next : ℕ) (r : Numbe
 gone_more g rs i next r lt at gone on = record {
   count = ap (λ n. n + r.count) gone.count ∙ sym (count_more (take i rs) r) ∙ ap count_in (sym (take_more rs i r lt ∙ ap (λ s. take i rs ++ s ∷ []) at));
   within = on.1;
-  goes_on = λ covers. gone.goes_on
-      (subst (λ (t : List NumberRange). Cover g next (map (placed 0) t)) (sym (drop_more rs i r lt ∙ ap (λ s. s ∷ drop (i + 1) rs) at)) (on.0, covers));
+  goes_on = λ covers. gone.goes_on (rw (drop_more rs i r lt ∙ ap (λ s. s ∷ drop (i + 1) rs) at) (on.0, covers));
 }
 
 -- the range of an index, whatever stands for those that aren't there

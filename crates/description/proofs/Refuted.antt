@@ -1,12 +1,11 @@
 -- What stands at a place that breaks a rule isn't there where the rule is kept.
-use Rattle.description.proofs.Names.{ℕ, zero, suc, List, [], length, map, take, Option, None, Some, slice_get, slice_index_or, IsSomeAnd, refl, sym, ap, subst}
-use Rattle.description.proofs.Names.{arith, All, All-map, none-some, same_Some, slice_get_within, Geometry, object_count, Cover, placed, NumberRange}
+use Rattle.description.proofs.Names.{nat_tests, ℕ, zero, suc, List, [], length, map, take, Option, None, Some, slice_get, slice_index_or, IsSomeAnd, refl, sym}
+use Rattle.description.proofs.Names.{ap, subst, arith, All, All-map, none-some, same_Some, slice_get_within, Geometry, object_count, Cover, placed, NumberRange}
 use Rattle.description.proofs.Names.{Description, NodeEntry, PageEntry, SlotEntry, AreDistinct, AreSlots, AreWords, HasFields, IsProcessEntry, IsSomeCapability}
 use Rattle.description.proofs.Names.{Indexed, Limit, Part, SlotFlaw, BreaksField, BreaksIndexed, BreaksRanges, BreaksSlots, GoesOn, IsTwice, count_in}
 use Rattle.std.proofs.Common.{◌≡◌, ◌+◌, ◌<◌, ◌≤◌, ◌∷◌, ◌∙◌}
 use Rattle.description.proofs.Lists.{all_got}
 use Rattle.description.specs.declared.faults.place.Indexed.TheVariants as indexed
-use Rattle.description.specs.declared.faults.place.Limit.TheVariants as limit
 use Rattle.description.specs.declared.faults.place.Part.TheVariants as part
 use Rattle.description.specs.declared.faults.place.SlotFlaw.TheVariants as slot
 
@@ -48,11 +47,10 @@ field_refuted d (part.State k) broken has = all_refuted IsProcessEntry _ d.proce
 field_refuted d (part.Key k) broken has = all_refuted IsProcessEntry _ d.processes.items k broken (λ p is out. omega (arith, is.key, out)) has.processes
 field_refuted d (part.Space k) broken has = all_refuted IsProcessEntry _ d.processes.items k broken (λ p is out. out is.space) has.processes
 field_refuted d (part.Registers k flaw) broken has =
-    all_refuted IsProcessEntry _ d.processes.items k broken (λ p is out. slots_refuted 1 p.registers.items flaw out is.registers) has.processes
+    all_refuted IsProcessEntry _ _ k broken (λ p is out. slots_refuted 1 p.registers.items flaw out is.registers) has.processes
 field_refuted d (part.Slots k flaw) broken has =
-    all_refuted (λ (n : NodeEntry). AreSlots 0 n.slots.items) _ d.nodes.items k broken (λ n is out. slots_refuted 0 n.slots.items flaw out is) has.nodes
-field_refuted d (part.Words k flaw) broken has =
-    all_refuted (λ (p : PageEntry). AreWords p.words.items) _ d.pages.items k broken
+    all_refuted (λ (n : NodeEntry). AreSlots 0 n.slots.items) _ _ k broken (λ n is out. slots_refuted 0 n.slots.items flaw out is) has.nodes
+field_refuted d (part.Words k flaw) broken has = all_refuted (λ (p : PageEntry). AreWords p.words.items) _ _ k broken
     (λ p is out. indexed_refuted 0 512 (map (λ w. w.index) p.words.items) flaw out
     (All-map (λ n. (0 ≤ n) × (n < 512)) (λ w. w.index) p.words.items (λ i e lt. (omega arith, is.places i e lt))) is.distinct) has.pages
 
@@ -65,25 +63,10 @@ module _ (g : Geometry) where
   cover_at : (n : ℕ) (rs : List NumberRange) (i : ℕ) (r : NumberRange) → Cover g n (map (placed 0) rs) → slice_get rs i ≡ Some r →
       GoesOn g r (n + count_in (take i rs))
   cover_at n [] i r covers is = absurd (none-some r is)
-  cover_at n (s ∷ rs) zero r covers is =
-      let same : s ≡ r = same_Some s r is in
-      let total = cover_count n (s ∷ rs) covers in
-      let here : n + 0 ≡ n = omega arith in
-      subst (λ t. GoesOn g t (n + 0)) same (subst (λ m. GoesOn g s m) (sym here) (covers.0, omega (arith, total)))
+  cover_at n (s ∷ rs) zero r covers is = grind (arith, nat_tests, same_Some, cover_count)
   cover_at n (s ∷ rs) (suc i) r covers is =
       let place : n + s.count + count_in (take i rs) ≡ n + (s.count + count_in (take i rs)) = omega arith in
       subst (λ m. GoesOn g r m) place (cover_at (n + s.count) rs i r covers.1 is)
 
   pub ranges_refuted : (rs : List NumberRange) (l : Limit) → BreaksRanges g rs l → (1 ≤ length rs) × (length rs ≤ 8) → Cover g 0 (map (placed 0) rs) → ⊥
-  ranges_refuted rs limit.RangeCount broken few covers = broken few
-  ranges_refuted rs (limit.Range index next) broken few covers = go (slice_get rs index) refl broken.1
-    where
-      go : (o : Option NumberRange) → slice_get rs index ≡ o → IsSomeAnd o (λ r. GoesOn g r next → ⊥) → ⊥
-      go None is there = absurd there
-      go (Some r) is there = there (subst (λ m. GoesOn g r m) (omega (arith, broken.0)) (cover_at 0 rs index r covers is))
-  ranges_refuted rs (limit.RangesEnd next) broken few covers = omega (arith, broken.0, broken.1, cover_count 0 rs covers)
-  ranges_refuted rs limit.Nodes broken few covers = absurd broken
-  ranges_refuted rs limit.Pages broken few covers = absurd broken
-  ranges_refuted rs limit.Log broken few covers = absurd broken
-  ranges_refuted rs limit.Age broken few covers = absurd broken
-  ranges_refuted rs limit.Layout broken few covers = absurd broken
+  ranges_refuted rs l broken few covers = grind (arith, nat_tests, cover_at, cover_count)

@@ -1,32 +1,16 @@
 -- Values of their types, and of others.
-use Rattle.description.proofs.Names.{inl, inr, ℕ, ℤ, pos, negsuc, true, false, Option, Some, None, is_some, List, Result, Ok, Err, IfSome, IfNone, sym, ap}
-use Rattle.description.proofs.Names.{arith, none-some, same_Some, unsigned_abs, is_negative, false≢true, IsWellFormed, named, capability_text, state_text}
-use Rattle.description.proofs.Names.{Capability, Number, State, Data, string, integer, float, boolean, datetime, array, table, as_integer, as_str, IsCapability}
-use Rattle.description.proofs.Names.{IsNumber, IsState, IsWideNumber, Finds, BuildFault}
+use Rattle.description.proofs.Names.{nat_tests, inl, inr, ℕ, ℤ, pos, negsuc, true, false, Option, Some, None, is_some, List, Result, Ok, Err, IfSome, IfNone}
+use Rattle.description.proofs.Names.{sym, ap, arith, none-some, same_Some, unsigned_abs, is_negative, false≢true, IsWellFormed, named, capability_text}
+use Rattle.description.proofs.Names.{state_text, Capability, Number, State, Data, string, integer, as_integer, as_str, IsCapability, IsNumber, IsState}
+use Rattle.description.proofs.Names.{IsWideNumber, Finds, BuildFault}
 use Rattle.std.proofs.Common.{◌≡◌, ◌≢◌, ◌^◌, ◌<◌, ◌≤◌, ◌∙◌}
 use Rattle.description.proofs.Once.{capability_once}
 
 pub integer_is : (d : Data) (z : ℤ) → Some z ≡ as_integer d → d ≡ integer z
-integer_is (string s) z e = absurd (none-some z (sym e))
-integer_is (integer y) z e = ap integer (sym (same_Some z y e))
-integer_is (float x) z e = absurd (none-some z (sym e))
-integer_is (boolean b) z e = absurd (none-some z (sym e))
-integer_is (datetime dt) z e = absurd (none-some z (sym e))
-integer_is (array ds) z e = absurd (none-some z (sym e))
-integer_is (table ms) z e = absurd (none-some z (sym e))
+integer_is d z e = grind (arith, nat_tests, none-some, same_Some)
 
 pub string_is : (d : Data) (text : List ℕ) → Some text ≡ as_str d → d ≡ string text
-string_is (string s) text e = ap string (sym (same_Some text s e))
-string_is (integer y) text e = absurd (none-some text (sym e))
-string_is (float x) text e = absurd (none-some text (sym e))
-string_is (boolean b) text e = absurd (none-some text (sym e))
-string_is (datetime dt) text e = absurd (none-some text (sym e))
-string_is (array ds) text e = absurd (none-some text (sym e))
-string_is (table ms) text e = absurd (none-some text (sym e))
-
--- an integer says no text
-no_text : (d : Data) (z : ℤ) (text : List ℕ) → Some z ≡ as_integer d → d ≡ string text → ⊥
-no_text d z text is e = none-some z (sym (is ∙ ap as_integer e))
+string_is d text e = grind (arith, nat_tests, same_Some, none-some)
 
 -- a negative number is none
 negative_integer : (d : Data) (z : ℤ) → Some z ≡ as_integer d → is_negative z ≡ true → (n : ℕ) → d ≡ integer (pos n) → ⊥

@@ -1,7 +1,7 @@
 -- Worlds as headers with contents beside them.
-use Rattle.description.proofs.Names.{ℕ, zero, suc, List, replicate, slice_set, refl, ap, arith, vec_len, with_item, Cap, Frame, ObjectHeader, Content, Role}
+use Rattle.description.proofs.Names.{nat_tests, ℕ, zero, suc, List, replicate, refl, ap, arith, vec_len, with_item, Cap, Frame, ObjectHeader, Content, Role}
 use Rattle.description.proofs.Names.{blank_frame, blank_header, frames_in, role_of, set_in, World, first_frame, IsPut}
-use Rattle.std.proofs.Common.{◌≡◌, ◌∙◌, ◌<◌, ◌∷◌}
+use Rattle.std.proofs.Common.{◌≡◌, ◌<◌, ◌∷◌}
 use Rattle.model.specs.declared.object.Content.TheVariants as content
 
 -- free headers with free contents are free frames
@@ -18,9 +18,4 @@ first_header role owner = record { role = role; allocations = 0; calls = 0; owne
 pub put_there : (w : World) (n owner : ℕ) (held : Content Cap) (role : Role) → role ≡ role_of held → n < vec_len w.headers →
     vec_len w.contents ≡ vec_len w.headers
     → IsPut n (first_frame owner held) w (record { headers = with_item w.headers n (first_header role owner); contents = with_item w.contents n held })
-put_there w n owner held role is within even = record {
-  frames = set_in w.headers.items w.contents.items n (first_header role owner) held (omega (arith, within, even, w.contents.ok.0))
-      ∙ ap (λ r. slice_set (frames_in w.headers.items w.contents.items) n (record { header = first_header r owner; content = held })) is;
-  headers = refl;
-  contents = refl;
-}
+put_there w n owner held role is within even = grind (arith, nat_tests, set_in)

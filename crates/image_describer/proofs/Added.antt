@@ -1,6 +1,7 @@
 -- Lines that are written one behind the other.
-use Rattle.std.proofs.Common.{◌≡◌, ℕ, List, [], ◌∷◌, ◌++◌, Some, append-nil, append_assoc, sym, ap, ◌∙◌}
-use Rattle.image_describer.specs.Text.{Field, begin_line, field_line, field_lines, list_unless_empty}
+use Rattle.image_describer.proofs.Names.{nat_tests, arith, ℕ, List, [], Some, append-nil, append_assoc, sym, ap, Field, begin_line, field_line, field_lines}
+use Rattle.image_describer.proofs.Names.{list_unless_empty}
+use Rattle.std.proofs.Common.{◌≡◌, ◌∷◌, ◌++◌, ◌∙◌}
 
 -- the lines of fields were written behind a text
 abbrev pub Adds : List ℕ → List Field → List ℕ → Type 0
@@ -9,14 +10,12 @@ Adds old (f ∷ fs) new = (mid : List ℕ) × (mid ≡ old ++ field_line f) × A
 
 added : (old new : List ℕ) (fs : List Field) → Adds old fs new → new ≡ old ++ field_lines fs
 added old new [] adds = adds ∙ sym (append-nil old)
-added old new (f ∷ fs) adds =
-    added adds.0 new fs adds.2 ∙ ap (λ (text : List ℕ). text ++ field_lines fs) adds.1 ∙ append_assoc old (field_line f) (field_lines fs)
+added old new (f ∷ fs) adds = grind (arith, nat_tests, added adds.0 new fs adds.2, append_assoc)
 
 -- and behind the header of an object
 pub object_added : (old begun new name : List ℕ) (fs : List Field) → begun ≡ old ++ begin_line name → Adds begun fs new →
     new ≡ old ++ (begin_line name ++ field_lines fs)
-object_added old begun new name fs header adds =
-    added begun new fs adds ∙ ap (λ (text : List ℕ). text ++ field_lines fs) header ∙ append_assoc old (begin_line name) (field_lines fs)
+object_added old begun new name fs header adds = added begun new fs adds ∙ ap (λ (text : List ℕ). text ++ field_lines fs) header ∙ append_assoc old _ _
 
 -- a value that was written is another by name
 pub same_list : {A : Type 0} (old new key : List ℕ) (f : A → List ℕ) (xs ys : List A) → new ≡ old ++ field_line (key, list_unless_empty f xs) → xs ≡ ys →

@@ -1,12 +1,12 @@
 -- Arrows are those of the world.
-use Rattle.image_describer.proofs.Names.{ℕ, Bool, true, false, inl, inr, List, [], map, Option, None, Some, slice_index_or, refl, sym, ap, subst, IsTrue}
-use Rattle.image_describer.proofs.Names.{Contains, flat_map, All-contains, Contains-append_cases, Contains-append_left, Contains-append_right, Capability, Void}
-use Rattle.image_describer.proofs.Names.{Geometry, Object, named, is_node, is_root, root_in, slots_in, World, annex_at, content_at, is_process, register_at}
-use Rattle.image_describer.proofs.Names.{root_at, slot_at, Description, NodeEntry, ProcessEntry, SlotEntry, AreDistinct, AreSlots, IsProcessEntry, node_numbers}
-use Rattle.image_describer.proofs.Names.{page_numbers, Entry, OfAnnex, OfBank, OfNode, OfPage, OfRoot, number_of, IsOf, described_cases, contains_cases}
+use Rattle.image_describer.proofs.Names.{nat_tests, arith, ℕ, Bool, true, false, inl, inr, List, [], map, Option, None, Some, slice_index_or, refl, sym, ap}
+use Rattle.image_describer.proofs.Names.{subst, IsTrue, Contains, flat_map, All-contains, Contains-append_cases, Contains-append_left, Contains-append_right}
+use Rattle.image_describer.proofs.Names.{Capability, Void, Geometry, Object, named, is_node, is_root, root_in, slots_in, World, annex_at, content_at}
+use Rattle.image_describer.proofs.Names.{is_process, register_at, root_at, slot_at, Description, NodeEntry, ProcessEntry, SlotEntry, AreDistinct, AreSlots}
+use Rattle.image_describer.proofs.Names.{IsProcessEntry, Entry, OfAnnex, OfBank, OfNode, OfPage, OfRoot, number_of, IsOf, described_cases, contains_cases}
 use Rattle.image_describer.proofs.Names.{contains_here, contains_none, Describes, plain_frames, arrow_of, arrow_to, arrows, arrows_at, node_arrows}
 use Rattle.image_describer.proofs.Names.{process_arrows, ArrowsAreHeld, Holds, IsArrow, IsOnce, Arrow, Place}
-use Rattle.std.proofs.Common.{◌≡◌, ◌++◌, ◌∙◌, unwrap_or}
+use Rattle.std.proofs.Common.{◌≡◌, ◌∙◌, unwrap_or}
 use Rattle.image_describer.specs.declared.graph.arrow.Place.TheVariants as place
 use Rattle.image_describer.proofs.Once.{contains_flat, distinct_left, distinct_right, flat_contains, once_append, once_distinct, once_flat}
 use Rattle.image_describer.proofs.Reported.{annex_reported, bank_reported, free_reported, node_reported, page_reported, root_reported, said_slot, slot_said}
@@ -18,19 +18,11 @@ not_both false is wrong = let never : false ≡ true = is in cc
 -- the arrow of a capability, if it has one
 in_arrow_to : (holder : ℕ) (at : Place) (c : Capability) (o : Option ℕ) (a : Arrow) → Contains (arrow_to holder at c o) a
     → (target : ℕ) × (o ≡ Some target) × (record { holder = holder; place = at; capability = c; target = target } ≡ a)
-in_arrow_to holder at c None a h = absurd (contains_none a h)
-in_arrow_to holder at c (Some target) a h = (
-  target,
-  refl,
-  elim (contains_cases a (record { holder = holder; place = at; capability = c; target = target }) [] h)
-      [ inl is ↦ is | inr none ↦ absurd (contains_none a none) ],
-)
+in_arrow_to holder at c o a h = grind (arith, nat_tests, contains_none, contains_cases)
 
 arrow_to_has : (holder : ℕ) (at : Place) (c : Capability) (o : Option ℕ) (target : ℕ) → o ≡ Some target
     → Contains (arrow_to holder at c o) (record { holder = holder; place = at; capability = c; target = target })
-arrow_to_has holder at c o target is =
-    subst (λ (p : Option ℕ). Contains (arrow_to holder at c p) (record { holder = holder; place = at; capability = c; target = target })) (sym is)
-    (contains_here (record { holder = holder; place = at; capability = c; target = target }) [])
+arrow_to_has holder at c o target is = rw is (contains_here (record { holder = holder; place = at; capability = c; target = target }) [])
 
 arrow_once : (holder : ℕ) (at : Place) (c : Capability) (o : Option ℕ) → IsOnce (arrow_to holder at c o)
 arrow_once holder at c None = tt
@@ -67,9 +59,8 @@ in_slots holder at slots a h = contains_flat (λ s. arrow_of holder (at s.index)
 slots_once : (holder : ℕ) (at : ℕ → Place) (slots : List SlotEntry) → ((i : ℕ) → index_of (at i) ≡ i) → AreDistinct (map (λ s. s.index) slots) →
     IsOnce (arrows_at holder at slots)
 slots_once holder at slots same distinct =
-    once_flat (λ s. arrow_of holder (at s.index) (value_of s)) (λ a. index_of a.place) (λ s. s.index) slots (once_distinct (map (λ s. s.index) slots) distinct)
-    (λ s there. arrow_once holder (at s.index) (value_of s) (named (value_of s)))
-    (λ s a there. ap index_of (holder_is holder (at s.index) (value_of s) a there).1 ∙ same s.index)
+    once_flat (λ s. arrow_of holder (at s.index) (value_of s)) (λ a. index_of a.place) (λ s. s.index) slots (once_distinct _ distinct)
+    (λ s there. arrow_once holder (at s.index) (value_of s) (named (value_of s))) (λ s a there. ap index_of (holder_is _ _ _ a there).1 ∙ same s.index)
 
 slots_holder : (holder : ℕ) (at : ℕ → Place) (slots : List SlotEntry) (a : Arrow) → Contains (arrows_at holder at slots) a →
     (a.holder ≡ holder) × (i : ℕ) × (a.place ≡ at i)
@@ -79,11 +70,10 @@ slots_holder holder at slots a h =
     (is.0, found.0.index, is.1)
 
 process_holder : (p : ProcessEntry) (a : Arrow) → Contains (process_arrows p) a → a.holder ≡ p.root
-process_holder p a h = elim
-    (Contains-append_cases (arrow_of p.root place.Space (unwrap_or p.space Void)) (arrows_at p.root place.Register p.registers.items) a h) [
-      | inl space ↦ (holder_is p.root place.Space (unwrap_or p.space Void) a space).0
-      | inr register ↦ (slots_holder p.root place.Register p.registers.items a register).0
-    ]
+process_holder p a h = elim (Contains-append_cases _ _ a h) [
+  | inl space ↦ (holder_is _ _ (unwrap_or p.space Void) a space).0
+  | inr register ↦ (slots_holder _ place.Register p.registers.items a register).0
+]
 
 -- whether it begins at a slot
 abbrev IsAtSlot : Place → Type 0
@@ -95,39 +85,24 @@ IsAtRegister (place.Register i) = Unit {0}
 IsAtRegister _ = ⊥
 
 not_at_slot : (p : ProcessEntry) (a : Arrow) → Contains (process_arrows p) a → IsAtSlot a.place → ⊥
-not_at_slot p a h slot = elim
-    (Contains-append_cases (arrow_of p.root place.Space (unwrap_or p.space Void)) (arrows_at p.root place.Register p.registers.items) a h) [
-      | inl space ↦ subst IsAtSlot (holder_is p.root place.Space (unwrap_or p.space Void) a space).1 slot
-      | inr register ↦ let is = slots_holder p.root place.Register p.registers.items a register in subst IsAtSlot is.2 slot
-    ]
+not_at_slot p a h slot = elim (Contains-append_cases _ _ a h) [
+  | inl space ↦ subst IsAtSlot (holder_is _ _ (unwrap_or p.space Void) a space).1 slot
+  | inr register ↦ let is = slots_holder _ place.Register p.registers.items a register in subst IsAtSlot is.2 slot
+]
 
 process_once : (p : ProcessEntry) → AreDistinct (map (λ s. s.index) p.registers.items) → IsOnce (process_arrows p)
-process_once p distinct =
-    once_append (arrow_of p.root place.Space (unwrap_or p.space Void)) (arrows_at p.root place.Register p.registers.items)
-    (arrow_once p.root place.Space (unwrap_or p.space Void) (named (unwrap_or p.space Void)))
-    (slots_once p.root place.Register p.registers.items (λ i. refl) distinct)
-    (λ a space register.
-    let is = slots_holder p.root place.Register p.registers.items a register in
+process_once p distinct = once_append _ _ (arrow_once _ _ _ _) (slots_once _ place.Register _ (λ i. refl) distinct) (λ a space register.
+    let is = slots_holder _ place.Register p.registers.items a register in
     let at : IsAtRegister a.place = subst IsAtRegister (sym is.2) tt in
-    subst IsAtRegister (holder_is p.root place.Space (unwrap_or p.space Void) a space).1 at)
+    subst IsAtRegister (holder_is _ _ (unwrap_or p.space Void) a space).1 at)
 
 -- The arrows of the description of a world.
 module _ (g : Geometry) (w : World) (d : Description) (describes : Describes g w d) where
   roots_distinct : AreDistinct (map (λ p. p.root) d.processes.items)
-  roots_distinct =
-      let B : List ℕ = map (λ b. b.number) d.banks.items in
-      let R : List ℕ = map (λ p. p.root) d.processes.items in
-      let A : List ℕ = map (λ p. p.annex) d.processes.items in
-      let N : List ℕ = map (λ n. n.number) d.nodes.items in
-      distinct_right B R (distinct_left (B ++ R) A (distinct_left (B ++ R ++ A) N (distinct_left (node_numbers d) (page_numbers d) describes.numbers.distinct)))
+  roots_distinct = grind (arith, nat_tests, distinct_right, distinct_left)
 
   nodes_distinct : AreDistinct (map (λ n. n.number) d.nodes.items)
-  nodes_distinct =
-      let B : List ℕ = map (λ b. b.number) d.banks.items in
-      let R : List ℕ = map (λ p. p.root) d.processes.items in
-      let A : List ℕ = map (λ p. p.annex) d.processes.items in
-      let N : List ℕ = map (λ n. n.number) d.nodes.items in
-      distinct_right (B ++ R ++ A) N (distinct_left (node_numbers d) (page_numbers d) describes.numbers.distinct)
+  nodes_distinct = grind (arith, nat_tests, distinct_right, distinct_left)
 
   registers_are : (p : ProcessEntry) → Contains d.processes.items p → AreSlots 1 p.registers.items
   registers_are p there = (All-contains IsProcessEntry d.processes.items p describes.fields.processes there).registers
@@ -136,18 +111,16 @@ module _ (g : Geometry) (w : World) (d : Description) (describes : Describes g w
   slots_are n there = All-contains (λ (n : NodeEntry). AreSlots 0 n.slots.items) d.nodes.items n describes.fields.nodes there
 
   arrows_once : IsOnce (arrows d)
-  arrows_once =
-      once_append (flat_map process_arrows d.processes.items) (flat_map node_arrows d.nodes.items)
+  arrows_once = once_append (flat_map process_arrows d.processes.items) (flat_map node_arrows d.nodes.items)
       (once_flat process_arrows (λ a. a.holder) (λ p. p.root) d.processes.items (once_distinct (map (λ p. p.root) d.processes.items) roots_distinct)
       (λ p there. process_once p (registers_are p there).distinct) process_holder)
       (once_flat node_arrows (λ a. a.holder) (λ n. n.number) d.nodes.items (once_distinct (map (λ n. n.number) d.nodes.items) nodes_distinct)
       (λ n there. slots_once n.number place.Slot n.slots.items (λ i. refl) (slots_are n there).distinct)
-      (λ n a there. (slots_holder n.number place.Slot n.slots.items a there).0))
-      (λ a process node.
+      (λ n a there. (slots_holder n.number place.Slot n.slots.items a there).0)) (λ a process node.
       let one = contains_flat process_arrows a d.processes.items process in
       let other = contains_flat node_arrows a d.nodes.items node in
       let is = slots_holder other.0.number place.Slot other.0.slots.items a other.2 in
-      not_at_slot one.0 a one.2 (subst IsAtSlot (sym is.2) tt))
+      not_at_slot one.0 a one.2 (rw is.2 tt))
 
   -- what a process holds
   root_is : (p : ProcessEntry) → Contains d.processes.items p → IsTrue (is_process w.objects p.root)
@@ -176,22 +149,20 @@ module _ (g : Geometry) (w : World) (d : Description) (describes : Describes g w
 
   -- each arrow is held
   of_process : (p : ProcessEntry) (a : Arrow) → Contains d.processes.items p → Contains (process_arrows p) a → IsArrow w.objects a
-  of_process p a there h = elim
-      (Contains-append_cases (arrow_of p.root place.Space (unwrap_or p.space Void)) (arrows_at p.root place.Register p.registers.items) a h) [
-        | inl space ↦ arrow_held w.objects p.root place.Space (unwrap_or p.space Void) a (root_is p there, space_is p there) space
-        | inr register ↦
-            let found = in_slots p.root place.Register p.registers.items a register in
-            let annex = annex_reported g w d describes p there in
-            arrow_held w.objects p.root (place.Register found.0.index) (value_of found.0) a
-            (root_is p there, register_is p there found.0.index ∙ slot_said 1 p.registers.items annex.0 (registers_are p there) annex.1 found.0 found.1) found.2
-      ]
+  of_process p a there h = elim (Contains-append_cases _ _ a h) [
+    | inl space ↦ arrow_held _ p.root place.Space (unwrap_or p.space Void) a (root_is p there, space_is p there) space
+    | inr register ↦
+        let found = in_slots _ place.Register _ a register in
+        let annex = annex_reported g w d describes p there in
+        arrow_held _ p.root (place.Register found.0.index) (value_of found.0) a
+        (root_is p there, register_is p there _ ∙ slot_said 1 p.registers.items _ (registers_are p there) annex.1 _ found.1) found.2
+  ]
 
   of_node : (n : NodeEntry) (a : Arrow) → Contains d.nodes.items n → Contains (node_arrows n) a → IsArrow w.objects a
   of_node n a there h =
-      let found = in_slots n.number place.Slot n.slots.items a h in
+      let found = in_slots _ place.Slot _ a h in
       let node = node_reported g w d describes n there in
-      arrow_held w.objects n.number (place.Slot found.0.index) (value_of found.0) a
-      (node_is n there, slot_is n there found.0.index ∙ slot_said 0 n.slots.items node.0 (slots_are n there) node.1 found.0 found.1) found.2
+      arrow_held _ _ _ _ a (node_is n there, slot_is n there _ ∙ slot_said 0 _ _ (slots_are n there) node.1 _ found.1) found.2
 
   of_arrows : (a : Arrow) → Contains (arrows d) a → IsArrow w.objects a
   of_arrows a h = elim (Contains-append_cases (flat_map process_arrows d.processes.items) (flat_map node_arrows d.nodes.items) a h) [
@@ -236,59 +207,37 @@ module _ (g : Geometry) (w : World) (d : Description) (describes : Describes g w
   HasArrow holder at c target = Contains (arrows d) (record { holder = holder; place = at; capability = c; target = target })
 
   process_has : (p : ProcessEntry) (a : Arrow) → Contains d.processes.items p → Contains (process_arrows p) a → Contains (arrows d) a
-  process_has p a there h =
-      Contains-append_left (flat_map process_arrows d.processes.items) (flat_map node_arrows d.nodes.items) a
-      (flat_contains process_arrows p a d.processes.items there h)
+  process_has p a there h = Contains-append_left _ _ a (flat_contains process_arrows p a _ there h)
 
   space_has : (p : ProcessEntry) (c : Capability) (target : ℕ) → Contains d.processes.items p → (root_at w.objects p.root).space ≡ c → named c ≡ Some target →
       HasArrow p.root place.Space c target
   space_has p c target there is names =
       let value : unwrap_or p.space Void ≡ c = sym (space_is p there) ∙ is in
-      process_has p _ there
-      (Contains-append_left (arrow_of p.root place.Space (unwrap_or p.space Void)) (arrows_at p.root place.Register p.registers.items) _
-      (subst (λ (k : Capability). Contains (arrow_of p.root place.Space k) (record { holder = p.root; place = place.Space; capability = c; target = target }))
-      (sym value)
-      (arrow_to_has p.root place.Space c (named c) target names)))
+      process_has p _ there (Contains-append_left (arrow_of p.root place.Space (unwrap_or p.space Void)) (arrows_at p.root place.Register p.registers.items) _
+      (rw value (arrow_to_has p.root place.Space c (named c) target names)))
 
   slot_has : (holder : ℕ) (at : ℕ → Place) (slots : List SlotEntry) (s : SlotEntry) (i : ℕ) (c : Capability) (target : ℕ) → Contains slots s → s.index ≡ i →
       value_of s ≡ c → named c ≡ Some target
       → Contains (arrows_at holder at slots) (record { holder = holder; place = at i; capability = c; target = target })
-  slot_has holder at slots s i c target there is value names =
-      flat_contains (λ s. arrow_of holder (at s.index) (value_of s)) s (record { holder = holder; place = at i; capability = c; target = target }) slots there
-      (subst (λ (j : ℕ). Contains (arrow_of holder (at j) (value_of s)) (record { holder = holder; place = at i; capability = c; target = target })) (sym is)
-      (subst (λ (k : Capability). Contains (arrow_of holder (at i) k) (record { holder = holder; place = at i; capability = c; target = target })) (sym value)
-      (arrow_to_has holder (at i) c (named c) target names)))
+  slot_has holder at slots s i c target there is value names = flat_contains (λ s. arrow_of holder (at s.index) (value_of s)) s _ slots there
+      (rw is (rw value (arrow_to_has _ _ c _ _ names)))
 
   register_has : (p : ProcessEntry) (i : ℕ) (c : Capability) (target : ℕ) → Contains d.processes.items p → register_at w.objects p.root i ≡ c →
       named c ≡ Some target → HasArrow p.root (place.Register i) c target
   register_has p i c target there is names =
       let annex = annex_reported g w d describes p there in
-      let found = said_slot 1 p.registers.items annex.0 (registers_are p there) annex.1 i c target (sym (register_is p there i) ∙ is) names in
-      process_has p _ there
-      (Contains-append_right (arrow_of p.root place.Space (unwrap_or p.space Void)) (arrows_at p.root place.Register p.registers.items) _
-      (slot_has p.root place.Register p.registers.items found.0 i c target found.1 found.2 found.3 names))
+      let found = said_slot 1 _ _ (registers_are p there) annex.1 i c _ (sym (register_is p there i) ∙ is) names in
+      process_has p _ there (Contains-append_right _ _ _ (slot_has _ place.Register _ _ i c _ found.1 found.2 found.3 names))
 
   node_has : (n : NodeEntry) (i : ℕ) (c : Capability) (target : ℕ) → Contains d.nodes.items n → slot_at w.objects n.number i ≡ c → named c ≡ Some target →
       HasArrow n.number (place.Slot i) c target
   node_has n i c target there is names =
       let node = node_reported g w d describes n there in
-      let found = said_slot 0 n.slots.items node.0 (slots_are n there) node.1 i c target (sym (slot_is n there i) ∙ is) names in
-      Contains-append_right (flat_map process_arrows d.processes.items) (flat_map node_arrows d.nodes.items) _
-      (flat_contains node_arrows n _ d.nodes.items there (slot_has n.number place.Slot n.slots.items found.0 i c target found.1 found.2 found.3 names))
+      let found = said_slot 0 _ _ (slots_are n there) node.1 i c _ (sym (slot_is n there i) ∙ is) names in
+      Contains-append_right _ _ _ (flat_contains node_arrows n _ _ there (slot_has _ place.Slot _ _ i c _ found.1 found.2 found.3 names))
 
   held_has : (holder : ℕ) (at : Place) (c : Capability) (target : ℕ) → Holds w.objects holder at c → named c ≡ Some target → HasArrow holder at c target
-  held_has holder place.Space c target holds names =
-      let found = process_at holder holds.0 in
-      subst (λ (n : ℕ). HasArrow n place.Space c target) found.2
-      (space_has found.0 c target found.1 (subst (λ (n : ℕ). (root_at w.objects n).space ≡ c) (sym found.2) holds.1) names)
-  held_has holder (place.Register i) c target holds names =
-      let found = process_at holder holds.0 in
-      subst (λ (n : ℕ). HasArrow n (place.Register i) c target) found.2
-      (register_has found.0 i c target found.1 (subst (λ (n : ℕ). register_at w.objects n i ≡ c) (sym found.2) holds.1) names)
-  held_has holder (place.Slot i) c target holds names =
-      let found = node_at holder holds.0 in
-      subst (λ (n : ℕ). HasArrow n (place.Slot i) c target) found.2
-      (node_has found.0 i c target found.1 (subst (λ (n : ℕ). slot_at w.objects n i ≡ c) (sym found.2) holds.1) names)
+  held_has holder at c target holds names = grind (arith, nat_tests, process_at, space_has, register_has, node_at, node_has)
 
   in_arrows : (a : Arrow) → IsArrow w.objects a → Contains (arrows d) a
   in_arrows a is = held_has a.holder a.place a.capability a.target is.0 is.1

@@ -18,9 +18,6 @@ use Rattle.image_describer.proofs.Rising.{apart_by, distinct_both, distinct_othe
 
 -- Entries of slots and words.
 module _ (slots : List Capability) (es : List SlotEntry) (names : NamesSlots slots es) where
-  index_of : SlotEntry → ℕ
-  index_of s = s.index
-
   slot_value : (s : SlotEntry) → Contains es s → unwrap_or s.capability Void ≡ slice_index_or slots s.index Void
   slot_value s there = named_is (λ s. s.index) (λ s. unwrap_or s.capability Void) Void slots es s names there
 
@@ -91,17 +88,15 @@ module _ (g : Geometry) (w : World) (sound : IsSound g w) where
 
   slots_reported : (n owner : ℕ) (c : Content Capability) → object_at w.objects n ≡ record { owner = owner; content = c } → (i : ℕ) →
       IsWellFormed (slice_index_or (slots_in c) i Void)
-  slots_reported n owner c is i = subst (λ (d : Content Capability). IsWellFormed (slice_index_or (slots_in d) i Void)) (content_reported n owner c is)
-      (sound.slots n i).0
+  slots_reported n owner c is i = rw (← content_reported n owner c is) (sound.slots n i).0
 
   register_reported : (n owner : ℕ) (registers : List Capability) → object_at w.objects n ≡ record { owner = owner; content = content.Annex registers } →
       (i : ℕ) → i < 1 → slice_index_or registers i Void ≡ Void
   register_reported n owner registers is i under =
       let first : 0 ≡ i = omega (arith, under) in
-      let annex : IsTrue (is_annex (content_at w.objects n)) = ap is_annex (content_reported n owner (content.Annex registers) is) in
+      let annex : IsTrue (is_annex (content_at w.objects n)) = ap is_annex (content_reported n owner _ is) in
       subst (λ (k : ℕ). slice_index_or registers k Void ≡ Void) first
-      (subst (λ (d : Content Capability). slice_index_or (slots_in d) 0 Void ≡ Void) (content_reported n owner (content.Annex registers) is)
-      (sound.register_0 n annex))
+      (subst (λ (d : Content Capability). slice_index_or (slots_in d) 0 Void ≡ Void) (content_reported n owner _ is) (sound.register_0 n annex))
 
   plain_reported : (n : ℕ) (o : Object) → object_at w.objects n ≡ o → frame_at (plain_frames w.objects) n ≡ plain_frame o
   unfolding plain_frames
@@ -193,53 +188,39 @@ module _ (g : Geometry) (w : World) (sound : IsSound g w) where
         let N : List ℕ = map (λ n. n.number) d.nodes.items in
         let P : List ℕ = map (λ p. p.number) d.pages.items in
         let roots : All (λ n. kind_of n ≡ role.Root) R = All-map (λ n. kind_of n ≡ role.Root) (λ p. p.root) d.processes.items
-        (all_from (λ (p : ProcessEntry). kind_of p.root ≡ role.Root) d.processes.items root_kind) in
+        (all_from (λ (p : ProcessEntry). kind_of p.root ≡ role.Root) _ root_kind) in
         let annexes : All (λ n. kind_of n ≡ role.Annex) A = All-map (λ n. kind_of n ≡ role.Annex) (λ p. p.annex) d.processes.items
-        (all_from (λ (p : ProcessEntry). kind_of p.annex ≡ role.Annex) d.processes.items annex_kind) in
+        (all_from (λ (p : ProcessEntry). kind_of p.annex ≡ role.Annex) _ annex_kind) in
         let plain : All (λ n. kind_of n ≡ role.Node) N = All-map (λ n. kind_of n ≡ role.Node) (λ n. n.number) d.nodes.items
-        (all_from (λ (n : NodeEntry). kind_of n.number ≡ role.Node) d.nodes.items node_kind) in
+        (all_from (λ (n : NodeEntry). kind_of n.number ≡ role.Node) _ node_kind) in
         let paged : All (λ n. kind_of n ≡ role.Page) P = All-map (λ n. kind_of n ≡ role.Page) (λ p. p.number) d.pages.items
-        (all_from (λ (p : PageEntry). kind_of p.number ≡ role.Page) d.pages.items page_kind) in
+        (all_from (λ (p : PageEntry). kind_of p.number ≡ role.Page) _ page_kind) in
         let no_banks : (s : Role) → role.Bank ≢ s → All (λ n. kind_of n ≡ s → ⊥) B = λ s differ. All-map (λ n. kind_of n ≡ s → ⊥) (λ b. b.number) d.banks.items
-        (all_from (λ (b : BankEntry). kind_of b.number ≡ s → ⊥) d.banks.items (λ b there is. other_kind role.Bank s b.number differ (bank_kind b there) is)) in
+        (all_from (λ (b : BankEntry). kind_of b.number ≡ s → ⊥) _ (λ b there is. other_kind role.Bank s b.number differ (bank_kind b there) is)) in
         let no_roots : (s : Role) → role.Root ≢ s → All (λ n. kind_of n ≡ s → ⊥) R = λ s differ. All-map (λ n. kind_of n ≡ s → ⊥) (λ p. p.root)
         d.processes.items
-        (all_from (λ (p : ProcessEntry). kind_of p.root ≡ s → ⊥) d.processes.items (λ p there is. other_kind role.Root s p.root differ (root_kind p there) is))
-        in
+        (all_from (λ (p : ProcessEntry). kind_of p.root ≡ s → ⊥) _ (λ p there is. other_kind role.Root s p.root differ (root_kind p there) is)) in
         let no_annexes : (s : Role) → role.Annex ≢ s → All (λ n. kind_of n ≡ s → ⊥) A = λ s differ. All-map (λ n. kind_of n ≡ s → ⊥) (λ p. p.annex)
-        d.processes.items
-        (all_from (λ (p : ProcessEntry). kind_of p.annex ≡ s → ⊥) d.processes.items
+        d.processes.items (all_from (λ (p : ProcessEntry). kind_of p.annex ≡ s → ⊥) _
         (λ p there is. other_kind role.Annex s p.annex differ (annex_kind p there) is)) in
         let none_page : All (λ n. kind_of n ≡ role.Page → ⊥) (node_numbers d) = all_nodes (λ n. kind_of n ≡ role.Page → ⊥)
         (λ b there is. other_kind role.Bank role.Page b.number (λ e. cc) (bank_kind b there) is)
         (λ p there is. other_kind role.Root role.Page p.root (λ e. cc) (root_kind p there) is)
         (λ p there is. other_kind role.Annex role.Page p.annex (λ e. cc) (annex_kind p there) is)
         (λ n there is. other_kind role.Node role.Page n.number (λ e. cc) (node_kind n there) is) in
-        distinct_both (node_numbers d) P
-        (distinct_both (B ++ R ++ A) N
-        (distinct_both (B ++ R) A
-        (distinct_both B R (rising_distinct B banks.rising) (rising_distinct R processes.rising)
-        (apart_by (λ n. kind_of n ≡ role.Root) B R (no_banks role.Root (λ e. cc)) roots))
-        annexes_distinct
-        (apart_by (λ n. kind_of n ≡ role.Annex) (B ++ R) A
+        distinct_both _ P (distinct_both _ N (distinct_both _ A (distinct_both B R (rising_distinct B banks.rising) (rising_distinct R processes.rising)
+        (apart_by (λ n. kind_of n ≡ role.Root) B R (no_banks role.Root (λ e. cc)) roots)) annexes_distinct (apart_by (λ n. kind_of n ≡ role.Annex) _ A
         (All-append (λ n. kind_of n ≡ role.Annex → ⊥) B R (no_banks role.Annex (λ e. cc)) (no_roots role.Annex (λ e. cc))) annexes))
-        (rising_distinct N nodes.rising)
-        (apart_by (λ n. kind_of n ≡ role.Node) (B ++ R ++ A) N
-        (All-append (λ n. kind_of n ≡ role.Node → ⊥) (B ++ R) A
+        (rising_distinct N nodes.rising) (apart_by (λ n. kind_of n ≡ role.Node) _ N (All-append (λ n. kind_of n ≡ role.Node → ⊥) (B ++ R) A
         (All-append (λ n. kind_of n ≡ role.Node → ⊥) B R (no_banks role.Node (λ e. cc)) (no_roots role.Node (λ e. cc))) (no_annexes role.Node (λ e. cc)))
-        plain))
-        (rising_distinct P pages.rising)
-        (apart_by (λ n. kind_of n ≡ role.Page) (node_numbers d) P none_page paged)
+        plain)) (rising_distinct P pages.rising) (apart_by (λ n. kind_of n ≡ role.Page) _ P none_page paged)
 
     numbers_reported : HasNumbers d
     numbers_reported = record {
-      nodes = subst (λ (h : Geometry). All (λ n. n < h.nodes) (node_numbers d)) (sym geometry) (all_nodes (λ n. n < g.nodes)
-          (λ b there. kind_reported b.number b.owner (content.Bank b.limit) (bank_reported b there))
-          (λ p there. kind_reported p.root p.owner _ (process_reported p there).0.4)
-          (λ p there. kind_reported p.annex p.owner _ (process_reported p there).1.2)
+      nodes = rw geometry (all_nodes (λ n. n < g.nodes) (λ b there. kind_reported b.number b.owner (content.Bank b.limit) (bank_reported b there))
+          (λ p there. kind_reported p.root p.owner _ (process_reported p there).0.4) (λ p there. kind_reported p.annex p.owner _ (process_reported p there).1.2)
           (λ n there. kind_reported n.number n.owner _ (node_reported n there).2));
-      pages = subst (λ (h : Geometry). All (λ n. (h.nodes ≤ n) × (n < object_count h)) (page_numbers d)) (sym geometry)
-          (All-map (λ n. (g.nodes ≤ n) × (n < object_count g)) (λ p. p.number) d.pages.items
+      pages = rw geometry (All-map (λ n. (g.nodes ≤ n) × (n < object_count g)) (λ p. p.number) d.pages.items
           (all_from (λ (p : PageEntry). (g.nodes ≤ p.number) × (p.number < object_count g)) d.pages.items
           (λ p there. kind_reported p.number p.owner _ (page_reported p there).2)));
       distinct = numbers_distinct;
@@ -257,37 +238,31 @@ module _ (g : Geometry) (w : World) (sound : IsSound g w) where
     registers_reported : (p : ProcessEntry) → Contains d.processes.items p → AreSlots 1 p.registers.items
     registers_reported p there =
         let annex = (process_reported p there).1 in
-        slots_are annex.0 p.registers.items annex.1 1 (shape_reported p.annex p.owner _ annex.2) (slots_reported p.annex p.owner _ annex.2)
-        (register_reported p.annex p.owner annex.0 annex.2)
+        slots_are _ _ annex.1 1 (shape_reported _ _ _ annex.2) (slots_reported _ _ _ annex.2) (register_reported _ _ _ annex.2)
 
     fields_reported : HasFields d
     fields_reported = record {
-      processes = all_from IsProcessEntry d.processes.items (λ p there.
+      processes = all_from IsProcessEntry _ (λ p there.
           let root = (process_reported p there).0 in
           record {
             state = λ none. let wrong : Some root.0 ≡ None = sym root.2 ∙ none in cc;
-            key = (shape_reported p.root p.owner _ root.4).2;
+            key = (shape_reported _ _ _ root.4).2;
             space = space_reported p there;
             registers = registers_reported p there;
           });
-      nodes = all_from (λ (n : NodeEntry). AreSlots 0 n.slots.items) d.nodes.items (λ n there.
+      nodes = all_from (λ (n : NodeEntry). AreSlots 0 n.slots.items) _ (λ n there.
           let node = node_reported n there in
-          slots_are node.0 n.slots.items node.1 0 (shape_reported n.number n.owner _ node.2) (slots_reported n.number n.owner _ node.2)
-          (λ i under. absurd (omega (arith, under))));
-      pages = all_from (λ (p : PageEntry). AreWords p.words.items) d.pages.items (λ p there.
+          slots_are _ _ node.1 0 (shape_reported _ _ _ node.2) (slots_reported _ _ _ node.2) (λ i under. absurd (omega (arith, under))));
+      pages = all_from (λ (p : PageEntry). AreWords p.words.items) _ (λ p there.
           let page = page_reported p there in
-          words_are page.0 p.words.items page.1 (shape_reported p.number p.owner _ page.2));
+          words_are _ _ page.1 (shape_reported _ _ _ page.2));
     }
 
     -- The frames.
     in_nodes : (n : ℕ) → (Contains bank_numbers n) ⊎ (Contains root_numbers n) ⊎ (Contains annex_numbers n) ⊎ (Contains plain_numbers n) →
         Contains (node_numbers d) n
     unfolding bank_numbers root_numbers annex_numbers plain_numbers
-    in_nodes n (inl bank) =
-        Contains-append_left (map (λ b. b.number) d.banks.items ++ map (λ p. p.root) d.processes.items ++ map (λ p. p.annex) d.processes.items)
-        (map (λ n. n.number) d.nodes.items) n
-        (Contains-append_left (map (λ b. b.number) d.banks.items ++ map (λ p. p.root) d.processes.items) (map (λ p. p.annex) d.processes.items) n
-        (Contains-append_left (map (λ b. b.number) d.banks.items) (map (λ p. p.root) d.processes.items) n bank))
+    in_nodes n (inl bank) = Contains-append_left _ _ n (Contains-append_left _ _ n (Contains-append_left _ _ n bank))
     in_nodes n (inr (inl root)) =
         Contains-append_left (map (λ b. b.number) d.banks.items ++ map (λ p. p.root) d.processes.items ++ map (λ p. p.annex) d.processes.items)
         (map (λ n. n.number) d.nodes.items) n
@@ -368,10 +343,8 @@ module _ (g : Geometry) (w : World) (sound : IsSound g w) where
       processes = processes.rising;
       nodes = nodes.rising;
       pages = pages.rising;
-      registers = all_from (λ (p : ProcessEntry). AreBriefSlots p.registers.items) d.processes.items
-          (λ p there. let annex = (process_reported p there).1 in slots_brief annex.0 p.registers.items annex.1);
-      slots = all_from (λ (n : NodeEntry). AreBriefSlots n.slots.items) d.nodes.items
-          (λ n there. let node = node_reported n there in slots_brief node.0 n.slots.items node.1);
-      words = all_from (λ (p : PageEntry). AreBriefWords p.words.items) d.pages.items
-          (λ p there. let page = page_reported p there in (page.1.rising, page.1.some));
+      registers = all_from (λ (p : ProcessEntry). AreBriefSlots p.registers.items) _
+          (λ p there. let annex = (process_reported p there).1 in slots_brief _ _ annex.1);
+      slots = all_from (λ (n : NodeEntry). AreBriefSlots n.slots.items) _ (λ n there. let node = node_reported n there in slots_brief _ _ node.1);
+      words = all_from (λ (p : PageEntry). AreBriefWords p.words.items) _ (λ p there. let page = page_reported p there in (page.1.rising, page.1.some));
     }

@@ -34,30 +34,10 @@ abbrev joined_part : ℕ × ℕ → List (ℕ × ℕ)
 joined_part p = joined p.0 p.1
 
 boxes_are : (d : Description) → map owned (parts d) ≡ boxes d
-boxes_are d =
-    map_both owned (bank_parts d ++ root_parts d ++ node_parts d) (page_parts d)
-    ∙ ap (λ (ns : List ℕ). ns ++ map owned (page_parts d)) (map_both owned (bank_parts d ++ root_parts d) (node_parts d))
-    ∙ ap (λ (ns : List ℕ). (ns ++ map owned (node_parts d)) ++ map owned (page_parts d)) (map_both owned (bank_parts d) (root_parts d))
-    ∙ ap (λ (ns : List ℕ). ((ns ++ map owned (root_parts d)) ++ map owned (node_parts d)) ++ map owned (page_parts d))
-    (map_again owned (λ b. (b.owner, b.number)) d.banks.items)
-    ∙ ap (λ (ns : List ℕ). ((map (λ b. b.number) d.banks.items ++ ns) ++ map owned (node_parts d)) ++ map owned (page_parts d))
-    (map_again owned (λ p. (p.owner, p.root)) d.processes.items)
-    ∙ ap (λ (ns : List ℕ). ((map (λ b. b.number) d.banks.items ++ map (λ p. p.root) d.processes.items) ++ ns) ++ map owned (page_parts d))
-    (map_again owned (λ n. (n.owner, n.number)) d.nodes.items)
-    ∙ ap (λ (ns : List ℕ). ((map (λ b. b.number) d.banks.items ++ map (λ p. p.root) d.processes.items) ++ map (λ n. n.number) d.nodes.items) ++ ns)
-    (map_again owned (λ p. (p.owner, p.number)) d.pages.items)
+boxes_are d = grind (arith, nat_tests, map_both, map_again)
 
 owners_are : (d : Description) → flat_map joined_part (parts d) ≡ owners d
-owners_are d =
-    flat_map-four joined_part (bank_parts d) (root_parts d) (node_parts d) (page_parts d)
-    ∙ ap (λ (ps : List (ℕ × ℕ)). ps ++ flat_map joined_part (root_parts d) ++ flat_map joined_part (node_parts d) ++ flat_map joined_part (page_parts d))
-    (flat_map-map joined_part (λ b. (b.owner, b.number)) d.banks.items)
-    ∙ ap (λ (ps : List (ℕ × ℕ)). flat_map (λ b. joined b.owner b.number) d.banks.items ++ ps ++ flat_map joined_part (node_parts d) ++ flat_map joined_part
-    (page_parts d)) (flat_map-map joined_part (λ p. (p.owner, p.root)) d.processes.items)
-    ∙ ap (λ (ps : List (ℕ × ℕ)). flat_map (λ b. joined b.owner b.number) d.banks.items ++ flat_map (λ p. joined p.owner p.root) d.processes.items ++ ps ++
-    flat_map joined_part (page_parts d)) (flat_map-map joined_part (λ n. (n.owner, n.number)) d.nodes.items)
-    ∙ ap (λ (ps : List (ℕ × ℕ)). flat_map (λ b. joined b.owner b.number) d.banks.items ++ flat_map (λ p. joined p.owner p.root) d.processes.items ++ flat_map
-    (λ n. joined n.owner n.number) d.nodes.items ++ ps) (flat_map-map joined_part (λ p. (p.owner, p.number)) d.pages.items)
+owners_are d = grind (arith, nat_tests, flat_map-four, flat_map-map)
 
 -- no box comes twice, since no number does
 boxes_once : (d : Description) → AreDistinct (node_numbers d ++ page_numbers d) → IsOnce (boxes d)
@@ -67,17 +47,12 @@ boxes_once d distinct =
     let A : List ℕ = map (λ p. p.annex) d.processes.items in
     let N : List ℕ = map (λ n. n.number) d.nodes.items in
     let P : List ℕ = map (λ p. p.number) d.pages.items in
-    let nodes : AreDistinct (B ++ R ++ A ++ N) = distinct_left (B ++ R ++ A ++ N) P distinct in
-    once_append (B ++ R ++ N) P
-    (once_append (B ++ R) N
-    (once_distinct (B ++ R) (distinct_left (B ++ R) A (distinct_left (B ++ R ++ A) N nodes)))
-    (once_distinct N (distinct_right (B ++ R ++ A) N nodes))
-    (λ n one two. distinct_apart (B ++ R ++ A) N nodes n (Contains-append_left (B ++ R) A n one) two))
-    (once_distinct P (distinct_right (B ++ R ++ A ++ N) P distinct))
-    (λ n one two. distinct_apart (B ++ R ++ A ++ N) P distinct n
-    (elim (Contains-append_cases (B ++ R) N n one) [
-      | inl left ↦ Contains-append_left (B ++ R ++ A) N n (Contains-append_left (B ++ R) A n left)
-      | inr right ↦ Contains-append_right (B ++ R ++ A) N n right
+    let nodes : AreDistinct (B ++ R ++ A ++ N) = distinct_left _ P distinct in
+    once_append _ P (once_append _ N (once_distinct _ (distinct_left _ A (distinct_left _ N nodes))) (once_distinct N (distinct_right _ N nodes))
+    (λ n one two. distinct_apart (B ++ R ++ A) N nodes n (Contains-append_left _ A n one) two)) (once_distinct P (distinct_right _ P distinct))
+    (λ n one two. distinct_apart (B ++ R ++ A ++ N) P distinct n (elim (Contains-append_cases _ N n one) [
+      | inl left ↦ Contains-append_left _ N n (Contains-append_left _ A n left)
+      | inr right ↦ Contains-append_right _ N n right
     ]) two)
 
 -- a pair is joined where its numbers differ
@@ -88,14 +63,7 @@ joined_some : (owner number : ℕ) → owner ≢ number → joined owner number 
 joined_some owner number differ = let test : (owner == number) ≡ false = grind (arith, nat_tests) in rw test refl
 
 in_joined : (owner number : ℕ) (p : ℕ × ℕ) → Contains (joined owner number) p → ((owner, number) ≡ p) × (owner ≢ number)
-in_joined owner number p h = elim (cases_eq owner number) [
-  | inl is ↦ absurd (contains_none p (subst (λ (ps : List (ℕ × ℕ)). Contains ps p) (joined_none owner number is) h))
-  | inr differ ↦ (
-    elim (contains_cases p (owner, number) [] (subst (λ (ps : List (ℕ × ℕ)). Contains ps p) (joined_some owner number differ) h))
-        [ inl is ↦ is | inr none ↦ absurd (contains_none p none) ],
-    differ,
-  )
-]
+in_joined owner number p h = grind (arith, nat_tests, contains_none, joined_none, contains_cases, joined_some)
 
 joined_once : (owner number : ℕ) → IsOnce (joined owner number)
 joined_once owner number = elim (cases_eq owner number) [
@@ -139,10 +107,8 @@ module _ (g : Geometry) (w : World) (d : Description) (describes : Describes g w
   same_owner n owner c is there = subst (λ (m : ℕ). Contains (parts d) (m, n)) (sym (ap (λ (o : Object). o.owner) is)) there
 
   entry_part : (e : Entry) → IsOf d e → HasBox w.objects (number_of e) → Contains (parts d) (owner_at w.objects (number_of e), number_of e)
-  entry_part (OfBank b) there has = same_owner b.number b.owner _ (bank_reported g w d describes b there)
-      (Contains-append_left (bank_parts d ++ root_parts d ++ node_parts d) (page_parts d) (b.owner, b.number)
-      (Contains-append_left (bank_parts d ++ root_parts d) (node_parts d) (b.owner, b.number)
-      (Contains-append_left (bank_parts d) (root_parts d) (b.owner, b.number) (contains_map (λ b. (b.owner, b.number)) b d.banks.items there))))
+  entry_part (OfBank b) there has = same_owner _ _ _ (bank_reported g w d describes b there) (Contains-append_left _ _ _ (Contains-append_left _ _ _
+      (Contains-append_left _ _ _ (contains_map (λ b. (b.owner, b.number)) b _ there))))
   entry_part (OfRoot p) there has = same_owner p.root p.owner _ (root_reported g w d describes p there).3
       (Contains-append_left (bank_parts d ++ root_parts d ++ node_parts d) (page_parts d) (p.owner, p.root)
       (Contains-append_left (bank_parts d ++ root_parts d) (node_parts d) (p.owner, p.root)
@@ -158,9 +124,7 @@ module _ (g : Geometry) (w : World) (d : Description) (describes : Describes g w
 
   reported_part : (n : ℕ) → HasBox w.objects n → Contains (parts d) (owner_at w.objects n, n)
   reported_part n has = elim (described_cases d (plain_frames w.objects) n describes.frames) [
-    | inl found ↦
-        subst (λ (m : ℕ). Contains (parts d) (owner_at w.objects m, m)) found.2
-        (entry_part found.0 found.1 (subst (λ (m : ℕ). HasBox w.objects m) (sym found.2) has))
+    | inl found ↦ rw (← found.2) (entry_part found.0 found.1 (rw found.2 has))
     | inr blank ↦ let wrong = sym has.0 ∙ ap (λ (o : Object). is_free o.content) (free_reported g w d describes n blank) in cc
   ]
 
@@ -174,9 +138,8 @@ module _ (g : Geometry) (w : World) (d : Description) (describes : Describes g w
 
   in_owners : (p : ℕ × ℕ) → IsOwner w.objects p → Contains (owners d) p
   in_owners p is =
-      let there : Contains (parts d) p = subst (λ (m : ℕ). Contains (parts d) (m, p.1)) is.1 (reported_part p.1 is.0) in
-      subst (λ (ps : List (ℕ × ℕ)). Contains ps p) (owners_are d)
-      (flat_contains joined_part p p (parts d) there (subst (λ (ps : List (ℕ × ℕ)). Contains ps p) (sym (joined_some p.0 p.1 is.2)) (contains_here p [])))
+      let there : Contains (parts d) p = rw (← is.1) (reported_part p.1 is.0) in
+      rw (← owners_are d) (flat_contains joined_part p p (parts d) there (rw (joined_some p.0 p.1 is.2) (contains_here p [])))
 
   of_owners : (p : ℕ × ℕ) → Contains (owners d) p → IsOwner w.objects p
   of_owners p h =
@@ -186,8 +149,7 @@ module _ (g : Geometry) (w : World) (d : Description) (describes : Describes g w
       subst (IsOwner w.objects) pair.0 (reported.0, reported.1, pair.1)
 
   owners_once : IsOnce (owners d)
-  owners_once = subst (λ (ps : List (ℕ × ℕ)). IsOnce ps) (owners_are d)
-      (once_flat joined_part owned owned (parts d) (subst (λ (ns : List ℕ). IsOnce ns) (sym (boxes_are d)) (boxes_once d describes.numbers.distinct))
+  owners_once = rw (← owners_are d) (once_flat joined_part owned owned (parts d) (rw (boxes_are d) (boxes_once d describes.numbers.distinct))
       (λ p there. joined_once p.0 p.1) (λ p q there. sym (ap owned (in_joined p.0 p.1 q there).0)))
 
 pub boxes_are_objects : BoxesAreObjects

@@ -1,6 +1,6 @@
 -- Tables that come of an empty one by several values put at keys.
-use Rattle.image_describer.proofs.Names.{ℕ, zero, suc, Bool, true, false, not, List, [], length, Option, None, slice_index_or, refl, sym, ap, subst, arith}
-use Rattle.image_describer.proofs.Names.{IsTrue, list_any, Data, Members, get_member, same_key, has_only}
+use Rattle.image_describer.proofs.Names.{nat_tests, ℕ, zero, suc, Bool, true, false, not, List, [], length, Option, None, slice_index_or, refl, sym, ap, subst}
+use Rattle.image_describer.proofs.Names.{arith, IsTrue, list_any, Data, Members, get_member, same_key, has_only}
 use Rattle.std.proofs.Common.{◌≡◌, ◌<◌, ◌&&◌, ◌∷◌, ◌++◌, ◌∙◌}
 use Rattle.image_describer.proofs.Puts.{Puts}
 
@@ -41,19 +41,13 @@ falsely false is = refl
 -- a key that is none of those keeps what it had
 pub chain_other : (ps : List Pair) (k : List ℕ) (old new : Members) → Chain ps old new → IsTrue (is_apart k ps) → get_member k new ≡ get_member k old
 chain_other [] k old new chain apart = ap (get_member k) chain
-chain_other (p ∷ ps) k old new chain apart =
-    let rest = right (not (same_key k p.0)) (not (same_key p.0 k) && is_apart k ps) apart in
-    chain_other ps k chain.0 new chain.2 (right (not (same_key p.0 k)) (is_apart k ps) rest)
-    ∙ chain.1.others k (falsely (same_key k p.0) (left (not (same_key k p.0)) (not (same_key p.0 k) && is_apart k ps) apart))
+chain_other (p ∷ ps) k old new chain apart = grind (arith, nat_tests, chain_other ps k chain.0 new chain.2, right, falsely, left)
 
 -- a key of those isn't the first
 apart_at : (k : List ℕ) (ps : List Pair) (i : ℕ) (d : Pair) → IsTrue (is_apart k ps) → i < length ps → same_key (slice_index_or ps i d).0 k ≡ false
 apart_at k [] i d apart inside = absurd (omega (arith, inside))
-apart_at k (p ∷ ps) zero d apart inside =
-    falsely (same_key p.0 k) (left (not (same_key p.0 k)) (is_apart k ps) (right (not (same_key k p.0)) (not (same_key p.0 k) && is_apart k ps) apart))
-apart_at k (p ∷ ps) (suc i) d apart inside =
-    apart_at k ps i d (right (not (same_key p.0 k)) (is_apart k ps) (right (not (same_key k p.0)) (not (same_key p.0 k) && is_apart k ps) apart))
-    (omega (arith, inside))
+apart_at k (p ∷ ps) zero d apart inside = falsely _ (left _ _ (right _ _ apart))
+apart_at k (p ∷ ps) (suc i) d apart inside = apart_at k ps i d (right _ _ (right _ _ apart)) (omega (arith, inside))
 
 -- each key has what was put there
 pub chain_at : (ps : List Pair) (i : ℕ) (d : Pair) (old new : Members) → Chain ps old new → IsTrue (are_apart ps) → i < length ps →
@@ -63,16 +57,12 @@ chain_at [] i d old new chain apart inside none = absurd (omega (arith, inside))
 chain_at (p ∷ ps) zero d old new chain apart inside none = chain_other ps p.0 chain.0 new chain.2 (left (is_apart p.0 ps) (are_apart ps) apart) ∙
     chain.1.found none
 chain_at (p ∷ ps) (suc i) d old new chain apart inside none =
-    let within : i < length ps = omega (arith, inside) in
-    chain_at ps i d chain.0 new chain.2 (right (is_apart p.0 ps) (are_apart ps) apart) within
-    (chain.1.others (slice_index_or ps i d).0 (apart_at p.0 ps i d (left (is_apart p.0 ps) (are_apart ps) apart) within) ∙ none)
+    grind (arith, nat_tests, chain_at ps i d chain.0 new chain.2 (right (is_apart p.0 ps) (are_apart ps) apart), right, apart_at, left)
 
 pub chain_only : (ps : List Pair) (keys : List (List ℕ)) (old new : Members) → Chain ps old new → IsTrue (are_known keys ps) → IsTrue (has_only keys old) →
     IsTrue (has_only keys new)
 chain_only [] keys old new chain known all = subst (λ (ms : Members). IsTrue (has_only keys ms)) (sym chain) all
-chain_only (p ∷ ps) keys old new chain known all =
-    chain_only ps keys chain.0 new chain.2 (right (list_any (same_key p.0) keys) (are_known keys ps) known)
-    (chain.1.only keys (left (list_any (same_key p.0) keys) (are_known keys ps) known) all)
+chain_only (p ∷ ps) keys old new chain known all = chain_only ps keys _ new chain.2 (right _ _ known) (chain.1.only keys (left _ _ known) all)
 
 -- a chain behind a chain
 pub chain_append : (ps qs : List Pair) (old mid new : Members) → Chain ps old mid → Chain qs mid new → Chain (ps ++ qs) old new

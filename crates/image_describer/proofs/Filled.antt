@@ -1,10 +1,10 @@
 -- What the lines of a description leave in the nodes of TOML's reader.
-use Rattle.image_describer.proofs.Names.{ℕ, Bool, true, false, not, List, [], Option, Some, None, option_and_then, IfSome, MatchOption, append-nil}
-use Rattle.image_describer.proofs.Names.{append_assoc, refl, sym, ap, subst, inr, IsTrue, none-some, same_Some, Key, Data, string, integer, float, boolean}
-use Rattle.image_describer.proofs.Names.{datetime, array, table, Items, no_items, item, push_item, Members, no_members, member, get_member, same_key, Nodes}
-use Rattle.image_describer.proofs.Names.{no_nodes, value, open_array, close, insert, Edit, Document, Expression, array_table, along_dots, along_header, at_key}
-use Rattle.image_describer.proofs.Names.{put, are_tables, elements, is_section, section, sections, Exists, fill, fill_elements, fill_pairs, fill_sections}
-use Rattle.image_describer.proofs.Names.{roots, run-append, run_elements, along_found, get_node-insert, replace-insert, run, AreItems, IsList, IsTable}
+use Rattle.image_describer.proofs.Names.{nat_tests, arith, ℕ, Bool, true, false, not, List, [], Option, Some, None, option_and_then, IfSome, MatchOption}
+use Rattle.image_describer.proofs.Names.{append-nil, append_assoc, refl, sym, ap, subst, inr, IsTrue, none-some, same_Some, Key, Data, array, table, Items}
+use Rattle.image_describer.proofs.Names.{no_items, item, push_item, Members, no_members, member, get_member, Nodes, no_nodes, value, open_array, close, insert}
+use Rattle.image_describer.proofs.Names.{Edit, Document, Expression, array_table, along_dots, along_header, at_key, put, are_tables, elements, is_section}
+use Rattle.image_describer.proofs.Names.{section, sections, Exists, fill, fill_elements, fill_pairs, fill_sections, roots, run-append, run_elements}
+use Rattle.image_describer.proofs.Names.{along_found, get_node-insert, replace-insert, run, AreItems, IsList, IsTable}
 use Rattle.std.proofs.Common.{◌≡◌, ◌&&◌, ◌∷◌, ◌++◌, ◌∙◌}
 use Rattle.image_describer.proofs.Chains.{Chain, Pair, are_apart, is_apart}
 use Rattle.image_describer.proofs.Puts.{Puts, no_node, puts_inserted, puts_none}
@@ -47,11 +47,7 @@ falsely false is = refl
 -- keys that are apart from one that is put are still new
 new_kept : (ps : List Pair) (k : List ℕ) (o : Option Data) (old new : Members) → Puts k o old new → IsTrue (is_apart k ps) → AreNew ps old → AreNew ps new
 new_kept [] k o old new puts apart fresh = tt
-new_kept (p ∷ ps) k o old new puts apart fresh =
-    let others = right (not (same_key k p.0)) (not (same_key p.0 k) && is_apart k ps) apart in (
-      puts.others p.0 (falsely (same_key p.0 k) (left (not (same_key p.0 k)) (is_apart k ps) others)) ∙ fresh.0,
-      new_kept ps k o old new puts (right (not (same_key p.0 k)) (is_apart k ps) others) fresh.1,
-    )
+new_kept (p ∷ ps) k o old new puts apart fresh = grind (arith, nat_tests, new_kept ps k o old new puts, right, falsely, left)
 
 put_new : (k : List ℕ) (d : Data) (ns : Nodes) → get_member k (close ns) ≡ None → put ([], k) d ns ≡ Some (insert k (value d) ns)
 unfolding along_dots at_key
@@ -71,10 +67,7 @@ filled_at k (Some d) ps ns pair none rest =
 pub filled : (ps : List Pair) (ns : Nodes) → ArePairs ps → IsTrue (are_apart ps) → AreNew ps (close ns) →
     (new : Nodes) × (fill_pairs (keyed ps) ns ≡ Some new) × Chain ps (close ns) (close new)
 filled [] ns pairs apart fresh = (ns, refl, refl)
-filled (p ∷ ps) ns pairs apart fresh =
-    filled_at p.0 p.1 ps ns pairs.0 fresh.0 (λ mid puts.
-    filled ps mid pairs.1 (right (is_apart p.0 ps) (are_apart ps) apart)
-    (new_kept ps p.0 p.1 (close ns) (close mid) puts (left (is_apart p.0 ps) (are_apart ps) apart) fresh.1))
+filled (p ∷ ps) ns pairs apart fresh = grind (arith, nat_tests, filled ps, filled_at, right, new_kept, left)
 
 -- and nothing stands under a header
 not_under : (k : List ℕ) (o : Option Data) (ms : Members) (n : Nodes) → IfSome o (λ d. is_section d ≡ false) → fill_sections ms n ≡ Some n →
@@ -91,14 +84,7 @@ the_false false is = refl
 the_false true is = absurd cc
 
 no_section : (key : Key) (d : Data) → is_section d ≡ false → section key d ≡ []
-no_section key (string x) is = refl
-no_section key (integer x) is = refl
-no_section key (float x) is = refl
-no_section key (boolean x) is = refl
-no_section key (datetime x) is = refl
-no_section key (table ms) is = absurd cc
-no_section key (array no_items) is = refl
-no_section key (array (item d ds)) is = rw (the_false (are_tables (item d ds)) is)
+no_section key d is = grind (arith, nat_tests, the_false)
 
 no_section_at : (path : List (List ℕ)) (k : List ℕ) (o : Option Data) (ms : Members) → IfSome o (λ d. is_section d ≡ false) → sections path ms ≡ [] →
     sections path (member_or k o ms) ≡ []
@@ -121,9 +107,8 @@ all_tables f (x ∷ xs) = all_tables f xs
 pushed : {A : Type 0} (P : Data → A → Type 0) (ds : Items) (d : Data) (ys : List A) (y : A) → AreItems P ds ys → P d y →
     AreItems P (push_item ds d) (ys ++ y ∷ [])
 pushed P no_items d [] y are is = (is, tt)
-pushed P no_items d (z ∷ zs) y are is = absurd are
-pushed P (item e ds) d [] y are is = absurd are
 pushed P (item e ds) d (z ∷ zs) y are is = (are.0, pushed P ds d zs y are.1 is)
+pushed P ds d ys y are is = absurd are
 
 -- the first table of a list, and the next
 first_table : (k : List ℕ) (root : Nodes) → get_member k (close root) ≡ None → at_key k array_table root ≡ Some (insert k (open_array no_items no_nodes) root)
@@ -133,16 +118,13 @@ first_table k root none = rw (no_node k root none)
 next_table : (k : List ℕ) (done : Items) (last root : Nodes) → at_key k array_table (insert k (open_array done last) root) ≡ Some
     (insert k (open_array (push_item done (table (close last))) no_nodes) root)
 unfolding at_key
-next_table k done last root =
-    rw (get_node-insert k (open_array done last) root, replace-insert k (open_array done last) (open_array (push_item done (table (close last))) no_nodes) root)
+next_table k done last root = rw (get_node-insert k _ root, replace-insert k _ _ root)
 
 -- what is put into the last table
 into_last : (k : List ℕ) (done : Items) (root : Nodes) (body : Edit) (n : Nodes) → body no_nodes ≡ Some n
     → along_header (k ∷ []) body (insert k (open_array done no_nodes) root) ≡ Some (insert k (open_array done n) root)
 unfolding along_header
-into_last k done root body n made =
-    along_found k [] body (insert k (open_array done no_nodes) root) (open_array done no_nodes) (get_node-insert k (open_array done no_nodes) root)
-    ∙ rw (made, replace-insert k (open_array done no_nodes) (open_array done n) root)
+into_last k done root body n made = along_found k [] body _ _ (get_node-insert k _ root) ∙ rw (made, replace-insert k _ _ root)
 
 module _ {A : Type 0} (f : A → List Pair) (P : Members → A → Type 0) where
   -- what is put for an entry is read as it
@@ -169,12 +151,11 @@ module _ {A : Type 0} (f : A → List Pair) (P : Members → A → Type 0) where
   more_read (x ∷ xs) k done last root ys are items =
       let next = push_item done (table (close last)) in
       let (n, made, is) = one_read x are.0 in
-      let (all, end, made_all, all_items) = more_read xs k next n root (ys ++ x ∷ []) are.1
-      (pushed (IsTable P) next (table (close n)) ys x items (close n, refl, is)) in (
+      let (all, end, made_all, all_items) = more_read xs k next n root _ are.1 (pushed (IsTable P) next _ ys x items (close n, refl, is)) in (
         all,
         end,
-        rw (next_table k done last root, into_last k next root (fill (keyed (f x))) n made) made_all,
-        subst (AreItems (IsTable P) (push_item all (table (close end)))) (append_assoc ys (x ∷ []) xs) all_items,
+        rw (next_table k done last root, into_last k next root _ n made) made_all,
+        subst (AreItems (IsTable P) (push_item all (table (close end)))) (append_assoc ys _ xs) all_items,
       )
 
   -- a list of tables is put at its key, where there are some

@@ -1,5 +1,5 @@
 -- A description that was renumbered is that of the world in an image of other sizes.
-use Rattle.image_describer.proofs.Names.{inl, inr, ℕ, List, [], map, length, Option, sym, ap, subst, arith, Vec, Global, All, Contains, cases_lt, length-map}
+use Rattle.image_describer.proofs.Names.{nat_tests, inl, inr, ℕ, List, [], map, length, sym, ap, subst, arith, Vec, Global, All, Contains, cases_lt, length-map}
 use Rattle.image_describer.proofs.Names.{All-append, All-contains, All-map, Contains-append_cases, Contains-append_left, Contains-append_right, Capability}
 use Rattle.image_describer.proofs.Names.{Frame, Geometry, Object, State, blank_frame, frame_at, object_count, fresh_cap, BankEntry, Description, NodeEntry}
 use Rattle.image_describer.proofs.Names.{PageEntry, ProcessEntry, SlotEntry, WordEntry, AreDistinct, AreSlots, AreWords, HasFields, HasNamedWords, HasNumbers}
@@ -7,7 +7,6 @@ use Rattle.image_describer.proofs.Names.{HoldsNamed, IsDescribed, IsDescribedAnn
 use Rattle.image_describer.proofs.Names.{IsSpaceEntry, first_frame, node_numbers, page_numbers, OfAnnex, OfBank, OfNode, OfPage, OfRoot, described_of, in_range}
 use Rattle.image_describer.proofs.Names.{all_from, contains_here, contains_map, contains_there, map_contains, AreBriefSlots, AreBriefWords, AreRising, IsBrief}
 use Rattle.image_describer.proofs.Names.{plain_frame, plain_frames, IsMovedNode, IsMovedPage, IsMovedProcess, IsRenumbered, NamesNodes, NamesPages, moved}
-use Rattle.image_describer.proofs.Names.{moved_capability, moved_held}
 use Rattle.std.proofs.Common.{◌≡◌, ◌<◌, ◌≤◌, ◌^◌, ◌∷◌, ◌++◌, ◌∙◌}
 use Rattle.model.specs.declared.object.Content.TheVariants as content
 use Rattle.image_describer.proofs.GrownWorld.{comes_from, frame_arrived, frame_inside, frame_past, grown_length, grown_objects, node_arrives, origin}
@@ -22,24 +21,10 @@ module _ (at : ℕ → ℕ) where
   root_is : (p q : ProcessEntry) → IsMovedProcess at p q → (state : State) (c : Capability)
       → first_frame p.owner (content.Root (record { state = state; words = p.words; key = p.key; annex = p.annex; space = fresh_cap c }))
       ≡ first_frame q.owner (content.Root (record { state = state; words = q.words; key = q.key; annex = q.annex; space = fresh_cap c }))
-  root_is p q same state c =
-      ap (λ (n : ℕ). first_frame n (content.Root (record { state = state; words = p.words; key = p.key; annex = p.annex; space = fresh_cap c })))
-      (sym same.owner)
-      ∙ ap (λ (ws : List ℕ). first_frame q.owner (content.Root (record { state = state; words = ws; key = p.key; annex = p.annex; space = fresh_cap c })))
-      (sym same.words)
-      ∙ ap (λ (n : ℕ). first_frame q.owner (content.Root (record { state = state; words = q.words; key = n; annex = p.annex; space = fresh_cap c })))
-      (sym same.key)
-      ∙ ap (λ (n : ℕ). first_frame q.owner (content.Root (record { state = state; words = q.words; key = q.key; annex = n; space = fresh_cap c })))
-      (sym same.annex)
+  root_is p q same state c = grind (arith, nat_tests)
 
   pub root_moved : (p q : ProcessEntry) (f : Frame) → IsMovedProcess at p q → IsDescribedRoot p f → IsDescribedRoot q (moved_frame at f)
-  root_moved p q f same is = (
-    is.0,
-    moved_capability at is.1,
-    same.state ∙ is.2,
-    same.space ∙ ap (λ (o : Option Capability). moved_held at o) is.3,
-    ap (λ (g : Frame). moved_frame at g) is.4 ∙ root_is p q same is.0 (moved_capability at is.1),
-  )
+  root_moved p q f same is = grind (arith, nat_tests, root_is)
 
   pub annex_moved : (p q : ProcessEntry) (f : Frame) → IsMovedProcess at p q → IsDescribedAnnex p f → IsDescribedAnnex q (moved_frame at f)
   annex_moved p q f same is = (
@@ -104,14 +89,12 @@ module _ (d e : Description) (same : IsRenumbered d e) where
   -- the numbers
   pub nodes_named : node_numbers e ≡ node_numbers d
   nodes_named =
-      ap (λ (v : Vec BankEntry Global). map (λ b. b.number) v.items ++ map (λ p. p.root) e.processes.items ++ map (λ p. p.annex) e.processes.items ++ map
-      (λ n. n.number) e.nodes.items) same.banks
-      ∙ ap (λ (ns : List ℕ). map (λ b. b.number) d.banks.items ++ ns ++ map (λ p. p.annex) e.processes.items ++ map (λ n. n.number) e.nodes.items)
-      (zip_map (IsMovedProcess at) (λ p. p.root) (λ p. p.root) (λ p q is. is.root) d.processes.items e.processes.items same.processes)
-      ∙ ap (λ (ns : List ℕ). map (λ b. b.number) d.banks.items ++ map (λ p. p.root) d.processes.items ++ ns ++ map (λ n. n.number) e.nodes.items)
-      (zip_map (IsMovedProcess at) (λ p. p.annex) (λ p. p.annex) (λ p q is. is.annex) d.processes.items e.processes.items same.processes)
-      ∙ ap (λ (ns : List ℕ). map (λ b. b.number) d.banks.items ++ map (λ p. p.root) d.processes.items ++ map (λ p. p.annex) d.processes.items ++ ns)
-      (zip_map (IsMovedNode at) (λ n. n.number) (λ n. n.number) (λ m n is. is.number) d.nodes.items e.nodes.items same.nodes)
+      rw (
+        same.banks,
+        zip_map (IsMovedProcess at) (λ p. p.root) (λ p. p.root) (λ p q is. is.root) d.processes.items e.processes.items same.processes,
+        zip_map (IsMovedProcess at) (λ p. p.annex) (λ p. p.annex) (λ p q is. is.annex) d.processes.items e.processes.items same.processes,
+        zip_map (IsMovedNode at) (λ n. n.number) (λ n. n.number) (λ m n is. is.number) d.nodes.items e.nodes.items same.nodes,
+      )
 
   pub pages_named : page_numbers e ≡ map (λ p. at p.number) d.pages.items
   pages_named = zip_map (IsMovedPage at) (λ p. at p.number) (λ p. p.number) (λ p q is. is.number) d.pages.items e.pages.items same.pages
@@ -129,8 +112,7 @@ module _ (d e : Description) (same : IsRenumbered d e) where
         (All-map (λ n. n < new.nodes) (λ n. n.number) d.nodes.items nodes.nodes)
 
     page_range : (p : PageEntry) → Contains d.pages.items p → (old.nodes ≤ p.number) × (p.number < object_count old)
-    page_range p there = All-contains (λ (k : ℕ). (old.nodes ≤ k) × (k < object_count old)) (page_numbers d) p.number has.pages
-        (contains_map (λ q. q.number) p d.pages.items there)
+    page_range p there = All-contains (λ (k : ℕ). (old.nodes ≤ k) × (k < object_count old)) _ _ has.pages (contains_map (λ q. q.number) p _ there)
 
     page_fits : (p : PageEntry) → Contains d.pages.items p → at p.number < object_count new
     page_fits p there = All-contains (λ (q : PageEntry). at q.number < object_count new) d.pages.items p pages there
@@ -143,26 +125,15 @@ module _ (d e : Description) (same : IsRenumbered d e) where
         (omega (arith, is), page_fits p there)))
 
     pages_distinct : AreDistinct (map (λ p. at p.number) d.pages.items)
-    pages_distinct = distinct_other (λ p. p.number) (λ p. at p.number) d.pages.items (distinct_rest (node_numbers d) (page_numbers d) has.distinct)
-        (λ p q here there is.
+    pages_distinct = distinct_other (λ p. p.number) (λ p. at p.number) _ (distinct_rest _ _ has.distinct) (λ p q here there is.
         let one = page_range p here in
         let other = page_range q there in
-        let one_is = page_moves old new p.number one.0 one.1 in
-        let other_is = page_moves old new q.number other.0 other.1 in
+        let one_is = page_moves old new _ one.0 one.1 in
+        let other_is = page_moves old new _ other.0 other.1 in
         omega (arith, one.0, other.0, is, one_is, other_is))
 
     pub numbers_grown : HasNumbers e
-    numbers_grown = record {
-      nodes = subst (All (λ n. n < new.nodes)) (sym nodes_named) nodes_below;
-      pages = subst (All (λ n. (new.nodes ≤ n) × (n < object_count new))) (sym pages_named) pages_above;
-      distinct = subst (λ (ns : List ℕ). AreDistinct (ns ++ page_numbers e)) (sym nodes_named)
-          (subst (λ (ms : List ℕ). AreDistinct (node_numbers d ++ ms)) (sym pages_named)
-          (distinct_both (node_numbers d) (map (λ p. at p.number) d.pages.items) (distinct_first (node_numbers d) (page_numbers d) has.distinct) pages_distinct
-          (λ n left right.
-          let below = All-contains (λ (k : ℕ). k < new.nodes) (node_numbers d) n nodes_below left in
-          let above = All-contains (λ (k : ℕ). (new.nodes ≤ k) × (k < object_count new)) (map (λ p. at p.number) d.pages.items) n pages_above right in
-          omega (arith, below, above.0))));
-    }
+    numbers_grown = grind (arith, nat_tests, nodes_named, nodes_below, pages_named, pages_above, distinct_both, distinct_first, pages_distinct, All-contains)
 
     -- the frames
     module _ (os : List Object) (count : length os ≡ object_count old) (is : IsDescribed d (plain_frames os)) where
@@ -188,10 +159,8 @@ module _ (d e : Description) (same : IsRenumbered d e) where
 
       roots_grown : All (λ p. IsDescribedRoot p (frame_at (plain_frames vs) p.root)) e.processes.items
       roots_grown = zip_all (IsMovedProcess at) RootOk (λ (p : ProcessEntry). IsDescribedRoot p (frame_at (plain_frames vs) p.root))
-          (λ p q moves good. subst (λ (k : ℕ). IsDescribedRoot q (frame_at (plain_frames vs) k)) (sym moves.root)
-          (subst (IsDescribedRoot q) (sym (node_frame p.root good.1 good.2)) (root_moved at p q (frame_at (plain_frames os) p.root) moves good.0)))
-          d.processes.items e.processes.items same.processes
-          (all_from RootOk d.processes.items (λ p there. (
+          (λ p q moves good. rw moves.root (rw (node_frame p.root good.1 good.2) (root_moved at p q (frame_at (plain_frames os) p.root) moves good.0)))
+          d.processes.items e.processes.items same.processes (all_from RootOk d.processes.items (λ p there. (
             described_of d (plain_frames os) (OfRoot p) is there,
             in_range d (OfRoot p) has there,
             (All-contains (λ (q : ProcessEntry). (q.root < new.nodes) × (q.annex < new.nodes)) d.processes.items p nodes.processes there).0,
@@ -202,10 +171,8 @@ module _ (d e : Description) (same : IsRenumbered d e) where
 
       annexes_grown : All (λ p. IsDescribedAnnex p (frame_at (plain_frames vs) p.annex)) e.processes.items
       annexes_grown = zip_all (IsMovedProcess at) AnnexOk (λ (p : ProcessEntry). IsDescribedAnnex p (frame_at (plain_frames vs) p.annex))
-          (λ p q moves good. subst (λ (k : ℕ). IsDescribedAnnex q (frame_at (plain_frames vs) k)) (sym moves.annex)
-          (subst (IsDescribedAnnex q) (sym (node_frame p.annex good.1 good.2)) (annex_moved at p q (frame_at (plain_frames os) p.annex) moves good.0)))
-          d.processes.items e.processes.items same.processes
-          (all_from AnnexOk d.processes.items (λ p there. (
+          (λ p q moves good. rw moves.annex (rw (node_frame p.annex good.1 good.2) (annex_moved at p q (frame_at (plain_frames os) p.annex) moves good.0)))
+          d.processes.items e.processes.items same.processes (all_from AnnexOk d.processes.items (λ p there. (
             described_of d (plain_frames os) (OfAnnex p) is there,
             in_range d (OfAnnex p) has there,
             (All-contains (λ (q : ProcessEntry). (q.root < new.nodes) × (q.annex < new.nodes)) d.processes.items p nodes.processes there).1,
@@ -216,10 +183,8 @@ module _ (d e : Description) (same : IsRenumbered d e) where
 
       nodes_grown : All (λ n. IsDescribedNode n (frame_at (plain_frames vs) n.number)) e.nodes.items
       nodes_grown = zip_all (IsMovedNode at) NodeOk (λ (n : NodeEntry). IsDescribedNode n (frame_at (plain_frames vs) n.number))
-          (λ m n moves good. subst (λ (k : ℕ). IsDescribedNode n (frame_at (plain_frames vs) k)) (sym moves.number)
-          (subst (IsDescribedNode n) (sym (node_frame m.number good.1 good.2)) (node_moved at m n (frame_at (plain_frames os) m.number) moves good.0)))
-          d.nodes.items e.nodes.items same.nodes
-          (all_from NodeOk d.nodes.items (λ n there. (
+          (λ m n moves good. rw moves.number (rw (node_frame m.number good.1 good.2) (node_moved at m n (frame_at (plain_frames os) m.number) moves good.0)))
+          d.nodes.items e.nodes.items same.nodes (all_from NodeOk d.nodes.items (λ n there. (
             described_of d (plain_frames os) (OfNode n) is there,
             in_range d (OfNode n) has there,
             All-contains (λ (m : NodeEntry). m.number < new.nodes) d.nodes.items n nodes.nodes there,
@@ -231,32 +196,28 @@ module _ (d e : Description) (same : IsRenumbered d e) where
 
       pages_grown : All (λ p. IsDescribedPage p (frame_at (plain_frames vs) p.number)) e.pages.items
       pages_grown = zip_all (IsMovedPage at) PageOk (λ (p : PageEntry). IsDescribedPage p (frame_at (plain_frames vs) p.number))
-          (λ p q moves good. subst (λ (k : ℕ). IsDescribedPage q (frame_at (plain_frames vs) k)) (sym moves.number)
-          (subst (IsDescribedPage q) (sym (frame_arrived old new os count p.number (page_arrives old new p.number good.1 good.2 good.3)))
+          (λ p q moves good. rw moves.number (rw (frame_arrived old new os count p.number (page_arrives old new p.number good.1 good.2 good.3))
           (page_moved at p q (frame_at (plain_frames os) p.number) moves good.0)))
-          d.pages.items e.pages.items same.pages
-          (all_from PageOk d.pages.items (λ p there.
+          d.pages.items e.pages.items same.pages (all_from PageOk d.pages.items (λ p there.
           let range = page_range p there in
           (described_of d (plain_frames os) (OfPage p) is there, range.0, range.1, page_fits p there)))
 
       -- what is named of the number from which an object comes is named there
       comes_named : (m : ℕ) → m < object_count new → Contains (node_numbers d ++ page_numbers d) (origin old new m) →
           Contains (node_numbers e ++ page_numbers e) m
-      comes_named m below there = elim (Contains-append_cases (node_numbers d) (page_numbers d) (origin old new m) there) [
+      comes_named m below there = elim (Contains-append_cases _ _ _ there) [
         | inl node ↦
-            let small : origin old new m < old.nodes = All-contains (λ (k : ℕ). k < old.nodes) (node_numbers d) (origin old new m) has.nodes node in
+            let small : origin old new m < old.nodes = All-contains (λ (k : ℕ). k < old.nodes) _ _ has.nodes node in
             let back : at (origin old new m) ≡ m = comes_from old new m (omega (arith, small)) in
-            let stays : origin old new m ≡ m = sym (node_stays old new (origin old new m) small) ∙ back in
-            Contains-append_left (node_numbers e) (page_numbers e) m
-            (subst (λ (ns : List ℕ). Contains ns m) (sym nodes_named) (subst (Contains (node_numbers d)) stays node))
+            let stays : origin old new m ≡ m = sym (node_stays old new _ small) ∙ back in
+            Contains-append_left _ _ m (subst (λ (ns : List ℕ). Contains ns m) (sym nodes_named) (subst (Contains (node_numbers d)) stays node))
         | inr page ↦
-            let range = All-contains (λ (k : ℕ). (old.nodes ≤ k) × (k < object_count old)) (page_numbers d) (origin old new m) has.pages page in
+            let range = All-contains (λ (k : ℕ). (old.nodes ≤ k) × (k < object_count old)) _ _ has.pages page in
             let back : at (origin old new m) ≡ m = comes_from old new m range.1 in
-            let found = map_contains (λ p. p.number) (origin old new m) d.pages.items page in
+            let found = map_contains (λ p. p.number) _ _ page in
             let number : at found.0.number ≡ m = ap (λ (k : ℕ). at k) found.2 ∙ back in
-            Contains-append_right (node_numbers e) (page_numbers e) m
-            (subst (λ (ns : List ℕ). Contains ns m) (sym pages_named)
-            (subst (Contains (map (λ p. at p.number) d.pages.items)) number (contains_map (λ p. at p.number) found.0 d.pages.items found.1)))
+            Contains-append_right _ _ m (subst (λ (ns : List ℕ). Contains ns m) (sym pages_named)
+            (subst (Contains (map (λ p. at p.number) d.pages.items)) number (contains_map (λ p. at p.number) _ _ found.1)))
       ]
 
       others_grown : (m : ℕ) → (Contains (node_numbers e ++ page_numbers e) m → ⊥) → frame_at (plain_frames vs) m ≡ blank_frame
@@ -267,25 +228,15 @@ module _ (d e : Description) (same : IsRenumbered d e) where
       ]
 
       pub frames_grown : IsDescribed e (plain_frames vs)
-      frames_grown = record {
-        count = plain_length vs ∙ grown_length old new os count;
-        banks = subst (λ (v : Vec BankEntry Global). All (λ b. frame_at (plain_frames vs) b.number ≡ first_frame b.owner (content.Bank b.limit)) v.items)
-            (sym same.banks) banks_grown;
-        roots = roots_grown;
-        annexes = annexes_grown;
-        nodes = nodes_grown;
-        pages = pages_grown;
-        others = others_grown;
-      }
+      frames_grown = grind (arith, nat_tests, plain_length, grown_length, banks_grown, roots_grown, annexes_grown, nodes_grown, pages_grown, others_grown)
 
   pub fields_grown : HasFields d → HasFields e
   fields_grown fields = record {
-    processes = zip_all (IsMovedProcess at) IsProcessEntry IsProcessEntry (process_fields at) d.processes.items e.processes.items same.processes
-        fields.processes;
-    nodes = zip_all (IsMovedNode at) (λ (n : NodeEntry). AreSlots 0 n.slots.items) (λ (n : NodeEntry). AreSlots 0 n.slots.items) (node_fields at) d.nodes.items
-        e.nodes.items same.nodes fields.nodes;
-    pages = zip_all (IsMovedPage at) (λ (p : PageEntry). AreWords p.words.items) (λ (p : PageEntry). AreWords p.words.items) (page_fields at) d.pages.items
-        e.pages.items same.pages fields.pages;
+    processes = zip_all (IsMovedProcess at) IsProcessEntry IsProcessEntry (process_fields at) _ _ same.processes fields.processes;
+    nodes = zip_all (IsMovedNode at) (λ (n : NodeEntry). AreSlots 0 n.slots.items) (λ (n : NodeEntry). AreSlots 0 n.slots.items) (node_fields at) _
+        _ same.nodes fields.nodes;
+    pages = zip_all (IsMovedPage at) (λ (p : PageEntry). AreWords p.words.items) (λ (p : PageEntry). AreWords p.words.items) (page_fields at) _
+        _ same.pages fields.pages;
   }
 
   rising_pages : (ps : List PageEntry) → ((p : PageEntry) → Contains ps p → (old.nodes ≤ p.number) × (p.number < object_count old)) →
@@ -293,33 +244,26 @@ module _ (d e : Description) (same : IsRenumbered d e) where
   rising_pages [] range rising = tt
   rising_pages (p ∷ ps) range rising = (
     All-map (λ n. at p.number < n) (λ q. at q.number) ps (all_from (λ (q : PageEntry). at p.number < at q.number) ps (λ q there.
-        let less : p.number < q.number = All-contains (λ (n : ℕ). p.number < n) (map (λ r. r.number) ps) q.number rising.0
-        (contains_map (λ r. r.number) q ps there) in
+        let less : p.number < q.number = All-contains (λ (n : ℕ). p.number < n) _ _ rising.0 (contains_map (λ r. r.number) q ps there) in
         let one = range p (contains_here p ps) in
         let other = range q (contains_there q p ps there) in
-        let one_is = page_moves old new p.number one.0 one.1 in
-        let other_is = page_moves old new q.number other.0 other.1 in
+        let one_is = page_moves old new _ one.0 one.1 in
+        let other_is = page_moves old new _ other.0 other.1 in
         omega (arith, less, one.0, other.0, one_is, other_is))),
     rising_pages ps (λ q there. range q (contains_there q p ps there)) rising.1,
   )
 
   pub brief_grown : HasNumbers d → IsBrief d → IsBrief e
   brief_grown has brief = record {
-    banks = subst (λ (v : Vec BankEntry Global). AreRising (map (λ b. b.number) v.items)) (sym same.banks) brief.banks;
-    processes = subst AreRising
-        (sym (zip_map (IsMovedProcess at) (λ p. p.root) (λ p. p.root) (λ p q moves. moves.root) d.processes.items e.processes.items same.processes))
-        brief.processes;
-    nodes = subst AreRising (sym (zip_map (IsMovedNode at) (λ n. n.number) (λ n. n.number) (λ m n moves. moves.number) d.nodes.items e.nodes.items same.nodes))
-        brief.nodes;
-    pages = subst AreRising (sym pages_named) (rising_pages d.pages.items
-        (λ p there. All-contains (λ (k : ℕ). (old.nodes ≤ k) × (k < object_count old)) (page_numbers d) p.number has.pages
-        (contains_map (λ q. q.number) p d.pages.items there)) brief.pages);
+    banks = rw same.banks brief.banks;
+    processes = rw (zip_map (IsMovedProcess at) (λ p. p.root) (λ p. p.root) (λ p q moves. moves.root) _ _ same.processes) brief.processes;
+    nodes = rw (zip_map (IsMovedNode at) (λ n. n.number) (λ n. n.number) (λ m n moves. moves.number) _ _ same.nodes) brief.nodes;
+    pages = rw pages_named (rising_pages _ (λ p there. All-contains (λ (k : ℕ). (old.nodes ≤ k) × (k < object_count old)) (page_numbers d) p.number has.pages
+        (contains_map (λ q. q.number) p _ there)) brief.pages);
     registers = zip_all (IsMovedProcess at) (λ (p : ProcessEntry). AreBriefSlots p.registers.items) (λ (p : ProcessEntry). AreBriefSlots p.registers.items)
-        (λ p q moves good. subst AreBriefSlots (sym moves.registers) (brief_moved at p.registers.items good)) d.processes.items e.processes.items same.processes
-        brief.registers;
+        (λ p q moves good. rw moves.registers (brief_moved at _ good)) _ _ same.processes brief.registers;
     slots = zip_all (IsMovedNode at) (λ (n : NodeEntry). AreBriefSlots n.slots.items) (λ (n : NodeEntry). AreBriefSlots n.slots.items)
-        (λ m n moves good. subst AreBriefSlots (sym moves.slots) (brief_moved at m.slots.items good)) d.nodes.items e.nodes.items same.nodes brief.slots;
+        (λ m n moves good. rw moves.slots (brief_moved at _ good)) _ _ same.nodes brief.slots;
     words = zip_all (IsMovedPage at) (λ (p : PageEntry). AreBriefWords p.words.items) (λ (p : PageEntry). AreBriefWords p.words.items)
-        (λ p q moves good. subst (λ (v : Vec WordEntry Global). AreBriefWords v.items) (sym moves.words) good) d.pages.items e.pages.items same.pages
-        brief.words;
+        (λ p q moves good. rw moves.words good) _ _ same.pages brief.words;
   }

@@ -1,9 +1,9 @@
 -- The objects of a world have numbers in an image of other sizes exactly where those that its description names do.
-use Rattle.image_describer.proofs.Names.{inl, inr, ℕ, true, false, refl, sym, ap, subst, arith, true≢false, All-contains, Cap, Frame, Geometry, Content}
-use Rattle.image_describer.proofs.Names.{frame_at, is_free, role_of, object_count, World, content_at, fresh_cap, mapped, BankEntry, Description, NodeEntry}
-use Rattle.image_describer.proofs.Names.{PageEntry, ProcessEntry, first_frame, Entry, OfAnnex, OfBank, OfNode, OfPage, OfRoot, number_of, IsFrameOf, IsOf}
-use Rattle.image_describer.proofs.Names.{described_cases, described_of, in_range, all_from, GrowthFault, Describes, plain_frames, IsNotRenumbered, IsUnsuited}
-use Rattle.image_describer.proofs.Names.{NamesNodes, NamesPages, NodesFit, PagesFit, moved}
+use Rattle.image_describer.proofs.Names.{nat_tests, inl, inr, ℕ, true, false, refl, sym, ap, subst, arith, true≢false, All-contains, Cap, Frame, Geometry}
+use Rattle.image_describer.proofs.Names.{Content, frame_at, is_free, role_of, object_count, World, content_at, fresh_cap, mapped, BankEntry, Description}
+use Rattle.image_describer.proofs.Names.{NodeEntry, PageEntry, ProcessEntry, first_frame, Entry, OfAnnex, OfBank, OfNode, OfPage, OfRoot, number_of, IsFrameOf}
+use Rattle.image_describer.proofs.Names.{IsOf, described_cases, described_of, in_range, all_from, GrowthFault, Describes, plain_frames, IsNotRenumbered}
+use Rattle.image_describer.proofs.Names.{IsUnsuited, NamesNodes, NamesPages, NodesFit, PagesFit, moved}
 use Rattle.std.proofs.Common.{◌≡◌, ◌≢◌, ◌<◌, ◌≤◌, ◌∙◌}
 use Rattle.model.specs.declared.object.Content.TheVariants as content
 use Rattle.model.specs.declared.object.Role.TheVariants as role
@@ -35,50 +35,22 @@ module _ (old new : Geometry) (d : Description) (w : World) (describes : Describ
   role_is n = ap (λ (f : Frame). f.header.role) (plain_at w.objects n) ∙ (mapped fresh_cap (content_at w.objects n)).role
 
   pub named_not_free : (e : Entry) → IsOf d e → is_free (content_at w.objects (number_of e)) ≡ false
-  named_not_free e there = role_not_free (content_at w.objects (number_of e)) (λ is.
-      entry_not_free e (frame_at (plain_frames w.objects) (number_of e)) (described_of d (plain_frames w.objects) e describes.frames there)
-      (role_is (number_of e) ∙ is))
+  named_not_free e there = role_not_free _ (λ is. entry_not_free e (frame_at (plain_frames w.objects) (number_of e)) (described_of d _ e describes.frames there)
+      (role_is _ ∙ is))
 
   pub is_named : (n : ℕ) → is_free (content_at w.objects n) ≡ false → (e : Entry) × IsOf d e × (number_of e ≡ n)
-  is_named n some = elim (described_cases d (plain_frames w.objects) n describes.frames) [
+  is_named n some = elim (described_cases d _ n describes.frames) [
     | inl found ↦ (found.0, found.1, found.2)
     | inr blank ↦
-        let free : is_free (content_at w.objects n) ≡ true = free_has_role (content_at w.objects n) (sym (role_is n) ∙ ap (λ (f : Frame). f.header.role) blank)
-        in
+        let free : is_free (content_at w.objects n) ≡ true = free_has_role _ (sym (role_is n) ∙ ap (λ (f : Frame). f.header.role) blank) in
         absurd (true≢false (sym free ∙ some))
   ]
 
   nodes_of : (n : ℕ) (e : Entry) → IsOf d e → number_of e ≡ n → n < old.nodes → NamesNodes new.nodes d → n < new.nodes
-  nodes_of n (OfBank b) there is below names = subst (λ (k : ℕ). k < new.nodes) is
-      (All-contains (λ (c : BankEntry). c.number < new.nodes) d.banks.items b names.banks there)
-  nodes_of n (OfRoot p) there is below names =
-      subst (λ (k : ℕ). k < new.nodes) is
-      (All-contains (λ (q : ProcessEntry). (q.root < new.nodes) × (q.annex < new.nodes)) d.processes.items p names.processes there).0
-  nodes_of n (OfAnnex p) there is below names =
-      subst (λ (k : ℕ). k < new.nodes) is
-      (All-contains (λ (q : ProcessEntry). (q.root < new.nodes) × (q.annex < new.nodes)) d.processes.items p names.processes there).1
-  nodes_of n (OfNode m) there is below names = subst (λ (k : ℕ). k < new.nodes) is
-      (All-contains (λ (k : NodeEntry). k.number < new.nodes) d.nodes.items m names.nodes there)
-  nodes_of n (OfPage p) there is below names =
-      let range = in_range d (OfPage p) describes.numbers there in
-      absurd (omega (arith, range.0, is, below, ap (λ (g : Geometry). g.nodes) describes.geometry))
+  nodes_of n e there is below names = grind (arith, nat_tests, All-contains, in_range)
 
   pages_of : (n : ℕ) (e : Entry) → IsOf d e → number_of e ≡ n → old.nodes ≤ n → NamesPages old new d → moved old new n < object_count new
-  pages_of n (OfBank b) there is above names =
-      let range = in_range d (OfBank b) describes.numbers there in
-      absurd (omega (arith, range, is, above, ap (λ (g : Geometry). g.nodes) describes.geometry))
-  pages_of n (OfRoot p) there is above names =
-      let range = in_range d (OfRoot p) describes.numbers there in
-      absurd (omega (arith, range, is, above, ap (λ (g : Geometry). g.nodes) describes.geometry))
-  pages_of n (OfAnnex p) there is above names =
-      let range = in_range d (OfAnnex p) describes.numbers there in
-      absurd (omega (arith, range, is, above, ap (λ (g : Geometry). g.nodes) describes.geometry))
-  pages_of n (OfNode m) there is above names =
-      let range = in_range d (OfNode m) describes.numbers there in
-      absurd (omega (arith, range, is, above, ap (λ (g : Geometry). g.nodes) describes.geometry))
-  pages_of n (OfPage p) there is above names =
-      subst (λ (k : ℕ). moved old new k < object_count new) is
-      (All-contains (λ (q : PageEntry). moved old new q.number < object_count new) d.pages.items p names there)
+  pages_of n e there is above names = grind (arith, nat_tests, in_range, All-contains)
 
   pub nodes_fit : NamesNodes new.nodes d → NodesFit old new w
   nodes_fit names n some below = let found = is_named n some in nodes_of n found.0 found.1 found.2 below names
@@ -103,16 +75,11 @@ module _ (old new : Geometry) (d : Description) (w : World) (describes : Describ
 
   pub fit_pages : PagesFit old new w → NamesPages old new d
   fit_pages fits = all_from (λ (p : PageEntry). moved old new p.number < object_count new) d.pages.items (λ p there.
-      fits p.number (named_not_free (OfPage p) there)
-      (subst (λ (g : Geometry). g.nodes ≤ p.number) describes.geometry (in_range d (OfPage p) describes.numbers there).0))
+      fits p.number (named_not_free (OfPage p) there) (rw (← describes.geometry) (in_range d (OfPage p) describes.numbers there).0))
 
   -- a description isn't renumbered for what its world has no image for
   pub not_suited : (why : GrowthFault) → IsNotRenumbered d new why → IsUnsuited old new w why
   not_suited fault.Limits broken = broken
   not_suited fault.Nodes broken = (broken.0, λ fits. broken.1 (fit_nodes fits))
-  not_suited fault.Pages broken = (
-    broken.0,
-    nodes_fit broken.1,
-    λ fits. broken.2 (subst (λ (g : Geometry). NamesPages g new d) (sym describes.geometry) (fit_pages fits)),
-  )
+  not_suited fault.Pages broken = (broken.0, nodes_fit broken.1, λ fits. broken.2 (rw describes.geometry (fit_pages fits)))
   not_suited fault.NoMemory broken = tt

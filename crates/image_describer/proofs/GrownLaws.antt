@@ -1,7 +1,7 @@
 -- The laws of descriptions that were renumbered.
-use Rattle.image_describer.proofs.Names.{ℕ, Bool, true, false, List, [], map, refl, sym, ap, true≢false, ext_get_or, Capability, Page, Node}
-use Rattle.image_describer.proofs.Names.{Space, Process, Start, Resume, Bank, Geometry, Content, Object, free, is_free, map_content, IsSound, World}
-use Rattle.image_describer.proofs.Names.{content_at, object_at, owner_at, IsGrown, moved, moved_capability, moved_object, GrownIsDescribed, GrownToItself}
+use Rattle.image_describer.proofs.Names.{nat_tests, arith, ℕ, Bool, true, false, List, [], map, refl, sym, ap, true≢false, ext_get_or, Capability, Geometry}
+use Rattle.image_describer.proofs.Names.{Content, Object, free, is_free, map_content, IsSound, World, content_at, object_at, IsGrown, moved, moved_capability}
+use Rattle.image_describer.proofs.Names.{moved_object, GrownIsDescribed, GrownToItself}
 use Rattle.std.proofs.Common.{◌≡◌, ◌∷◌, ◌∙◌}
 use Rattle.model.specs.declared.object.Content.TheVariants as content
 use Rattle.image_describer.proofs.GrownDescription.{fields_grown, frames_grown, numbers_grown}
@@ -27,28 +27,14 @@ grown_is_described w d e sound describes same nodes pages =
 
 module _ (at : ℕ → ℕ) (stays : (n : ℕ) → at n ≡ n) where
   capability_stays : (c : Capability) → moved_capability at c ≡ c
-  capability_stays (Page o a) = ap (λ (n : ℕ). let c : Capability = Page n a in c) (stays o)
-  capability_stays (Node o a) = ap (λ (n : ℕ). let c : Capability = Node n a in c) (stays o)
-  capability_stays (Space o h a) = ap (λ (n : ℕ). let c : Capability = Space n h a in c) (stays o)
-  capability_stays (Process p) = ap (λ (n : ℕ). let c : Capability = Process n in c) (stays p)
-  capability_stays (Start p key) = ap (λ (n : ℕ). let c : Capability = Start n key in c) (stays p)
-  capability_stays (Resume p) = ap (λ (n : ℕ). let c : Capability = Resume n in c) (stays p)
-  capability_stays (Bank b) = ap (λ (n : ℕ). let c : Capability = Bank n in c) (stays b)
-  capability_stays other = refl
+  capability_stays c = grind (arith, nat_tests)
 
   slots_stay : (cs : List Capability) → map (moved_capability at) cs ≡ cs
   slots_stay [] = refl
   slots_stay (c ∷ cs) = ap (λ (d : Capability). d ∷ map (moved_capability at) cs) (capability_stays c) ∙ ap (λ (ds : List Capability). c ∷ ds) (slots_stay cs)
 
   content_stays : (c : Content Capability) → map_content (moved_capability at) c ≡ c
-  content_stays content.Free = refl
-  content_stays (content.Page words) = refl
-  content_stays (content.Node slots) = ap (λ (cs : List Capability). let x : Content Capability = content.Node cs in x) (slots_stay slots)
-  content_stays (content.Root r) =
-      ap (λ (c : Capability). let x : Content Capability = content.Root (record { state = r.state; words = r.words; key = r.key; annex = r.annex; space = c })
-      in x) (capability_stays r.space)
-  content_stays (content.Annex registers) = ap (λ (cs : List Capability). let x : Content Capability = content.Annex cs in x) (slots_stay registers)
-  content_stays (content.Bank limit) = refl
+  content_stays c = grind (arith, nat_tests, slots_stay, capability_stays)
 
   object_stays : (o : Object) → moved_object at o ≡ o
   object_stays o = ap (λ (c : Content Capability). let p : Object = record { owner = o.owner; content = c } in p) (content_stays o.content)
@@ -57,9 +43,8 @@ module _ (g : Geometry) (w v : World) (sound : IsSound g w) (grown : IsGrown g g
   same_object : (n : ℕ) (b : Bool) → is_free (content_at w.objects n) ≡ b → object_at v.objects n ≡ object_at w.objects n
   same_object n true is =
       grown.others n (λ k some at. true≢false (sym is ∙ ap (λ (m : ℕ). is_free (content_at w.objects m)) (sym at ∙ stays_itself g k) ∙ some))
-      ∙ sym (free_object (owner_at w.objects n) (content_at w.objects n) is (sound.unowned n is))
-  same_object n false is =
-      ap (λ (m : ℕ). object_at v.objects m) (sym (stays_itself g n)) ∙ grown.each n is ∙ object_stays (moved g g) (stays_itself g) (object_at w.objects n)
+      ∙ sym (free_object _ _ is (sound.unowned n is))
+  same_object n false is = ap (λ (m : ℕ). object_at v.objects m) (sym (stays_itself g n)) ∙ grown.each n is ∙ object_stays (moved g g) (stays_itself g) _
 
   same_objects : v.objects ≡ w.objects
   same_objects = ext_get_or free v.objects w.objects (grown.count ∙ sym sound.size) (λ n inside. same_object n (is_free (content_at w.objects n)) refl)

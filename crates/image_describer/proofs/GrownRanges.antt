@@ -13,15 +13,7 @@ module _ (g h : Geometry) (nodes : g.nodes ≡ h.nodes) (pages : g.pages ≡ h.p
   cover_same n (r ∷ rs) cover = ((cover.0.0, cover.0.1, kind_same r cover.0.2), cover_same (n + r.count) rs cover.1)
 
 whole_laid : (g : Geometry) → IsGeometry g → MayBeLaid g (whole_ranges g)
-whole_laid g is = record {
-  geometry = is;
-  some = omega arith;
-  few = omega arith;
-  cover = (
-    (refl, omega (arith, is.least_nodes), inl (omega arith)),
-    ((omega arith, omega (arith, is.least_pages), inr (omega arith)), omega arith),
-  );
-}
+whole_laid g is = grind (arith, nat_tests)
 
 both : (a b c d : ℕ) → (a == b && c == d) ≡ true → (a ≡ b) × (c ≡ d)
 both a b c d is = (grind (arith, nat_tests), grind (arith, nat_tests))

@@ -1,9 +1,9 @@
 -- A description that was renumbered has a text.
-use Rattle.image_describer.proofs.Names.{ℕ, Bool, true, false, List, [], length, sym, subst, arith, Vec, Global, All, All-cons, All-contains, All-nil}
-use Rattle.image_describer.proofs.Names.{IsGeometry, NumberRange, object_count, BankEntry, Description, NodeEntry, PageEntry, ProcessEntry, WordEntry}
-use Rattle.image_describer.proofs.Names.{whole_ranges, all_from, IsMovedNode, IsMovedPage, IsMovedProcess, IsRenumbered, NamesPages, moved, CanBeSpelled}
-use Rattle.image_describer.proofs.Names.{IsShort, IsWide, NamesWide, SpellsBank, SpellsNode, SpellsPage, SpellsProcess, SpellsRange, SpellsSlot, SpellsWord}
-use Rattle.std.proofs.Common.{◌≡◌, ◌<◌, ◌≤◌, if◌then◌else◌, ◌∷◌}
+use Rattle.image_describer.proofs.Names.{nat_tests, ℕ, Bool, true, false, List, [], arith, All, All-cons, All-contains, All-nil, IsGeometry, NumberRange}
+use Rattle.image_describer.proofs.Names.{object_count, Description, NodeEntry, PageEntry, ProcessEntry, whole_ranges, all_from, IsMovedNode, IsMovedPage}
+use Rattle.image_describer.proofs.Names.{IsMovedProcess, IsRenumbered, NamesPages, moved, CanBeSpelled, IsWide, SpellsNode, SpellsPage, SpellsProcess}
+use Rattle.image_describer.proofs.Names.{SpellsRange}
+use Rattle.std.proofs.Common.{◌<◌, ◌≤◌, if◌then◌else◌, ◌∷◌}
 use Rattle.std.specs.Prelude.{◌==◌, ◌&&◌}
 use Rattle.image_describer.proofs.Moved.{moved_wide, spelled_moved, wide_moved}
 use Rattle.image_describer.proofs.Pairs.{zip_all}
@@ -28,45 +28,25 @@ module _ (d e : Description) (same : IsRenumbered d e) (limits : IsGeometry e.ge
       (omega (arith, limits.most_nodes), omega (arith, limits.most_pages)) (All-nil SpellsRange))
 
   process_spelled : (p q : ProcessEntry) → IsMovedProcess at p q → SpellsProcess p → SpellsProcess q
-  process_spelled p q moves is = record {
-    numbers = (
-      subst IsShort (sym moves.root) is.numbers.0,
-      subst IsShort (sym moves.annex) is.numbers.1,
-      subst IsShort (sym moves.owner) is.numbers.2,
-      subst IsShort (sym moves.key) is.numbers.3,
-    );
-    words = subst (λ (ws : List ℕ). (length ws ≡ 4) × All IsWide ws) (sym moves.words) is.words;
-    space = subst NamesWide (sym moves.space) (wide_moved at wide p.space is.space);
-    registers = subst (All SpellsSlot) (sym moves.registers) (spelled_moved at wide p.registers.items is.registers);
-  }
+  process_spelled p q moves is = grind (arith, nat_tests, wide_moved, wide, spelled_moved)
 
   node_spelled : (m n : NodeEntry) → IsMovedNode at m n → SpellsNode m → SpellsNode n
-  node_spelled m n moves is = (
-    subst IsShort (sym moves.number) is.0,
-    subst IsShort (sym moves.owner) is.1,
-    subst (All SpellsSlot) (sym moves.slots) (spelled_moved at wide m.slots.items is.2),
-  )
+  node_spelled m n moves is = (rw moves.number is.0, rw moves.owner is.1, rw moves.slots (spelled_moved at wide m.slots.items is.2))
 
   abbrev Good : PageEntry → Type 0
   Good p = SpellsPage p × (at p.number < object_count e.geometry)
 
   page_spelled : (p q : PageEntry) → IsMovedPage at p q → Good p → SpellsPage q
-  page_spelled p q moves good =
-      let below = good.1 in (
-        subst IsShort (sym moves.number) (omega (arith, below, limits.most_nodes, limits.most_pages)),
-        subst IsShort (sym moves.owner) good.0.1,
-        subst (λ (v : Vec WordEntry Global). All SpellsWord v.items) (sym moves.words) good.0.2,
-      )
+  page_spelled p q moves good = grind (arith, nat_tests)
 
   pub grown_spelled : CanBeSpelled e
   grown_spelled = record {
     geometry = (omega (arith, limits.most_nodes), omega (arith, limits.most_pages), omega (arith, limits.most_log));
-    layout = subst IsShort (sym same.layout) spelled.layout;
-    age = subst IsShort (sym same.age) spelled.age;
-    ranges = subst (All SpellsRange) (sym same.ranges)
-        (either_spelled (d.geometry.nodes == e.geometry.nodes && d.geometry.pages == e.geometry.pages) d.ranges.items (whole_ranges e.geometry) spelled.ranges
-        whole_spelled);
-    banks = subst (λ (v : Vec BankEntry Global). All SpellsBank v.items) (sym same.banks) spelled.banks;
+    layout = rw same.layout spelled.layout;
+    age = rw same.age spelled.age;
+    ranges = rw same.ranges (either_spelled (d.geometry.nodes == e.geometry.nodes && d.geometry.pages == e.geometry.pages) d.ranges.items
+        (whole_ranges e.geometry) spelled.ranges whole_spelled);
+    banks = rw same.banks spelled.banks;
     processes = zip_all (IsMovedProcess at) SpellsProcess SpellsProcess process_spelled d.processes.items e.processes.items same.processes spelled.processes;
     nodes = zip_all (IsMovedNode at) SpellsNode SpellsNode node_spelled d.nodes.items e.nodes.items same.nodes spelled.nodes;
     pages = zip_all (IsMovedPage at) Good SpellsPage page_spelled d.pages.items e.pages.items same.pages (all_from Good d.pages.items (λ p there. (

@@ -50,15 +50,13 @@ module _ (old new : Geometry) where
     -- the same of frames
     pub frame_arrived : (n : ℕ) → Arrives n → frame_at (plain_frames grown_objects) (moved old new n) ≡ moved_frame (moved old new)
         (frame_at (plain_frames os) n)
-    frame_arrived n is =
-        plain_at grown_objects (moved old new n) ∙ ap (λ (o : Object). plain_frame o) (arrived n is) ∙ plain_moved (moved old new) (object_at os n)
+    frame_arrived n is = plain_at _ _ ∙ ap (λ (o : Object). plain_frame o) (arrived n is) ∙ plain_moved (moved old new) _
         ∙ ap (λ (f : Frame). moved_frame (moved old new) f) (sym (plain_at os n))
 
     pub frame_inside : (m : ℕ) → m < object_count new → frame_at (plain_frames grown_objects) m ≡ moved_frame (moved old new)
         (frame_at (plain_frames os) (origin m))
-    frame_inside m inside =
-        plain_at grown_objects m ∙ ap (λ (o : Object). plain_frame o) (grown_inside m inside) ∙ plain_moved (moved old new) (object_at os (origin m))
-        ∙ ap (λ (f : Frame). moved_frame (moved old new) f) (sym (plain_at os (origin m)))
+    frame_inside m inside = plain_at _ m ∙ ap (λ (o : Object). plain_frame o) (grown_inside m inside) ∙ plain_moved (moved old new) _
+        ∙ ap (λ (f : Frame). moved_frame (moved old new) f) (sym (plain_at os _))
 
     pub frame_past : (m : ℕ) → object_count new ≤ m → frame_at (plain_frames grown_objects) m ≡ blank_frame
     frame_past m past = plain_at grown_objects m ∙ ap (λ (o : Object). plain_frame o) (grown_past m past)
@@ -91,18 +89,17 @@ module _ (old new : Geometry) (w : World) (sound : IsSound old w) where
 
   pub is_grown : NodesFit old new w → PagesFit old new w → IsGrown old new w grown_world
   is_grown nodes pages = record {
-    count = grown_length old new w.objects sound.size;
+    count = grown_length old new _ sound.size;
     age = refl;
     each = λ n some.
-        let below = inside old new w.objects sound.size n some in
+        let below = inside old new _ sound.size n some in
         elim (cases_lt n old.nodes) [
-          | inl node ↦ arrived old new w.objects sound.size n (node_arrives old new n node (nodes n some node))
-          | inr page ↦ arrived old new w.objects sound.size n (page_arrives old new n page below (pages n some page))
+          | inl node ↦ arrived old new _ sound.size n (node_arrives old new n node (nodes n some node))
+          | inr page ↦ arrived old new _ sound.size n (page_arrives old new n page below (pages n some page))
         ];
     others = λ m none. elim (cases_lt m (object_count new)) [
-      | inl below ↦
-          grown_inside old new w.objects sound.size m below
-          ∙ ap (λ (o : Object). moved_object (moved old new) o) (from_free m (is_free (content_at w.objects (origin old new m))) refl none)
-      | inr past ↦ grown_past old new w.objects sound.size m past
+      | inl below ↦ grown_inside old new _ sound.size m below
+          ∙ ap (λ (o : Object). moved_object (moved old new) o) (from_free m _ refl none)
+      | inr past ↦ grown_past old new _ sound.size m past
     ];
   }

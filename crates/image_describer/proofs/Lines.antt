@@ -1,9 +1,9 @@
 -- The lines of a description are those that TOML has for its values.
-use Rattle.image_describer.proofs.Names.{ℕ, suc, pos, Bool, true, false, List, [], codes, decimal, Option, Some, None, IfSome, append-nil, append_assoc, refl}
-use Rattle.image_describer.proofs.Names.{sym, ap, subst, arith, flat_map, join_by, dotted_text, key_text, string_text, Data, string, integer, float, boolean}
-use Rattle.image_describer.proofs.Names.{datetime, array, table, Items, no_items, item, Members, depth, has_valid_dates, items_depth, items_have_valid_dates}
-use Rattle.image_describer.proofs.Names.{Expression, IsItemsText, IsLinesText, IsValueText, are_tables, breaks_lines, elements, is_section, pairs, AllPrinted}
-use Rattle.image_describer.proofs.Names.{Field, begin_line, field_line, field_lines, list_text, pair_text, quoted}
+use Rattle.image_describer.proofs.Names.{nat_tests, ℕ, suc, pos, Bool, true, false, List, [], codes, decimal, Option, Some, None, IfSome, append-nil}
+use Rattle.image_describer.proofs.Names.{append_assoc, refl, sym, ap, arith, flat_map, join_by, dotted_text, key_text, string_text, Data, string, integer}
+use Rattle.image_describer.proofs.Names.{array, Items, no_items, item, Members, depth, has_valid_dates, items_depth, items_have_valid_dates, Expression}
+use Rattle.image_describer.proofs.Names.{IsItemsText, IsLinesText, IsValueText, are_tables, breaks_lines, elements, is_section, pairs, AllPrinted, Field}
+use Rattle.image_describer.proofs.Names.{begin_line, field_line, field_lines, list_text, pair_text, quoted}
 use Rattle.std.proofs.Common.{◌≡◌, ◌<◌, ◌≤◌, ◌^◌, ◌&&◌, ◌∷◌, ◌++◌, ◌∙◌}
 use Rattle.image_describer.proofs.Chains.{Pair}
 use Rattle.image_describer.proofs.Filled.{ArePairs, keyed, member_or, no_sections, tables}
@@ -25,13 +25,7 @@ spells_text text is = record { text_is = sym is; deep = omega arith; valid = ref
 
 -- a list that begins with such a value has no header
 no_tables : (d : Data) (ds : Items) → is_section d ≡ false → are_tables (item d ds) ≡ false
-no_tables (string x) ds pair = refl
-no_tables (integer x) ds pair = refl
-no_tables (float x) ds pair = refl
-no_tables (boolean x) ds pair = refl
-no_tables (datetime x) ds pair = refl
-no_tables (array xs) ds pair = refl
-no_tables (table ms) ds pair = absurd cc
+no_tables d ds pair = grind (arith, nat_tests)
 
 both_true : (a b : Bool) → a ≡ true → b ≡ true → (a && b) ≡ true
 both_true a b one other = rw (one, other)
@@ -53,24 +47,10 @@ module _ {A : Type 0} (f : A → List ℕ) (g : A → Data) (levels : ℕ) where
 
   further : (xs : List A) → AllSpell xs → IsItemsText false false false (items g xs) (flat_map (λ y. codes ", " ++ f y) xs ++ codes "]")
   further [] spell = refl
-  further (x ∷ xs) spell = (
-    f x,
-    flat_map (λ y. codes ", " ++ f y) xs ++ codes "]",
-    append_assoc (codes ", " ++ f x) (flat_map (λ y. codes ", " ++ f y) xs) (codes "]") ∙
-        append_assoc (codes ", ") (f x) (flat_map (λ y. codes ", " ++ f y) xs ++ codes "]"),
-    spell.0.text_is,
-    further xs spell.1,
-  )
+  further (x ∷ xs) spell = grind (arith, nat_tests, further xs spell.1, append_assoc)
 
   all_items : (xs : List A) → AllSpell xs → IsItemsText false false true (items g xs) (join_by f (codes ", ") xs ++ codes "]")
-  all_items [] spell = refl
-  all_items (x ∷ xs) spell = (
-    f x,
-    flat_map (λ y. codes ", " ++ f y) xs ++ codes "]",
-    append_assoc (f x) (flat_map (λ y. codes ", " ++ f y) xs) (codes "]"),
-    spell.0.text_is,
-    further xs spell.1,
-  )
+  all_items xs spell = grind (arith, nat_tests, append_assoc, further)
 
   items_deep : (xs : List A) → AllSpell xs → items_depth (items g xs) ≤ levels
   items_deep [] spell = omega arith
@@ -85,34 +65,10 @@ module _ {A : Type 0} (f : A → List ℕ) (g : A → Data) (levels : ℕ) where
   items_pair (x ∷ xs) spell = no_tables (g x) (items g xs) spell.0.pair
 
   pub spells_list : (xs : List A) → AllSpell xs → Spells (suc levels) (list_text f xs) (array (items g xs))
-  spells_list xs spell = record {
-    text_is = (
-      join_by f (codes ", ") xs ++ codes "]",
-      refl,
-      subst (λ (b : Bool). IsItemsText false b true (items g xs) (join_by f (codes ", ") xs ++ codes "]")) (sym (one_line (items g xs))) (all_items xs spell),
-    );
-    deep = let rest = items_deep xs spell in omega (arith, rest);
-    valid = items_valid xs spell;
-    pair = items_pair xs spell;
-  }
+  spells_list xs spell = grind (arith, nat_tests, one_line, all_items, items_deep, items_valid, items_pair)
 
 pub spells_pair : (s t : List ℕ) (a b : Data) → Spells 0 s a → Spells 0 t b → Spells 1 (pair_text s t) (array (item a (item b no_items)))
-spells_pair s t a b one other = record {
-  text_is = (
-    s ++ codes ", " ++ t ++ codes "]",
-    refl,
-    (
-      s,
-      codes ", " ++ (t ++ codes "]"),
-      append_assoc (s ++ codes ", ") t (codes "]") ∙ append_assoc s (codes ", ") (t ++ codes "]"),
-      one.text_is,
-      (t, codes "]", refl, other.text_is, refl),
-    ),
-  );
-  deep = omega (arith, one.deep, other.deep);
-  valid = both_true (has_valid_dates a) (has_valid_dates b && true) one.valid (both_true (has_valid_dates b) true other.valid refl);
-  pair = no_tables a (item b no_items) one.pair;
-}
+spells_pair s t a b one other = grind (arith, nat_tests, append_assoc, both_true, no_tables)
 
 -- ---- keys
 
@@ -134,63 +90,42 @@ SpellFields (f ∷ fs) (p ∷ ps) = (f.0 ≡ p.0) × (key_text p.0 ≡ p.0) × S
 
 pair_option : (o : Option (List ℕ)) (d : Option Data) → SpellsOption o d → IfSome d (λ e. is_section e ≡ false)
 pair_option None None spells = tt
-pair_option None (Some d) spells = absurd spells
-pair_option (Some text) None spells = absurd spells
 pair_option (Some text) (Some d) spells = spells.pair
+pair_option o d spells = absurd spells
 
 pub are_pairs : (fs : List Field) (ps : List Pair) → SpellFields fs ps → ArePairs ps
 are_pairs [] [] spell = tt
-are_pairs [] (p ∷ ps) spell = absurd spell
-are_pairs (f ∷ fs) [] spell = absurd spell
 are_pairs (f ∷ fs) (p ∷ ps) spell = (pair_option f.1 p.1 spell.2, are_pairs fs ps spell.3)
+are_pairs fs ps spell = absurd spell
 
 line_of_field : (started : Bool) (k l : List ℕ) (o : Option (List ℕ)) (d : Option Data) (ms : Members) (text : List ℕ) → k ≡ l → key_text l ≡ l →
     SpellsOption o d
     → ((begun : Bool) → IsLinesText false begun (pairs ms) text) → IsLinesText false started (pairs (member_or l d ms)) (field_line (k, o) ++ text)
-line_of_field started k l None None ms text same bare spells rest = rest started
-line_of_field started k l None (Some d) ms text same bare spells rest = absurd spells
-line_of_field started k l (Some value) None ms text same bare spells rest = absurd spells
-line_of_field started k l (Some value) (Some d) ms text same bare spells rest = rw spells.pair (
-  field_line (k, Some value),
-  text,
-  refl,
-  (
-    value,
-    append_assoc (k ++ codes " = ") value (10 ∷ []) ∙ append_assoc k (codes " = ") (value ++ 10 ∷ [])
-        ∙ ap (λ (key : List ℕ). key ++ (codes " = " ++ (value ++ 10 ∷ []))) (same ∙ sym bare),
-    spells.text_is,
-  ),
-  rest true,
-)
+line_of_field started k l o d ms text same bare spells rest = grind (arith, nat_tests, append_assoc)
 
 pub lines_of_fields : (fs : List Field) (ps : List Pair) (started : Bool) → SpellFields fs ps → IsLinesText false started (pairs (keyed ps)) (field_lines fs)
 lines_of_fields [] [] started spell = refl
 lines_of_fields [] (p ∷ ps) started spell = absurd spell
 lines_of_fields (f ∷ fs) [] started spell = absurd spell
-lines_of_fields (f ∷ fs) (p ∷ ps) started spell =
-    line_of_field started f.0 p.0 f.1 p.1 (keyed ps) (field_lines fs) spell.0 spell.1 spell.2 (λ begun. lines_of_fields fs ps begun spell.3)
+lines_of_fields (f ∷ fs) (p ∷ ps) started spell = grind (arith, nat_tests, lines_of_fields fs ps, line_of_field)
 
 printed_field : (l : List ℕ) (o : Option (List ℕ)) (d : Option Data) (ms : Members) → SpellsOption o d → AllPrinted (pairs ms) →
     AllPrinted (pairs (member_or l d ms))
 printed_field l None None ms spells rest = rest
-printed_field l None (Some d) ms spells rest = absurd spells
-printed_field l (Some value) None ms spells rest = absurd spells
 printed_field l (Some value) (Some d) ms spells rest = rw spells.pair ((refl, omega (arith, spells.deep), spells.valid), rest)
+printed_field l o d ms spells rest = absurd spells
 
 pub printed_fields : (fs : List Field) (ps : List Pair) → SpellFields fs ps → AllPrinted (pairs (keyed ps))
 printed_fields [] [] spell = tt
-printed_fields [] (p ∷ ps) spell = absurd spell
-printed_fields (f ∷ fs) [] spell = absurd spell
 printed_fields (f ∷ fs) (p ∷ ps) spell = printed_field p.0 f.1 p.1 (keyed ps) spell.2 (printed_fields fs ps spell.3)
+printed_fields fs ps spell = absurd spell
 
 -- ---- lists of lines
 
 pub append_lines : (started : Bool) (es fs : List Expression) (t u : List ℕ) → (es ≡ [] → started ≡ true) → IsLinesText false started es t →
     IsLinesText false true fs u
     → IsLinesText false started (es ++ fs) (t ++ u)
-append_lines started [] fs t u starts one other =
-    subst (λ (b : Bool). IsLinesText false b fs (t ++ u)) (sym (starts refl))
-    (subst (λ (text : List ℕ). IsLinesText false true fs text) (ap (λ (text : List ℕ). text ++ u) (sym one)) other)
+append_lines started [] fs t u starts one other = grind (arith, nat_tests)
 append_lines started (e ∷ es) fs t u starts one other =
     let (this, rest, is, line, more) = one in
     (this, rest ++ u, ap (λ (text : List ℕ). text ++ u) is ∙ append_assoc this rest u, line, append_lines true es fs rest u (λ none. refl) more other)
@@ -223,7 +158,4 @@ module _ {A : Type 0} (f : A → List Pair) (g : A → List Field) (t : A → Li
 
   pub printed_tables : (xs : List A) → AllFields xs → AllPrinted (elements ([], name) (tables f xs))
   printed_tables [] spell = tt
-  printed_tables (x ∷ xs) spell = rw (no_sections (name ∷ []) (f x) (are_pairs (g x) (f x) spell.0), append-nil (pairs (keyed (f x)))) (
-    omega arith,
-    append_printed (pairs (keyed (f x))) (elements ([], name) (tables f xs)) (printed_fields (g x) (f x) spell.0) (printed_tables xs spell.1),
-  )
+  printed_tables (x ∷ xs) spell = grind (arith, nat_tests, printed_tables xs spell.1, no_sections, are_pairs, append-nil, append_printed, printed_fields)

@@ -1,10 +1,9 @@
 -- The numbers of those who hold an object, and of the boxes.
-use Rattle.image_describer.proofs.Names.{inl, inr, ℕ, Bool, true, false, List, [], length, map, refl, sym, ap, subst, arith, All, Contains, filter, list_any}
-use Rattle.image_describer.proofs.Names.{cases_eq, nat_tests, All-append, All-contains, All-map, object_count, BankEntry, Description}
-use Rattle.image_describer.proofs.Names.{NodeEntry, PageEntry, ProcessEntry, HasNumbers, OfBank, OfNode, OfPage, OfRoot, in_range, all_from, contains_here}
-use Rattle.image_describer.proofs.Names.{contains_there, boxes, is_listed, zero, suc, slice_set, replicate, get_or-set_other}
-use Rattle.image_describer.proofs.Names.{get_or-set_same, length-replicate, length-set, is_marked, Adds, append-nil, cond, get_or, take, map-append}
-use Rattle.image_describer.proofs.Names.{filter_more}
+use Rattle.image_describer.proofs.Names.{ℕ, Bool, true, false, List, [], length, map, refl, sym, ap, subst, arith, All, Contains, filter, list_any, nat_tests}
+use Rattle.image_describer.proofs.Names.{All-append, All-contains, All-map, object_count, BankEntry, Description, NodeEntry, PageEntry, ProcessEntry}
+use Rattle.image_describer.proofs.Names.{HasNumbers, OfBank, OfNode, OfPage, OfRoot, in_range, all_from, contains_here, contains_there, boxes, is_listed, suc}
+use Rattle.image_describer.proofs.Names.{slice_set, replicate, get_or-set_other, get_or-set_same, length-replicate, length-set, is_marked, Adds, append-nil}
+use Rattle.image_describer.proofs.Names.{cond, get_or, take, map-append, filter_more}
 use Rattle.std.proofs.Common.{◌≡◌, ◌<◌, ◌+◌, ◌∷◌, ◌++◌, ◌∙◌}
 use Rattle.std.specs.Prelude.{◌==◌, ◌||◌}
 
@@ -25,30 +24,11 @@ listed_map f n (x ∷ xs) = ap (λ (b : Bool). (f x == n) || b) (listed_map f n 
 pub box_listed : (n : ℕ) (d : Description) → is_listed n (boxes d)
     ≡ (list_any (λ b. b.number == n) d.banks.items || list_any (λ p. p.root == n) d.processes.items || list_any (λ m. m.number == n) d.nodes.items || list_any
     (λ p. p.number == n) d.pages.items)
-box_listed n d =
-    let banks : List ℕ = map (λ b. b.number) d.banks.items in
-    let roots : List ℕ = map (λ p. p.root) d.processes.items in
-    let nodes : List ℕ = map (λ m. m.number) d.nodes.items in
-    let pages : List ℕ = map (λ p. p.number) d.pages.items in
-    let bank : Bool = list_any (λ (b : BankEntry). b.number == n) d.banks.items in
-    let process : Bool = list_any (λ (p : ProcessEntry). p.root == n) d.processes.items in
-    let node : Bool = list_any (λ (m : NodeEntry). m.number == n) d.nodes.items in
-    listed_both n (banks ++ roots ++ nodes) pages
-    ∙ ap (λ (b : Bool). b || is_listed n pages) (listed_both n (banks ++ roots) nodes)
-    ∙ ap (λ (b : Bool). b || is_listed n nodes || is_listed n pages) (listed_both n banks roots)
-    ∙ ap (λ (b : Bool). b || is_listed n roots || is_listed n nodes || is_listed n pages) (listed_map (λ (b : BankEntry). b.number) n d.banks.items)
-    ∙ ap (λ (b : Bool). bank || b || is_listed n nodes || is_listed n pages) (listed_map (λ (p : ProcessEntry). p.root) n d.processes.items)
-    ∙ ap (λ (b : Bool). bank || process || b || is_listed n pages) (listed_map (λ (m : NodeEntry). m.number) n d.nodes.items)
-    ∙ ap (λ (b : Bool). bank || process || node || b) (listed_map (λ (p : PageEntry). p.number) n d.pages.items)
+box_listed n d = grind (arith, nat_tests, listed_both, listed_map)
 
 pub listed_contains : (n : ℕ) (ns : List ℕ) → is_listed n ns ≡ true → Contains ns n
 listed_contains n [] is = absurd cc
-listed_contains n (m ∷ ns) is = elim (cases_eq m n) [
-  | inl same ↦ subst (Contains (m ∷ ns)) same (contains_here m ns)
-  | inr differ ↦
-      let no : (m == n) ≡ false = grind (arith, nat_tests) in
-      contains_there n m ns (listed_contains n ns (sym (ap (λ (b : Bool). b || is_listed n ns) no) ∙ is))
-]
+listed_contains n (m ∷ ns) is = grind (arith, nat_tests, listed_contains n ns, contains_here, contains_there)
 
 module _ (d : Description) (numbers : HasNumbers d) where
   abbrev Below : ℕ → Type 0
@@ -83,25 +63,14 @@ or_none true = refl
 or_none false = refl
 
 or_here : (a b : Bool) → b ≡ true → (a || (b || false)) ≡ true
-or_here true b is = refl
-or_here false true is = refl
 or_here false false is = is
+or_here a b is = refl
 
 pub adds_none : (was : List Bool) → Adds [] was was
 adds_none was = record { size = refl; marks = λ n. or_none (is_marked was n) }
 
 marked_one : (was : List Bool) (n m : ℕ) → n < length was → is_marked (slice_set was n true) m ≡ (is_marked was m || ((n == m) || false))
-marked_one was n m within = elim (cases_eq n m) [
-  | inl same ↦
-      let is : (n == m) ≡ true = grind (arith, nat_tests) in
-      let set : is_marked (slice_set was n true) m ≡ true =
-      subst (λ (k : ℕ). is_marked (slice_set was n true) k ≡ true) same (get_or-set_same was n true false within) in
-      set ∙ sym (or_here (is_marked was m) (n == m) is)
-  | inr differ ↦
-      let no : (n == m) ≡ false = grind (arith, nat_tests) in
-      get_or-set_other was n m true false (λ same. differ (sym same)) ∙ or_none (is_marked was m)
-      ∙ ap (λ (b : Bool). is_marked was m || (b || false)) (sym no)
-]
+marked_one was n m within = grind (arith, nat_tests, get_or-set_same, or_here, get_or-set_other, or_none)
 
 adds_one : (was : List Bool) (n : ℕ) → n < length was → Adds (n ∷ []) was (slice_set was n true)
 adds_one was n within = record { size = length-set was n true; marks = λ m. marked_one was n m within }
@@ -123,20 +92,15 @@ module _ {X : Type 0} (p : X → Bool) (f : X → ℕ) (xs : List X) (i : ℕ) (
   module _ (was now : List Bool) (adds : Adds (map f (filter p (take i xs))) was now) where
     pub adds_passed : p x ≡ true → f x < length now → Adds (map f (filter p (take (i + 1) xs))) was (slice_set now (f x) true)
     adds_passed passes below =
-        subst (λ (ns : List ℕ). Adds ns was (slice_set now (f x) true))
-        (sym (passed_more ∙ ap (λ (b : Bool). map f (filter p (take i xs)) ++ map f (cond b (x ∷ []) [])) passes))
+        rw (passed_more ∙ ap (λ (b : Bool). map f (filter p (take i xs)) ++ map f (cond b (x ∷ []) [])) passes)
         (adds_both (map f (filter p (take i xs))) (f x ∷ []) was now (slice_set now (f x) true) adds (adds_one now (f x) below))
 
     pub adds_failed : p x ≡ false → Adds (map f (filter p (take (i + 1) xs))) was now
-    adds_failed fails =
-        subst (λ (ns : List ℕ). Adds ns was now)
-        (sym (passed_more ∙ ap (λ (b : Bool). map f (filter p (take i xs)) ++ map f (cond b (x ∷ []) [])) fails ∙ append-nil (map f (filter p (take i xs)))))
-        adds
+    adds_failed fails = rw (passed_more ∙ ap (λ (b : Bool). map f (filter p (take i xs)) ++ map f (cond b (x ∷ []) [])) fails ∙ append-nil _) adds
 
 unmarked : (count n : ℕ) → is_marked (replicate count false) n ≡ false
-unmarked zero n = refl
-unmarked (suc count) zero = refl
 unmarked (suc count) (suc n) = unmarked count n
+unmarked count n = refl
 
 -- an empty set gets an object, and the processes and nodes that hold it
 pub holders_marked : (count o : ℕ) (processes nodes : List ℕ) (first second : List Bool) → o < count →
@@ -145,6 +109,5 @@ pub holders_marked : (count o : ℕ) (processes nodes : List ℕ) (first second 
 holders_marked count o processes nodes first second within held_by_processes held_by_nodes n =
     let none = replicate count false in
     let one = adds_one none o (subst (λ (k : ℕ). o < k) (sym (length-replicate count false)) within) in
-    let both = adds_both (o ∷ processes) nodes none first second (adds_both (o ∷ []) processes none (slice_set none o true) first one held_by_processes)
-    held_by_nodes in
+    let both = adds_both _ nodes none first _ (adds_both _ _ none _ first one held_by_processes) held_by_nodes in
     both.marks n ∙ ap (λ (b : Bool). b || is_listed n (o ∷ processes ++ nodes)) (unmarked count n)

@@ -1,9 +1,9 @@
 -- Numbers and capabilities in an image of other sizes.
 use Rattle.image_describer.proofs.Names.{ℕ, Bool, true, false, List, [], map, Option, Some, None, refl, sym, ap, subst, arith, All, nat_tests, length-map}
-use Rattle.image_describer.proofs.Names.{All-map, All-weaker, slice_get-map, Cap, Capability, Void, Number, Page, Node, Space, Process, Start, Resume, Bank}
-use Rattle.image_describer.proofs.Names.{Frame, Geometry, Content, Object, IsWellFormed, named, map_content, IsSpace, object_count, fresh_cap}
-use Rattle.image_describer.proofs.Names.{SlotEntry, AreDistinct, AreSlots, HoldsNamed, IsSomeCapability, IsSpaceEntry, named_at, AreBriefSlots, AreRising}
-use Rattle.image_describer.proofs.Names.{plain_frame, moved, moved_capability, moved_held, moved_object, moved_slot, IsWide, NamesWide, SpellsSlot}
+use Rattle.image_describer.proofs.Names.{All-map, All-weaker, slice_get-map, Cap, Capability, Void, Page, Space, Frame, Geometry, Content, Object, IsWellFormed}
+use Rattle.image_describer.proofs.Names.{named, map_content, IsSpace, object_count, fresh_cap, SlotEntry, AreDistinct, AreSlots, HoldsNamed, IsSomeCapability}
+use Rattle.image_describer.proofs.Names.{IsSpaceEntry, named_at, AreBriefSlots, AreRising, plain_frame, moved, moved_capability, moved_held, moved_object}
+use Rattle.image_describer.proofs.Names.{moved_slot, IsWide, NamesWide, SpellsSlot}
 use Rattle.std.proofs.Common.{unwrap_or, ◌≡◌, ◌≢◌, ◌+◌, ◌-◌, ◌<◌, ◌≤◌, if◌then◌else◌, ◌∷◌, ◌∙◌}
 use Rattle.std.specs.Prelude.{◌==◌, IfSome, option_map}
 use Rattle.model.specs.declared.object.Content.TheVariants as content
@@ -27,12 +27,7 @@ moved_wide old new n few also wide = grind (arith, nat_tests)
 
 module _ (at : ℕ → ℕ) where
   pub well_formed_moved : (c : Capability) → IsWellFormed c → IsWellFormed (moved_capability at c)
-  well_formed_moved (Number n) h = h
-  well_formed_moved (Page o a) h = h
-  well_formed_moved (Node o a) h = h
-  well_formed_moved (Space o k a) h = h
-  well_formed_moved (Start p key) h = h
-  well_formed_moved other h = tt
+  well_formed_moved c h = grind (arith, nat_tests)
 
   pub space_moved : (c : Capability) → IsSpace c → IsSpace (moved_capability at c)
   space_moved Void h = tt
@@ -45,14 +40,7 @@ module _ (at : ℕ → ℕ) where
   void_moved other h = absurd cc
 
   pub named_moved : ((n : ℕ) → IsWide n → IsWide (at n)) → (c : Capability) → IfSome (named c) IsWide → IfSome (named (moved_capability at c)) IsWide
-  named_moved on (Page o a) h = on o h
-  named_moved on (Node o a) h = on o h
-  named_moved on (Space o k a) h = on o h
-  named_moved on (Process p) h = on p h
-  named_moved on (Start p key) h = on p h
-  named_moved on (Resume p) h = on p h
-  named_moved on (Bank b) h = on b h
-  named_moved on other h = tt
+  named_moved on c h = grind (arith, nat_tests)
 
   -- those that may be absent
   pub held_moved : (o : Option Capability) → unwrap_or (moved_held at o) Void ≡ moved_capability at (unwrap_or o Void)
@@ -92,9 +80,8 @@ module _ (at : ℕ → ℕ) where
   }
 
   pub spelled_moved : ((n : ℕ) → IsWide n → IsWide (at n)) → (es : List SlotEntry) → All SpellsSlot es → All SpellsSlot (map (moved_slot at) es)
-  spelled_moved on es all =
-      All-map SpellsSlot (moved_slot at) es
-      (All-weaker SpellsSlot (λ (s : SlotEntry). SpellsSlot (moved_slot at s)) (λ s h. (h.0, wide_moved on s.capability h.1)) es all)
+  spelled_moved on es all = All-map SpellsSlot (moved_slot at) es
+      (All-weaker SpellsSlot (λ (s : SlotEntry). SpellsSlot (moved_slot at s)) (λ s h. (h.0, wide_moved on _ h.1)) es all)
 
   pub brief_moved : (es : List SlotEntry) → AreBriefSlots es → AreBriefSlots (map (moved_slot at) es)
   brief_moved es brief = (
@@ -136,17 +123,7 @@ module _ (at : ℕ → ℕ) where
   plain_content : (owner : ℕ) (c : Content Capability)
       → plain_frame (record { owner = owner; content = map_content (moved_capability at) c }) ≡ moved_frame
       (plain_frame (record { owner = owner; content = c }))
-  plain_content owner content.Free = refl
-  plain_content owner (content.Page words) = refl
-  plain_content owner (content.Node slots) =
-      ap (λ (cs : List Cap). let f : Frame =
-      record { header = (plain_frame (record { owner = owner; content = content.Node slots })).header; content = content.Node cs } in f) (fresh_moved slots)
-  plain_content owner (content.Root r) = refl
-  plain_content owner (content.Annex registers) =
-      ap (λ (cs : List Cap). let f : Frame =
-      record { header = (plain_frame (record { owner = owner; content = content.Annex registers })).header; content = content.Annex cs } in f)
-      (fresh_moved registers)
-  plain_content owner (content.Bank limit) = refl
+  plain_content owner c = grind (arith, nat_tests, fresh_moved)
 
   pub plain_moved : (o : Object) → plain_frame (moved_object at o) ≡ moved_frame (plain_frame o)
   plain_moved o = plain_content o.owner o.content

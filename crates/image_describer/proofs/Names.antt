@@ -45,7 +45,7 @@ pub use Rattle.model.specs.contracts.object.Role.{the_type}
 pub use Rattle.model.specs.declared.access.Access.{Access}
 pub use Rattle.model.specs.declared.capability.Cap.{Cap}
 pub use Rattle.model.specs.declared.capability.Capability.{Capability}
-pub use Rattle.model.specs.declared.capability.Capability.TheVariants.{Bank, Discrim, Node, Number, Page, Process, Resume, Space, Start, Void}
+pub use Rattle.model.specs.declared.capability.Capability.TheVariants.{Number, Page, Space, Void}
 pub use Rattle.model.specs.declared.frame.Frame.{Frame}
 pub use Rattle.model.specs.declared.frame.ObjectHeader.{ObjectHeader}
 pub use Rattle.model.specs.declared.geometry.Geometry.{Geometry}
@@ -74,9 +74,9 @@ pub use Rattle.std.proofs.lemmas.Fn.{filter_same}
 pub use Rattle.std.proofs.lemmas.Grind.{flat_map-append}
 pub use Rattle.std.proofs.lemmas.List.{ext_get_or, get_or-set_other, get_or-set_same, get_or_past, length-map, length-replicate, length-set, map-append}
 pub use Rattle.std.proofs.lemmas.List.{take-append-drop, take_all}
-pub use Rattle.std.proofs.lemmas.List.Elements.{All-append, All-cons, All-contains, All-filter, All-from_recursion, All-head, All-map, All-nil, All-push}
-pub use Rattle.std.proofs.lemmas.List.Elements.{All-tail, All-weaker, AllZip-get_or, Contains-append_cases, Contains-append_left, Contains-append_right}
-pub use Rattle.std.proofs.lemmas.List.Elements.{Contains-push, filter-append, filter_more, length_all_zip, recursion_from_All}
+pub use Rattle.std.proofs.lemmas.List.Elements.{All-append, All-cons, All-contains, All-from_recursion, All-head, All-map, All-nil, All-push, All-tail}
+pub use Rattle.std.proofs.lemmas.List.Elements.{All-weaker, AllZip-get_or, Contains-append_cases, Contains-append_left, Contains-append_right, Contains-push}
+pub use Rattle.std.proofs.lemmas.List.Elements.{filter-append, filter_more, length_all_zip, recursion_from_All}
 pub use Rattle.std.proofs.lemmas.List.Folds.{flat_map-map}
 pub use Rattle.std.proofs.lemmas.List.FromFn.{get_or-map-range_with_len, length-range_with_len}
 pub use Rattle.std.proofs.lemmas.Option.{get_or_from_slice_get, none-some, same_Some, slice_get-get_or, slice_get-map}
@@ -92,10 +92,11 @@ pub use Rattle.toml.proofs.Fill.{Exists, fill, fill_elements, fill_pairs, fill_s
 pub use Rattle.toml.proofs.NodeLaws.{along_found, get_node-insert, replace-insert}
 pub use Rattle.toml.proofs.ReadLines.{AllPrinted, line_turn, read_lines, run}
 pub use Rattle.toml.proofs.Turns.{document_some}
-pub use Rattle.toml.specs.Data.{Data, Items, Members, array, boolean, datetime, depth, float, get_member, has_valid_dates, integer, item, items_depth}
-pub use Rattle.toml.specs.Data.{items_have_valid_dates, member, no_items, no_members, push_item, same_key, string, table}
+pub use Rattle.toml.specs.Data.{Data, Items, Members, array, depth, get_member, has_valid_dates, integer, item, items_depth, items_have_valid_dates, member}
+pub use Rattle.toml.specs.Data.{no_items, no_members, push_item, same_key, string, table}
 unfoldable pub use Rattle.toml.specs.Parse.{parse_document, skip_bom}
-pub use Rattle.toml.specs.Tables.{Document, Edit, Expression, Nodes, array_table, close, close_node, get_node, insert, no_nodes, node, open_array, put, value}
+pub use Rattle.toml.specs.Tables.{Document, Edit, Expression, Node, Nodes, array_table, close, close_node, get_node, insert, no_nodes, node, open_array, put}
+pub use Rattle.toml.specs.Tables.{value}
 unfoldable pub use Rattle.toml.specs.Tables.{along_dots, along_header, at_key}
 pub use Rattle.toml.specs.Text.{IsItemsText, IsLinesText, IsValueText, are_tables, breaks_lines, elements, is_section, pairs, section, sections}
 pub use Rattle.toml_parser.specs.Lexical.{first, is_bare, is_non_eol}
@@ -113,8 +114,8 @@ pub use Rattle.image_describer.specs.GraphLaws.{ArrowsAreHeld, BoxesAreObjects, 
 pub use Rattle.image_describer.specs.Grown.{IsGrown, IsMovedNode, IsMovedPage, IsMovedProcess, IsNotRenumbered, IsRenumbered, IsUnsuited, NamesNodes}
 pub use Rattle.image_describer.specs.Grown.{NamesPages, NodesFit, PagesFit, grown_ranges, moved, moved_capability, moved_held, moved_object, moved_slot}
 pub use Rattle.image_describer.specs.Laws.{DescribedHasText, DescribedIsLaid, DescribedIsSame, GrownIsDescribed, GrownToItself, TextIsRead}
-pub use Rattle.image_describer.specs.Part.{Adds, IsPart, IsPartOfNode, IsPartOfProcess, PartIsShown, holders, holding_nodes, holding_processes, holds_in}
-pub use Rattle.image_describer.specs.Part.{is_inside, is_listed, leads_inside, names, space_inside}
+pub use Rattle.image_describer.specs.Part.{Adds, IsPart, IsPartOfNode, IsPartOfProcess, PartIsShown, holding_nodes, holding_processes, holds_in, is_inside}
+pub use Rattle.image_describer.specs.Part.{is_listed, leads_inside, names, space_inside}
 pub use Rattle.image_describer.specs.Spelled.{CanBeSpelled, IsShort, IsWide, NamesWide, SpellsBank, SpellsGeometry, SpellsNode, SpellsPage, SpellsProcess}
 pub use Rattle.image_describer.specs.Spelled.{SpellsRange, SpellsSlot, SpellsWord}
 pub use Rattle.image_describer.specs.Text.{Field, are_whole, bank_fields, bank_text, begin_line, field_line, field_lines, held_text, image_fields, is_range}

@@ -1,7 +1,7 @@
 -- What a list holds beside its default, one item after another.
-use Rattle.image_describer.proofs.Names.{ℕ, inl, inr, List, [], map, length, slice_index_or, Option, None, Some, option_to_list, sym, ap, subst, arith, All}
-use Rattle.image_describer.proofs.Names.{Contains, cases_eq, cases_lt, get_or_past, All-contains, All-head, All-map, All-push, All-tail, All-weaker}
-use Rattle.image_describer.proofs.Names.{first_named, first_beyond, first_none, first_of, first_there, map_both, AreRising, Names, MayName}
+use Rattle.image_describer.proofs.Names.{nat_tests, ℕ, inl, inr, List, [], map, length, slice_index_or, Option, None, Some, option_to_list, sym, subst, arith}
+use Rattle.image_describer.proofs.Names.{All, Contains, cases_lt, get_or_past, All-contains, All-head, All-map, All-push, All-tail, All-weaker, first_named}
+use Rattle.image_describer.proofs.Names.{first_beyond, first_none, first_of, first_there, map_both, AreRising, Names, MayName}
 use Rattle.std.proofs.Common.{◌≡◌, ◌≢◌, ◌+◌, ◌<◌, ◌≤◌, ◌∷◌, ◌++◌, ◌∙◌}
 use Rattle.std.proofs.lemmas.List.{append-nil}
 use Rattle.image_describer.proofs.Rising.{rising_distinct, rising_more}
@@ -10,10 +10,7 @@ module _ {E V : Type 0} (index : E → ℕ) (value : E → V) (default : V) wher
   -- an entry behind others names nothing else
   first_before : (es : List E) (e : E) (i : ℕ) → index e ≢ i → first_named index value default (es ++ e ∷ []) i ≡ first_named index value default es i
   first_before [] e i differ = first_beyond index value default e [] i differ
-  first_before (f ∷ es) e i differ = elim (cases_eq (index f) i) [
-    | inl is ↦ first_there index value default f (es ++ e ∷ []) i is ∙ sym (first_there index value default f es i is)
-    | inr other ↦ first_beyond index value default f (es ++ e ∷ []) i other ∙ first_before es e i differ ∙ sym (first_beyond index value default f es i other)
-  ]
+  first_before (f ∷ es) e i differ = grind (arith, nat_tests, first_before es e i differ, first_there, first_beyond)
 
   -- and names its index, which isn't named before
   first_last : (es : List E) (e : E) (i : ℕ) → All (λ f. index f < i) es → index e ≡ i → first_named index value default (es ++ e ∷ []) i ≡ value e
@@ -25,9 +22,8 @@ module _ {E V : Type 0} (index : E → ℕ) (value : E → V) (default : V) wher
 
   -- nothing is named from an index on that is above all
   first_above : (es : List E) (i : ℕ) → All (λ f. index f < i) es → (j : ℕ) → i ≤ j → first_named index value default es j ≡ default
-  first_above es i below j le =
-      first_none index value default es j (λ there.
-      let under : j < i = All-contains (λ n. n < i) (map index es) j (All-map (λ n. n < i) index es below) there in
+  first_above es i below j le = first_none index value _ es j (λ there.
+      let under : j < i = All-contains (λ n. n < i) _ j (All-map (λ n. n < i) index es below) there in
       absurd (omega (arith, under, le)))
 
   -- the items before one are named
@@ -40,18 +36,7 @@ module _ {E V : Type 0} (index : E → ℕ) (value : E → V) (default : V) wher
 
   -- one at its default is left out
   pub names_less : (xs : List V) (i : ℕ) (es : List E) → NamesBefore xs i es → slice_index_or xs i default ≡ default → NamesBefore xs (i + 1) es
-  names_less xs i es names is = record {
-    each = λ j under. elim (cases_lt j i) [
-      | inl before ↦ names.each j before
-      | inr past ↦
-          let same : i ≡ j = omega (arith, under, past) in
-          first_above es i names.below j past ∙ sym is ∙ ap (λ k. slice_index_or xs k default) same
-    ];
-    some = names.some;
-    below = All-weaker (λ e. index e < i) (λ e. index e < i + 1) (λ e under. omega (arith, under)) es names.below;
-    within = names.within;
-    rising = names.rising;
-  }
+  names_less xs i es names is = grind (arith, nat_tests, first_above, All-weaker)
 
   -- another is named
   pub names_more : (xs : List V) (i : ℕ) (es : List E) (e : E) → NamesBefore xs i es → i < length xs → index e ≡ i → value e ≡ slice_index_or xs i default →
@@ -68,8 +53,7 @@ module _ {E V : Type 0} (index : E → ℕ) (value : E → V) (default : V) wher
     below = All-push (λ f. index f < i + 1) es e (All-weaker (λ f. index f < i) (λ f. index f < i + 1) (λ f under. omega (arith, under)) es names.below)
         (omega (arith, at));
     within = All-push (λ f. index f < length xs) es e names.within (omega (arith, at, inside));
-    rising = subst AreRising (sym (map_both index es (e ∷ [])))
-        (rising_more (map index es) (index e) names.rising
+    rising = subst AreRising (sym (map_both index es _)) (rising_more _ _ names.rising
         (All-map (λ n. n < index e) index es (All-weaker (λ f. index f < i) (λ f. index f < index e) (λ f under. omega (arith, under, at)) es names.below)));
   }
 
@@ -77,22 +61,12 @@ module _ {E V : Type 0} (index : E → ℕ) (value : E → V) (default : V) wher
   pub names_next : (xs : List V) (i : ℕ) (es next : List E) (o : Option E) (x : V) → NamesBefore xs i es → i < length xs → x ≡ slice_index_or xs i default →
       MayName index value default i x o
       → next ≡ es ++ option_to_list o → NamesBefore xs (i + 1) next
-  names_next xs i es next None x names inside is may made =
-      subst (NamesBefore xs (i + 1)) (sym (made ∙ append-nil es)) (names_less xs i es names (sym is ∙ may))
-  names_next xs i es next (Some e) x names inside is may made =
-      subst (NamesBefore xs (i + 1)) (sym made) (names_more xs i es e names inside may.0 (may.1 ∙ is) (λ at. may.2 (sym may.1 ∙ at)))
+  names_next xs i es next None x names inside is may made = rw (made ∙ append-nil es) (names_less xs i es names (sym is ∙ may))
+  names_next xs i es next (Some e) x names inside is may made = rw made (names_more xs i es e names inside may.0 (may.1 ∙ is) (λ at. may.2 (sym may.1 ∙ at)))
 
   -- all are named
   pub names_all : (xs : List V) (i : ℕ) (es : List E) → length xs ≤ i → NamesBefore xs i es → Names index value default xs es
-  names_all xs i es done names = record {
-    each = λ j. elim (cases_lt j i) [
-      | inl before ↦ names.each j before
-      | inr past ↦ first_above es i names.below j past ∙ sym (get_or_past xs j default (omega (arith, done, past)))
-    ];
-    some = names.some;
-    within = names.within;
-    rising = names.rising;
-  }
+  names_all xs i es done names = grind (arith, nat_tests, first_above, get_or_past)
 
   -- an entry has what is at its index
   pub named_is : (xs : List V) (es : List E) (e : E) → Names index value default xs es → Contains es e → value e ≡ slice_index_or xs (index e) default

@@ -1,6 +1,7 @@
 -- Lists in which nothing comes twice, and what lists of lists hold.
-use Rattle.image_describer.proofs.Names.{ℕ, inl, inr, List, [], map, sym, subst, Contains, flat_map, Contains-append_cases, Contains-append_left}
-use Rattle.image_describer.proofs.Names.{Contains-append_right, AreDistinct, contains_cases, contains_here, contains_map, contains_none, contains_there, IsOnce}
+use Rattle.image_describer.proofs.Names.{nat_tests, arith, ℕ, inl, inr, List, [], map, sym, subst, Contains, flat_map, Contains-append_cases}
+use Rattle.image_describer.proofs.Names.{Contains-append_left, Contains-append_right, AreDistinct, contains_cases, contains_here, contains_map, contains_none}
+use Rattle.image_describer.proofs.Names.{contains_there, IsOnce}
 use Rattle.std.proofs.Common.{◌≡◌, ◌∷◌, ◌++◌, ◌∙◌}
 
 -- what is in one of the lists
@@ -30,12 +31,10 @@ once_append (x ∷ xs) ys a b apart = (
 pub once_flat : {X Y : Type 0} (f : X → List Y) (key : Y → ℕ) (index : X → ℕ) (xs : List X) → IsOnce (map index xs)
     → ((x : X) → Contains xs x → IsOnce (f x)) → ((x : X) (y : Y) → Contains (f x) y → key y ≡ index x) → IsOnce (flat_map f xs)
 once_flat f key index [] distinct once keyed = tt
-once_flat f key index (x ∷ xs) distinct once keyed =
-    once_append (f x) (flat_map f xs) (once x (contains_here x xs))
-    (once_flat f key index xs distinct.1 (λ z there. once z (contains_there z x xs there)) keyed)
-    (λ y one two.
+once_flat f key index (x ∷ xs) distinct once keyed = once_append (f x) _ (once x (contains_here x xs))
+    (once_flat f key index xs distinct.1 (λ z there. once z (contains_there z x xs there)) keyed) (λ y one two.
     let found = contains_flat f y xs two in
-    distinct.0 (subst (Contains (map index xs)) (sym (keyed found.0 y found.2) ∙ keyed x y one) (contains_map index found.0 xs found.1)))
+    distinct.0 (subst (Contains (map index xs)) (sym (keyed found.0 y found.2) ∙ keyed x y one) (contains_map index _ xs found.1)))
 
 pub once_distinct : (ns : List ℕ) → AreDistinct ns → IsOnce ns
 once_distinct [] distinct = tt
@@ -52,7 +51,4 @@ distinct_right (n ∷ ns) ms distinct = distinct_right ns ms distinct.1
 
 pub distinct_apart : (ns ms : List ℕ) → AreDistinct (ns ++ ms) → (n : ℕ) → Contains ns n → Contains ms n → ⊥
 distinct_apart [] ms distinct n one two = contains_none n one
-distinct_apart (k ∷ ns) ms distinct n one two = elim (contains_cases n k ns one) [
-  | inl is ↦ distinct.0 (Contains-append_right ns ms k (subst (Contains ms) (sym is) two))
-  | inr there ↦ distinct_apart ns ms distinct.1 n there two
-]
+distinct_apart (k ∷ ns) ms distinct n one two = grind (arith, nat_tests, distinct_apart ns ms distinct.1 n, contains_cases, Contains-append_right)

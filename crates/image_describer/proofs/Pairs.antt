@@ -1,5 +1,5 @@
 -- Lists that are rewritten one item after the other.
-use Rattle.image_describer.proofs.Names.{ℕ, zero, suc, List, [], map, length, slice_index_or, slice_set, refl, sym, ap, subst, arith, All, AllZip}
+use Rattle.image_describer.proofs.Names.{nat_tests, ℕ, zero, suc, List, [], map, length, slice_index_or, slice_set, refl, sym, ap, subst, arith, All, AllZip}
 use Rattle.image_describer.proofs.Names.{AllZip-get_or, length_all_zip}
 use Rattle.std.proofs.Common.{◌≡◌, ◌+◌, ◌<◌, ◌≤◌, ◌∷◌, ◌∙◌}
 
@@ -13,12 +13,9 @@ ZipBelow R (suc i) (x ∷ xs) (y ∷ ys) = R x y × ZipBelow R i xs ys
 
 module _ {A : Type 0} (R : A → A → Type 0) where
   set_below : (i : ℕ) (xs ys : List A) (d v : A) → i < length ys → R (slice_index_or ys i d) v → ZipBelow R i xs ys → ZipBelow R (suc i) xs (slice_set ys i v)
-  set_below zero xs [] d v inside is below = absurd (omega (arith, inside))
   set_below zero xs (y ∷ ys) d v inside is below = subst (λ (zs : List A). ZipBelow R 1 zs (v ∷ ys)) (sym below) (is, refl)
-  set_below (suc i) [] [] d v inside is below = absurd (omega (arith, inside))
-  set_below (suc i) [] (y ∷ ys) d v inside is below = absurd below
-  set_below (suc i) (x ∷ xs) [] d v inside is below = absurd below
   set_below (suc i) (x ∷ xs) (y ∷ ys) d v inside is below = (below.0, set_below i xs ys d v (omega (arith, inside)) is below.1)
+  set_below i xs ys d v inside is below = absurd (grind (arith, nat_tests))
 
   -- one more item is rewritten
   pub zip_set : (i : ℕ) (xs ys : List A) (d v : A) → i < length ys → R (slice_index_or ys i d) v → ZipBelow R i xs ys → ZipBelow R (i + 1) xs (slice_set ys i v)
@@ -29,13 +26,9 @@ module _ {A : Type 0} (R : A → A → Type 0) where
   -- all are
   pub zip_whole : (i : ℕ) (xs ys : List A) → length ys ≤ i → ZipBelow R i xs ys → AllZip R xs ys
   zip_whole zero [] [] within below = tt
-  zip_whole zero [] (y ∷ ys) within below = absurd (omega (arith, within))
-  zip_whole zero (x ∷ xs) [] within below = absurd cc
-  zip_whole zero (x ∷ xs) (y ∷ ys) within below = absurd (omega (arith, within))
   zip_whole (suc i) [] [] within below = tt
-  zip_whole (suc i) [] (y ∷ ys) within below = absurd below
-  zip_whole (suc i) (x ∷ xs) [] within below = absurd below
   zip_whole (suc i) (x ∷ xs) (y ∷ ys) within below = (below.0, zip_whole i xs ys (omega (arith, within)) below.1)
+  zip_whole i xs ys within below = absurd (grind (arith, nat_tests))
 
   -- what holds of all of one list gives what holds of all of the other
   pub zip_all : (P Q : A → Type 0) → ((x y : A) → R x y → P x → Q y) → (xs ys : List A) → AllZip R xs ys → All P xs → All Q ys

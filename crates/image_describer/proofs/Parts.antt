@@ -1,8 +1,8 @@
 -- What the graph of a part of a description shows.
-use Rattle.image_describer.proofs.Names.{ℕ, Bool, true, false, Option, Some, None, List, [], map, refl, sym, ap, AllZip, filter, flat_map, filter-append}
-use Rattle.image_describer.proofs.Names.{Capability, Void, named, BankEntry, Description, NodeEntry, PageEntry, ProcessEntry, SlotEntry, Arrow, Place, arrow_of}
-use Rattle.image_describer.proofs.Names.{arrow_to, arrows_at, joined, node_arrows, process_arrows, IsPart, IsPartOfNode, IsPartOfProcess, PartIsShown}
-use Rattle.image_describer.proofs.Names.{is_inside, leads_inside, space_inside}
+use Rattle.image_describer.proofs.Names.{nat_tests, arith, ℕ, Bool, true, false, Option, Some, None, List, [], map, refl, sym, ap, AllZip, filter, flat_map}
+use Rattle.image_describer.proofs.Names.{filter-append, Capability, Void, named, BankEntry, Description, NodeEntry, PageEntry, ProcessEntry, SlotEntry, Arrow}
+use Rattle.image_describer.proofs.Names.{Place, arrow_of, arrow_to, arrows_at, joined, node_arrows, process_arrows, IsPart, IsPartOfNode, IsPartOfProcess}
+use Rattle.image_describer.proofs.Names.{PartIsShown, is_inside, leads_inside, space_inside}
 use Rattle.std.proofs.Common.{◌≡◌, if◌then◌else◌, ◌∷◌, ◌++◌, ◌∙◌, unwrap_or}
 use Rattle.std.specs.Prelude.{◌==◌, ◌&&◌}
 use Rattle.image_describer.proofs.Pairs.{zip_map}
@@ -19,11 +19,7 @@ kept_one {X} t g x xs false is = ap (λ (b : Bool). flat_map g (if b then x ∷ 
 kept_flat : {X Y : Type 0} (t : X → Bool) (q : Y → Bool) (f g : X → List Y) → ((x : X) → filter q (f x) ≡ (if t x then g x else [])) → (xs : List X) →
     flat_map g (filter t xs) ≡ filter q (flat_map f xs)
 kept_flat t q f g on [] = refl
-kept_flat {Y = Y} t q f g on (x ∷ xs) =
-    kept_one t g x xs (t x) refl
-    ∙ ap (λ (ys : List Y). ys ++ flat_map g (filter t xs)) (sym (on x))
-    ∙ ap (λ (ys : List Y). filter q (f x) ++ ys) (kept_flat t q f g on xs)
-    ∙ sym (filter-append q (f x) (flat_map f xs))
+kept_flat {Y = Y} t q f g on (x ∷ xs) = grind (arith, nat_tests, kept_flat t q f g on xs, kept_one, filter-append)
 
 kept_cell : {X Y : Type 0} (b : Bool) (x : X) (xs : List X) (ys : List Y) (f : X → Y) → map f xs ≡ ys →
     map f (if b then x ∷ xs else xs) ≡ (if b then f x ∷ ys else ys)
@@ -39,8 +35,7 @@ zip_flat : {X Y : Type 0} (R : X → X → Type 0) (f g : X → List Y) → ((x 
 zip_flat R f g on [] [] zip = refl
 zip_flat R f g on [] (y ∷ ys) zip = absurd zip
 zip_flat R f g on (x ∷ xs) [] zip = absurd zip
-zip_flat {Y = Y} R f g on (x ∷ xs) (y ∷ ys) zip = ap (λ (zs : List Y). zs ++ flat_map f ys) (on x y zip.0) ∙
-    ap (λ (zs : List Y). g x ++ zs) (zip_flat R f g on xs ys zip.1)
+zip_flat {Y = Y} R f g on (x ∷ xs) (y ∷ ys) zip = grind (arith, nat_tests, zip_flat R f g on xs ys zip.1)
 
 module _ (inside : ℕ → Bool) where
   -- Arrows
@@ -64,25 +59,14 @@ module _ (inside : ℕ → Bool) where
 
   space_either : (h : ℕ) (c : Option Capability) (b : Bool) → leads_inside inside c ≡ b
       → arrow_of h place.Space (unwrap_or (if b then c else Some Void) Void) ≡ filter ends (arrow_of h place.Space (unwrap_or c Void))
-  space_either h c true is =
-      sym (slot_kept h place.Space (unwrap_or c Void) (named (unwrap_or c Void)) ∙
-      ap (λ (b : Bool). if b then arrow_of h place.Space (unwrap_or c Void) else []) is)
-  space_either h c false is =
-      sym (slot_kept h place.Space (unwrap_or c Void) (named (unwrap_or c Void)) ∙
-      ap (λ (b : Bool). if b then arrow_of h place.Space (unwrap_or c Void) else []) is)
+  space_either h c b is = grind (arith, nat_tests, slot_kept)
 
   space_kept : (h : ℕ) (c : Option Capability) → arrow_of h place.Space (unwrap_or (space_inside inside c) Void) ≡ filter ends
       (arrow_of h place.Space (unwrap_or c Void))
   space_kept h c = space_either h c (leads_inside inside c) refl
 
   process_kept : (p q : ProcessEntry) → IsPartOfProcess inside p q → process_arrows q ≡ filter ends (process_arrows p)
-  process_kept p q part =
-      ap (λ (n : ℕ). arrow_of n place.Space (unwrap_or q.space Void) ++ arrows_at n place.Register q.registers.items) part.root
-      ∙ ap (λ (c : Option Capability). arrow_of p.root place.Space (unwrap_or c Void) ++ arrows_at p.root place.Register q.registers.items) part.space
-      ∙ ap (λ (vs : List Arrow). vs ++ arrows_at p.root place.Register q.registers.items) (space_kept p.root p.space)
-      ∙ ap (λ (es : List SlotEntry). filter ends (arrow_of p.root place.Space (unwrap_or p.space Void)) ++ arrows_at p.root place.Register es) part.registers
-      ∙ ap (λ (vs : List Arrow). filter ends (arrow_of p.root place.Space (unwrap_or p.space Void)) ++ vs) (slots_kept p.root place.Register p.registers.items)
-      ∙ sym (filter-append ends (arrow_of p.root place.Space (unwrap_or p.space Void)) (arrows_at p.root place.Register p.registers.items))
+  process_kept p q part = grind (arith, nat_tests, space_kept, slots_kept, filter-append)
 
   node_kept : (m n : NodeEntry) → IsPartOfNode inside m n → node_arrows n ≡ filter ends (node_arrows m)
   node_kept m n part =
@@ -93,22 +77,15 @@ module _ (inside : ℕ → Bool) where
   -- those of one holder
   one_both : (h : ℕ) (b : Bool) → inside h ≡ b → (p : Place) (c : Capability) (o : Option ℕ) →
       filter both (arrow_to h p c o) ≡ (if b then filter ends (arrow_to h p c o) else [])
-  one_both h true is p c None = refl
-  one_both h false is p c None = refl
   one_both h true is p c (Some n) = ap (λ (b : Bool). if b && inside n then arrow_to h p c (Some n) else []) is
   one_both h false is p c (Some n) = ap (λ (b : Bool). if b && inside n then arrow_to h p c (Some n) else []) is
+  one_both h b is p c o = refl
 
   slots_both : (h : ℕ) (b : Bool) → inside h ≡ b → (at : ℕ → Place) (slots : List SlotEntry) →
       filter both (arrows_at h at slots) ≡ (if b then filter ends (arrows_at h at slots) else [])
   slots_both h true is at [] = refl
   slots_both h false is at [] = refl
-  slots_both h true is at (s ∷ slots) =
-      let first : List Arrow = arrow_of h (at s.index) (unwrap_or s.capability Void) in
-      filter-append both first (arrows_at h at slots)
-      ∙ ap (λ (vs : List Arrow). vs ++ filter both (arrows_at h at slots))
-      (one_both h true is (at s.index) (unwrap_or s.capability Void) (named (unwrap_or s.capability Void)))
-      ∙ ap (λ (vs : List Arrow). filter ends first ++ vs) (slots_both h true is at slots)
-      ∙ sym (filter-append ends first (arrows_at h at slots))
+  slots_both h true is at (s ∷ slots) = grind (arith, nat_tests, slots_both h true is at slots, filter-append, one_both)
   slots_both h false is at (s ∷ slots) =
       let first : List Arrow = arrow_of h (at s.index) (unwrap_or s.capability Void) in
       filter-append both first (arrows_at h at slots)
@@ -154,14 +131,12 @@ module _ (inside : ℕ → Bool) where
     bank_boxes = ap (λ (bs : List BankEntry). map (λ b. b.number) bs) part.banks ∙ kept_map inside (λ (b : BankEntry). b.number) d.banks.items
 
     process_boxes : map (λ p. p.root) e.processes.items ≡ filter inside (map (λ p. p.root) d.processes.items)
-    process_boxes =
-        zip_map (IsPartOfProcess inside) (λ p. p.root) (λ p. p.root) (λ p q is. is.root) ps e.processes.items part.processes
-        ∙ kept_map inside (λ (p : ProcessEntry). p.root) d.processes.items
+    process_boxes = zip_map (IsPartOfProcess inside) (λ p. p.root) (λ p. p.root) (λ p q is. is.root) ps _ part.processes
+        ∙ kept_map inside (λ (p : ProcessEntry). p.root) _
 
     node_boxes : map (λ n. n.number) e.nodes.items ≡ filter inside (map (λ n. n.number) d.nodes.items)
-    node_boxes =
-        zip_map (IsPartOfNode inside) (λ n. n.number) (λ n. n.number) (λ m n is. is.number) ns e.nodes.items part.nodes
-        ∙ kept_map inside (λ (n : NodeEntry). n.number) d.nodes.items
+    node_boxes = zip_map (IsPartOfNode inside) (λ n. n.number) (λ n. n.number) (λ m n is. is.number) ns _ part.nodes
+        ∙ kept_map inside (λ (n : NodeEntry). n.number) _
 
     page_boxes : map (λ p. p.number) e.pages.items ≡ filter inside (map (λ p. p.number) d.pages.items)
     page_boxes = ap (λ (qs : List PageEntry). map (λ p. p.number) qs) part.pages ∙ kept_map inside (λ (p : PageEntry). p.number) d.pages.items
@@ -174,19 +149,17 @@ module _ (inside : ℕ → Bool) where
 
     process_owners : flat_map (λ p. joined p.owner p.root) e.processes.items ≡ filter (λ (p : ℕ × ℕ). inside p.1)
         (flat_map (λ p. joined p.owner p.root) d.processes.items)
-    process_owners =
-        zip_flat (IsPartOfProcess inside) (λ (p : ProcessEntry). joined p.owner p.root) (λ (p : ProcessEntry). joined p.owner p.root)
-        (λ p q is. ap (λ (o : ℕ). joined o q.root) is.owner ∙ ap (λ (n : ℕ). joined p.owner n) is.root) ps e.processes.items part.processes
+    process_owners = zip_flat (IsPartOfProcess inside) (λ (p : ProcessEntry). joined p.owner p.root) (λ (p : ProcessEntry). joined p.owner p.root)
+        (λ p q is. ap (λ (o : ℕ). joined o q.root) is.owner ∙ ap (λ (n : ℕ). joined p.owner n) is.root) ps _ part.processes
         ∙ kept_flat (λ (p : ProcessEntry). inside p.root) (λ (p : ℕ × ℕ). inside p.1) (λ (p : ProcessEntry). joined p.owner p.root)
-        (λ (p : ProcessEntry). joined p.owner p.root) (λ p. owner_kept p.owner p.root) d.processes.items
+        (λ (p : ProcessEntry). joined p.owner p.root) (λ p. owner_kept p.owner p.root) _
 
     node_owners : flat_map (λ n. joined n.owner n.number) e.nodes.items ≡ filter (λ (p : ℕ × ℕ). inside p.1)
         (flat_map (λ n. joined n.owner n.number) d.nodes.items)
-    node_owners =
-        zip_flat (IsPartOfNode inside) (λ (n : NodeEntry). joined n.owner n.number) (λ (n : NodeEntry). joined n.owner n.number)
-        (λ m n is. ap (λ (o : ℕ). joined o n.number) is.owner ∙ ap (λ (k : ℕ). joined m.owner k) is.number) ns e.nodes.items part.nodes
+    node_owners = zip_flat (IsPartOfNode inside) (λ (n : NodeEntry). joined n.owner n.number) (λ (n : NodeEntry). joined n.owner n.number)
+        (λ m n is. ap (λ (o : ℕ). joined o n.number) is.owner ∙ ap (λ (k : ℕ). joined m.owner k) is.number) ns _ part.nodes
         ∙ kept_flat (λ (n : NodeEntry). inside n.number) (λ (p : ℕ × ℕ). inside p.1) (λ (n : NodeEntry). joined n.owner n.number)
-        (λ (n : NodeEntry). joined n.owner n.number) (λ n. owner_kept n.owner n.number) d.nodes.items
+        (λ (n : NodeEntry). joined n.owner n.number) (λ n. owner_kept n.owner n.number) _
 
     page_owners : flat_map (λ p. joined p.owner p.number) e.pages.items ≡ filter (λ (p : ℕ × ℕ). inside p.1)
         (flat_map (λ p. joined p.owner p.number) d.pages.items)
@@ -195,32 +168,34 @@ module _ (inside : ℕ → Bool) where
         (λ (p : PageEntry). joined p.owner p.number) (λ p. owner_kept p.owner p.number) d.pages.items
 
     process_part : flat_map process_arrows e.processes.items ≡ filter both (flat_map process_arrows d.processes.items)
-    process_part =
-        zip_flat (IsPartOfProcess inside) process_arrows (λ (p : ProcessEntry). filter ends (process_arrows p)) process_kept ps e.processes.items part.processes
+    process_part = zip_flat (IsPartOfProcess inside) process_arrows (λ (p : ProcessEntry). filter ends (process_arrows p)) process_kept ps _ part.processes
         ∙ kept_flat (λ (p : ProcessEntry). inside p.root) both process_arrows (λ (p : ProcessEntry). filter ends (process_arrows p))
-        (λ p. process_both p (inside p.root) refl) d.processes.items
+        (λ p. process_both p (inside p.root) refl) _
 
     node_part : flat_map node_arrows e.nodes.items ≡ filter both (flat_map node_arrows d.nodes.items)
-    node_part =
-        zip_flat (IsPartOfNode inside) node_arrows (λ (n : NodeEntry). filter ends (node_arrows n)) node_kept ns e.nodes.items part.nodes
+    node_part = zip_flat (IsPartOfNode inside) node_arrows (λ (n : NodeEntry). filter ends (node_arrows n)) node_kept ns _ part.nodes
         ∙ kept_flat (λ (n : NodeEntry). inside n.number) both node_arrows (λ (n : NodeEntry). filter ends (node_arrows n))
-        (λ n. slots_both n.number (inside n.number) refl place.Slot n.slots.items) d.nodes.items
+        (λ n. slots_both n.number (inside n.number) refl place.Slot n.slots.items) _
 
   four : {X : Type 0} (q : X → Bool) (ks bs cs ds ws xs ys zs : List X) → ks ≡ filter q ws → bs ≡ filter q xs → cs ≡ filter q ys → ds ≡ filter q zs →
       ks ++ bs ++ cs ++ ds ≡ filter q (ws ++ xs ++ ys ++ zs)
-  four {X} q ks bs cs ds ws xs ys zs one two three last =
-      ap (λ (us : List X). us ++ bs ++ cs ++ ds) one ∙ ap (λ (us : List X). filter q ws ++ us ++ cs ++ ds) two
-      ∙ ap (λ (us : List X). filter q ws ++ filter q xs ++ us ++ ds) three ∙ ap (λ (us : List X). filter q ws ++ filter q xs ++ filter q ys ++ us) last
-      ∙ ap (λ (us : List X). us ++ filter q ys ++ filter q zs) (sym (filter-append q ws xs))
-      ∙ ap (λ (us : List X). us ++ filter q zs) (sym (filter-append q (ws ++ xs) ys)) ∙ sym (filter-append q (ws ++ xs ++ ys) zs)
+  four {X} q ks bs cs ds ws xs ys zs one two three last = rw (one, two, three, last) (simp filter-append)
 
 pub part_is_shown : PartIsShown
-part_is_shown inside d e part = record {
-  boxes = four inside inside _ _ _ _ _ _ _ _ (bank_boxes inside d e part) (process_boxes inside d e part) (node_boxes inside d e part)
-      (page_boxes inside d e part);
-  owners = four inside (λ (p : ℕ × ℕ). inside p.1) _ _ _ _ _ _ _ _ (bank_owners inside d e part) (process_owners inside d e part) (node_owners inside d e part)
-      (page_owners inside d e part);
-  arrows = ap (λ (vs : List Arrow). vs ++ flat_map node_arrows e.nodes.items) (process_part inside d e part)
-      ∙ ap (λ (vs : List Arrow). filter (both inside) (flat_map process_arrows d.processes.items) ++ vs) (node_part inside d e part)
-      ∙ sym (filter-append (both inside) (flat_map process_arrows d.processes.items) (flat_map node_arrows d.nodes.items));
-}
+part_is_shown =
+    grind (
+      arith,
+      nat_tests,
+      four,
+      bank_boxes,
+      process_boxes,
+      node_boxes,
+      page_boxes,
+      bank_owners,
+      process_owners,
+      node_owners,
+      page_owners,
+      process_part,
+      node_part,
+      filter-append,
+    )

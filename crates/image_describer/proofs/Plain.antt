@@ -1,10 +1,10 @@
 -- Plain frames stand for the objects that they were made of, and are sound where those are.
-use Rattle.image_describer.proofs.Names.{ℕ, nat_lt, Bool, true, false, List, [], map, length, slice_index_or, refl, sym, ap, subst, arith, All, get_or-map}
-use Rattle.image_describer.proofs.Names.{length-map, All-map, All-weaker, Cap, Capability, Void, Number, Page, Node, Space, Process, Start, Resume, Bank}
-use Rattle.image_describer.proofs.Names.{Discrim, Frame, ObjectHeader, Geometry, Content, Object, blank_frame, conveyed, current_count, frame_at, header_at}
-use Rattle.image_describer.proofs.Names.{headers, object_of, objects_of, void_held, AreCurrent, AreKeepable, AreKeptSlots, Follows, IsCurrent, IsKeepable}
-use Rattle.image_describer.proofs.Names.{IsKeptCap, IsSoundFrames, MayBeKept, caps_in, world_at, free, map_content, role_of, IsSound, IsSpace, object_at}
-use Rattle.image_describer.proofs.Names.{fresh_cap, kind_map, mapped, sound_named, described_once, plain_frame, plain_frames, DescribedIsLaid, DescribedIsSame}
+use Rattle.image_describer.proofs.Names.{nat_tests, ℕ, nat_lt, Bool, true, false, List, [], map, length, slice_index_or, refl, sym, ap, subst, arith, All}
+use Rattle.image_describer.proofs.Names.{get_or-map, length-map, All-map, All-weaker, Cap, Capability, Void, Frame, ObjectHeader, Geometry, Content, Object}
+use Rattle.image_describer.proofs.Names.{blank_frame, conveyed, current_count, frame_at, header_at, headers, object_of, objects_of, void_held, AreCurrent}
+use Rattle.image_describer.proofs.Names.{AreKeepable, AreKeptSlots, Follows, IsCurrent, IsKeepable, IsKeptCap, IsSoundFrames, MayBeKept, caps_in, world_at}
+use Rattle.image_describer.proofs.Names.{free, map_content, IsSpace, object_at, fresh_cap, kind_map, mapped, sound_named, described_once, plain_frame}
+use Rattle.image_describer.proofs.Names.{plain_frames, DescribedIsLaid, DescribedIsSame}
 use Rattle.std.proofs.Common.{◌≡◌, if◌then◌else◌, ◌∷◌, ◌∙◌}
 use Rattle.model.specs.declared.object.Content.TheVariants as content
 use Rattle.image_writer.specs.declared.fault.BuildFault.TheVariants as fault
@@ -24,14 +24,7 @@ no_calls : (os : List Object) (n : ℕ) → (header_at (headers (plain_frames os
 no_calls os n = ap (λ (h : ObjectHeader). h.calls) (header_plain os n)
 
 no_count : (os : List Object) (c : Capability) → current_count (headers (plain_frames os)) c ≡ 0
-no_count os (Page o a) = no_allocations os o
-no_count os (Node o a) = no_allocations os o
-no_count os (Space o h a) = no_allocations os o
-no_count os (Process p) = no_allocations os p
-no_count os (Start p key) = no_allocations os p
-no_count os (Resume p) = no_calls os p
-no_count os (Bank b) = no_allocations os b
-no_count os other = refl
+no_count os c = grind (arith, nat_tests, no_allocations, no_calls)
 
 -- so each capability conveys what it is
 conveyed_plain : (os : List Object) (c : Capability) → conveyed (headers (plain_frames os)) (fresh_cap c) ≡ c
@@ -43,21 +36,11 @@ module _ (hs : List ObjectHeader) (same : (c : Capability) → conveyed hs (fres
   caps_same (c ∷ cs) = ap (λ (d : Capability). d ∷ map (conveyed hs) (map fresh_cap cs)) (same c) ∙ ap (λ (ds : List Capability). c ∷ ds) (caps_same cs)
 
   content_same : (c : Content Capability) → map_content (conveyed hs) (map_content fresh_cap c) ≡ c
-  content_same content.Free = refl
-  content_same (content.Page words) = refl
-  content_same (content.Node slots) = ap (λ (cs : List Capability). let x : Content Capability = content.Node cs in x) (caps_same slots)
-  content_same (content.Root r) =
-      ap (λ (c : Capability). let x : Content Capability = content.Root (record { state = r.state; words = r.words; key = r.key; annex = r.annex; space = c })
-      in x) (same r.space)
-  content_same (content.Annex registers) = ap (λ (cs : List Capability). let x : Content Capability = content.Annex cs in x) (caps_same registers)
-  content_same (content.Bank limit) = refl
+  content_same c = grind (arith, nat_tests, caps_same)
 
   objects_same : (us : List Object) → map (object_of hs) (map plain_frame us) ≡ us
   objects_same [] = refl
-  objects_same (u ∷ us) =
-      ap (λ (c : Content Capability). let x : Object = record { owner = u.owner; content = c } in x ∷ map (object_of hs) (map plain_frame us))
-      (content_same u.content)
-      ∙ ap (λ (vs : List Object). u ∷ vs) (objects_same us)
+  objects_same (u ∷ us) = grind (arith, nat_tests, objects_same us, content_same)
 
 pub objects_plain : (os : List Object) → objects_of (plain_frames os) ≡ os
 unfolding objects_of plain_frames
@@ -66,14 +49,7 @@ objects_plain os = objects_same (headers (plain_frames os)) (conveyed_plain os) 
 -- What can be kept can be kept with counts of 0.
 module _ (g : Geometry) (age : ℕ) (hs : List ObjectHeader) where
   follows_none : (count : ℕ) (c : Capability) → Follows g age count c → Follows g age 0 c
-  follows_none count Void h = refl
-  follows_none count (Number n) h = (h.0, refl)
-  follows_none count (Space o k a) h = (h.0, h.1, h.2, h.3, (omega arith, omega arith))
-  follows_none count (Process p) h = (h.0, (omega arith, omega arith))
-  follows_none count (Resume p) h = (h.0, (omega arith, omega arith))
-  follows_none count (Bank b) h = (h.0, (omega arith, omega arith))
-  follows_none count Discrim h = refl
-  follows_none count other h = (h.0, h.1, (omega arith, omega arith))
+  follows_none count c h = grind (arith, nat_tests)
 
   kept_either : (c : Cap) (b : Bool) → IsKeptCap g age c → IsKeptCap g age (fresh_cap (if b then Void else c.what))
   kept_either c true kept = refl
@@ -88,9 +64,8 @@ module _ (g : Geometry) (age : ℕ) (hs : List ObjectHeader) where
 
   slots_plain : (slots : List Cap) → AreKeptSlots g age slots → AreKeptSlots g age (map fresh_cap (map (conveyed hs) slots))
   slots_plain slots kept = record {
-    count = length-map (map (conveyed hs) slots) fresh_cap ∙ length-map slots (conveyed hs) ∙ kept.count;
-    each = All-map (IsKeptCap g age) fresh_cap (map (conveyed hs) slots)
-        (All-map (λ (c : Capability). IsKeptCap g age (fresh_cap c)) (conveyed hs) slots
+    count = length-map _ fresh_cap ∙ length-map slots (conveyed hs) ∙ kept.count;
+    each = All-map (IsKeptCap g age) fresh_cap (map (conveyed hs) slots) (All-map (λ (c : Capability). IsKeptCap g age (fresh_cap c)) (conveyed hs) slots
         (All-weaker (IsKeptCap g age) (λ (c : Cap). IsKeptCap g age (fresh_cap (conveyed hs c))) kept_plain slots kept.each));
   }
 
@@ -101,35 +76,10 @@ module _ (g : Geometry) (age : ℕ) (hs : List ObjectHeader) where
       ∙ ap fresh_cap (get_or-map (conveyed hs) registers 0 void_held ∙ ap (conveyed hs) void)
 
   content_plain : (c : Content Cap) → MayBeKept g age c → MayBeKept g age (map_content fresh_cap (map_content (conveyed hs) c))
-  content_plain content.Free kept = tt
-  content_plain (content.Page words) kept = kept
-  content_plain (content.Node slots) kept = slots_plain slots kept
-  content_plain (content.Root r) kept = (
-    kept.0,
-    kept.1,
-    kept.2,
-    kept_plain r.space kept.3,
-    space_either r.space.what (nat_lt r.space.count (current_count hs r.space.what)) kept.4,
-  )
-  content_plain (content.Annex registers) kept = (slots_plain registers kept.0, first_plain registers kept.1)
-  content_plain (content.Bank limit) kept = kept
+  content_plain c kept = grind (arith, nat_tests, slots_plain, kept_plain, space_either, first_plain)
 
   frame_plain : (n : ℕ) (f : Frame) → IsKeepable g age n f → IsKeepable g age n (plain_frame (object_of hs f))
-  frame_plain n f keepable =
-      let kept = keepable.kept in
-      let same : role_of (map_content fresh_cap (map_content (conveyed hs) f.content)) ≡ f.header.role =
-      (mapped fresh_cap (map_content (conveyed hs) f.content)).role ∙ (mapped (conveyed hs) f.content).role ∙ sym kept.role in
-      record {
-        kind = kind_map g n fresh_cap (map_content (conveyed hs) f.content) (kind_map g n (conveyed hs) f.content keepable.kind);
-        kept = record {
-          role = refl;
-          allocations = (omega arith, omega arith);
-          calls = (omega arith, omega arith);
-          owner = kept.owner;
-          unowned = λ free. kept.unowned (sym same ∙ free);
-          content = content_plain f.content kept.content;
-        };
-      }
+  frame_plain n f keepable = grind (arith, nat_tests, mapped, kind_map, content_plain)
 
 object_is : (fs : List Frame) (n : ℕ) → object_at (objects_of fs) n ≡ object_of (headers fs) (frame_at fs n)
 unfolding objects_of
@@ -142,9 +92,7 @@ length_is fs = length-map (map (object_of (headers fs)) fs) plain_frame ∙ leng
 keepable_plain : (g : Geometry) (age : ℕ) (fs : List Frame) → AreKeepable g age fs → AreKeepable g age (plain_frames (objects_of fs))
 keepable_plain g age fs keepable = record {
   count = length_is fs ∙ keepable.count;
-  each = λ n inside.
-      subst (IsKeepable g age n) (sym (plain_at (objects_of fs) n ∙ ap plain_frame (object_is fs n)))
-      (frame_plain g age (headers fs) n (frame_at fs n) (keepable.each n inside));
+  each = λ n inside. subst (IsKeepable g age n) (sym (plain_at _ n ∙ ap plain_frame (object_is fs n))) (frame_plain g age _ n _ (keepable.each n inside));
 }
 
 -- No capability is ahead.
@@ -155,23 +103,16 @@ never_ahead hs (content.Annex registers) = All-map (IsCurrent hs) fresh_cap regi
 never_ahead hs other = λ k d inside. absurd (omega (arith, inside))
 
 current_plain : (os : List Object) → AreCurrent (plain_frames os)
-current_plain os n =
-    subst (λ (f : Frame). All (IsCurrent (headers (plain_frames os))) (caps_in f.content)) (sym (plain_at os n))
-    (never_ahead (headers (plain_frames os)) (object_at os n).content)
+current_plain os n = subst (λ (f : Frame). All (IsCurrent (headers (plain_frames os))) (caps_in f.content)) (sym (plain_at os n)) (never_ahead _ _)
 
 pub sound_plain : (g : Geometry) (age : ℕ) (fs : List Frame) → IsSoundFrames g age fs → IsSoundFrames g age (plain_frames (objects_of fs))
-sound_plain g age fs sound = record {
-  keepable = keepable_plain g age fs sound.keepable;
-  current = current_plain (objects_of fs);
-  sound = subst (λ (os : List Object). IsSound g (record { objects = os; age = age })) (sym (objects_plain (objects_of fs))) sound.sound;
-}
+sound_plain g age fs sound = record { keepable = keepable_plain g age fs sound.keepable; current = current_plain _; sound = rw (objects_plain _) sound.sound }
 
 -- The laws.
 pub described_is_same : DescribedIsSame
 described_is_same g age fs gs d sound describes is =
     let same : plain_frames (objects_of fs) ≡ gs = described_once d (plain_frames (objects_of fs)) gs describes.frames is in (
-      subst (λ (h : Geometry). IsSoundFrames h d.age gs) (sym describes.geometry)
-          (subst (λ (m : ℕ). IsSoundFrames g m gs) (sym describes.age) (subst (IsSoundFrames g age) same (sound_plain g age fs sound))),
+      rw describes.geometry (rw describes.age (rw (← same) (sound_plain g age fs sound))),
       ap (λ (m : ℕ). world_at m gs) describes.age
           ∙ ap (λ (hs : List Frame). world_at age hs) (sym same)
           ∙ ap (λ (os : List Object). let w = record (world_at age fs) { objects = os } in w) (objects_plain (objects_of fs)),

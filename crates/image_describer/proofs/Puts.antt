@@ -1,9 +1,9 @@
 -- What a table has once a value is put at a key.
-use Rattle.image_describer.proofs.Names.{ℕ, Bool, true, false, List, Option, Some, None, option_map, Ordering, Less, Equal, Greater, nat_cmp, is_eq, refl, sym}
-use Rattle.image_describer.proofs.Names.{ap, IsTrue, slice_cmp, list_any, match_ordering, alike_right, nat_list_cmp_total, Data, get_member, member, Members}
-use Rattle.image_describer.proofs.Names.{no_members, same_key, Nodes, close, close_node, get_node, insert, no_nodes, node, get_node-insert, has_only}
+use Rattle.image_describer.proofs.Names.{nat_tests, arith, ℕ, Bool, true, false, List, Option, Some, None, option_map, Ordering, Less, Equal, Greater, nat_cmp}
+use Rattle.image_describer.proofs.Names.{is_eq, refl, sym, ap, IsTrue, slice_cmp, list_any, match_ordering, alike_right, nat_list_cmp_total, Data, get_member}
+use Rattle.image_describer.proofs.Names.{member, Members, no_members, same_key, Nodes, close, close_node, get_node, insert, no_nodes, node, get_node-insert}
+use Rattle.image_describer.proofs.Names.{has_only, Node}
 use Rattle.std.proofs.Common.{◌≡◌, ◌&&◌, if◌then◌else◌, ◌∙◌}
-use Rattle.toml.specs.Tables.{Node}
 
 -- a value is put at a key, where there is one
 pub record Puts (key : List ℕ) (o : Option Data) (old new : Members) : Type 0 where
@@ -14,9 +14,8 @@ pub record Puts (key : List ℕ) (o : Option Data) (old new : Members) : Type 0 
 -- what a table has at a key is what its nodes have there
 member_here : (o : Ordering) (d : Option Data) (x : Node) (m : Option Node) → d ≡ option_map close_node m
     → match_ordering o d (Some (close_node x)) d ≡ option_map close_node (if is_eq o then Some x else m)
-member_here Less d x m is = is
 member_here Equal d x m is = refl
-member_here Greater d x m is = is
+member_here o d x m is = is
 
 pub member_of : (k : List ℕ) (ns : Nodes) → get_member k (close ns) ≡ option_map close_node (get_node k ns)
 member_of k no_nodes = refl
@@ -32,9 +31,8 @@ no_node k ns none = none_mapped (get_node k ns) (sym (member_of k ns) ∙ none)
 
 -- another key is sought further on
 skipped : (o : Ordering) (x y : Option Data) → is_eq o ≡ false → match_ordering o y x y ≡ y
-skipped Less x y other = refl
 skipped Equal x y other = absurd cc
-skipped Greater x y other = refl
+skipped o x y other = refl
 
 first_other : (j l : List ℕ) (d : Data) (ms : Members) → same_key j l ≡ false → get_member j (member l d ms) ≡ get_member j ms
 first_other j l d ms other = skipped (slice_cmp nat_cmp j l) (Some d) (get_member j ms) other
@@ -43,12 +41,7 @@ first_other j l d ms other = skipped (slice_cmp nat_cmp j l) (Some d) (get_membe
 other_at : (j : List ℕ) (o : Ordering) (k l : List ℕ) (x y : Node) (ns next : Nodes) → o ≡ slice_cmp nat_cmp k l → same_key j k ≡ false
     → get_member j (close next) ≡ get_member j (close ns)
     → get_member j (close (match_ordering o (node k x (node l y ns)) (node l x ns) (node l y next))) ≡ get_member j (close (node l y ns))
-other_at j Less k l x y ns next is other rest = first_other j k (close_node x) (close (node l y ns)) other
-other_at j Equal k l x y ns next is other rest =
-    let same : same_key j l ≡ false = ap is_eq (sym (alike_right nat_list_cmp_total k l j (sym is))) ∙ other in
-    first_other j l (close_node x) (close ns) same ∙ sym (first_other j l (close_node y) (close ns) same)
-other_at j Greater k l x y ns next is other rest =
-    ap (λ (r : Option Data). match_ordering (slice_cmp nat_cmp j l) r (Some (close_node y)) r) rest
+other_at j o k l x y ns next is other rest = grind (arith, nat_tests, first_other, alike_right, nat_list_cmp_total)
 
 inserted_other : (j k : List ℕ) (x : Node) (ns : Nodes) → same_key j k ≡ false → get_member j (close (insert k x ns)) ≡ get_member j (close ns)
 inserted_other j k x no_nodes other = first_other j k (close_node x) no_members other
@@ -73,15 +66,12 @@ only_at : (keys : List (List ℕ)) (o : Ordering) (k l : List ℕ) (x y : Node) 
     → IsTrue (has_only keys (close (match_ordering o (node k x (node l y ns)) (node l x ns) (node l y next))))
 only_at keys Less k l x y ns next known all rest = both (list_any (same_key k) keys) (has_only keys (close (node l y ns))) known all
 only_at keys Equal k l x y ns next known all rest = all
-only_at keys Greater k l x y ns next known all rest =
-    both (list_any (same_key l) keys) (has_only keys (close next)) (first_true (list_any (same_key l) keys) (has_only keys (close ns)) all) rest
+only_at keys Greater k l x y ns next known all rest = both _ _ (first_true _ _ all) rest
 
 inserted_only : (keys : List (List ℕ)) (k : List ℕ) (x : Node) (ns : Nodes) → IsTrue (list_any (same_key k) keys) → IsTrue (has_only keys (close ns)) →
     IsTrue (has_only keys (close (insert k x ns)))
 inserted_only keys k x no_nodes known all = both (list_any (same_key k) keys) true known refl
-inserted_only keys k x (node l y ns) known all =
-    only_at keys (slice_cmp nat_cmp k l) k l x y ns (insert k x ns) known all
-    (inserted_only keys k x ns known (second_true (list_any (same_key l) keys) (has_only keys (close ns)) all))
+inserted_only keys k x (node l y ns) known all = only_at keys _ k l x y ns _ known all (inserted_only keys k x ns known (second_true _ _ all))
 
 -- a node that is inserted is put, and nothing is where there is none
 pub puts_inserted : (k : List ℕ) (x : Node) (ns : Nodes) → Puts k (Some (close_node x)) (close ns) (close (insert k x ns))

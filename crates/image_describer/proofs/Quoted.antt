@@ -2,8 +2,7 @@
 use Rattle.image_describer.proofs.Names.{ℕ, Bool, true, false, not, nat_lt, List, [], codes, decimal, IfSome, inl, inr, refl, arith, list_all, list_any}
 use Rattle.image_describer.proofs.Names.{AllDigits, cases_Bool, nat_tests, decimal_is_IsNumeral, digit_from_value, is_non_eol, encoding_of, escaped, is_control}
 use Rattle.image_describer.proofs.Names.{needs_escape, quotes_after, string_text, IsWellFormed, named, access_text, capability_text, state_text, Access}
-use Rattle.image_describer.proofs.Names.{Capability, Void, Number, Page, Node, Space, Process, Start, Resume, Bank, Discrim, State, Available, Running, Waiting}
-use Rattle.image_describer.proofs.Names.{quoted}
+use Rattle.image_describer.proofs.Names.{Capability, State, Available, Running, Waiting, quoted}
 use Rattle.std.proofs.Common.{◌≡◌, ◌<◌, ◌≤◌, ◌^◌, ◌&&◌, ◌==◌, ◌∷◌, ◌++◌}
 
 -- a byte that no string escapes
@@ -15,19 +14,14 @@ are_safe text = list_all is_safe text
 
 safe_append : (s t : List ℕ) → are_safe s ≡ true → are_safe t ≡ true → are_safe (s ++ t) ≡ true
 safe_append [] t one other = other
-safe_append (c ∷ cs) t one other =
-    elim (cases_Bool (is_safe c)) [
-      | inl holds ↦ rw holds (safe_append cs t (rw holds at one) other)
-      | inr none ↦ let never : false ≡ true = rw none at one in absurd cc
-    ]
+safe_append (c ∷ cs) t one other = grind (arith, nat_tests, safe_append cs t)
 
 safe_digit : (c : ℕ) → 48 ≤ c → c ≤ 57 → is_safe c ≡ true
 safe_digit c least most = grind (arith, nat_tests, least, most)
 
 safe_digits : (ds : List ℕ) → AllDigits 10 ds → are_safe ds ≡ true
 safe_digits [] digits = refl
-safe_digits (c ∷ cs) digits = let range = digit_from_value c digits.0 in rw (safe_digit c (omega (arith, range)) (omega (arith, range)))
-    (safe_digits cs digits.1)
+safe_digits (c ∷ cs) digits = grind (arith, nat_tests, safe_digits cs digits.1, digit_from_value, safe_digit)
 
 safe_decimal : (n : ℕ) → n < 2 ^ 64 → are_safe (decimal n) ≡ true
 safe_decimal n small = safe_digits (decimal n) (decimal_is_IsNumeral n small).0.1
@@ -35,11 +29,7 @@ safe_decimal n small = safe_digits (decimal n) (decimal_is_IsNumeral n small).0.
 -- no test of the writer finds such a byte
 none_found : (test : ℕ → Bool) (text : List ℕ) → ((c : ℕ) → is_safe c ≡ true → test c ≡ false) → are_safe text ≡ true → list_any test text ≡ false
 none_found test [] other safe = refl
-none_found test (c ∷ cs) other safe =
-    elim (cases_Bool (is_safe c)) [
-      | inl holds ↦ rw (other c holds) (none_found test cs other (rw holds at safe))
-      | inr none ↦ let never : false ≡ true = rw none at safe in absurd cc
-    ]
+none_found test (c ∷ cs) other safe = grind (arith, nat_tests, none_found test cs other)
 
 not_control : (c : ℕ) → is_safe c ≡ true → is_control c ≡ false
 not_control c safe = grind (arith, nat_tests, safe)
@@ -81,29 +71,11 @@ string_safe text safe = rw (
 )
 
 safe_access : (a : Access) → are_safe (access_text a) ≡ true
-safe_access a =
-    elim (cases_Bool (a.0 == 0)) [
-      | inl full ↦ rw full
-      | inr some ↦ elim (cases_Bool (a.0 == 1)) [
-        | inl read ↦ rw (some, read)
-        | inr weak ↦ rw (some, weak)
-      ]
-    ]
+safe_access a = grind (arith, nat_tests)
 
 safe_capability : (c : Capability) → IsWellFormed c → IfSome (named c) (λ n. n < 2 ^ 64) → are_safe (capability_text c) ≡ true
 unfolding capability_text
-safe_capability Void well small = refl
-safe_capability (Number n) well small = safe_decimal n well
-safe_capability (Page o a) well small = safe_append (decimal o) (access_text a) (safe_decimal o small) (safe_access a)
-safe_capability (Node o a) well small = safe_append (decimal o) (access_text a) (safe_decimal o small) (safe_access a)
-safe_capability (Space o h a) well small =
-    safe_append (decimal o ++ 32 ∷ decimal h) (access_text a)
-    (safe_append (decimal o) (32 ∷ decimal h) (safe_decimal o small) (safe_decimal h (omega (arith, well.1)))) (safe_access a)
-safe_capability (Process p) well small = safe_decimal p small
-safe_capability (Start p key) well small = safe_append (decimal p) (32 ∷ decimal key) (safe_decimal p small) (safe_decimal key (omega (arith, well)))
-safe_capability (Resume p) well small = safe_decimal p small
-safe_capability (Bank b) well small = safe_decimal b small
-safe_capability Discrim well small = refl
+safe_capability c well small = grind (arith, nat_tests, safe_decimal, safe_append, safe_access)
 
 pub quoted_capability : (c : Capability) → IsWellFormed c → IfSome (named c) (λ n. n < 2 ^ 64) → string_text (capability_text c) ≡ quoted (capability_text c)
 quoted_capability c well small = string_safe (capability_text c) (safe_capability c well small)

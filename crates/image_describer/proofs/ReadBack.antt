@@ -1,11 +1,11 @@
 -- The text of a description is read again as that description.
-use Rattle.image_describer.proofs.Names.{ℕ, suc, Bool, true, false, List, [], codes, length, Option, Some, refl, sym, ap, append-nil, append_assoc, option_map}
-use Rattle.image_describer.proofs.Names.{option_and_then, arith, flat_map, recursion_from_All, first, key_text, Members, no_members, parse_document, skip_bom}
-use Rattle.image_describer.proofs.Names.{Document, Expression, Nodes, along_header, close, no_nodes, IsLinesText, elements, pairs, run-append, run_pairs}
-use Rattle.image_describer.proofs.Names.{AllPrinted, line_turn, read_lines, run, document_some, BankEntry, Description, NodeEntry, PageEntry, ProcessEntry}
-use Rattle.image_describer.proofs.Names.{IsBank, IsDescription, IsNode, IsPage, IsProcess, AreSlots, HasFields, IsProcessEntry, TextIsRead, CanBeSpelled}
-use Rattle.image_describer.proofs.Names.{SpellsBank, SpellsNode, SpellsPage, SpellsProcess, bank_fields, bank_text, description_text, field_lines, image_fields}
-use Rattle.image_describer.proofs.Names.{node_fields, node_text, page_fields, page_text, process_fields, process_text}
+use Rattle.image_describer.proofs.Names.{nat_tests, ℕ, suc, Bool, true, false, List, [], codes, length, Option, Some, refl, sym, ap, append-nil, append_assoc}
+use Rattle.image_describer.proofs.Names.{option_map, option_and_then, arith, flat_map, recursion_from_All, first, key_text, Members, no_members, parse_document}
+use Rattle.image_describer.proofs.Names.{skip_bom, Document, Expression, Nodes, along_header, close, no_nodes, IsLinesText, elements, pairs, run-append}
+use Rattle.image_describer.proofs.Names.{run_pairs, AllPrinted, line_turn, read_lines, run, document_some, BankEntry, Description, NodeEntry, PageEntry}
+use Rattle.image_describer.proofs.Names.{ProcessEntry, IsBank, IsDescription, IsNode, IsPage, IsProcess, AreSlots, HasFields, IsProcessEntry, TextIsRead}
+use Rattle.image_describer.proofs.Names.{CanBeSpelled, SpellsBank, SpellsNode, SpellsPage, SpellsProcess, bank_fields, bank_text, description_text, field_lines}
+use Rattle.image_describer.proofs.Names.{image_fields, node_fields, node_text, page_fields, page_text, process_fields, process_text}
 use Rattle.std.proofs.Common.{◌≡◌, ◌==◌, ◌∷◌, ◌++◌, ◌∙◌}
 use Rattle.std.specs.List.{AllByRecursion as ByRecursion}
 use Rattle.image_describer.proofs.Chains.{Pair, chain_append, chain_other}
@@ -37,16 +37,9 @@ parsed es text n s is printed ran =
 
 -- parts of a text, one behind the other
 joined : (a b c d e : List ℕ) → a ++ (b ++ (c ++ (d ++ (e ++ [])))) ≡ a ++ b ++ c ++ d ++ e
-joined a b c d e =
-    ap (λ (t : List ℕ). a ++ (b ++ (c ++ (d ++ t)))) (append-nil e) ∙
-    sym (append_assoc (a ++ b ++ c) d e ∙ append_assoc (a ++ b) c (d ++ e) ∙ append_assoc a b (c ++ (d ++ e)))
+joined a b c d e = ap (λ (t : List ℕ). a ++ (b ++ (c ++ (d ++ t)))) (append-nil e) ∙ sym (append_assoc _ d e ∙ append_assoc _ c _ ∙ append_assoc a b _)
 
 -- ---- a description
-
-module _ {A : Type 0} (P Q : A → Type 0) (R : A → Type 0) (from : (x : A) → P x → Q x → R x) where
-  all_from : (xs : List A) → ByRecursion P xs → ByRecursion Q xs → ByRecursion R xs
-  all_from [] one other = tt
-  all_from (x ∷ xs) one other = (from x one.0 other.0, all_from xs one.1 other.1)
 
 module _ {A : Type 0} (f : A → List Pair) (P : Members → A → Type 0) (May : A → Type 0) (one : (x : A) → May x → IsRead f P x) where
   are_read : (xs : List A) → ByRecursion May xs → AreRead f P xs
@@ -213,13 +206,7 @@ module _ (d : Description) (fields : HasFields d) (may : CanBeSpelled d) where
 
   parts_are : parts ≡ description_text d
   unfolding description_text
-  parts_are =
-      let a = field_lines (image_fields d) in
-      let b = flat_map bank_text d.banks.items in
-      let p = flat_map process_text d.processes.items in
-      let n = flat_map node_text d.nodes.items in
-      let g = flat_map page_text d.pages.items in
-      joined a b p n g
+  parts_are = grind (arith, nat_tests, joined)
 
   pub read_again : (text : List ℕ) → text ≡ description_text d → (table : Members) × (parse_document text ≡ Some table) × IsDescription table d
   read_again text is =

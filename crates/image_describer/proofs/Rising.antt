@@ -1,5 +1,5 @@
 -- Numbers that rise, and lists with no number twice.
-use Rattle.image_describer.proofs.Names.{ℕ, inl, inr, List, [], map, subst, arith, All, Contains, All-contains, All-head, All-push, All-tail}
+use Rattle.image_describer.proofs.Names.{nat_tests, ℕ, inl, inr, List, [], map, subst, arith, All, Contains, All-contains, All-head, All-push, All-tail}
 use Rattle.image_describer.proofs.Names.{Contains-append_cases, AreDistinct, contains_here, contains_map, contains_there, map_contains, AreRising}
 use Rattle.std.proofs.Common.{◌≡◌, ◌<◌, ◌∷◌, ◌++◌}
 
@@ -14,10 +14,7 @@ rising_more (m ∷ ns) n rising below = (
 -- none comes twice
 pub rising_distinct : (ns : List ℕ) → AreRising ns → AreDistinct ns
 rising_distinct [] rising = tt
-rising_distinct (n ∷ ns) rising = (
-  (λ there. let above = All-contains (λ m. n < m) ns n rising.0 there in absurd (omega (arith, above))),
-  rising_distinct ns rising.1,
-)
+rising_distinct (n ∷ ns) rising = grind (arith, nat_tests, rising_distinct ns rising.1, All-contains)
 
 -- nor where two lists share none
 pub distinct_both : (ns ms : List ℕ) → AreDistinct ns → AreDistinct ms → ((n : ℕ) → Contains ns n → Contains ms n → ⊥) → AreDistinct (ns ++ ms)

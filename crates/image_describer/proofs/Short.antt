@@ -1,14 +1,14 @@
 -- The description of a sound world has a text: its numbers are short enough.
-use Rattle.image_describer.proofs.Names.{ℕ, true, List, [], map, Option, Some, None, IfSome, refl, sym, ap, subst, arith, IsTrue, All, Contains, All-contains}
-use Rattle.image_describer.proofs.Names.{All-from_recursion, All-map, All-weaker, Contains-append_left, Contains-append_right, Cap, Capability, Void}
-use Rattle.image_describer.proofs.Names.{Page, Node, Space, Process, Start, Resume, Bank, Frame, Geometry, Content, Object, named, frame_at}
-use Rattle.image_describer.proofs.Names.{objects_of, AreKeptSlots, AreKeptWords, Follows, IsKeepable, IsKeptCap, IsSoundFrames, MayBeKept, world_at, is_bank}
-use Rattle.image_describer.proofs.Names.{is_free, map_content, role_of, IsOfKind, object_count, content_at, object_at, owner_at, HomeRange, Version, One, Two}
-use Rattle.image_describer.proofs.Names.{Cover, IsPlan, Plan, version_number, numbers_of, fresh_cap, mapped, BankEntry, Description, NodeEntry, PageEntry}
-use Rattle.image_describer.proofs.Names.{ProcessEntry, SlotEntry, WordEntry, AreSlots, AreWords, HasNamedWords, HoldsNamed, IsDescribedNode, IsDescribedPage}
-use Rattle.image_describer.proofs.Names.{IsDescribedAnnex, IsDescribedRoot, IsProcessEntry, first_frame, named_at, node_numbers, page_numbers, word_named_at}
-use Rattle.image_describer.proofs.Names.{all_from, all_got, contains_map, first_of, Describes, plain_frame, plain_frames, DescribedHasText, IsShort, IsWide}
-use Rattle.image_describer.proofs.Names.{NamesWide, SpellsBank, SpellsGeometry, SpellsNode, SpellsPage, SpellsProcess, SpellsRange, SpellsSlot, SpellsWord}
+use Rattle.image_describer.proofs.Names.{nat_tests, ℕ, true, List, [], map, Option, Some, None, IfSome, refl, sym, ap, subst, arith, IsTrue, All, Contains}
+use Rattle.image_describer.proofs.Names.{All-contains, All-from_recursion, All-map, All-weaker, Contains-append_left, Contains-append_right, Cap, Capability}
+use Rattle.image_describer.proofs.Names.{Void, Frame, Geometry, Content, Object, named, frame_at, objects_of, AreKeptSlots, AreKeptWords, Follows, IsKeepable}
+use Rattle.image_describer.proofs.Names.{IsKeptCap, IsSoundFrames, MayBeKept, world_at, is_bank, is_free, map_content, role_of, IsOfKind, object_count}
+use Rattle.image_describer.proofs.Names.{content_at, object_at, owner_at, HomeRange, Version, One, Two, Cover, IsPlan, Plan, version_number, numbers_of}
+use Rattle.image_describer.proofs.Names.{fresh_cap, mapped, BankEntry, Description, NodeEntry, PageEntry, ProcessEntry, SlotEntry, WordEntry, AreSlots}
+use Rattle.image_describer.proofs.Names.{AreWords, HasNamedWords, HoldsNamed, IsDescribedNode, IsDescribedPage, IsDescribedAnnex, IsDescribedRoot}
+use Rattle.image_describer.proofs.Names.{IsProcessEntry, first_frame, named_at, node_numbers, word_named_at, all_from, all_got, contains_map, first_of}
+use Rattle.image_describer.proofs.Names.{Describes, plain_frame, plain_frames, DescribedHasText, IsShort, IsWide, NamesWide, SpellsBank, SpellsGeometry}
+use Rattle.image_describer.proofs.Names.{SpellsNode, SpellsPage, SpellsProcess, SpellsRange, SpellsSlot, SpellsWord}
 use Rattle.std.proofs.Common.{unwrap_or, ◌≡◌, ◌≢◌, ◌+◌, ◌<◌, ◌≤◌, ◌^◌, ◌∷◌, ◌++◌, ◌∙◌}
 use Rattle.std.specs.List.{AllByRecursion as ByRecursion}
 use Rattle.model.specs.declared.object.Content.TheVariants as content
@@ -17,14 +17,7 @@ use Rattle.image_describer.proofs.Plain.{plain_at, sound_plain}
 
 -- what can be held names a number of 64 bits
 follows_wide : (g : Geometry) (age count : ℕ) (c : Capability) → Follows g age count c → IfSome (named c) IsWide
-follows_wide g age count (Page o a) h = h.1.2
-follows_wide g age count (Node o a) h = h.1.1
-follows_wide g age count (Space o k a) h = h.3.1
-follows_wide g age count (Process p) h = h.0.1
-follows_wide g age count (Start p key) h = h.1.1
-follows_wide g age count (Resume p) h = h.0.1
-follows_wide g age count (Bank b) h = h.0.1
-follows_wide g age count other h = tt
+follows_wide g age count c h = grind (arith, nat_tests)
 
 held_wide : (g : Geometry) (age : ℕ) (o : Option Capability) → Follows g age 0 (unwrap_or o Void) → NamesWide o
 held_wide g age None h = tt
@@ -38,23 +31,21 @@ bank_kind g n other bank kind = absurd cc
 module _ (g : Geometry) (age : ℕ) where
   pub slots_short : (first : ℕ) (entries : List SlotEntry) (slots : List Cap) → AreSlots first entries → HoldsNamed entries slots → AreKeptSlots g age slots →
       All SpellsSlot entries
-  slots_short first entries slots are holds kept = all_from SpellsSlot entries (λ s there.
-      let place = All-contains (λ (t : SlotEntry). (first ≤ t.index) × (t.index < 32)) entries s are.places there in
-      let held : IsKeptCap g age (fresh_cap (named_at entries s.index)) = all_got (IsKeptCap g age) slots s.index (fresh_cap (named_at entries s.index))
-      kept.each (holds.each s.index place.1) in
-      let is : named_at entries s.index ≡ unwrap_or s.capability Void = first_of (λ t. t.index) (λ t. unwrap_or t.capability Void) Void entries s are.distinct
+  slots_short first entries slots are holds kept = all_from SpellsSlot _ (λ s there.
+      let place = All-contains (λ (t : SlotEntry). (first ≤ t.index) × (t.index < 32)) _ s are.places there in
+      let held : IsKeptCap g age (fresh_cap (named_at entries s.index)) = all_got (IsKeptCap g age) slots _ _ kept.each (holds.each s.index place.1) in
+      let is : named_at entries s.index ≡ unwrap_or s.capability Void = first_of (λ t. t.index) (λ t. unwrap_or t.capability Void) Void _ s are.distinct
       there in (
         omega (arith, place.1),
-        held_wide g age s.capability (subst (Follows g age 0) is held),
+        held_wide g age _ (subst (Follows g age 0) is held),
       ))
 
   pub words_short : (entries : List WordEntry) (words : List ℕ) → AreWords entries → HasNamedWords entries words → AreKeptWords 512 words →
       All SpellsWord entries
-  words_short entries words are holds kept = all_from SpellsWord entries (λ w there.
-      let place = All-contains (λ (v : WordEntry). v.index < 512) entries w are.places there in
-      let wide : word_named_at entries w.index < 2 ^ 64 = all_got (λ (v : ℕ). v < 2 ^ 64) words w.index (word_named_at entries w.index) kept.each
-      (holds.each w.index place) in
-      let is : word_named_at entries w.index ≡ w.word = first_of (λ v. v.index) (λ v. v.word) 0 entries w are.distinct there in (
+  words_short entries words are holds kept = all_from SpellsWord _ (λ w there.
+      let place = All-contains (λ (v : WordEntry). v.index < 512) _ w are.places there in
+      let wide : word_named_at entries w.index < 2 ^ 64 = all_got (λ (v : ℕ). v < 2 ^ 64) words _ _ kept.each (holds.each w.index place) in
+      let is : word_named_at entries w.index ≡ w.word = first_of (λ v. v.index) (λ v. v.word) 0 _ w are.distinct there in (
         omega (arith, place),
         subst (λ (v : ℕ). v < 2 ^ 64) is wide,
       ))
@@ -117,8 +108,7 @@ module _ (p : Plan) (plan : IsPlan p) (age : ℕ) (fs : List Frame) (d : Descrip
 
   -- the numbers that are named
   node_named : (n : ℕ) → Contains (node_numbers d) n → n < g.nodes
-  node_named n there = subst (λ (h : Geometry). n < h.nodes) describes.geometry
-      (All-contains (λ (k : ℕ). k < d.geometry.nodes) (node_numbers d) n describes.numbers.nodes there)
+  node_named n there = rw (← describes.geometry) (All-contains (λ (k : ℕ). k < d.geometry.nodes) (node_numbers d) n describes.numbers.nodes there)
 
   abbrev bank_numbers : List ℕ
   bank_numbers = map (λ b. b.number) d.banks.items
@@ -133,9 +123,8 @@ module _ (p : Plan) (plan : IsPlan p) (age : ℕ) (fs : List Frame) (d : Descrip
   plain_numbers = map (λ n. n.number) d.nodes.items
 
   bank_number : (b : BankEntry) → Contains d.banks.items b → b.number < g.nodes
-  bank_number b there = node_named b.number (Contains-append_left (bank_numbers ++ root_numbers ++ annex_numbers) plain_numbers b.number
-      (Contains-append_left (bank_numbers ++ root_numbers) annex_numbers b.number
-      (Contains-append_left bank_numbers root_numbers b.number (contains_map (λ b. b.number) b d.banks.items there))))
+  bank_number b there = node_named _ (Contains-append_left _ _ _ (Contains-append_left _ _ _
+      (Contains-append_left _ _ _ (contains_map (λ b. b.number) b _ there))))
 
   root_number : (q : ProcessEntry) → Contains d.processes.items q → q.root < g.nodes
   root_number q there = node_named q.root (Contains-append_left (bank_numbers ++ root_numbers ++ annex_numbers) plain_numbers q.root
@@ -147,13 +136,11 @@ module _ (p : Plan) (plan : IsPlan p) (age : ℕ) (fs : List Frame) (d : Descrip
       (Contains-append_right (bank_numbers ++ root_numbers) annex_numbers q.annex (contains_map (λ p. p.annex) q d.processes.items there)))
 
   node_number : (n : NodeEntry) → Contains d.nodes.items n → n.number < g.nodes
-  node_number n there = node_named n.number
-      (Contains-append_right (bank_numbers ++ root_numbers ++ annex_numbers) plain_numbers n.number (contains_map (λ m. m.number) n d.nodes.items there))
+  node_number n there = node_named _ (Contains-append_right _ _ _ (contains_map (λ m. m.number) n _ there))
 
   page_number : (q : PageEntry) → Contains d.pages.items q → q.number < object_count g
   page_number q there = subst (λ (h : Geometry). q.number < object_count h) describes.geometry
-      (All-contains (λ (k : ℕ). (d.geometry.nodes ≤ k) × (k < object_count d.geometry)) (page_numbers d) q.number describes.numbers.pages
-      (contains_map (λ p. p.number) q d.pages.items there)).1
+      (All-contains (λ (k : ℕ). (d.geometry.nodes ≤ k) × (k < object_count d.geometry)) _ _ describes.numbers.pages (contains_map (λ p. p.number) q _ there)).1
 
   -- the objects
   banks_short : All SpellsBank d.banks.items
@@ -191,26 +178,24 @@ module _ (p : Plan) (plan : IsPlan p) (age : ℕ) (fs : List Frame) (d : Descrip
       })
 
   nodes_short : All SpellsNode d.nodes.items
-  nodes_short = all_from SpellsNode d.nodes.items (λ n there.
-      let entry = All-contains (λ (m : NodeEntry). AreSlots 0 m.slots.items) d.nodes.items n describes.fields.nodes there in
-      let (slots, holds, is) = All-contains (λ (m : NodeEntry). IsDescribedNode m (frame_at (plain_frames os) m.number)) d.nodes.items n describes.frames.nodes
-      there in
+  nodes_short = all_from SpellsNode _ (λ n there.
+      let entry = All-contains (λ (m : NodeEntry). AreSlots 0 m.slots.items) _ n describes.fields.nodes there in
+      let (slots, holds, is) = All-contains (λ (m : NodeEntry). IsDescribedNode m (frame_at (plain_frames os) m.number)) _ n describes.frames.nodes there in
       let few = node_number n there in (
         omega (arith, few, plan.geometry.most_nodes),
-        owner_short n.number n.owner (content.Node slots) is (λ same. absurd cc),
-        slots_short g age 0 n.slots.items slots entry holds (kept n.number n.owner (content.Node slots) is (omega (arith, few))),
+        owner_short _ _ _ is (λ same. absurd cc),
+        slots_short g age 0 _ slots entry holds (kept _ _ _ is (omega (arith, few))),
       ))
 
   pages_short : All SpellsPage d.pages.items
-  pages_short = all_from SpellsPage d.pages.items (λ q there.
-      let entry = All-contains (λ (r : PageEntry). AreWords r.words.items) d.pages.items q describes.fields.pages there in
-      let (words, holds, is) = All-contains (λ (r : PageEntry). IsDescribedPage r (frame_at (plain_frames os) r.number)) d.pages.items q describes.frames.pages
-      there in
+  pages_short = all_from SpellsPage _ (λ q there.
+      let entry = All-contains (λ (r : PageEntry). AreWords r.words.items) _ q describes.fields.pages there in
+      let (words, holds, is) = All-contains (λ (r : PageEntry). IsDescribedPage r (frame_at (plain_frames os) r.number)) _ q describes.frames.pages there in
       let few = page_number q there in
       let most = numbers_few in (
         omega (arith, few, most),
-        owner_short q.number q.owner (content.Page words) is (λ same. absurd cc),
-        words_short g age q.words.items words entry holds (kept q.number q.owner (content.Page words) is few),
+        owner_short _ _ _ is (λ same. absurd cc),
+        words_short g age _ words entry holds (kept _ _ _ is few),
       ))
 
   ranges_short : d.ranges.items ≡ map numbers_of p.ranges → All SpellsRange d.ranges.items

@@ -1,7 +1,7 @@
 -- Objects of a kind, described one number after another.
-use Rattle.image_describer.proofs.Names.{ℕ, inl, inr, List, [], map, length, Option, None, Some, option_to_list, sym, ap, subst, arith, All, Contains, cases_lt}
-use Rattle.image_describer.proofs.Names.{All-map, All-push, All-weaker, Contains-append_left, Contains-append_right, ObjectHeader, Object, Role, role_of}
-use Rattle.image_describer.proofs.Names.{content_at, Parts, objects_in, object_past, contains_here, map_both, AreRising, MayTell, TellAll}
+use Rattle.image_describer.proofs.Names.{nat_tests, ℕ, inl, inr, List, [], map, length, Option, None, Some, option_to_list, sym, ap, subst, arith, All}
+use Rattle.image_describer.proofs.Names.{Contains, cases_lt, All-map, All-push, All-weaker, Contains-append_left, Contains-append_right, ObjectHeader, Object}
+use Rattle.image_describer.proofs.Names.{Role, role_of, content_at, Parts, objects_in, object_past, contains_here, map_both, AreRising, MayTell, TellAll}
 use Rattle.std.proofs.Common.{◌≡◌, ◌≢◌, ◌+◌, ◌<◌, ◌≤◌, ◌∷◌, ◌++◌, ◌∙◌}
 use Rattle.std.proofs.lemmas.List.{append-nil}
 use Rattle.model.specs.declared.object.Role.TheVariants as role
@@ -16,40 +16,25 @@ module _ {E : Type 0} (number : E → ℕ) (Tells : E → Type 0) (kind : Role) 
     pub rising : AreRising (map number es)
 
   pub tell_none : TellBelow 0 []
-  tell_none = record {
-    each = λ k d inside. absurd (omega (arith, inside));
-    whole = λ n under is. absurd (omega (arith, under));
-    below = λ k d inside. absurd (omega (arith, inside));
-    rising = tt;
-  }
+  tell_none = grind (arith, nat_tests)
 
   -- a number of another kind has none
   pub tell_less : (count : ℕ) (es : List E) → TellBelow count es → role_of (content_at os count) ≢ kind → TellBelow (count + 1) es
-  tell_less count es tell other = record {
-    each = tell.each;
-    whole = λ n under is. elim (cases_lt n count) [
-      | inl before ↦ tell.whole n before is
-      | inr past ↦ let same : n ≡ count = omega (arith, under, past) in absurd (other (subst (λ m. role_of (content_at os m) ≡ kind) same is))
-    ];
-    below = All-weaker (λ e. number e < count) (λ e. number e < count + 1) (λ e under. omega (arith, under)) es tell.below;
-    rising = tell.rising;
-  }
+  tell_less count es tell other = grind (arith, nat_tests, All-weaker)
 
   -- one of this kind has an entry
   pub tell_more : (count : ℕ) (es : List E) (e : E) → TellBelow count es → number e ≡ count → Tells e → TellBelow (count + 1) (es ++ e ∷ [])
   tell_more count es e tell at entry_of = record {
     each = All-push Tells es e tell.each entry_of;
-    whole = λ n under is. subst (λ ns. Contains ns n) (sym (map_both number es (e ∷ []))) (elim (cases_lt n count) [
+    whole = λ n under is. rw (map_both number es (e ∷ [])) (elim (cases_lt n count) [
       | inl before ↦ Contains-append_left (map number es) (number e ∷ []) n (tell.whole n before is)
       | inr past ↦
           let same : number e ≡ n = omega (arith, under, past, at) in
-          Contains-append_right (map number es) (number e ∷ []) n (subst (Contains (number e ∷ [])) same (contains_here (number e) []))
+          Contains-append_right (map number es) (number e ∷ []) n (rw (← same) (contains_here (number e) []))
     ]);
     below = All-push (λ f. number f < count + 1) es e
         (All-weaker (λ f. number f < count) (λ f. number f < count + 1) (λ f under. omega (arith, under)) es tell.below) (omega (arith, at));
-    rising = subst AreRising (sym (map_both number es (e ∷ [])))
-        (rising_more (map number es) (number e) tell.rising
-        (All-map (λ n. n < number e) number es
+    rising = rw (map_both number es (e ∷ [])) (rising_more (map number es) (number e) tell.rising (All-map (λ n. n < number e) number es
         (All-weaker (λ f. number f < count) (λ f. number f < number e) (λ f under. omega (arith, under, at)) es tell.below)));
   }
 
@@ -62,14 +47,7 @@ module _ {E : Type 0} (number : E → ℕ) (Tells : E → Type 0) (kind : Role) 
   -- all are described where all else is free
   pub tell_all : (count : ℕ) (es : List E) → TellBelow count es → kind ≢ role.Free → ((n : ℕ) → count ≤ n → role_of (content_at os n) ≡ role.Free) →
       TellAll number Tells kind os es
-  tell_all count es tell some free = record {
-    each = tell.each;
-    whole = λ n is. elim (cases_lt n count) [
-      | inl before ↦ tell.whole n before is
-      | inr past ↦ absurd (some (sym is ∙ free n past))
-    ];
-    rising = tell.rising;
-  }
+  tell_all count es tell some free = grind (arith, nat_tests)
 
 -- past the last header all is free
 pub role_past : (p : Parts) (hs : List ObjectHeader) (count : ℕ) → hs ≡ p.headers → length hs ≤ count → (n : ℕ) → count ≤ n →

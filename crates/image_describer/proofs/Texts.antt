@@ -1,5 +1,5 @@
 -- Texts of items, written one after the other.
-use Rattle.image_describer.proofs.Names.{Written, ℕ, List, [], Result, Err, codes, decimal, length, get_or, take, drop, refl, sym, ap, subst}
+use Rattle.image_describer.proofs.Names.{nat_tests, arith, Written, ℕ, List, [], Result, Err, codes, decimal, length, get_or, take, drop, refl, sym, ap, subst}
 use Rattle.image_describer.proofs.Names.{append_assoc, append-nil, add-one, flat_map, Wrote, wrote_trans, flat_map-append, take-append-drop, take_all, take-suc}
 use Rattle.image_describer.proofs.Names.{spaced, RunFault, Writes, text_fails, writes_after, writes_fail, writes_same, box_line, next_line}
 use Rattle.std.proofs.Common.{◌≡◌, ◌+◌, ◌<◌, ◌≤◌, ◌∷◌, ◌++◌, ◌∙◌}
@@ -18,16 +18,14 @@ module _ {A : Type 0} (text : A → List ℕ) (xs : List A) where
       ∙ ap (λ (l : List ℕ). flat_map text (take i xs) ++ l) (append-nil (text (get_or xs i d)))
 
   texts_split : (i : ℕ) (d : A) → i < length xs → flat_map text xs ≡ (flat_map text (take i xs) ++ text (get_or xs i d)) ++ flat_map text (drop (i + 1) xs)
-  texts_split i d lt =
-      ap (λ (l : List A). flat_map text l) (sym (take-append-drop (i + 1) xs))
+  texts_split i d lt = ap (λ (l : List A). flat_map text l) (sym (take-append-drop _ xs))
       ∙ flat_map-append text (take (i + 1) xs) (drop (i + 1) xs)
       ∙ ap (λ (l : List ℕ). l ++ flat_map text (drop (i + 1) xs)) (texts_more i d lt)
 
   -- an item could not be written
   pub place_fails : (a b c : Written) (e : RunFault) (i : ℕ) (d : A) (whole : List ℕ) → whole ≡ flat_map text xs → i < length xs
       → Wrote a b (flat_map text (take i xs)) → Writes b c (Err e) (text (get_or xs i d)) → Writes a c (Err e) whole
-  place_fails a b c e i d whole is lt before one =
-      writes_fail a b c e (flat_map text (take i xs)) (text (get_or xs i d)) (flat_map text (drop (i + 1) xs)) whole (is ∙ texts_split i d lt) before one
+  place_fails a b c e i d whole is lt before one = writes_fail a b c e _ _ _ whole (is ∙ texts_split i d lt) before one
 
   pub item_fails : (a b c : Written) (e : RunFault) (i : ℕ) (x : A) (whole : List ℕ) → whole ≡ flat_map text xs → i < length xs → x ≡ get_or xs i x
       → Wrote a b (flat_map text (take i xs)) → Writes b c (Err e) (text x) → Writes a c (Err e) whole
@@ -59,9 +57,8 @@ module _ (A B C D whole : List ℕ) (is : whole ≡ ((A ++ B) ++ C) ++ D) (a b :
 
   pub fourth_written : (c d f : Written) (r : Result (Unit {0}) RunFault) → Wrote a b A → Wrote b c B → Wrote c d C → Writes d f r D →
       Writes a f r whole
-  fourth_written c d f r one two three w =
-      writes_same a f r (((A ++ B) ++ C) ++ D) whole (sym is)
-      (writes_after a d f r ((A ++ B) ++ C) D (wrote_trans a c d (A ++ B) C (wrote_trans a b c A B one two) three) w)
+  fourth_written c d f r one two three w = writes_same a f r _ whole (sym is)
+      (writes_after a d f r _ D (wrote_trans a c d _ C (wrote_trans a b c A B one two) three) w)
 
 -- two and three texts
 pub two_written : (a b c : Written) (r : Result (Unit {0}) RunFault) (A B whole : List ℕ) → whole ≡ A ++ B → Wrote a b A → Writes b c r B →
@@ -116,14 +113,7 @@ pub cluster_put : (owner number : ℕ)
     → (((((codes "subgraph cluster_" ++ decimal owner) ++ 32 ∷ codes "{ label=\"bank") ++ 32 ∷ decimal owner) ++ codes "\"") ++ 32 ∷ decimal number) ++ 32 ∷
     codes "}"
     ≡ spaced ((codes "subgraph cluster_" ++ decimal owner) ∷ codes "{" ∷ codes "label=\"bank" ∷ (decimal owner ++ codes "\"") ∷ decimal number ∷ codes "}" ∷ [])
-cluster_put owner number =
-    seven_joined (codes "subgraph cluster_") (decimal owner)
-    (32 ∷ codes "{ label=\"bank") (32 ∷ decimal owner) (codes "\"") (32 ∷ decimal number) (32 ∷ codes "}")
-    ∙ sym (spaced_out (decimal owner) (decimal number))
-  where
-    spaced_out : (o n : List ℕ) → spaced ((codes "subgraph cluster_" ++ o) ∷ codes "{" ∷ codes "label=\"bank" ∷ (o ++ codes "\"") ∷ n ∷ codes "}" ∷ [])
-        ≡ codes "subgraph cluster_" ++ (o ++ ((32 ∷ codes "{ label=\"bank") ++ ((32 ∷ o) ++ (codes "\"" ++ ((32 ∷ n) ++ (32 ∷ codes "}"))))))
-    spaced_out o n = simp append_assoc
+cluster_put owner number = grind (arith, nat_tests, seven_joined, append_assoc)
 
 -- a box in three pieces
 pub box_pieces : (number : ℕ) (first more shape : List ℕ)

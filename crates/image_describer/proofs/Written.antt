@@ -1,11 +1,11 @@
 -- The values that the text of a description writes: what TOML has for each, and what it says.
-use Rattle.image_describer.proofs.Names.{ℕ, suc, pos, nat_lt, get_or, Bool, true, false, List, [], decimal, length, Option, Some, None, MatchOption, inl, inr}
-use Rattle.image_describer.proofs.Names.{refl, sym, ap, arith, All, list_all, cases_Bool, nat_tests, recursion_from_All, Data, string, integer, array, no_items}
-use Rattle.image_describer.proofs.Names.{item, NumberRange, Capability, Void, Number, Page, Node, Space, Process, Geometry, State}
-use Rattle.image_describer.proofs.Names.{capability_text, state_text, AreFour, AreItems, IsCapability, IsList, IsNumber, IsRange, IsSlot, IsState, IsWideNumber}
-use Rattle.image_describer.proofs.Names.{IsWord, whole_ranges, SlotEntry, WordEntry, IsSomeCapability, IsSpaceEntry, IsShort, IsWide, NamesWide, SpellsRange}
-use Rattle.image_describer.proofs.Names.{SpellsSlot, SpellsWord, are_whole, held_text, is_range, list_text, list_unless_empty, number_unless, range_text}
-use Rattle.image_describer.proofs.Names.{slot_text, space_unless_void, state_value, unless, wide_text, word_text, words_unless_zeros}
+use Rattle.image_describer.proofs.Names.{ℕ, suc, pos, nat_lt, get_or, Bool, true, false, List, [], length, Option, Some, None, MatchOption, inl, inr, refl, sym}
+use Rattle.image_describer.proofs.Names.{ap, arith, All, list_all, cases_Bool, nat_tests, recursion_from_All, Data, string, integer, array, no_items, item}
+use Rattle.image_describer.proofs.Names.{NumberRange, Capability, Void, Number, Page, Space, Geometry, State, capability_text, state_text, AreFour, AreItems}
+use Rattle.image_describer.proofs.Names.{IsCapability, IsList, IsNumber, IsRange, IsSlot, IsState, IsWideNumber, IsWord, whole_ranges, SlotEntry, WordEntry}
+use Rattle.image_describer.proofs.Names.{IsSomeCapability, IsSpaceEntry, IsShort, IsWide, NamesWide, SpellsRange, SpellsSlot, SpellsWord, are_whole, held_text}
+use Rattle.image_describer.proofs.Names.{is_range, list_text, list_unless_empty, number_unless, range_text, slot_text, space_unless_void, state_value, unless}
+use Rattle.image_describer.proofs.Names.{wide_text, word_text, words_unless_zeros}
 use Rattle.std.proofs.Common.{unwrap_or, ◌≡◌, ◌≢◌, ◌<◌, ◌≤◌, ◌^◌, ◌==◌, ◌&&◌, if◌then◌else◌, ◌∷◌, ◌∙◌}
 use Rattle.std.specs.List.{AllByRecursion as ByRecursion}
 use Rattle.image_describer.proofs.Lines.{AllSpell, Spells, SpellsOption, deeper, items, spells_list, spells_number, spells_pair, spells_text}
@@ -81,22 +81,19 @@ abbrev pub MaySlot : SlotEntry → Type 0
 MaySlot s = IsSomeCapability s.capability × SpellsSlot s
 
 spells_slot : (s : SlotEntry) → MaySlot s → Spells 1 (slot_text s) (slot_data s)
-spells_slot s may = spells_pair (decimal s.index) (held_text s.capability) (number_data s.index) (held_data s.capability) (spells_number s.index may.1.0)
-    (spells_held s.capability may.0 may.1.1)
+spells_slot s may = spells_pair _ _ _ _ (spells_number _ may.1.0) (spells_held _ may.0 may.1.1)
 
 says_slot : (s : SlotEntry) → MaySlot s → IsSlot (slot_data s) s
 says_slot s may = (number_data s.index, held_data s.capability, refl, (may.1.0, refl), says_held s.capability may.0 may.1.1)
 
 spells_word : (w : WordEntry) → SpellsWord w → Spells 1 (word_text w) (word_data w)
-spells_word w may = spells_pair (decimal w.index) (wide_text w.word) (number_data w.index) (wide_data w.word) (spells_number w.index may.0)
-    (spells_wide w.word may.1)
+spells_word w may = spells_pair _ _ _ _ (spells_number _ may.0) (spells_wide _ may.1)
 
 says_word : (w : WordEntry) → SpellsWord w → IsWord (word_data w) w
 says_word w may = (number_data w.index, wide_data w.word, refl, (may.0, refl), says_wide w.word may.1)
 
 spells_range : (r : NumberRange) → SpellsRange r → Spells 1 (range_text r) (range_data r)
-spells_range r may = spells_pair (decimal r.first) (decimal r.count) (number_data r.first) (number_data r.count) (spells_number r.first may.0)
-    (spells_number r.count may.1)
+spells_range r may = spells_pair _ _ _ _ (spells_number _ may.0) (spells_number _ may.1)
 
 says_range : (r : NumberRange) → SpellsRange r → IsRange (range_data r) r
 says_range r may = (number_data r.first, number_data r.count, refl, (may.0, refl), (may.1, refl))
@@ -171,29 +168,22 @@ same_number : (m n : ℕ) → (m == n) ≡ true → m ≡ n
 same_number m n is = grind (arith, nat_tests, is)
 
 pub spells_number_unless : (default n : ℕ) → IsShort n → SpellsOption (number_unless default n) (data_unless (n == default) (number_data n))
-spells_number_unless default n short = spells_unless (n == default) (decimal n) (number_data n)
-    (deeper 0 2 (decimal n) (number_data n) (omega arith) (spells_number n short))
+spells_number_unless default n short = spells_unless _ _ _ (deeper 0 2 _ _ (omega arith) (spells_number n short))
 
 pub says_number_unless : (default n : ℕ) → IsShort n → MatchOption (data_unless (n == default) (number_data n)) (n ≡ default) (λ d. IsNumber d n)
 says_number_unless default n short = says_unless (n == default) (number_data n) n default IsNumber (same_number n default) (short, refl)
 
 -- the words of a process
 four_zeros : (words : List ℕ) → length words ≡ 4 → list_all (λ w. w == 0) words ≡ true → words ≡ 0 ∷ 0 ∷ 0 ∷ 0 ∷ []
-four_zeros [] four zeros = absurd (omega (arith, four))
-four_zeros (a ∷ []) four zeros = absurd (omega (arith, four))
-four_zeros (a ∷ b ∷ []) four zeros = absurd (omega (arith, four))
-four_zeros (a ∷ b ∷ c ∷ []) four zeros = absurd (omega (arith, four))
 four_zeros (a ∷ b ∷ c ∷ d ∷ []) four zeros = grind (arith, nat_tests, zeros)
-four_zeros (a ∷ b ∷ c ∷ d ∷ e ∷ rest) four zeros = absurd (omega (arith, four))
+four_zeros words four zeros = absurd (omega (arith, four))
 
 abbrev pub words_data : List ℕ → Option Data
 words_data words = data_unless (list_all (λ w. w == 0) words) (array (items wide_data words))
 
 module _ (words : List ℕ) (four : length words ≡ 4) (wide : All IsWide words) where
   pub spells_four : SpellsOption (words_unless_zeros words) (words_data words)
-  spells_four = spells_unless (list_all (λ w. w == 0) words) (list_text wide_text words) (array (items wide_data words))
-      (deeper 1 2 (list_text wide_text words) (array (items wide_data words)) (omega arith)
-      (spells_all wide_text wide_data 0 IsWideNumber IsWide spells_wide says_wide words wide))
+  spells_four = spells_unless _ _ _ (deeper 1 2 _ _ (omega arith) (spells_all wide_text wide_data 0 IsWideNumber IsWide spells_wide says_wide words wide))
 
   pub says_four : MatchOption (words_data words) (words ≡ 0 ∷ 0 ∷ 0 ∷ 0 ∷ []) (λ d. AreFour d words)
   says_four = says_unless (list_all (λ w. w == 0) words) (array (items wide_data words)) words (0 ∷ 0 ∷ 0 ∷ 0 ∷ []) AreFour (four_zeros words four)
@@ -205,24 +195,19 @@ space_data (Some Void) = None
 space_data space = Some (held_data space)
 
 pub spells_space : (space : Option Capability) → IsSpaceEntry space → NamesWide space → SpellsOption (space_unless_void space) (space_data space)
-spells_space None is wide = absurd is
 spells_space (Some Void) is wide = tt
-spells_space (Some (Number n)) is wide = absurd is.1
 spells_space (Some (Page o a)) is wide = deeper 0 2 (held_text (Some (Page o a))) (held_data (Some (Page o a))) (omega arith)
     (spells_held (Some (Page o a)) is.0 wide)
-spells_space (Some (Node o a)) is wide = absurd is.1
 spells_space (Some (Space o h a)) is wide = deeper 0 2 (held_text (Some (Space o h a))) (held_data (Some (Space o h a))) (omega arith)
     (spells_held (Some (Space o h a)) is.0 wide)
-spells_space (Some (Process p)) is wide = absurd is.1
-spells_space other is wide = absurd is.1
+spells_space space is wide = absurd (grind (arith, nat_tests))
 
 pub says_space : (space : Option Capability) → IsSpaceEntry space → NamesWide space →
     MatchOption (space_data space) (space ≡ Some Void) (λ d. IsCapability d space)
-says_space None is wide = absurd is
 says_space (Some Void) is wide = refl
 says_space (Some (Page o a)) is wide = (is.0, wide, refl)
 says_space (Some (Space o h a)) is wide = (is.0, wide, refl)
-says_space other is wide = absurd is.1
+says_space space is wide = absurd (grind (arith, nat_tests))
 
 -- the home ranges
 range_is : (r : NumberRange) (n count : ℕ) → (r.first == n && r.count == count) ≡ true → r ≡ record { first = n; count = count }
@@ -241,21 +226,13 @@ right true b is = is
 right false b is = absurd cc
 
 whole_is : (g : Geometry) (rs : List NumberRange) → are_whole g rs ≡ true → rs ≡ whole_ranges g
-whole_is g [] is = absurd cc
-whole_is g (n ∷ []) is = absurd cc
-whole_is g (n ∷ p ∷ q ∷ rs) is = absurd cc
-whole_is g (n ∷ p ∷ []) is =
-    ap (λ (r : NumberRange). r ∷ p ∷ []) (range_is n 0 g.nodes (left (is_range n 0 g.nodes) (is_range p g.nodes g.pages) is))
-    ∙ ap (λ (r : NumberRange). record { first = 0; count = g.nodes } ∷ r ∷ [])
-    (range_is p g.nodes g.pages (right (is_range n 0 g.nodes) (is_range p g.nodes g.pages) is))
+whole_is g rs is = grind (arith, nat_tests, range_is, left, right)
 
 -- as the code tests them
 two_ranges : (g : Geometry) (rs : List NumberRange) (x : NumberRange) → 2 ≤ length rs → length rs < 3 →
     are_whole g rs ≡ (is_range (get_or rs 0 x) 0 g.nodes && is_range (get_or rs 1 x) g.nodes g.pages)
-two_ranges g [] x least most = absurd (omega (arith, least))
-two_ranges g (n ∷ []) x least most = absurd (omega (arith, least))
 two_ranges g (n ∷ p ∷ []) x least most = refl
-two_ranges g (n ∷ p ∷ q ∷ rs) x least most = absurd (omega (arith, most))
+two_ranges g rs x least most = absurd (grind (arith, nat_tests))
 
 pub second_range : (g : Geometry) (rs : List NumberRange) (x : NumberRange) → 2 ≤ length rs → length rs < 3 → is_range (get_or rs 0 x) 0 g.nodes ≡ true
     → (b : Bool) → b ≡ is_range (get_or rs 1 x) g.nodes g.pages → b ≡ are_whole g rs
@@ -266,9 +243,7 @@ ranges_data g rs = data_unless (are_whole g rs) (array (items range_data rs))
 
 module _ (g : Geometry) (rs : List NumberRange) (short : All SpellsRange rs) where
   pub spells_ranges : SpellsOption (unless (are_whole g rs) (list_text range_text rs)) (ranges_data g rs)
-  spells_ranges = spells_unless (are_whole g rs) (list_text range_text rs) (array (items range_data rs))
-      (spells_all range_text range_data 1 IsRange SpellsRange spells_range says_range rs short)
+  spells_ranges = spells_unless _ _ _ (spells_all range_text range_data 1 IsRange SpellsRange spells_range says_range rs short)
 
   pub says_ranges : MatchOption (ranges_data g rs) (rs ≡ whole_ranges g) (λ d. IsList IsRange d rs)
-  says_ranges = says_unless (are_whole g rs) (array (items range_data rs)) rs (whole_ranges g) (IsList IsRange) (whole_is g rs)
-      (says_all range_text range_data 1 IsRange SpellsRange spells_range says_range rs short)
+  says_ranges = says_unless _ _ rs _ (IsList IsRange) (whole_is g rs) (says_all range_text range_data 1 IsRange SpellsRange spells_range says_range rs short)

@@ -1,12 +1,11 @@
 -- An image denotes its state once the gate is open.
-use Rattle.image_writer.proofs.Names.{inl, inr, ⊎_elim, ℕ, Bool, true, false, List, [], length, take, Some, Result, Ok, Err, refl, sym, ap, subst, arith, OnOk}
-use Rattle.image_writer.proofs.Names.{Frame, Geometry, frame_at, AreKeepable, object_count, Disk, Image, LeavesOnly, leaves_on, leaves_weaker, Agrees}
-use Rattle.image_writer.proofs.Names.{Elsewhere, agrees_is, Entry, CheckpointHeader, IsDirectory, directory_bytes, frame_bytes, is_open, IsHeader, header_bytes}
-use Rattle.image_writer.proofs.Names.{place_length, shape_of, Encodes, HasNoHeader, committed_of, committed_bytes, directory_in, directory_length}
-use Rattle.image_writer.proofs.Names.{directory_sector, does_count, frame_in, frame_sector, option_at, sectors_from, sequence_in, shape_bytes, Plan, IsPlan}
-use Rattle.image_writer.proofs.Names.{half_within, same_sectors, places_within, AreClosed, none_committed, Holds, SavedFrames, kept_of, half_behind}
-use Rattle.image_writer.proofs.Names.{sequences_reported, frames_behind, HasOpeningSectors, IsBeforeOrNone, IsLeftWriting, IsWritten, first_header, state_of}
-use Rattle.std.proofs.Common.{◌≡◌, ◌⊎◌, ◌^◌, ◌<◌, ◌≤◌, ◌+◌, ◌-◌, ◌*◌, ◌%◌, ◌∙◌}
+use Rattle.image_writer.proofs.Names.{inl, inr, ℕ, Bool, true, false, List, [], length, Some, Result, refl, ap, arith, OnOk, Frame, Geometry, frame_at}
+use Rattle.image_writer.proofs.Names.{AreKeepable, object_count, Disk, Image, LeavesOnly, leaves_on, leaves_weaker, Agrees, Elsewhere, agrees_is, Entry}
+use Rattle.image_writer.proofs.Names.{CheckpointHeader, IsDirectory, directory_bytes, frame_bytes, is_open, IsHeader, header_bytes, Encodes, HasNoHeader}
+use Rattle.image_writer.proofs.Names.{committed_of, committed_bytes, directory_in, does_count, frame_in, sectors_from, sequence_in, Plan, IsPlan, half_within}
+use Rattle.image_writer.proofs.Names.{same_sectors, places_within, AreClosed, none_committed, Holds, SavedFrames, kept_of, half_behind, sequences_reported}
+use Rattle.image_writer.proofs.Names.{frames_behind, HasOpeningSectors, IsBeforeOrNone, IsLeftWriting, IsWritten, first_header, state_of}
+use Rattle.std.proofs.Common.{◌≡◌, ◌⊎◌, ◌^◌, ◌<◌, ◌≤◌, ◌+◌, ◌-◌, ◌%◌, ◌∙◌}
 use Rattle.std.specs.Prelude.{◌==◌, ◌&&◌}
 
 -- of two headers the first is committed, where it counts and the other doesn't
@@ -27,50 +26,23 @@ module _ (p : Plan) (h : CheckpointHeader) (es : List Entry) (frames : List Fram
   header_is = change.before 1 (omega arith) ∙ is.opening.header
 
   header_counts : does_count (new 1) (new 2) 0 ≡ true
-  header_counts =
-      ap (λ (b : List ℕ). does_count b (new 2) 0) header_is ∙ ap (λ (open' : Bool). open' && (sequence_in (header_bytes h) % 2 == 0)) gate
-      ∙ ap (λ (n : ℕ). true && (n % 2 == 0)) (sequences_reported h (omega (arith, first)) ∙ first)
+  header_counts = search (arith, header_is, sequences_reported)
 
   other_does_not : does_count (new 3) (new 4) 1 ≡ false
   other_does_not = ap (λ (open' : Bool). open' && (sequence_in (new 3) % 2 == 1)) (ap is_open (change.after 4 (omega arith)) ∙ is.closed.second)
 
   committed : committed_bytes new ≡ Some (header_bytes h)
-  committed =
-      ap (option_at new) (first_alone (does_count (new 1) (new 2) 0) (does_count (new 3) (new 4) 1) (sequence_in (new 1)) (sequence_in (new 3)) header_counts
-      other_does_not)
-      ∙ ap (λ (b : List ℕ). Some b) header_is
+  committed = search (arith, first_alone, header_counts, other_does_not, header_is)
 
   directory_stays : (n : ℕ) → directory_in new p h.generation n ≡ directory_in old p h.generation n
-  directory_stays n =
-      let half = half_behind p h.generation is.plan in
-      ap (λ (bytes : List ℕ). take (16 * n) bytes) (behind (directory_sector p h.generation) (directory_length n) old new (omega (arith, half)) change)
+  directory_stays n = search (arith, half_behind, behind)
 
   frame_stays : (a : ℕ) → a < object_count p.geometry → frame_in new p h.generation es a ≡ frame_in old p h.generation es a
-  frame_stays a lt =
-      ap (shape_bytes (shape_of p a))
-      (behind (frame_sector p h.generation es a) (place_length p a) old new (frames_behind p h.generation es a is.plan (places_within p a is.plan lt).0)
-      change)
+  frame_stays a lt = search (arith, behind, frames_behind, places_within)
 
   pub denotes : (size : ℕ) → IsHeader p.geometry.log h → IsDirectory p.geometry es → length es ≡ h.entries → p.total ≤ size →
       AreKeepable p.geometry h.age frames → Encodes new size (state_of p h es frames)
-  denotes size header directory count whole keepable = record {
-    plan = record {
-      least = omega (arith, whole, five p is.plan);
-      whole = whole;
-      fits = is.plan;
-      spelt = change.before 0 (omega arith) ∙
-          is.opening.superblock;
-    };
-    header = record { fits = header; spelt = committed };
-    directory = record {
-      count = count;
-      fits = directory;
-      spelt = ap (λ (n : ℕ). directory_in new p h.generation n) (sym count) ∙ directory_stays (length es) ∙
-          is.directory;
-    };
-    count = keepable.count;
-    each = λ a lt. (keepable.each a lt, frame_stays a lt ∙ is.placed a lt);
-  }
+  denotes size header directory count whole keepable = search (arith, five, committed, directory_stays, frame_stays)
 
 -- ---- while the gate is opened
 
@@ -87,9 +59,7 @@ module _ (p : Plan) (h : CheckpointHeader) (es : List Entry) (frames : List Fram
 
 -- until the gate is opened
 pub not_yet : {old mid : Disk} (saved : SavedFrames) → LeavesOnly old mid (λ c. IsBeforeOrNone old c) → LeavesOnly old mid (λ c. IsLeftWriting old saved c)
-not_yet {old} {mid} saved run =
-    leaves_weaker {old = old} {new = mid} {P = λ c. IsBeforeOrNone old c} (λ c. IsLeftWriting old saved c)
-    (λ c is. ⊎_elim (λ before. inl before) (λ none. inr (inl none)) is) run
+not_yet {old} {mid} saved run = search (arith, leaves_weaker)
 
 -- and with it
 pub opening_run : (p : Plan) (h : CheckpointHeader) (es : List Entry) (frames : List Frame) {old mid new : Disk} → IsWritten p h es frames mid.seen →
@@ -106,11 +76,7 @@ opening_run p h es frames {old} {mid} {new} is first_header header directory cou
 -- ---- a fresh image has no entries
 
 pub no_directory : (g : Geometry) → IsDirectory g []
-no_directory g = record {
-  each = λ i e lt. absurd (omega (arith, lt));
-  rising = λ i lt. absurd (omega (arith, lt));
-  apart = λ i j first lt same. absurd (omega (arith, lt));
-}
+no_directory g = search arith
 
 -- and its header is within the limits
 pub header_fits : (room age : ℕ) → age ≤ 2 ^ 62 → IsHeader room (first_header age)
@@ -118,15 +84,10 @@ header_fits room age most = record { entries = omega arith; age = most; generati
 
 -- ---- what is so where a call succeeds
 
-pub on_ok : {T E : Type 0} (result : Result T E) {P Q : Type 0} → (P → Q) → OnOk result P → OnOk result Q
-on_ok (Ok value) {P} {Q} follows is = follows is
-on_ok (Err error) {P} {Q} follows is = tt
-
 -- once all is durable, what is seen is what a crash leaves
 pub durable_is : {T E : Type 0} (result : Result T E) (left P : Image → Type 0) (seen : Image) → OnOk result (P seen) →
     OnOk result ((c : Image) → left c → Agrees c seen) → OnOk result ((c : Image) → left c → P c)
-durable_is (Ok value) left P seen is only = λ c may. subst P (sym (agrees_is c seen (only c may))) is
-durable_is (Err error) left P seen is only = tt
+durable_is {T} {E} result left P seen is only = search (arith, agrees_is)
 
 -- what was written is whole once it is durable
 pub all_written : (p : Plan) (h : CheckpointHeader) (es : List Entry) (frames : List Frame) (front behind now : Image) → IsPlan p →
@@ -134,14 +95,7 @@ pub all_written : (p : Plan) (h : CheckpointHeader) (es : List Entry) (frames : 
     → directory_in behind p h.generation (length es) ≡ directory_bytes es →
     ((a : ℕ) → a < object_count p.geometry → frame_in behind p h.generation es a ≡ frame_bytes p.geometry a (frame_at frames a))
     → AreClosed behind → Agrees now behind → IsWritten p h es frames now
-all_written p h es frames front behind now fits has change directory placed closed same = subst (λ (i : Image). IsWritten p h es frames i)
-    (sym (agrees_is now behind same)) (record {
-      plan = fits;
-      opening = record { superblock = change.before 0 (omega arith) ∙ has.superblock; header = change.before 1 (omega arith) ∙ has.header };
-      closed = closed;
-      directory = directory;
-      placed = placed;
-    })
+all_written p h es frames front behind now fits has change directory placed closed same = search (arith, agrees_is, behind, opening)
 
 -- ---- sectors of the image
 

@@ -1,7 +1,7 @@
 -- What is laid out one behind the other is a plan.
-use Rattle.image_writer.proofs.Names.{ℕ, zero, suc, Bool, true, false, nat_lt, List, [], length, map, refl, sym, ap, subst, inl, ⊎_elim, arith, lt-ltb, le-ltb}
-use Rattle.image_writer.proofs.Names.{All, Geometry, Extent, HomeRange, Version, One, Two, Cover, IsPlan, IsWithin, AreApart, extent_at, extents, half_extent}
-use Rattle.image_writer.proofs.Names.{nodes_length, range_extent, NumberRange, MayBeLaid, behind, half_length, laid, placed, plan_from, sectors_of}
+use Rattle.image_writer.proofs.Names.{nat_tests, ℕ, zero, suc, Bool, List, [], length, map, refl, sym, subst, arith, lt-ltb, le-ltb, All, Geometry, Extent}
+use Rattle.image_writer.proofs.Names.{HomeRange, Version, One, Two, Cover, IsPlan, IsWithin, AreApart, extent_at, extents, half_extent, nodes_length}
+use Rattle.image_writer.proofs.Names.{range_extent, NumberRange, MayBeLaid, behind, half_length, laid, placed, plan_from, sectors_of}
 use Rattle.std.proofs.Common.{◌≡◌, ◌⊎◌, ◌+◌, ◌-◌, ◌*◌, ◌<◌, ◌≤◌, ◌∷◌, ◌++◌}
 use Rattle.std.specs.Prelude.{if◌then◌else◌}
 use Rattle.image_writer.proofs.Laying.{cons_behind, cons_laid, length_laid, none_behind, none_laid}
@@ -30,14 +30,12 @@ starts_later at (e ∷ es) (suc j) follow lt = let rest = starts_later (at + e.l
 follow_apart : (at : ℕ) (es : List Extent) → Follow at es → AreApart es
 follow_apart at [] follow i j lt within = absurd (omega (arith, within))
 follow_apart at (e ∷ es) follow i zero lt within = absurd (omega (arith, lt))
-follow_apart at (e ∷ es) follow zero (suc j) lt within = inl
-    (let rest = starts_later (at + e.length) es j follow.1 (omega (arith, within)) in omega (arith, rest, follow.0))
+follow_apart at (e ∷ es) follow zero (suc j) lt within = grind (arith, nat_tests, starts_later)
 follow_apart at (e ∷ es) follow (suc i) (suc j) lt within = follow_apart (at + e.length) es follow.1 i j (omega (arith, lt)) (omega (arith, within))
 
 follow_within : (total at : ℕ) (es : List Extent) → 5 ≤ at → end_of at es ≤ total → Follow at es → All (IsWithin total) es
 follow_within total at [] low high follow k d lt = absurd (omega (arith, lt))
-follow_within total at (e ∷ es) low high follow zero d lt = let rest = ends_later (at + e.length) es in
-    (omega (arith, follow.0, low), omega (arith, follow.0, rest, high))
+follow_within total at (e ∷ es) low high follow zero d lt = grind (arith, nat_tests, ends_later)
 follow_within total at (e ∷ es) low high follow (suc k) d lt = follow_within total (at + e.length) es (omega (arith, low)) high follow.1 k d (omega (arith, lt))
 
 -- ---- ranges that are laid, and what lies behind them
@@ -72,22 +70,12 @@ sectors_from g n = 2 * (g.nodes - n) + 9 * (g.nodes + g.pages - n - (g.nodes - n
 
 -- a range of nodes takes by each version no more than 8 sectors above what it takes by version 1
 few_more : (v : Version) (count : ℕ) → nodes_length v count ≤ 2 * count + 8
-few_more One count = omega arith
-few_more Two count = omega arith
+few_more v count = search arith
 
 range_takes : (v : Version) (g : Geometry) (r : NumberRange) (n : ℕ) → r.first ≡ n → 0 < r.count → (r.first + r.count ≤ g.nodes) ⊎ (g.nodes ≤ r.first) →
     n + r.count ≤ g.nodes + g.pages
     → sectors_of v g r + sectors_from g (n + r.count) ≤ sectors_from g n + 8
-range_takes v g r n first some kind few = ⊎_elim
-    (λ nodes.
-    let is : sectors_of v g r ≡ nodes_length v r.count = ap (λ (b : Bool). if b then nodes_length v r.count else 9 * r.count)
-    (lt-ltb r.first g.nodes (omega (arith, nodes, some))) in
-    let more = few_more v r.count in
-    omega (arith, is, more, first, nodes, few))
-    (λ pages.
-    let is : sectors_of v g r ≡ 9 * r.count = ap (λ (b : Bool). if b then nodes_length v r.count else 9 * r.count) (le-ltb r.first g.nodes pages) in
-    omega (arith, is, first, pages, few))
-    kind
+range_takes v g r n first some kind few = search (arith, lt-ltb, few_more, le-ltb)
 
 covered_within : (g : Geometry) (n : ℕ) (rs : List HomeRange) → Cover g n rs → n ≤ g.nodes + g.pages
 covered_within g n [] c = omega (arith, c)
@@ -96,12 +84,7 @@ covered_within g n (r ∷ rs) c = let rest = covered_within g (n + r.count) rs c
 behind_few : (v : Version) (g : Geometry) (n at : ℕ) (rs : List NumberRange) → Cover g n (map (placed 0) rs) →
     behind v g at rs ≤ at + sectors_from g n + 8 * length rs
 behind_few v g n at [] c = let none = none_behind v g at in omega (arith, none)
-behind_few v g n at (r ∷ rs) c =
-    let few = covered_within g (n + r.count) (map (placed 0) rs) c.1 in
-    let takes = range_takes v g r n c.0.0 c.0.1 c.0.2 few in
-    let is = cons_behind v g at r rs in
-    let rest = behind_few v g (n + r.count) (at + sectors_of v g r) rs c.1 in
-    omega (arith, is, rest, takes)
+behind_few v g n at (r ∷ rs) c = grind (arith, nat_tests, covered_within, range_takes, cons_behind, behind_few v g (n + r.count) (at + sectors_of v g r) rs c.1)
 
 module _ (v : Version) (g : Geometry) (rs : List NumberRange) (may : MayBeLaid g rs) where
   abbrev halves : List Extent
@@ -127,29 +110,18 @@ module _ (v : Version) (g : Geometry) (rs : List NumberRange) (may : MayBeLaid g
 
 -- what is laid out as a plan may be
 pub may_be : (v : Version) (g : Geometry) (rs : List NumberRange) → IsPlan (plan_from v g rs) → MayBeLaid g rs
-may_be v g rs is = record {
-  geometry = is.geometry;
-  some = omega (arith, is.some, length_laid v g 5 rs);
-  few = omega (arith, is.few, length_laid v g 5 rs);
-  cover = laid_covers v g 0 5 rs is.cover;
-}
+may_be v g rs is = search (arith, length_laid, laid_covers)
 
 -- ---- version 2 beside version 1
 
 -- a range takes by version 2 no more than 8 sectors above what it takes by version 1
 second_takes : (is_node : Bool) (count : ℕ) → (if is_node then nodes_length Two count else 9 * count) ≤ (if is_node then nodes_length One count else 9 * count)
     + 8
-second_takes true count = omega arith
-second_takes false count = omega arith
+second_takes is_node count = search arith
 
 second_behind : (g : Geometry) (one two : ℕ) (rs : List NumberRange) → behind Two g two rs + one ≤ behind One g one rs + two + 8 * length rs
 second_behind g one two [] = let first = none_behind One g one in let second = none_behind Two g two in omega (arith, first, second)
-second_behind g one two (r ∷ rs) =
-    let takes : sectors_of Two g r ≤ sectors_of One g r + 8 = second_takes (nat_lt r.first g.nodes) r.count in
-    let first = cons_behind One g one r rs in
-    let second = cons_behind Two g two r rs in
-    let rest = second_behind g (one + sectors_of One g r) (two + sectors_of Two g r) rs in
-    omega (arith, takes, first, second, rest)
+second_behind g one two (r ∷ rs) = grind (arith, nat_tests, second_takes, cons_behind, second_behind g (one + sectors_of One g r) (two + sectors_of Two g r) rs)
 
 pub second_total : (g : Geometry) (rs : List NumberRange) → (plan_from Two g rs).total ≤ (plan_from One g rs).total + 8 * length rs
 second_total g rs = let end = second_behind g 5 5 rs in omega (arith, end)

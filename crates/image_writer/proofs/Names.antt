@@ -6,8 +6,8 @@ pub use Rattle.ckpt_log.proofs.Places.{half_behind, sequences_reported}
 pub use Rattle.ckpt_log.proofs.SavedStates.{frames_behind}
 pub use Rattle.ckpt_log.specs.Closing.{AreClosed, KeepsImage, SparesRest, WasKeptOrHasNone}
 pub use Rattle.device.proofs.Images.{agrees_is, elsewhere_on, elsewhere_same}
-pub use Rattle.device.proofs.Moments.{OnlyNow, leaves_on, leaves_weaker, narrowed, started}
-pub use Rattle.device.specs.Calls.{Agrees, Elsewhere, IsTorn, Only}
+pub use Rattle.device.proofs.Moments.{leaves_on, leaves_weaker, narrowed}
+pub use Rattle.device.specs.Calls.{Agrees, Elsewhere, IsTorn}
 pub use Rattle.device.specs.Disk.{Disk, Image}
 pub use Rattle.device.specs.Moments.{LeavesOnly}
 pub use Rattle.home_ranges.proofs.FrameSlots.{frame_slot_entry}
@@ -21,14 +21,14 @@ pub use Rattle.layout.proofs.Shapes.{few_sectors, same_shaped}
 pub use Rattle.layout.specs.Calls.{WritesAt}
 pub use Rattle.layout.specs.Directory.{IsDirectory, entry_at}
 unfoldable pub use Rattle.layout.specs.Directory.{directory_bytes}
-pub use Rattle.layout.specs.Frame.{IsFrameOf, frame_bytes}
+pub use Rattle.layout.specs.Frame.{frame_bytes}
 pub use Rattle.layout.specs.Frames.{IsObject}
 pub use Rattle.layout.specs.Gate.{is_open}
 pub use Rattle.layout.specs.Header.{IsHeader}
 unfoldable pub use Rattle.layout.specs.Header.{header_bytes}
 pub use Rattle.layout.specs.Homes.{home_place, place_length, shape_of}
 pub use Rattle.layout.specs.Image.{Encodes, HasNoHeader, SavedState, bytes_at, committed_bytes, committed_of, directory_in, directory_length, directory_sector}
-pub use Rattle.layout.specs.Image.{does_count, frame_in, frame_sector, frame_slot_in, half_sector, option_at, sequence_in, slot_sector}
+pub use Rattle.layout.specs.Image.{does_count, frame_in, frame_slot_in, half_sector, option_at, sequence_in, slot_sector}
 unfoldable pub use Rattle.layout.specs.Image.{sectors_from}
 pub use Rattle.layout.specs.Shape.{shape_bytes, shape_length}
 pub use Rattle.layout.specs.Superblock.{AreApart, Cover, IsPlan, IsWithin, Plan, extent_at, extents, half_extent, nodes_length, range_extent}
@@ -49,10 +49,12 @@ pub use Rattle.model.specs.declared.frame.Frame.{Frame}
 pub use Rattle.model.specs.declared.frame.ObjectHeader.{ObjectHeader}
 pub use Rattle.model.specs.declared.geometry.Geometry.{Geometry}
 pub use Rattle.model.specs.declared.object.Content.{Content}
-pub use Rattle.std.proofs.Common.{Bool, Err, List, None, Ok, Option, Result, Some, [], ap, append_assoc, arith, drop, false, get_or, inl, inr, length, map}
-pub use Rattle.std.proofs.Common.{nat_lt, refl, rules, set, subst, suc, sym, take, true, zero, ℕ, ⊎_elim}
+pub use Rattle.std.proofs.Common.{Bool, List, None, Option, Result, Some, [], ap, append_assoc, arith, drop, false, get_or, inl, inr, length, map, nat_lt, refl}
+pub use Rattle.std.proofs.Common.{rules, set, subst, suc, sym, take, true, zero, ℕ, ⊎_elim}
 pub use Rattle.std.proofs.lemmas.Bool.{cases_eq, cases_lt, false≢true, le-ltb, lt-ltb}
+pub use Rattle.std.proofs.lemmas.Bool.Decides.{nat_tests}
 pub use Rattle.std.proofs.lemmas.List.{append-nil, drop_all, drop_more, get_or_read, length-map, length-set, take_all, take_more_set}
+pub use Rattle.std.proofs.lemmas.Result.{on_ok_weaker}
 pub use Rattle.std.specs.List.{All}
 pub use Rattle.std.specs.Prelude.{OnOk, slice_index_or}
 pub use Rattle.image_writer.specs.Homes.{AreFramesOf, IsHome, LieAt, frames_before}

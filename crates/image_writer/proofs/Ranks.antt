@@ -1,7 +1,7 @@
 -- Clusters are filled node by node.
-use Rattle.image_writer.proofs.Names.{ℕ, List, inl, inr, subst, ap, arith, cases_lt, Frame, Geometry, frame_at, Packed, frame_bytes, home_place, shape_of}
-use Rattle.image_writer.proofs.Names.{shape_bytes, Plan, IsPlan, IsObject, HaveHome, ranked, AreFramesOf}
-use Rattle.std.proofs.Common.{◌≡◌, ◌+◌, ◌-◌, ◌<◌, ◌∙◌}
+use Rattle.image_writer.proofs.Names.{nat_tests, ℕ, List, arith, cases_lt, Frame, Geometry, frame_at, Packed, frame_bytes, home_place, shape_of, shape_bytes}
+use Rattle.image_writer.proofs.Names.{Plan, IsPlan, IsObject, HaveHome, ranked, AreFramesOf}
+use Rattle.std.proofs.Common.{◌≡◌, ◌+◌, ◌<◌, ◌∙◌}
 
 -- the frames of the first n from a number on are in a cluster
 abbrev pub AreIn : Geometry → List Frame → ℕ → ℕ → List ℕ → Type 0
@@ -10,21 +10,13 @@ AreIn g frames number n cluster = (k : ℕ) → k < n → shape_bytes (Packed k)
 pub one_more : (g : Geometry) (frames : List Frame) (number n : ℕ) (old new : List ℕ) → n < 5 → AreIn g frames number n old →
     shape_bytes (Packed n) new ≡ frame_bytes g (number + n) (frame_at frames (number + n))
     → ((other : ℕ) → other < 5 → (other ≡ n → ⊥) → shape_bytes (Packed other) new ≡ shape_bytes (Packed other) old) → AreIn g frames number (n + 1) new
-one_more g frames number n old new few so_far here others k below = elim (cases_lt k n) [
-  | inl lt ↦ others k (omega (arith, lt, few)) (λ e. omega (arith, lt, e)) ∙ so_far k lt
-  | inr le ↦ let last : n ≡ k = omega (arith, below, le) in subst
-      (λ (m : ℕ). shape_bytes (Packed m) new ≡ frame_bytes g (number + m) (frame_at frames (number + m))) last here
-]
+one_more g frames number n old new few so_far here others k below = search (arith, cases_lt)
 
 -- once all that have the home of the first are in it, its bytes are their frames
 pub all_in : (p : Plan) (frames : List Frame) (number n : ℕ) (cluster : List ℕ) → IsPlan p → IsObject p.geometry number → shape_of p number ≡ Packed 0 →
     HaveHome p number n → AreIn p.geometry frames number n cluster
     → AreFramesOf p frames number cluster
-all_in p frames number n cluster fits is first have so_far a is_a same =
-    let at = ranked p a number fits is_a is first same in
-    let few = have.all a is_a at.0 same in
-    let one : number + (a - number) ≡ a = omega (arith, at.0) in
-    ap (λ s. shape_bytes s cluster) at.2 ∙ so_far (a - number) (omega (arith, few, at.0)) ∙ ap (λ (m : ℕ). frame_bytes p.geometry m (frame_at frames m)) one
+all_in p frames number n cluster fits is first have so_far a is_a same = grind (arith, nat_tests, ranked p a number fits is_a is first same)
 
 -- and they stay where the rest is made zeros
 pub blank_in : (p : Plan) (frames : List Frame) (number : ℕ) (old new : List ℕ) →

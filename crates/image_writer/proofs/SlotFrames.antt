@@ -1,11 +1,11 @@
 -- Slots of the log are written one after the other, behind the homes.
-use Rattle.image_writer.proofs.Names.{ℕ, Result, Ok, Err, Option, Some, None, List, length, inl, inr, ⊎_elim, refl, sym, subst, ap, arith, OnOk, cases_lt, Cap}
-use Rattle.image_writer.proofs.Names.{Frame, ObjectHeader, Content, frame_at, frames_in, header_at, object_count, Image, Elsewhere, Entry, Packed, IsDirectory}
-use Rattle.image_writer.proofs.Names.{directory_bytes, entry_at, frame_bytes, home_place, place_length, shape_of, bytes_at, directory_in, directory_length}
-use Rattle.image_writer.proofs.Names.{directory_sector, frame_in, half_sector, frame_slot_in, sectors_from, slot_sector, shape_bytes, shape_length, Plan}
-use Rattle.image_writer.proofs.Names.{IsPlan, half_extent, half_within, few_sectors, same_shaped, IsObject, IsOwn, one_length, places_spare_log}
-use Rattle.image_writer.proofs.Names.{frame_slot_entry, begins, AreFramesOf, LieAt, AreHome, AreInSlots, slice_index_or}
-use Rattle.std.proofs.Common.{◌≡◌, ◌+◌, ◌-◌, ◌*◌, ◌/◌, ◌<◌, ◌≤◌, ◌∙◌}
+use Rattle.image_writer.proofs.Names.{nat_tests, ℕ, Result, Option, Some, None, List, length, ⊎_elim, refl, sym, subst, ap, arith, OnOk, cases_lt, Cap, Frame}
+use Rattle.image_writer.proofs.Names.{ObjectHeader, Content, frame_at, frames_in, header_at, object_count, Image, Elsewhere, Entry, Packed, IsDirectory}
+use Rattle.image_writer.proofs.Names.{entry_at, frame_bytes, home_place, place_length, shape_of, bytes_at, directory_sector, frame_in, half_sector}
+use Rattle.image_writer.proofs.Names.{frame_slot_in, sectors_from, slot_sector, shape_length, Plan, IsPlan, half_extent, half_within, few_sectors, same_shaped}
+use Rattle.image_writer.proofs.Names.{IsObject, IsOwn, one_length, places_spare_log, frame_slot_entry, begins, AreFramesOf, LieAt, AreHome, AreInSlots}
+use Rattle.image_writer.proofs.Names.{slice_index_or}
+use Rattle.std.proofs.Common.{◌≡◌, ◌+◌, ◌-◌, ◌*◌, ◌<◌, ◌≤◌, ◌∙◌}
 use Rattle.image_writer.proofs.HomeFrames.{own_at}
 
 -- ---- the slot of one entry
@@ -15,15 +15,12 @@ packed_at : (p : Plan) (frames : List Frame) (n rank at : ℕ) (cluster : List �
     shape_of p n ≡ Packed rank → sectors_from image at 8 ≡ cluster → AreFramesOf p frames (n - rank) cluster
     → LieAt p frames n at image
 packed_at p frames n rank at cluster image fits is shape held filled a is_a same =
-    let long : place_length p a ≡ 8 = one_length p a n fits is_a is same ∙ ap shape_length shape in
-    ap (λ (k : ℕ). shape_bytes (shape_of p a) (sectors_from image at k)) long ∙ ap (shape_bytes (shape_of p a)) held ∙
-    filled a is_a (same ∙ sym (begins p n rank fits is shape).home)
+    grind (arith, nat_tests, one_length p a n fits is_a is same ∙ ap shape_length shape, fits, begins)
 
 pub packed_written : {T E : Type 0} (result : Result T E) (p : Plan) (frames : List Frame) (n rank at : ℕ) (cluster : List ℕ) (image : Image) → IsPlan p →
     IsObject p.geometry n → shape_of p n ≡ Packed rank
     → OnOk result (sectors_from image at 8 ≡ cluster) → AreFramesOf p frames (n - rank) cluster → OnOk result (LieAt p frames n at image)
-packed_written (Ok value) p frames n rank at cluster image fits is shape held filled = packed_at p frames n rank at cluster image fits is shape held filled
-packed_written (Err error) p frames n rank at cluster image fits is shape held filled = tt
+packed_written {T} {E} result p frames n rank at cluster image fits is shape held filled = search (arith, packed_at, fits)
 
 -- and so has a slot that is written with a frame that has sectors of its own
 pub own_written_at : {T E : Type 0} (result : Result T E) (p : Plan) (hs : List ObjectHeader) (cs : List (Content Cap)) (n at : ℕ) (c : Content Cap)
@@ -31,8 +28,7 @@ pub own_written_at : {T E : Type 0} (result : Result T E) (p : Plan) (hs : List 
     → length cs ≡ object_count p.geometry → c ≡ slice_index_or cs n c → IsOwn (shape_of p n) →
     OnOk result (bytes_at image at p n ≡ frame_bytes p.geometry n (record { header = header_at hs n; content = c }))
     → OnOk result (LieAt p (frames_in hs cs) n at image)
-own_written_at (Ok value) p hs cs n at c image fits is size same_size held own written = own_at p hs cs n at c image fits is size same_size held own written
-own_written_at (Err error) p hs cs n at c image fits is size same_size held own written = tt
+own_written_at {T} {E} result p hs cs n at c image fits is size same_size held own written = search (arith, own_at, fits)
 
 -- ---- one slot after the other
 
@@ -48,35 +44,16 @@ module _ (p : Plan) (generation : ℕ) (es : List Entry) (i : ℕ) (mid new : Im
   -- a write of a slot leaves the others
   other_slot : (j a : ℕ) → j < i → bytes_at new (slot_sector p generation (entry_at es j).slot) p a ≡ bytes_at mid
       (slot_sector p generation (entry_at es j).slot) p a
-  other_slot j a before = same_shaped (slot_sector p generation (entry_at es j).slot) (shape_of p a) mid new (λ k inside.
-      let few = slot_length p a in
-      let own = slot_length p (entry_at es i).object in
-      elim (cases_lt (entry_at es j).slot (entry_at es i).slot) [
-        | inl less ↦ change.before (slot_sector p generation (entry_at es j).slot + k) (omega (arith, less, inside, few))
-        | inr le ↦
-            let differ = is.apart j i before lt in
-            change.after (slot_sector p generation (entry_at es j).slot + k) (omega (arith, le, differ, own))
-      ])
+  other_slot j a before = search (arith, same_shaped, slot_length, cases_lt)
 
   pub one_more_slot : (frames : List Frame) → AreInSlots p generation es frames i mid →
       LieAt p frames (entry_at es i).object (slot_sector p generation (entry_at es i).slot) new → AreInSlots p generation es frames (i + 1) new
-  one_more_slot frames so_far here j below a is_a same = elim (cases_lt j i) [
-    | inl less ↦ other_slot j a less ∙ so_far j less a is_a same
-    | inr le ↦
-        let last : i ≡ j = omega (arith, below, le) in
-        subst (λ (k : ℕ). LieAt p frames (entry_at es k).object (slot_sector p generation (entry_at es k).slot) new) last here a is_a same
-  ]
+  one_more_slot frames so_far here j below a is_a same = search (arith, cases_lt, other_slot)
 
   -- and stays in the half
   pub stays_in_half : (old : Image) → Elsewhere (half_sector p generation) (9 * p.geometry.log) old mid →
       Elsewhere (half_sector p generation) (9 * p.geometry.log) old new
-  stays_in_half old so_far =
-      let slot = fits i lt in
-      let few = slot_length p (entry_at es i).object in
-      record {
-        before = λ k low. change.before k (omega (arith, low)) ∙ so_far.before k low;
-        after = λ k high. change.after k (omega (arith, high, slot, few)) ∙ so_far.after k high;
-      }
+  stays_in_half old so_far = search (arith, fits, slot_length)
 
 -- a slot lies behind the headers
 pub slot_behind : (p : Plan) (generation slot : ℕ) → IsPlan p → 5 ≤ slot_sector p generation slot
@@ -87,12 +64,7 @@ slot_behind p generation slot fits = let within = half_within p generation fits 
 pub slots_stay : (p : Plan) (generation at long : ℕ) (es : List Entry) (frames : List Frame) (mid new : Image) → IsDirectory p.geometry es →
     at ≡ directory_sector p generation → Elsewhere at long mid new
     → AreInSlots p generation es frames (length es) mid → AreInSlots p generation es frames (length es) new
-slots_stay p generation at long es frames mid new is place change so_far j lt a is_a same =
-    let slot = (is.each j (record { object = 0; slot = 0 }) lt).slot in
-    let few = slot_length p a in
-    same_shaped (slot_sector p generation (entry_at es j).slot) (shape_of p a) mid new
-    (λ k inside. change.before (slot_sector p generation (entry_at es j).slot + k) (omega (arith, slot, inside, few, place)))
-    ∙ so_far j lt a is_a same
+slots_stay p generation at long es frames mid new is place change so_far j lt a is_a same = search (arith, slot_length, same_shaped)
 
 -- ---- what an image has of a frame
 
@@ -117,8 +89,4 @@ all_slotted p generation es frames homes new fits change home slots a lt = by (f
 -- the log lies between the headers and the end
 pub log_between : (p : Plan) (generation : ℕ) (old mid new : Image) → IsPlan p → Elsewhere 5 (p.total - 5) old mid →
     Elsewhere (half_sector p generation) (half_extent p.geometry 0).length mid new → Elsewhere 5 (p.total - 5) old new
-log_between p generation old mid new fits first second =
-    let within = half_within p generation fits in record {
-      before = λ i low. second.before i (omega (arith, low, within.0)) ∙ first.before i low;
-      after = λ i high. second.after i (omega (arith, high, within.0, within.1)) ∙ first.after i high;
-    }
+log_between p generation old mid new fits first second = search (arith, half_within, fits)

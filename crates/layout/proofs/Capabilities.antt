@@ -1,35 +1,22 @@
 -- Capabilities read back from their bytes.
-use Rattle.layout.proofs.Names.{ℕ, zero, suc, List, [], length, get_or, take, drop, refl, sym, ap, subst, inl, inr, append_assoc, arith, le_bytes_8, take_all}
-use Rattle.layout.proofs.Names.{drop_all, append-nil, Access, Cap, Capability, Void, Number, Space, Process, Start, Resume, Bank, Discrim, Geometry, tag_of}
-use Rattle.layout.proofs.Names.{access_bits, IsAccess, Follows, IsKeptCap, number, short_number, key_of, height_of, number_of, head_bytes, capability_bytes}
-use Rattle.layout.proofs.Names.{head_number, HeadFits, assembled}
+use Rattle.layout.proofs.Names.{nat_tests, [], ℕ, List, length, get_or, take, drop, sym, ap, subst, append_assoc, arith, le_bytes_8, take_all, drop_all}
+use Rattle.layout.proofs.Names.{append-nil, Access, Cap, Capability, Geometry, tag_of, access_bits, IsAccess, Follows, IsKeptCap, number, short_number, key_of}
+use Rattle.layout.proofs.Names.{height_of, number_of, head_bytes, capability_bytes, head_number, HeadFits, assembled}
 use Rattle.std.proofs.Common.{◌≡◌, ◌+◌, ◌*◌, ◌/◌, ◌%◌, ◌^◌, ◌<◌, ◌∷◌, ◌++◌, ◌∙◌}
-use Rattle.model.specs.declared.capability.Capability.TheVariants.{Page, Node}
 use Rattle.layout.proofs.Numbers.{number_splits}
 
 pub small_8 : (a b c d e f g h : ℕ) → a < 256 → b < 256 → c < 256 → d < 256 → e < 256 → f < 256 → g < 256 → h < 256
     → (i : ℕ) → get_or (a ∷ b ∷ c ∷ d ∷ e ∷ f ∷ g ∷ h ∷ []) i 0 < 256
-small_8 a b c d e f g h pa pb pc pd pe pf pg ph zero = pa
-small_8 a b c d e f g h pa pb pc pd pe pf pg ph (suc zero) = pb
-small_8 a b c d e f g h pa pb pc pd pe pf pg ph (suc (suc zero)) = pc
-small_8 a b c d e f g h pa pb pc pd pe pf pg ph (suc (suc (suc zero))) = pd
-small_8 a b c d e f g h pa pb pc pd pe pf pg ph (suc (suc (suc (suc zero)))) = pe
-small_8 a b c d e f g h pa pb pc pd pe pf pg ph (suc (suc (suc (suc (suc zero))))) = pf
-small_8 a b c d e f g h pa pb pc pd pe pf pg ph (suc (suc (suc (suc (suc (suc zero)))))) = pg
-small_8 a b c d e f g h pa pb pc pd pe pf pg ph (suc (suc (suc (suc (suc (suc (suc zero))))))) = ph
-small_8 a b c d e f g h pa pb pc pd pe pf pg ph (suc (suc (suc (suc (suc (suc (suc (suc i)))))))) = omega arith
+small_8 a b c d e f g h pa pb pc pd pe pf pg ph i = grind (arith, nat_tests)
 
 -- a tag, an access, a key and a height in one number
 fields_number : (t a k h : ℕ) → t < 256 → a < 256 → k < 65536 → h < 256
     → (t ∷ a ∷ []) ++ short_number k ++ h ∷ 0 ∷ 0 ∷ 0 ∷ [] ≡ number (t + 256 * a + 65536 * k + 4294967296 * h)
 unfolding number short_number
-fields_number t a k h ft fa fk fh =
-    sym (le_bytes_8 (t ∷ a ∷ k % 256 ∷ k / 256 % 256 ∷ h ∷ 0 ∷ 0 ∷ 0 ∷ []) (t + 256 * a + 65536 * k + 4294967296 * h) refl
-    (small_8 t a (k % 256) (k / 256 % 256) h 0 0 0 ft fa (omega arith) (omega arith) fh (omega arith) (omega arith) (omega arith)) (omega arith))
+fields_number t a k h ft fa fk fh = grind (arith, nat_tests, le_bytes_8, small_8)
 
 tag_fits : (k : Capability) → tag_of k < 256
-tag_fits Void = omega arith
-tag_fits other = omega arith
+tag_fits k = grind (arith, nat_tests)
 
 head_is : (k : Capability) → HeadFits k → head_bytes k ≡ number (head_number k)
 unfolding head_bytes
@@ -38,21 +25,16 @@ head_is k fits = fields_number (tag_of k) (access_bits k) (key_of k) (height_of 
 -- a capability as three numbers
 pub as_numbers : (c : Cap) → HeadFits c.what → capability_bytes c ≡ number (head_number c.what) ++ (number (number_of c.what) ++ number c.count)
 unfolding capability_bytes
-as_numbers c fits = ap (λ (h : List ℕ). h ++ number (number_of c.what) ++ number c.count) (head_is c.what fits) ∙
-    append_assoc (number (head_number c.what)) (number (number_of c.what)) (number c.count)
+as_numbers c fits = grind (arith, nat_tests, head_is, append_assoc)
 
 -- three numbers are read
 pub three_read : (bytes : List ℕ) (a b c : ℕ) → length bytes ≡ 24 → bytes ≡ number a ++ drop 8 bytes → drop 8 bytes ≡ number b ++ drop 16 bytes →
     drop 16 bytes ≡ number c ++ drop 24 bytes
     → bytes ≡ number a ++ (number b ++ number c)
-three_read bytes a b c len ea eb ec =
-    let last : drop 16 bytes ≡ number c = ec ∙ ap (λ (r : List ℕ). number c ++ r) (drop_all 24 bytes (omega arith)) ∙ append-nil (number c) in
-    ea ∙ ap (λ (r : List ℕ). number a ++ r) (eb ∙ ap (λ (r : List ℕ). number b ++ r) last)
+three_read bytes a b c len ea eb ec = grind (arith, nat_tests, drop_all 24 bytes (omega arith), append-nil (number c))
 
 access_fits : (a : Access) → IsAccess a → a.0 < 256
-access_fits a (inl e) = omega arith
-access_fits a (inr (inl e)) = omega arith
-access_fits a (inr (inr e)) = omega arith
+access_fits a h1 = grind (arith, nat_tests)
 
 pub record CapFits (c : Cap) : Type 0 where
   pub head : HeadFits c.what
@@ -61,37 +43,12 @@ pub record CapFits (c : Cap) : Type 0 where
 
 -- what has a spelling fits its bytes
 pub follows_fits : (g : Geometry) (age count : ℕ) (k : Capability) → Follows g age count k → CapFits (record { what = k; count = count })
-follows_fits g age count Void f =
-    record { head = record { access = omega arith; key = omega arith; height = omega arith }; object = omega arith; count = omega arith }
-follows_fits g age count (Number n) f =
-    record { head = record { access = omega arith; key = omega arith; height = omega arith }; object = omega arith; count = omega arith }
-follows_fits g age count (Page o a) f =
-    record { head = record { access = access_fits a f.0; key = omega arith; height = omega arith }; object = omega arith; count = omega arith }
-follows_fits g age count (Node o a) f =
-    record { head = record { access = access_fits a f.0; key = omega arith; height = omega arith }; object = omega arith; count = omega arith }
-follows_fits g age count (Space o h a) f =
-    record { head = record { access = access_fits a f.0; key = omega arith; height = omega arith }; object = omega arith; count = omega arith }
-follows_fits g age count (Process p) f =
-    record { head = record { access = omega arith; key = omega arith; height = omega arith }; object = omega arith; count = omega arith }
-follows_fits g age count (Start p key) f =
-    record { head = record { access = omega arith; key = omega arith; height = omega arith }; object = omega arith; count = omega arith }
-follows_fits g age count (Resume p) f =
-    record { head = record { access = omega arith; key = omega arith; height = omega arith }; object = omega arith; count = omega arith }
-follows_fits g age count (Bank b) f =
-    record { head = record { access = omega arith; key = omega arith; height = omega arith }; object = omega arith; count = omega arith }
-follows_fits g age count Discrim f =
-    record { head = record { access = omega arith; key = omega arith; height = omega arith }; object = omega arith; count = omega arith }
+follows_fits g age count k f = grind (arith, nat_tests, access_fits)
 
 -- a capability is made again of its fields
 assembled_again : (k : Capability) (tag bits key height n : ℕ) → tag ≡ tag_of k → bits ≡ access_bits k → key ≡ key_of k → height ≡ height_of k → n ≡ number_of k
     → assembled tag (record { 0 = bits }) key height n ≡ k
-assembled_again Void tag bits key height n et eb ek eh en = rw (et) refl
-assembled_again (Page o a) tag bits key height n et eb ek eh en = rw (et, eb, en) refl
-assembled_again (Node o a) tag bits key height n et eb ek eh en = rw (et, eb, en) refl
-assembled_again (Space o h a) tag bits key height n et eb ek eh en = rw (et, eb, eh, en) refl
-assembled_again (Start p k) tag bits key height n et eb ek eh en = rw (et, ek, en) refl
-assembled_again Discrim tag bits key height n et eb ek eh en = rw (et) refl
-assembled_again other tag bits key height n et eb ek eh en = rw (et, en) refl
+assembled_again k tag bits key height n et eb ek eh en = grind (arith, nat_tests)
 
 -- the fields of a head
 head_parts : (t a k h : ℕ) → t < 256 → a < 256 → k < 65536 → h < 256 →
@@ -100,11 +57,7 @@ head_parts t a k h ft fa fk fh = (omega arith, omega arith, omega arith, omega a
 
 pub made_again : (k : Capability) (head bits n : ℕ) → HeadFits k → head ≡ head_number k → n ≡ number_of k → bits ≡ head / 256 % 256
     → assembled (head % 256) (record { 0 = bits }) (head / 65536 % 65536) (head / 4294967296 % 256) n ≡ k
-made_again k head bits n fits eh en eb =
-    let p = head_parts (tag_of k) (access_bits k) (key_of k) (height_of k) (tag_fits k) fits.access fits.key fits.height in
-    assembled_again k (head % 256) bits (head / 65536 % 65536) (head / 4294967296 % 256) n
-    (ap (λ (x : ℕ). x % 256) eh ∙ p.0) (eb ∙ ap (λ (x : ℕ). x / 256 % 256) eh ∙ p.1) (ap (λ (x : ℕ). x / 65536 % 65536) eh ∙ p.2)
-    (ap (λ (x : ℕ). x / 4294967296 % 256) eh ∙ p.3) en
+made_again k head bits n fits eh en eb = grind (arith, nat_tests, head_parts, tag_fits, assembled_again)
 
 -- the numbers of a spelling
 pub record HasNumbers (c : Cap) (head object count : ℕ) : Type 0 where
@@ -131,9 +84,7 @@ same_cap b c w n = ap (λ (k : Capability). record { what = k; count = b.count }
 pub three_written : (new mid first old : List ℕ) (a b c : ℕ) → length new ≡ 24 → take 24 new ≡ take 16 mid ++ number c →
     take 16 mid ≡ take 8 first ++ number b → take 8 first ≡ take 0 old ++ number a
     → new ≡ number a ++ (number b ++ number c)
-three_written new mid first old a b c len ec eb ea =
-    sym (take_all 24 new (omega arith)) ∙ ec ∙ ap (λ (r : List ℕ). r ++ number c) (eb ∙ ap (λ (r : List ℕ). r ++ number b) ea) ∙
-    append_assoc (number a) (number b) (number c)
+three_written new mid first old a b c len ec eb ea = cc (take_all 24 new (omega arith), append_assoc (number a) (number b) (number c))
 
 -- the numbers that were read of bytes that no capability spells
 pub none_spelt : (g : Geometry) (age : ℕ) (bytes : List ℕ) (head object count bits : ℕ) (what : Capability) → head < 2 ^ 64 → object < 2 ^ 64 → count < 2 ^ 64
@@ -151,12 +102,4 @@ none_spelt g age bytes head object count bits what fh fo fc is eb made hold c fi
 
 -- given bytes spell at most one capability
 pub one_capability : (g : Geometry) (age : ℕ) (b c : Cap) → IsKeptCap g age b → IsKeptCap g age c → capability_bytes b ≡ capability_bytes c → b ≡ c
-one_capability g age b c fb fc e =
-    let all = follows_fits g age b.count b.what fb in
-    let all' = follows_fits g age c.count c.what fc in
-    let n = spelt_numbers c (head_number b.what) (number_of b.what) b.count all' (head_below b.what all.head) all.object all.count
-    (sym (as_numbers b all.head) ∙ e) in
-    let left = made_again b.what (head_number b.what) (head_number b.what / 256 % 256) (number_of b.what) all.head refl refl refl in
-    let right = made_again c.what (head_number b.what) (head_number b.what / 256 % 256) (number_of b.what) all'.head n.head_is n.object_is refl in
-    let what : b.what ≡ c.what = sym left ∙ right in
-    same_cap b c what n.count_is
+one_capability g age b c fb fc e = grind (arith, nat_tests, follows_fits, spelt_numbers, head_below, as_numbers, made_again, same_cap)

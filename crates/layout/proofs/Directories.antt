@@ -1,10 +1,9 @@
 -- Directories read back from their bytes.
-use Rattle.layout.proofs.Names.{ℕ, Bool, true, false, List, [], length, get_or, set, take, drop, refl, sym, ap, subst, append_assoc, inl, inr, arith, replicate}
-use Rattle.layout.proofs.Names.{cases_lt, cases_eq, false≢true, take_more, take_more_set, take_all, take_at, append-nil, length-append, length-set}
-use Rattle.layout.proofs.Names.{get_or-set_same, get_or-set_other, get_or-replicate, length-replicate, get_or_past, take-add, flat_map-append, All-same}
-use Rattle.layout.proofs.Names.{All-push, All-nil, All-tail, All-head, Geometry, Entry, number, entry_bytes, directory_bytes, entry_at, AreRising, HaveOwnSlots}
-use Rattle.layout.proofs.Names.{IsDirectory, AllFitting}
-use Rattle.std.proofs.Common.{◌≡◌, ◌+◌, ◌-◌, ◌*◌, ◌^◌, ◌<◌, ◌≤◌, ◌∷◌, ◌++◌, ◌∙◌}
+use Rattle.layout.proofs.Names.{nat_tests, [], ℕ, Bool, true, false, List, length, get_or, set, take, drop, refl, sym, ap, append_assoc, inl, inr, arith}
+use Rattle.layout.proofs.Names.{replicate, cases_lt, false≢true, take_more, take_more_set, take_at, append-nil, length-append, get_or-replicate}
+use Rattle.layout.proofs.Names.{length-replicate, get_or_past, take-add, flat_map-append, All-same, All-push, All-nil, All-tail, All-head, Geometry, Entry}
+use Rattle.layout.proofs.Names.{number, directory_bytes, entry_at, IsDirectory, AllFitting}
+use Rattle.std.proofs.Common.{◌≡◌, ◌+◌, ◌-◌, ◌*◌, ◌^◌, ◌<◌, ◌∷◌, ◌++◌, ◌∙◌}
 use Rattle.layout.proofs.Numbers.{length-number, number_splits}
 
 -- ---- bytes
@@ -19,13 +18,11 @@ cons_entry e es = append_assoc (number e.object) (number e.slot) (directory_byte
 
 push_entry : (es : List Entry) (e : Entry) → directory_bytes (es ++ e ∷ []) ≡ directory_bytes es ++ number e.object ++ number e.slot
 unfolding directory_bytes
-push_entry es e = flat_map-append entry_bytes es (e ∷ []) ∙ ap (λ (r : List ℕ). directory_bytes es ++ r) (append-nil (entry_bytes e)) ∙
-    sym (append_assoc (directory_bytes es) (number e.object) (number e.slot))
+push_entry es e = grind (arith, nat_tests, flat_map-append, append-nil, append_assoc)
 
 pub length-directory : (es : List Entry) → length (directory_bytes es) ≡ 16 * length es
 length-directory [] = ap length no_entry
-length-directory (e ∷ es) = ap length (cons_entry e es) ∙ length-append (number e.object) (number e.slot ++ directory_bytes es)
-    ∙ omega (arith, length-append (number e.slot) (directory_bytes es), length-number e.object, length-number e.slot, length-directory es)
+length-directory (e ∷ es) = grind (arith, nat_tests, cons_entry, length-append, length-number, length-directory es)
 
 same_entry : (d e : Entry) → d.object ≡ e.object → d.slot ≡ e.slot → d ≡ e
 same_entry d e o s = ap (λ (x : ℕ). record { object = x; slot = d.slot }) o ∙ ap (λ (x : ℕ). record { object = e.object; slot = x }) s
@@ -64,40 +61,24 @@ entry_read bytes into i o s lt before fo fs is_object is_slot =
     let e : Entry = record { object = o; slot = s } in
     let more : take (i + 1) (set into i e) ≡ take i into ++ e ∷ [] = take_more_set into i e lt in
     let next : 16 * (i + 1) ≡ 16 * i + 16 = omega arith in
-    let both : drop (16 * i) bytes ≡ (number o ++ number s) ++ drop (16 * i + 8 + 8) bytes = is_object ∙ ap (λ (r : List ℕ). number o ++ r) is_slot ∙
-    sym (append_assoc (number o) (number s) (drop (16 * i + 8 + 8) bytes)) in
+    let both : drop (16 * i) bytes ≡ (number o ++ number s) ++ drop (16 * i + 8 + 8) bytes = grind (arith, nat_tests, append_assoc) in
     let piece : take 16 (drop (16 * i) bytes) ≡ number o ++ number s = ap (take 16) both ∙
     take_at (number o ++ number s) (drop (16 * i + 8 + 8) bytes) 16 (length-append (number o) (number s) ∙ omega (arith, length-number o, length-number s))
     in
     record {
-      bytes_are = ap (λ (n : ℕ). take n bytes) next ∙ take-add (16 * i) 16 bytes ∙ ap (λ (r : List ℕ). r ++ take 16 (drop (16 * i) bytes)) before.bytes_are
-          ∙ ap (λ (r : List ℕ). directory_bytes (take i into) ++ r) piece ∙ sym (append_assoc (directory_bytes (take i into)) (number o) (number s))
-          ∙ sym (push_entry (take i into) e) ∙ ap directory_bytes (sym more);
-      each = All-same (λ (x : Entry). (x.object < 2 ^ 64) × (x.slot < 2 ^ 64)) (take (i + 1) (set into i e)) (take i into ++ e ∷ []) more
-          (All-push (λ (x : Entry). (x.object < 2 ^ 64) × (x.slot < 2 ^ 64)) (take i into) e before.each (fo, fs));
+      bytes_are = grind (arith, nat_tests, take-add, append_assoc, push_entry);
+      each = search (All-same, All-push);
     }
 
 pub entry_written : (es : List Entry) (i : ℕ) (e : Entry) (old mid new : List ℕ) → i < length es → take (16 * i) old ≡ directory_bytes (take i es)
     → take (16 * i + 8) mid ≡ take (16 * i) old ++ number e.object → take (16 * i + 8 + 8) new ≡ take (16 * i + 8) mid ++ number e.slot → e ≡ get_or es i e
     → take (16 * (i + 1)) new ≡ directory_bytes (take (i + 1) es)
-entry_written es i e old mid new lt before first second is =
-    let next : 16 * (i + 1) ≡ 16 * i + 8 + 8 = omega arith in
-    ap (λ (n : ℕ). take n new) next ∙ second ∙ ap (λ (r : List ℕ). r ++ number e.slot) (first ∙ ap (λ (r : List ℕ). r ++ number e.object) before)
-    ∙ sym (push_entry (take i es) e) ∙ ap directory_bytes (ap (λ (x : Entry). take i es ++ x ∷ []) is ∙ sym (take_more es i e lt))
+entry_written es i e old mid new lt before first second is = grind (arith, nat_tests, push_entry (take i es) e, take_more es i e lt)
 
 -- ---- rising numbers
 
 abbrev pub RisingBelow : List Entry → ℕ → Type 0
 RisingBelow es i = (k : ℕ) → k + 1 < i → (entry_at es k).object < (entry_at es (k + 1)).object
-
-pub rising_more : (es : List Entry) (i : ℕ) → 1 ≤ i → RisingBelow es i → (entry_at es (i - 1)).object < (entry_at es i).object → RisingBelow es (i + 1)
-rising_more es i ge below here k lt = elim (cases_lt (k + 1) i) [
-  | inl less ↦ below k less
-  | inr le ↦
-      let e : i ≡ k + 1 = omega arith in
-      let before : i - 1 ≡ k = omega arith in
-      subst (λ (n : ℕ). (entry_at es k).object < (entry_at es n).object) e (subst (λ (n : ℕ). (entry_at es n).object < (entry_at es i).object) before here)
-]
 
 -- ---- slots apart
 
@@ -121,31 +102,3 @@ none_used es = record {
   marked = λ s e. absurd (unmarked s e);
   apart = λ j k lt lt'. absurd (omega arith);
 }
-
-below_unless : (es : List Entry) (i k : ℕ) → k < i + 1 → ((entry_at es k).slot ≡ (entry_at es i).slot → ⊥) → k < i
-below_unless es i k lt other = elim (cases_lt k i) [
-  | inl below ↦ below
-  | inr at ↦ let e : k ≡ i = omega arith in absurd (other (ap (λ (n : ℕ). (entry_at es n).slot) e))
-]
-
-pub used_more : (es : List Entry) (used : List Bool) (i : ℕ) → (entry_at es i).slot < 4096 → IsUsed es used i → get_or used (entry_at es i).slot false ≡ false
-    → IsUsed es (set used (entry_at es i).slot true) (i + 1)
-used_more es used i fits was fresh =
-    let slot : ℕ = (entry_at es i).slot in
-    record {
-      size = length-set used slot true ∙ was.size;
-      marks = λ k lt. elim (cases_eq (entry_at es k).slot slot) [
-        | inl same ↦ ap (λ (s : ℕ). get_or (set used slot true) s false) same ∙ get_or-set_same used slot true false (omega (arith, was.size))
-        | inr other ↦ get_or-set_other used slot (entry_at es k).slot true false other ∙ was.marks k (below_unless es i k lt other)
-      ];
-      marked = λ s e. elim (cases_eq s slot) [
-        | inl same ↦ (i, omega arith, sym same)
-        | inr other ↦ let old = was.marked s (sym (get_or-set_other used slot s true false other) ∙ e) in (old.0, omega (arith, old.1), old.2)
-      ];
-      apart = λ j k lt lt' e. elim (cases_lt k i) [
-        | inl below ↦ was.apart j k lt below e
-        | inr at ↦
-            let here : k ≡ i = omega arith in
-            false≢true (sym fresh ∙ ap (λ (s : ℕ). get_or used s false) (sym (e ∙ ap (λ (n : ℕ). (entry_at es n).slot) here)) ∙ was.marks j (omega arith))
-      ];
-    }

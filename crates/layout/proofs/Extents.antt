@@ -1,7 +1,7 @@
 -- Sectors that are apart, and ranges that cover all numbers.
-use Rattle.layout.proofs.Names.{ℕ, zero, suc, List, [], length, get_or, set, take, drop, sym, ap, subst, inl, inr, arith, All, between, cases_lt, get_or-drop}
-use Rattle.layout.proofs.Names.{get_or_default, length-drop, length-set, take_rest, take_all, take_more_set, drop_more, drop_all, Geometry, Extent, HomeRange}
-use Rattle.layout.proofs.Names.{extent_at, IsApart, AreApart, Cover, IsNext}
+use Rattle.layout.proofs.Names.{nat_tests, [], ℕ, zero, suc, List, length, get_or, set, take, drop, sym, ap, subst, inl, inr, arith, All, between, cases_lt}
+use Rattle.layout.proofs.Names.{get_or-drop, get_or_default, length-drop, length-set, take_rest, take_all, take_more_set, drop_more, Geometry, Extent}
+use Rattle.layout.proofs.Names.{HomeRange, extent_at, IsApart, AreApart, Cover, IsNext}
 use Rattle.std.proofs.Common.{◌≡◌, ◌+◌, ◌-◌, ◌<◌, ◌≤◌, ◌∷◌, ◌++◌, ◌∙◌}
 use Rattle.std.proofs.lemmas.List.{append_assoc}
 
@@ -18,8 +18,7 @@ apart_more es n e is below here i j lt lt' within = elim (cases_lt i n) [
       let rest : All (IsApart e) (drop (n + 1) es) = subst (All (IsApart e)) (take_rest es (n + 1)) here in
       let one = rest (j - (n + 1)) (record { sector = 0; length = 0 }) (omega (arith, length-drop (n + 1) es)) in
       let place : n + 1 + (j - (n + 1)) ≡ j = omega arith in
-      let other : get_or (drop (n + 1) es) (j - (n + 1)) (record { sector = 0; length = 0 }) ≡ extent_at es j =
-      get_or-drop (n + 1) es (j - (n + 1)) (record { sector = 0; length = 0 }) ∙ ap (extent_at es) place in
+      let other : get_or (drop (n + 1) es) (j - (n + 1)) (record { sector = 0; length = 0 }) ≡ extent_at es j = grind (arith, nat_tests, get_or-drop) in
       subst (λ (m : ℕ). IsApart (extent_at es m) (extent_at es j)) (sym at)
       (subst (λ (x : Extent). IsApart x (extent_at es j)) is (subst (λ (x : Extent). IsApart e x) other one))
 ]
@@ -28,8 +27,7 @@ pub not_apart : (es : List Extent) (n : ℕ) (e : Extent) → e ≡ extent_at es
 not_apart es n e is hold apart = hold (subst (All (IsApart e)) (sym (take_rest es (n + 1))) (λ k d lt.
     let place : n < n + 1 + k = omega arith in
     let pair = apart n (n + 1 + k) place (omega (arith, length-drop (n + 1) es)) in
-    let other : extent_at es (n + 1 + k) ≡ get_or (drop (n + 1) es) k d =
-    sym (get_or-drop (n + 1) es k (record { sector = 0; length = 0 })) ∙ get_or_default (drop (n + 1) es) k (record { sector = 0; length = 0 }) d lt in
+    let other : extent_at es (n + 1 + k) ≡ get_or (drop (n + 1) es) k d = grind (arith, nat_tests, get_or-drop, get_or_default) in
     subst (λ (x : Extent). IsApart x (get_or (drop (n + 1) es) k d)) (sym is) (subst (IsApart (extent_at es n)) other pair)))
 
 -- ---- extents in a list
@@ -59,17 +57,11 @@ cover_within g n (r ∷ rs) c = let rest = cover_within g (n + r.count) rs c.1 i
 
 pub not_covered : (g : Geometry) (rs : List HomeRange) (i next : ℕ) → i < length rs → CoveredTo g rs i next →
     (IsNext g (range_at rs i) next → (range_at rs i).count ≤ g.nodes + g.pages - next → ⊥) → Cover g 0 rs → ⊥
-not_covered g rs i next lt was hold c =
-    let here = subst (Cover g next) (drop_more rs i (record { first = 0; count = 0; sector = 0 }) lt) (was.went_on c) in
-    hold here.0 (let rest = cover_within g (next + (range_at rs i).count) (drop (i + 1) rs) here.1 in omega arith)
+not_covered g rs i next lt was hold c = grind (arith, nat_tests, drop_more, cover_within)
 
--- the count of each range is at most that of all numbers
-pub counts_within : (g : Geometry) (n : ℕ) (rs : List HomeRange) → Cover g n rs → All (λ r. r.count ≤ g.nodes + g.pages) rs
-counts_within g n [] c k d lt = absurd (omega arith)
-counts_within g n (r ∷ rs) c zero d lt = let rest = cover_within g (n + r.count) rs c.1 in omega arith
-counts_within g n (r ∷ rs) c (suc k) d lt = counts_within g (n + r.count) rs c.1 k d (omega arith)
-
-pub firsts_within : (g : Geometry) (n : ℕ) (rs : List HomeRange) → Cover g n rs → All (λ r. r.first ≤ g.nodes + g.pages) rs
-firsts_within g n [] c k d lt = absurd (omega arith)
-firsts_within g n (r ∷ rs) c zero d lt = let rest = cover_within g (n + r.count) rs c.1 in omega (arith, c.0.0)
-firsts_within g n (r ∷ rs) c (suc k) d lt = firsts_within g (n + r.count) rs c.1 k d (omega arith)
+-- no range begins behind the last number, or counts more than all numbers
+pub ranges_within : (g : Geometry) (n : ℕ) (rs : List HomeRange) → Cover g n rs →
+    All (λ r. (r.first ≤ g.nodes + g.pages) × (r.count ≤ g.nodes + g.pages)) rs
+ranges_within g n [] c k d lt = absurd (omega arith)
+ranges_within g n (r ∷ rs) c zero d lt = let rest = cover_within g (n + r.count) rs c.1 in omega (arith, c.0.0)
+ranges_within g n (r ∷ rs) c (suc k) d lt = ranges_within g (n + r.count) rs c.1 k d (omega arith)

@@ -1,14 +1,14 @@
 -- Bytes that spell a frame are read as that frame.
-use Rattle.layout.proofs.Names.{ℕ, Bool, true, false, List, [], length, take, drop, refl, sym, ap, subst, append_assoc, inl, inr, arith, cases_lt, lt-ltb}
-use Rattle.layout.proofs.Names.{le-ltb, drop_at, drop-drop, take-append-le, drop-append-le, length-drop, All-head, All-tail, All, little_number}
-use Rattle.layout.proofs.Names.{little_from-take, Image, Cap, Frame, ObjectHeader, Geometry, Content, Role, IsKeptCap, role_of, role_number, number}
-use Rattle.layout.proofs.Names.{number_from, zeros, capability_bytes, head_number, number_of, front_numbers, slots_of, slots_bytes, words_bytes, page_words}
-use Rattle.layout.proofs.Names.{role_in, body_in, page_body_in, content_of, IsNodeFrame, IsPageFrame, node_frame_bytes, page_frame_bytes, IsFront, IsFrameOf}
-use Rattle.layout.proofs.Names.{frame_length, cap_with, cap_from, slots_from, words_from, header_from, node_from, page_from, frame_from, sectors_from}
-use Rattle.std.proofs.Common.{◌≡◌, ◌+◌, ◌/◌, ◌%◌, ◌^◌, ◌<◌, ◌≤◌, ◌∷◌, ◌++◌, ◌∙◌}
+use Rattle.layout.proofs.Names.{nat_tests, [], ℕ, Bool, List, length, take, drop, refl, sym, ap, subst, append_assoc, inl, inr, arith, cases_lt, lt-ltb, le-ltb}
+use Rattle.layout.proofs.Names.{drop_at, take-append-le, drop-append-le, length-drop, All-head, All-tail, All, little_number, little_from-take, Image, Cap}
+use Rattle.layout.proofs.Names.{Frame, ObjectHeader, Geometry, Content, Role, IsKeptCap, role_of, role_number, number, number_from, zeros, capability_bytes}
+use Rattle.layout.proofs.Names.{head_number, number_of, front_numbers, slots_of, slots_bytes, words_bytes, page_words, role_in, body_in, page_body_in}
+use Rattle.layout.proofs.Names.{content_of, IsNodeFrame, IsPageFrame, node_frame_bytes, page_frame_bytes, IsFront, IsFrameOf, frame_length, cap_with, cap_from}
+use Rattle.layout.proofs.Names.{slots_from, words_from, header_from, node_from, page_from, frame_from, sectors_from}
+use Rattle.std.proofs.Common.{◌≡◌, ◌+◌, ◌^◌, ◌<◌, ◌≤◌, ◌∷◌, ◌++◌, ◌∙◌}
 use Rattle.std.specs.Prelude.{if◌then◌else◌, nat_lt}
 use Rattle.layout.proofs.Capabilities.{as_numbers, follows_fits, head_below, made_again, same_cap}
-use Rattle.layout.proofs.Numbers.{AllFit, stream, number_reported, length-number}
+use Rattle.layout.proofs.Numbers.{AllFit, stream, number_reported}
 use Rattle.layout.proofs.Frames.{front_stream, content_again, role_again, role_fits, node_parts, front_list, length-front}
 use Rattle.layout.proofs.Pages as page
 use Rattle.layout.proofs.Keepables.{node_of_frame, page_of_frame}
@@ -18,34 +18,23 @@ use Rattle.layout.proofs.SlotLists.{slots_bytes-cons, length-capability}
 pub reported : (n : ℕ) (rest bytes : List ℕ) → n < 2 ^ 64 → bytes ≡ number n ++ rest → number_from bytes ≡ n
 reported n rest bytes fits e = sym (number_reported bytes rest n fits e)
 
-pub passed : (n : ℕ) (rest bytes : List ℕ) → bytes ≡ number n ++ rest → drop 8 bytes ≡ rest
-passed n rest bytes e = ap (drop 8) e ∙ drop_at (number n) rest 8 (length-number n)
-
-pub passed_on : (k n : ℕ) (rest bytes : List ℕ) → drop k bytes ≡ number n ++ rest → drop (k + 8) bytes ≡ rest
-passed_on k n rest bytes e = sym (drop-drop 8 k bytes) ∙ passed n rest (drop k bytes) e
-
 cap_is : (head object count : ℕ) (c : Cap) (g : Geometry) (age : ℕ) → IsKeptCap g age c → head ≡ head_number c.what → object ≡ number_of c.what →
     count ≡ c.count → cap_with head object count ≡ c
-cap_is head object count c g age kept eh eo ec =
-    let all = follows_fits g age c.count c.what kept in
-    same_cap (cap_with head object count) c (made_again c.what head (head / 256 % 256) object all.head eh eo refl) ec
+cap_is head object count c g age kept eh eo ec = grind (arith, nat_tests, follows_fits, same_cap, made_again)
 
 pub cap_again : (g : Geometry) (age : ℕ) (c : Cap) (rest : List ℕ) → IsKeptCap g age c → cap_from (capability_bytes c ++ rest) ≡ c
-unfolding cap_from
+unfolding cap_from number
 cap_again g age c rest kept =
     let all = follows_fits g age c.count c.what kept in
     let h : List ℕ = number (head_number c.what) in
     let o : List ℕ = number (number_of c.what) in
     let n : List ℕ = number c.count in
     let bytes : List ℕ = capability_bytes c ++ rest in
-    let whole : bytes ≡ h ++ (o ++ (n ++ rest)) = ap (λ (b : List ℕ). b ++ rest) (as_numbers c all.head) ∙ append_assoc h (o ++ n) rest ∙
-    ap (λ (b : List ℕ). h ++ b) (append_assoc o n rest) in
-    let second : drop 8 bytes ≡ o ++ (n ++ rest) = passed (head_number c.what) (o ++ (n ++ rest)) bytes whole in
-    let third : drop 16 bytes ≡ n ++ rest = passed_on 8 (number_of c.what) (n ++ rest) bytes second in
+    let whole : bytes ≡ h ++ (o ++ (n ++ rest)) = grind (arith, nat_tests, as_numbers, append_assoc) in
     cap_is (number_from bytes) (number_from (drop 8 bytes)) (number_from (drop 16 bytes)) c g age kept
     (reported (head_number c.what) (o ++ (n ++ rest)) bytes (head_below c.what all.head) whole)
-    (reported (number_of c.what) (n ++ rest) (drop 8 bytes) all.object second)
-    (reported c.count rest (drop 16 bytes) all.count third)
+    (reported (number_of c.what) (n ++ rest) (drop 8 bytes) all.object (ap (drop 8) whole))
+    (reported c.count rest (drop 16 bytes) all.count (ap (drop 16) whole))
 
 slots_again : (g : Geometry) (age : ℕ) (cs : List Cap) (rest : List ℕ) → All (IsKeptCap g age) cs → slots_from (length cs) (slots_bytes cs ++ rest) ≡ cs
 unfolding slots_from
@@ -60,11 +49,11 @@ slots_again g age (c ∷ cs) rest all =
     ∙ ap (λ (xs : List Cap). c ∷ xs) (ap (slots_from (length cs)) behind ∙ slots_again g age cs rest (All-tail (IsKeptCap g age) c cs all))
 
 words_again : (ws : List ℕ) (rest : List ℕ) → AllFit ws → words_from (length ws) (stream ws rest) ≡ ws
-unfolding words_from
+unfolding words_from number
 words_again [] rest fits = refl
 words_again (w ∷ ws) rest fits =
     ap (λ (x : ℕ). x ∷ words_from (length ws) (drop 8 (stream (w ∷ ws) rest))) (reported w (stream ws rest) (stream (w ∷ ws) rest) fits.0 refl)
-    ∙ ap (λ (xs : List ℕ). w ∷ xs) (ap (words_from (length ws)) (passed w (stream ws rest) (stream (w ∷ ws) rest) refl) ∙ words_again ws rest fits.1)
+    ∙ ap (λ (xs : List ℕ). w ∷ xs) (words_again ws rest fits.1)
 
 abbrev header_of : Role → ℕ → ℕ → ℕ → ObjectHeader
 header_of r a c o = record { role = r; allocations = a; calls = c; owner = o }
@@ -79,22 +68,17 @@ pub record FrontTells (first : ℕ) (h : ObjectHeader) (bytes : List ℕ) : Type
 
 pub front_tells : (first : ℕ) (h : ObjectHeader) (bytes rest : List ℕ) → AllFit (front_list first h) → role_in first ≡ h.role →
     bytes ≡ front_numbers first h ++ rest → FrontTells first h bytes
-unfolding header_from
+unfolding header_from number
 front_tells first h bytes rest fits is e =
     let whole : bytes ≡ stream (front_list first h) rest = e ∙ front_stream first h rest in
-    let after : drop 8 bytes ≡ stream (h.allocations ∷ h.calls ∷ h.owner ∷ []) rest = passed first (stream (h.allocations ∷ h.calls ∷ h.owner ∷ []) rest) bytes
-    whole in
-    let after' : drop 16 bytes ≡ stream (h.calls ∷ h.owner ∷ []) rest = passed_on 8 h.allocations (stream (h.calls ∷ h.owner ∷ []) rest) bytes after in
-    let last : drop 24 bytes ≡ stream (h.owner ∷ []) rest = passed_on 16 h.calls (stream (h.owner ∷ []) rest) bytes after' in
     let role : number_from bytes ≡ first = reported first (stream (h.allocations ∷ h.calls ∷ h.owner ∷ []) rest) bytes fits.0 whole in
     record {
       first_is = role;
       header_is = same_header (role_in (number_from bytes)) h.role (number_from (drop 8 bytes)) h.allocations (number_from (drop 16 bytes)) h.calls
           (number_from (drop 24 bytes)) h.owner
-          (ap role_in role ∙ is)
-          (reported h.allocations (stream (h.calls ∷ h.owner ∷ []) rest) (drop 8 bytes) fits.1.0 after)
-          (reported h.calls (stream (h.owner ∷ []) rest) (drop 16 bytes) fits.1.1.0 after')
-          (reported h.owner rest (drop 24 bytes) fits.1.1.1.0 last);
+          (ap role_in role ∙ is) (reported h.allocations (stream (h.calls ∷ h.owner ∷ []) rest) (drop 8 bytes) fits.1.0 (ap (drop 8) whole))
+          (reported h.calls (stream (h.owner ∷ []) rest) (drop 16 bytes) fits.1.1.0 (ap (drop 16) whole))
+          (reported h.owner rest (drop 24 bytes) fits.1.1.1.0 (ap (drop 24) whole));
     }
 
 record FrontIs (f : Frame) (bytes : List ℕ) : Type 0 where
@@ -121,11 +105,9 @@ node_again g age f bytes is e =
     let front = front_again age f bytes rest is.front parts.whole in
     let behind : drop 32 bytes ≡ rest = ap (drop 32) parts.whole ∙ drop_at (front_numbers (role_number f.header.role) f.header) rest 32
     (length-front (role_number f.header.role) f.header) in
-    let read : slots_from 32 (drop 32 bytes) ≡ slots =
-    ap (slots_from 32) behind ∙ subst (λ (n : ℕ). slots_from n rest ≡ slots) is.slots.count (slots_again g age slots (zeros 224) is.slots.each) in
+    let read : slots_from 32 (drop 32 bytes) ≡ slots = grind (arith, nat_tests, slots_again g age slots (zeros 224) is.slots.each) in
     let content : content_of (body_in (number_from bytes) (slots_from 32 (drop 32 bytes))) (slots_from 32 (drop 32 bytes)) [] ≡ f.content =
-    ap (λ (s : List Cap). content_of (body_in (number_from bytes) s) s []) read ∙ ap (λ (n : ℕ). content_of (body_in n slots) slots []) front.role ∙
-    content_again f.content is.follows in
+    grind (arith, nat_tests, content_again) in
     same_frame (header_from bytes) f.header (content_of (body_in (number_from bytes) (slots_from 32 (drop 32 bytes))) (slots_from 32 (drop 32 bytes)) [])
     f.content front.header content
 
@@ -138,9 +120,7 @@ page_again age f bytes is e =
     let read : words_from 512 (drop 512 bytes) ≡ words =
     ap (words_from 512) (parts.last ∙ page.words_stream words) ∙ subst (λ (n : ℕ). words_from n (stream words []) ≡ words) held.count_is
     (words_again words [] (page.all_fit words held.each)) in
-    let content : content_of (page_body_in (number_from bytes)) [] (words_from 512 (drop 512 bytes)) ≡ f.content =
-    ap (λ (w : List ℕ). content_of (page_body_in (number_from bytes)) [] w) read ∙ ap (λ (n : ℕ). content_of (page_body_in n) [] words) front.role ∙
-    page.content_again f.content is.holds in
+    let content : content_of (page_body_in (number_from bytes)) [] (words_from 512 (drop 512 bytes)) ≡ f.content = grind (arith, nat_tests) in
     same_frame (header_from bytes) f.header (content_of (page_body_in (number_from bytes)) [] (words_from 512 (drop 512 bytes))) f.content front.header content
 
 -- bytes that spell a frame are read as that frame
@@ -170,18 +150,16 @@ number_before xs ys k room =
 pub header_before : (xs ys : List ℕ) → 32 ≤ length xs → header_from (xs ++ ys) ≡ header_from xs
 unfolding header_from
 header_before xs ys room =
-    same_header (role_in (number_from (xs ++ ys))) (role_in (number_from xs)) (number_from (drop 8 (xs ++ ys))) (number_from (drop 8 xs))
-    (number_from (drop 16 (xs ++ ys))) (number_from (drop 16 xs))
-    (number_from (drop 24 (xs ++ ys))) (number_from (drop 24 xs))
-    (ap role_in (number_front (xs ++ ys) xs (take-append-le 8 xs ys (omega (arith, room)))))
-    (number_before xs ys 8 (omega (arith, room))) (number_before xs ys 16 (omega (arith, room))) (number_before xs ys 24 (omega (arith, room)))
+    cc (same_header (role_in (number_from (xs ++ ys))) (role_in (number_from xs)) (number_from (drop 8 (xs ++ ys))) (number_from (drop 8 xs)) (number_from (drop
+    16 (xs ++ ys))) (number_from (drop 16 xs)) (number_from (drop 24 (xs ++ ys))) (number_from (drop 24 xs)) (ap role_in (number_front (xs ++ ys) xs
+    (take-append-le 8 xs ys (omega (arith, room))))) (number_before xs ys 8 (omega (arith, room))) (number_before xs ys 16 (omega (arith, room))) (number_before
+    xs ys 24 (omega (arith, room))))
 
 abbrev header_held : Frame → ObjectHeader
 header_held f = f.header
 
 header_by : (b : Bool) (bytes : List ℕ) → header_held (if b then node_from bytes else page_from bytes) ≡ header_from bytes
-header_by true bytes = refl
-header_by false bytes = refl
+header_by b bytes = grind (arith, nat_tests)
 
 -- the header of a frame, of whatever number
 pub header_is : (g : Geometry) (object : ℕ) (bytes : List ℕ) → (frame_from g object bytes).header ≡ header_from bytes
@@ -190,8 +168,7 @@ header_is g object bytes = header_by (nat_lt object g.nodes) bytes
 
 first_sector : (b : Bool) (image : Image) (at : ℕ) → 32 ≤ length (image at) → header_from (sectors_from image at (if b then 2 else 9)) ≡ header_from (image at)
 unfolding sectors_from
-first_sector true image at room = header_before (image at) (sectors_from image (at + 1) 1) room
-first_sector false image at room = header_before (image at) (sectors_from image (at + 1) 8) room
+first_sector b image at room = grind (arith, nat_tests, header_before)
 
 -- its first sector decides it
 pub reported_first : (g : Geometry) (object : ℕ) (image : Image) (at : ℕ) → 32 ≤ length (image at) →

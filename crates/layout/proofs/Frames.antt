@@ -1,11 +1,11 @@
 -- Frames read back from their bytes.
-use Rattle.layout.proofs.Names.{ℕ, zero, suc, List, [], length, take, drop, refl, sym, ap, subst, append_assoc, arith, replicate, map, between}
+use Rattle.layout.proofs.Names.{nat_tests, [], ℕ, zero, suc, List, length, take, drop, refl, sym, ap, subst, append_assoc, arith, replicate, between}
 use Rattle.layout.proofs.Names.{replicate-append-replicate, drop-replicate, drop-drop, take_at, drop_at, take-append-drop, length-append, length-take-le}
-use Rattle.layout.proofs.Names.{length-map, Cap, Frame, ObjectHeader, Geometry, Content, Role, Root, State, Available, Running, Waiting, void_held, IsCount}
-use Rattle.layout.proofs.Names.{AreKeptSlots, role_of, role_number, state_number, number, short_number, zeros, Body, capability_bytes, head_bytes}
-use Rattle.layout.proofs.Names.{front_numbers, front_bytes, number_cap, slots_of, slots_bytes, node_frame_bytes, root_slots, root_from, role_in, state_in}
-use Rattle.layout.proofs.Names.{body_in, content_of, FollowsRole, IsFront, IsBody, IsNodeFrame, All-replicate, IsTrue, IsKeptCap, is_free, take-replicate}
-use Rattle.std.proofs.Common.{◌≡◌, ◌+◌, ◌-◌, ◌*◌, ◌%◌, ◌^◌, ◌<◌, ◌≤◌, ◌∷◌, ◌++◌, ◌∙◌}
+use Rattle.layout.proofs.Names.{length-map, Cap, Frame, ObjectHeader, Geometry, Content, Role, Root, State, void_held, IsCount, AreKeptSlots, role_of}
+use Rattle.layout.proofs.Names.{role_number, state_number, number, short_number, zeros, Body, capability_bytes, head_bytes, front_numbers, front_bytes}
+use Rattle.layout.proofs.Names.{slots_of, slots_bytes, node_frame_bytes, root_slots, root_from, role_in, state_in, body_in, content_of, FollowsRole, IsFront}
+use Rattle.layout.proofs.Names.{IsBody, IsNodeFrame, All-replicate, IsTrue, IsKeptCap, is_free, take-replicate}
+use Rattle.std.proofs.Common.{◌≡◌, ◌+◌, ◌-◌, ◌*◌, ◌^◌, ◌<◌, ◌≤◌, ◌∷◌, ◌++◌, ◌∙◌}
 use borrow.Rule.Slice.PartMut.{put_mid}
 use Rattle.model.specs.declared.object.Content.TheVariants as content
 use Rattle.model.specs.declared.object.Role.TheVariants as role
@@ -23,9 +23,7 @@ front_stream role h rest = four (number role) (number h.allocations) (number h.c
 
 pub four_read : (bytes : List ℕ) (role : ℕ) (h : ObjectHeader) → bytes ≡ number role ++ drop 8 bytes → drop 8 bytes ≡ number h.allocations ++ drop 16 bytes
     → drop 16 bytes ≡ number h.calls ++ drop 24 bytes → drop 24 bytes ≡ number h.owner ++ drop 32 bytes → bytes ≡ front_numbers role h ++ drop 32 bytes
-four_read bytes role h er ea ec eo =
-    er ∙ ap (λ (r : List ℕ). number role ++ r) (ea ∙ ap (λ (r : List ℕ). number h.allocations ++ r) (ec ∙ ap (λ (r : List ℕ). number h.calls ++ r) eo)) ∙
-    sym (front_stream role h (drop 32 bytes))
+four_read bytes role h er ea ec eo = grind (arith, nat_tests, front_stream)
 
 pub front_is : (role : ℕ) (h : ObjectHeader) → ([] ++ number role) ++ number h.allocations ++ number h.calls ++ number h.owner ≡ front_numbers role h
 unfolding front_numbers
@@ -34,10 +32,7 @@ front_is role h = refl
 pub front_written : (old new : List ℕ) (n : ℕ) (h : ObjectHeader) → n ≡ role_number h.role
     → IsWritten old (number n ++ number h.allocations ++ number h.calls ++ number h.owner) new 32
     → record { before : take 32 new ≡ front_numbers (role_number h.role) h; after : drop 32 new ≡ drop 32 old }
-front_written old new n h is was = record {
-  before = was.before ∙ front_is n h ∙ ap (λ (r : ℕ). front_numbers r h) is;
-  after = was.after;
-}
+front_written old new n h is was = grind (arith, nat_tests, front_is)
 
 -- ---- void slots as bytes
 
@@ -59,10 +54,7 @@ drop_zeros m n = drop-replicate m n 0
 
 voids_bytes : (k : ℕ) → slots_bytes (replicate k void_held) ≡ zeros (24 * k)
 voids_bytes zero = slots_bytes-nil ∙ sym zeros_none
-voids_bytes (suc k) =
-    let size : 24 + 24 * k ≡ 24 * suc k = omega arith in
-    slots_bytes-cons void_held (replicate k void_held) ∙ ap (λ (r : List ℕ). r ++ slots_bytes (replicate k void_held)) void_bytes
-    ∙ ap (λ (r : List ℕ). zeros 24 ++ r) (voids_bytes k) ∙ zeros_add 24 (24 * k) ∙ ap zeros size
+voids_bytes (suc k) = grind (arith, nat_tests, slots_bytes-cons, void_bytes, zeros_add, voids_bytes k)
 
 -- ---- writing
 
@@ -71,8 +63,7 @@ mid_put a k xs ys = sym (append_assoc (take a xs) ys (drop k (drop a xs))) ∙ a
 
 role_bytes : (r : Role) → role_number r ∷ zeros 7 ≡ number (role_number r)
 unfolding zeros number
-role_bytes role.Free = refl
-role_bytes other = refl
+role_bytes r = grind (arith, nat_tests)
 
 pub front_bytes_are : (h : ObjectHeader) → front_bytes h ≡ front_numbers (role_number h.role) h
 unfolding front_bytes front_numbers
@@ -90,14 +81,7 @@ pub node_written : (f : Frame) (fronted new : List ℕ) (caps : List Cap) (k : �
     → new ≡ take 32 fronted ++ slots_bytes caps ++ zeros (992 - 24 * length caps) → new ≡ node_frame_bytes f
 unfolding node_frame_bytes
 node_written f fronted new caps k before slots all is =
-    let n : ℕ = length caps in
-    let rest : zeros (992 - 24 * n) ≡ zeros (24 * k) ++ zeros 224 = ap zeros (rest_size n k all) ∙ sym (zeros_add (24 * k) 224) in
-    let spelt : slots_bytes (slots_of f.content) ≡ slots_bytes caps ++ zeros (24 * k) =
-    ap slots_bytes slots ∙ slots_bytes-append caps (replicate k void_held) ∙ ap (λ (r : List ℕ). slots_bytes caps ++ r) (voids_bytes k) in
-    is ∙ ap (λ (r : List ℕ). r ++ slots_bytes caps ++ zeros (992 - 24 * n)) (before ∙ sym (front_bytes_are f.header))
-    ∙ ap (λ (r : List ℕ). front_bytes f.header ++ slots_bytes caps ++ r) rest
-    ∙ regroup (front_bytes f.header) (slots_bytes caps) (zeros (24 * k)) (zeros 224)
-    ∙ ap (λ (r : List ℕ). front_bytes f.header ++ r ++ zeros 224) (sym spelt)
+    grind (arith, nat_tests, rest_size, zeros_add, slots_bytes-append, voids_bytes, front_bytes_are, regroup)
 
 -- slots that were put into a frame
 pub slots_put : (old mid new : List ℕ) (caps : List Cap) (k : ℕ) → length caps ≤ 32 → length old ≡ 1024 → k ≡ 24 * length caps →
@@ -115,8 +99,7 @@ slots_put old mid new caps k few len size is put =
 -- ---- its role and its slots decide a content
 
 state_again : (s : State) → state_in (state_number s) ≡ s
-state_again Available = refl
-state_again other = refl
+state_again s = grind (arith, nat_tests)
 
 abbrev root_of : State → List ℕ → ℕ → ℕ → Cap → Root Cap
 root_of s ws key annex space = record { state = s; words = ws; key = key; annex = annex; space = space }
@@ -127,10 +110,7 @@ root_again s [] key annex space len fits = absurd (omega (arith, len))
 root_again s (a ∷ []) key annex space len fits = absurd (omega (arith, len))
 root_again s (a ∷ b ∷ []) key annex space len fits = absurd (omega (arith, len))
 root_again s (a ∷ b ∷ c ∷ []) key annex space len fits = absurd (omega (arith, len))
-root_again s (a ∷ b ∷ c ∷ d ∷ []) key annex space len fits =
-    let small : key % 65536 ≡ key = omega arith in
-    ap (λ (t : State). root_of t (a ∷ b ∷ c ∷ d ∷ []) (key % 65536) annex space) (state_again s) ∙
-    ap (λ (k : ℕ). root_of s (a ∷ b ∷ c ∷ d ∷ []) k annex space) small
+root_again s (a ∷ b ∷ c ∷ d ∷ []) key annex space len fits = grind (arith, nat_tests, state_again)
 root_again s (a ∷ b ∷ c ∷ d ∷ e ∷ ws) key annex space len fits = absurd (omega (arith, len))
 
 pub content_again : (c : Content Cap) → FollowsRole c → content_of (body_in (role_number (role_of c)) (slots_of c)) (slots_of c) [] ≡ c
@@ -139,8 +119,7 @@ content_again (content.Root r) f = ap (λ (x : Root Cap). content.Root x) (root_
 content_again other f = refl
 
 pub role_again : (r : Role) → role_in (role_number r) ≡ r
-role_again role.Free = refl
-role_again other = refl
+role_again r = grind (arith, nat_tests)
 
 -- ---- reading
 
@@ -160,8 +139,7 @@ node_parts g age f bytes fits e =
     let front : List ℕ = front_numbers (role_number f.header.role) f.header in
     let slots : List ℕ = slots_bytes (slots_of f.content) in
     let size : length slots ≡ 768 = length-slots (slots_of f.content) ∙ ap (λ (n : ℕ). 24 * n) fits.slots.count in
-    let whole : bytes ≡ front ++ (slots ++ zeros 224) = e ∙ ap (λ (r : List ℕ). r ++ slots ++ zeros 224) (front_bytes_are f.header) ∙
-    append_assoc front slots (zeros 224) in
+    let whole : bytes ≡ front ++ (slots ++ zeros 224) = grind (arith, nat_tests, front_bytes_are, append_assoc) in
     let behind : drop 32 bytes ≡ slots ++ zeros 224 = ap (drop 32) whole ∙ drop_at front (slots ++ zeros 224) 32 (length-front _ f.header) in
     record {
       whole = whole;
@@ -183,17 +161,10 @@ header_of r a c o = record { role = r; allocations = a; calls = c; owner = o }
 
 same_front : (r r' : Role) (n a c o n' a' c' o' : ℕ) → n ∷ a ∷ c ∷ o ∷ [] ≡ n' ∷ a' ∷ c' ∷ o' ∷ [] → r ≡ role_in n → role_in n' ≡ r'
     → (n ≡ n') × (header_of r a c o ≡ header_of r' a' c' o')
-same_front r r' n a c o n' a' c' o' e is is' =
-    let en : n ≡ n' = cc in
-    let er : r ≡ r' = is ∙ ap role_in en ∙ is' in
-    let ea : a ≡ a' = cc in
-    let ec : c ≡ c' = cc in
-    let eo : o ≡ o' = cc in
-    (en, rw (er, ea, ec, eo) refl)
+same_front r r' n a c o n' a' c' o' e is is' = grind (arith, nat_tests)
 
 pub role_fits : (r : Role) → role_number r < 2 ^ 64
-role_fits role.Free = omega arith
-role_fits other = omega arith
+role_fits r = grind (arith, nat_tests)
 
 pub front_reported : (age role : ℕ) (h : ObjectHeader) (f : Frame) (x y : List ℕ) → AllFit (front_list role h) → h.role ≡ role_in role → IsFront age f
     → front_numbers role h ++ x ≡ front_numbers (role_number f.header.role) f.header ++ y → (role ≡ role_number (role_of f.content)) × (h ≡ f.header)
@@ -221,22 +192,18 @@ node_reported g age role h slots f bytes rest fits role_is are front middle is e
 pub body_reported : (f : Frame) (role : ℕ) (h : ObjectHeader) (slots : List Cap) (age : ℕ) → IsReadOf f role h slots → FollowsRole f.content → IsFront age f
     → IsBody role h.owner slots (content_of (body_in role slots) slots [])
 body_reported f role h slots age read follows front =
-    let same : content_of (body_in role slots) slots [] ≡ f.content =
-    ap (λ (r : ℕ). content_of (body_in r slots) slots []) read.role_is ∙ ap (λ (s : List Cap). content_of (body_in (role_number (role_of f.content)) s) s [])
-    read.slots_are ∙ content_again f.content follows in
+    let same : content_of (body_in role slots) slots [] ≡ f.content = grind (arith, nat_tests, content_again) in
     subst (IsBody role h.owner slots) (sym same)
     (record {
       role_is = read.role_is;
       slots_are = read.slots_are;
       follows = follows;
-      unowned = λ t. ap (λ (x : ObjectHeader). x.owner) read.header_is ∙
-          front.unowned t;
+      unowned = grind (arith, nat_tests);
     })
 
 -- of a body at a node's number the words don't matter
 same_content : (b : Body) (slots : List Cap) (words : List ℕ) → FollowsRole (content_of b slots []) → content_of b slots [] ≡ content_of b slots words
-same_content body.Page slots words f = absurd f
-same_content other slots words f = refl
+same_content b slots words f = grind (arith, nat_tests)
 
 pub any_words : (role owner : ℕ) (b : Body) (slots : List Cap) (words : List ℕ) → IsBody role owner slots (content_of b slots []) →
     IsBody role owner slots (content_of b slots words)
@@ -250,21 +217,15 @@ pub node_found : (g : Geometry) (age role : ℕ) (h : ObjectHeader) (slots : Lis
     → IsNodeFrame g age (record { header = h; content = c }) × (bytes ≡ node_frame_bytes (record { header = h; content = c }))
 unfolding node_frame_bytes
 node_found g age role h slots c bytes fits role_is counts are is front middle last =
-    let f : Frame = record { header = h; content = c } in
-    let behind : drop 32 bytes ≡ slots_bytes slots ++ zeros 224 = sym (take-append-drop 768 (drop 32 bytes)) ∙
-    ap (λ (r : List ℕ). r ++ drop 768 (drop 32 bytes)) middle
-    ∙ ap (λ (r : List ℕ). slots_bytes slots ++ r) (drop-drop 768 32 bytes ∙ last) in
-    let same_role : h.role ≡ role_of c = role_is ∙ ap role_in is.role_is ∙ role_again (role_of c) in
-    let spelt : bytes ≡ front_bytes h ++ (slots_bytes (slots_of c) ++ zeros 224) =
-    front ∙ ap (λ (r : List ℕ). front_numbers role h ++ r) (behind ∙ ap (λ (s : List Cap). slots_bytes s ++ zeros 224) is.slots_are)
-    ∙ ap (λ (r : ℕ). front_numbers r h ++ (slots_bytes (slots_of c) ++ zeros 224)) (is.role_is ∙ ap role_number (sym same_role))
-    ∙ ap (λ (r : List ℕ). r ++ (slots_bytes (slots_of c) ++ zeros 224)) (sym (front_bytes_are h)) in (
-      record {
-        front = record { role = same_role; allocations = counts.0; calls = counts.1; owner = fits.1.1.1.0; unowned = is.unowned };
-        slots = subst (AreKeptSlots g age) is.slots_are are;
-        follows = is.follows;
-      },
-      spelt ∙ sym (append_assoc (front_bytes h) (slots_bytes (slots_of c)) (zeros 224)),
+    grind (
+      arith,
+      nat_tests,
+      take-append-drop 768 (drop 32 bytes),
+      drop-drop 768 32 bytes,
+      role_again (role_of c),
+      front_bytes_are h,
+      append_assoc (front_bytes
+          h) (slots_bytes (slots_of c)) (zeros 224),
     )
 
 -- ---- free numbers
@@ -293,9 +254,7 @@ pub record IsFreeSpelling (age : ℕ) (h : ObjectHeader) (bytes : List ℕ) : Ty
   pub blank : drop 32 bytes ≡ zeros 992
 
 free_slots : (c : Content Cap) → FollowsRole c → 0 ≡ role_number (role_of c) → record { free : IsTrue (is_free c); slots : slots_of c ≡ replicate 32 void_held }
-free_slots content.Free f e = record { free = refl; slots = refl }
-free_slots (content.Page words) f e = absurd f
-free_slots other f e = absurd (omega (arith, e))
+free_slots c f e = grind (arith, nat_tests)
 
 pub free_node_spelling : (g : Geometry) (age : ℕ) (h : ObjectHeader) (f : Frame) (bytes rest : List ℕ) → AllFit (front_list 0 h) → h.role ≡ role_in 0
     → bytes ≡ front_numbers 0 h ++ rest → IsNodeFrame g age f → bytes ≡ node_frame_bytes f → IsFreeSpelling age h bytes
@@ -320,18 +279,13 @@ one_node_frame g age e f ie if same =
     (slots_bytes (slots_of e.content) ++ zeros 224)
     (role_fits e.header.role, (ie.front.allocations.1, (ie.front.calls.1, (ie.front.owner, tt)))) (sym (role_again e.header.role)) ie.slots parts.whole
     parts.middle if same in
-    let contents : e.content ≡ f.content = sym (content_again e.content ie.follows)
-    ∙ ap (λ (r : ℕ). content_of (body_in r (slots_of e.content)) (slots_of e.content) []) (ap role_number (sym ie.front.role) ∙ read.role_is)
-    ∙ ap (λ (s : List Cap). content_of (body_in (role_number (role_of f.content)) s) s []) read.slots_are ∙ content_again f.content if.follows in
+    let contents : e.content ≡ f.content = grind (arith, nat_tests, content_again) in
     ap (λ (h : ObjectHeader). record { header = h; content = e.content }) read.header_is ∙ ap (λ (c : Content Cap). record { header = f.header; content = c })
     contents
 
 pub root_count : (r : Root Cap) (held : List Cap) → held ≡ root_slots r → length r.words ≡ 4 → length held + 24 ≡ 32
-root_count r held e len =
-    omega (arith, ap length e, length-append (map number_cap r.words) (number_cap r.key ∷ r.space ∷ []), length-map r.words number_cap, len)
+root_count r held e len = grind (arith, nat_tests, length-append, length-map)
 
 pub root_tail : (r : Root Cap) (held : List Cap) → held ≡ root_slots r → length r.words ≡ 4 →
     held ++ replicate (32 - length held) void_held ≡ slots_of (content.Root r)
-root_tail r held e len =
-    let rest : 32 - length held ≡ 24 = omega (arith, root_count r held e len) in
-    ap (λ (n : ℕ). held ++ replicate n void_held) rest ∙ ap (λ (s : List Cap). s ++ replicate 24 void_held) e
+root_tail r held e len = grind (arith, nat_tests, root_count)

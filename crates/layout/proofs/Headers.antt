@@ -1,5 +1,5 @@
 -- Headers of checkpoints read back from their bytes.
-use Rattle.layout.proofs.Names.{ℕ, Bool, true, false, cond, List, [], drop, refl, sym, ap, append_assoc, arith, codes, CheckpointHeader, number, zeros}
+use Rattle.layout.proofs.Names.{nat_tests, [], ℕ, Bool, cond, List, drop, refl, sym, ap, append_assoc, arith, codes, CheckpointHeader, number, zeros}
 use Rattle.layout.proofs.Names.{header_bytes, IsHeader}
 use Rattle.std.proofs.Common.{◌≡◌, ◌^◌, ◌<◌, ◌≤◌, ◌∷◌, ◌++◌, ◌∙◌}
 use Rattle.std.specs.Prelude.{◌==◌}
@@ -26,13 +26,10 @@ header_stream h =
 pub five_read : (bytes : List ℕ) (m a b c d : ℕ) → bytes ≡ number m ++ drop 8 bytes → drop 8 bytes ≡ number a ++ drop 16 bytes →
     drop 16 bytes ≡ number b ++ drop 24 bytes
     → drop 24 bytes ≡ number c ++ drop 32 bytes → drop 32 bytes ≡ number d ++ drop 40 bytes → bytes ≡ stream (m ∷ a ∷ b ∷ c ∷ d ∷ []) (drop 40 bytes)
-five_read bytes m a b c d em ea eb ec ed =
-    em ∙ ap (λ (r : List ℕ). number m ++ r)
-    (ea ∙ ap (λ (r : List ℕ). number a ++ r) (eb ∙ ap (λ (r : List ℕ). number b ++ r) (ec ∙ ap (λ (r : List ℕ). number c ++ r) ed)))
+five_read bytes m a b c d em ea eb ec ed = grind (arith, nat_tests)
 
 one_more : (b : Bool) → cond b 1 0 ≤ 1
-one_more true = omega arith
-one_more false = omega arith
+one_more b = grind (arith, nat_tests)
 
 sequence_fits : (room : ℕ) (h : CheckpointHeader) → IsHeader room h → h.sequence < 2 ^ 64
 sequence_fits room h is = let more = one_more (h.entries == 0) in omega (arith, is.sequence, is.age, more)
@@ -51,26 +48,19 @@ made a b c d = record { sequence = a; generation = b; entries = c; age = d }
 
 same_fields : (a b c d a' b' c' d' : ℕ) → a ∷ b ∷ c ∷ d ∷ [] ≡ a' ∷ b' ∷ c' ∷ d' ∷ []
     → made a b c d ≡ made a' b' c' d'
-same_fields a b c d a' b' c' d' e =
-    let ea : a ≡ a' = cc in
-    let eb : b ≡ b' = cc in
-    let ec : c ≡ c' = cc in
-    let ed : d ≡ d' = cc in
-    rw (ea, eb, ec, ed) refl
+same_fields a b c d a' b' c' d' e = grind (arith, nat_tests)
 
 pub spelt_header : (room : ℕ) (bytes rest : List ℕ) (m : ℕ) (found h : CheckpointHeader) → AllFit (m ∷ fields found)
     → bytes ≡ stream (m ∷ fields found) rest → IsHeader room h → bytes ≡ header_bytes h → HasFields h m found rest
 spelt_header room bytes rest m found h fits read is e =
-    let s = stream_splits (m ∷ fields found) (0x4441_4548_534f_5245 ∷ fields h) rest (zeros 472) fits (header_fits room h is) refl
-    (sym read ∙ e ∙ header_stream h) in
-    let lists : m ∷ fields found ≡ 0x4441_4548_534f_5245 ∷ fields h = s.0 in
-    let first : m ≡ 0x4441_4548_534f_5245 = cc in
-    let others : fields found ≡ fields h = cc in
-    record {
-      magic_is = first;
-      header_is = same_fields found.sequence found.generation found.entries found.age h.sequence h.generation h.entries h.age others;
-      rest_is = s.1;
-    }
+    grind (
+      arith,
+      nat_tests,
+      stream_splits (m ∷ fields found) (0x4441_4548_534f_5245 ∷ fields h) rest (zeros 472) fits (header_fits room h is) refl (sym read ∙
+          e ∙ header_stream h),
+      header_fits room h is,
+      header_stream h,
+    )
 
 -- given bytes spell at most one header
 pub one_header : (room : ℕ) (g h : CheckpointHeader) → IsHeader room g → IsHeader room h → header_bytes g ≡ header_bytes h → g ≡ h

@@ -1,5 +1,5 @@
 -- An image denotes at most one saved state.
-use Rattle.layout.proofs.Names.{ℕ, Some, List, length, sym, ap, subst, inl, inr, arith, cases_lt, same_lists, get_or_default, Frame, Geometry, frame_at}
+use Rattle.layout.proofs.Names.{nat_tests, ℕ, Some, List, length, sym, ap, inl, inr, arith, cases_lt, same_lists, get_or_default, Frame, Geometry, frame_at}
 use Rattle.layout.proofs.Names.{blank_frame, Entry, CheckpointHeader, header_bytes, Plan, Image, IsFrameOf, HasPlan, HasHeader, HasDirectory, frame_in}
 use Rattle.layout.proofs.Names.{SavedState, Encodes}
 use Rattle.std.proofs.Common.{◌≡◌, ◌+◌, ◌<◌, ◌∙◌}
@@ -33,8 +33,7 @@ pub same_header : (image : Image) (p : Plan) (g h : CheckpointHeader) → HasHea
 same_header image p g h hg hh = one_header p.geometry.log g h hg.fits hh.fits (same_some (header_bytes g) (header_bytes h) (sym hg.spelt ∙ hh.spelt))
 
 pub same_directory : (image : Image) (p : Plan) (h : CheckpointHeader) (ds es : List Entry) → HasDirectory image p h ds → HasDirectory image p h es → ds ≡ es
-same_directory image p h ds es hd he = one_directory ds es (directory_fits p.geometry ds hd.fits) (directory_fits p.geometry es he.fits)
-    (sym hd.spelt ∙ he.spelt)
+same_directory image p h ds es hd he = grind (arith, nat_tests, one_directory, directory_fits)
 
 -- what two saved states have in common but their frames
 same_frames : (image : Image) (p : Plan) (h : CheckpointHeader) (es : List Entry) (fs gs : List Frame)
@@ -48,7 +47,7 @@ same_frames image p h es fs gs lf lg ef eg = same_lists fs gs (lf ∙ sym lg) (�
     ∙ one_frame p.geometry h.age o (frame_in image p h.generation es o) (frame_at fs o) (frame_at gs o) (ef o within) (eg o within)
     ∙ get_or_default gs o blank_frame d in')
 
-abbrev state : Plan → CheckpointHeader → List Entry → List Frame → SavedState
+abbrev pub state : Plan → CheckpointHeader → List Entry → List Frame → SavedState
 state p h es fs = record { plan = p; header = h; directory = es; frames = fs }
 
 frames_equal : (image : Image) (size : ℕ) (p : Plan) (h : CheckpointHeader) (es : List Entry) (fs gs : List Frame) → Encodes image size (state p h es fs) →
@@ -58,14 +57,11 @@ frames_equal image size p h es fs gs s t = ap (state p h es) (same_frames image 
 pub one_state : (image : Image) (size : ℕ) (s t : SavedState) → Encodes image size s → Encodes image size t → s ≡ t
 one_state image size s t ds dt =
     let ep : t.plan ≡ s.plan = same_plan image size t.plan s.plan dt.plan ds.plan in
-    let dt1 : Encodes image size (state s.plan t.header t.directory t.frames) = subst (λ (p : Plan). Encodes image size (state p t.header t.directory t.frames))
-    ep dt in
+    let dt1 : Encodes image size (state s.plan t.header t.directory t.frames) = grind (arith, nat_tests) in
     let eh : t.header ≡ s.header = same_header image s.plan t.header s.header dt1.header ds.header in
-    let dt2 : Encodes image size (state s.plan s.header t.directory t.frames) = subst
-    (λ (h : CheckpointHeader). Encodes image size (state s.plan h t.directory t.frames)) eh dt1 in
+    let dt2 : Encodes image size (state s.plan s.header t.directory t.frames) = grind (arith, nat_tests) in
     let ed : t.directory ≡ s.directory = same_directory image s.plan s.header t.directory s.directory dt2.directory ds.directory in
-    let dt3 : Encodes image size (state s.plan s.header s.directory t.frames) = subst
-    (λ (es : List Entry). Encodes image size (state s.plan s.header es t.frames)) ed dt2 in
+    let dt3 : Encodes image size (state s.plan s.header s.directory t.frames) = grind (arith, nat_tests) in
     frames_equal image size s.plan s.header s.directory s.frames t.frames ds dt3
     ∙ ap (λ (p : Plan). state p s.header s.directory t.frames) (sym ep)
     ∙ ap (λ (h : CheckpointHeader). state t.plan h s.directory t.frames) (sym eh)

@@ -1,9 +1,9 @@
 -- A frame that the reader of its kind accepts is one that can be kept.
-use Rattle.layout.proofs.Names.{ℕ, Bool, List, [], length, refl, sym, ap, arith, map, replicate, IsTrue, All, lt-ltb, le-ltb, false≢true, length-append}
+use Rattle.layout.proofs.Names.{nat_tests, [], ℕ, Bool, List, length, refl, sym, ap, arith, map, replicate, IsTrue, All, lt-ltb, le-ltb, length-append}
 use Rattle.layout.proofs.Names.{length-map, length-replicate, All-from_recursion, All-cons, All-append, All-map, All-replicate, All-weaker, Cap, Frame}
-use Rattle.layout.proofs.Names.{Geometry, Content, Root, State, Available, Running, Waiting, void_held, IsKeptCap, AreKeptSlots, AreKeptWords, MayBeKept}
-use Rattle.layout.proofs.Names.{IsKept, IsKeepable, role_of, is_free, state_number, IsOfKind, number_cap, root_slots, slots_of, node_frame_bytes}
-use Rattle.layout.proofs.Names.{page_frame_bytes, frame_bytes, FollowsRole, HoldsPage, IsFront, IsNodeFrame, IsPageFrame, IsFrameOf}
+use Rattle.layout.proofs.Names.{Geometry, Content, Root, State, void_held, IsKeptCap, AreKeptSlots, AreKeptWords, MayBeKept, IsKept, IsKeepable, role_of}
+use Rattle.layout.proofs.Names.{is_free, state_number, IsOfKind, number_cap, root_slots, slots_of, node_frame_bytes, page_frame_bytes, frame_bytes, FollowsRole}
+use Rattle.layout.proofs.Names.{HoldsPage, IsFront, IsNodeFrame, IsPageFrame, IsFrameOf}
 use Rattle.std.proofs.Common.{◌≡◌, ◌+◌, ◌^◌, ◌<◌, ◌≤◌, ◌∷◌, ◌++◌, ◌∙◌}
 use Rattle.std.specs.Prelude.{if◌then◌else◌}
 use Rattle.model.specs.declared.object.Content.TheVariants as content
@@ -21,12 +21,10 @@ number_kept : (g : Geometry) (age n : ℕ) → n < 2 ^ 64 → IsKeptCap g age (n
 number_kept g age n fits = (fits, refl)
 
 state_fits : (s : State) → state_number s < 2 ^ 64
-state_fits Available = omega arith
-state_fits other = omega arith
+state_fits s = grind (arith, nat_tests)
 
 numbers_kept : (g : Geometry) (age : ℕ) (ws : List ℕ) → All (λ w. w < 2 ^ 64) ws → Kept g age (map number_cap ws)
-numbers_kept g age ws each = All-map (IsKeptCap g age) number_cap ws
-    (All-weaker (λ (w : ℕ). w < 2 ^ 64) (λ w. IsKeptCap g age (number_cap w)) (number_kept g age) ws each)
+numbers_kept g age ws each = search (All-map, All-weaker, number_kept)
 
 abbrev root_of : State → List ℕ → ℕ → ℕ → Cap → Root Cap
 root_of s ws key annex space = record { state = s; words = ws; key = key; annex = annex; space = space }
@@ -38,12 +36,9 @@ root_slots_kept g age r words key annex space =
     let last : List Cap = number_cap r.key ∷ r.space ∷ [] in
     let ends : All P last = All-from_recursion P last (number_kept g age r.key (omega (arith, key)), (space, tt)) in
     let middle : All P (map number_cap r.words ++ last) = All-append P (map number_cap r.words) last (numbers_kept g age r.words words.each) ends in
-    let front : All P (root_slots r) = All-cons P (number_cap r.annex) (number_cap (state_number r.state) ∷ map number_cap r.words ++ last)
-    (number_kept g age r.annex annex)
-    (All-cons P (number_cap (state_number r.state)) (map number_cap r.words ++ last) (number_kept g age (state_number r.state) (state_fits r.state)) middle) in
+    let front : All P (root_slots r) = grind (arith, nat_tests, All-cons, number_kept, state_fits) in
     record {
-      count = length-append (root_slots r) (replicate 24 void_held) ∙
-          omega (arith, length-append (map number_cap r.words) last, length-map r.words number_cap, words.count_is, length-replicate 24 void_held);
+      count = grind (arith, nat_tests, length-append, length-map, length-replicate);
       each = All-append P (root_slots r) (replicate 24 void_held) front (voids_kept g age 24);
     }
 
@@ -80,76 +75,47 @@ slots_kept g age n (content.Page words) lt kind may = absurd (omega (arith, lt, 
 slots_kept g age n (content.Node slots) lt kind may = may
 slots_kept g age n (content.Root r) lt kind may = root_slots_kept g age r may.0 may.1 may.2 may.3
 slots_kept g age n (content.Annex registers) lt kind may = may.0
-slots_kept g age n (content.Bank limit) lt kind may =
-    record { count = refl; each = All-cons (IsKeptCap g age) (number_cap limit) (replicate 31 void_held) (number_kept g age limit may) (voids_kept g age 31) }
+slots_kept g age n (content.Bank limit) lt kind may = search (All-cons, number_kept, voids_kept)
 
 follows_role : (g : Geometry) (age n : ℕ) (c : Content Cap) → n < g.nodes → IsOfKind g n c → MayBeKept g age c → FollowsRole c
-follows_role g age n (content.Page words) lt kind may = absurd (omega (arith, lt, kind.0))
-follows_role g age n (content.Root r) lt kind may = (may.0.count_is, may.1, may.4)
-follows_role g age n (content.Annex registers) lt kind may = may.1
-follows_role g age n other lt kind may = tt
+follows_role g age n c lt kind may = grind (arith, nat_tests)
 
 may_be_kept : (g : Geometry) (age n : ℕ) (c : Content Cap) → n < g.nodes → AreKeptSlots g age (slots_of c) → FollowsRole c → IsOfKind g n c × MayBeKept g age c
 may_be_kept g age n content.Free lt are follows = (tt, tt)
 may_be_kept g age n (content.Page words) lt are follows = absurd follows
 may_be_kept g age n (content.Node slots) lt are follows = (lt, are)
-may_be_kept g age n (content.Root r) lt are follows =
-    let is = root_is g age r.state r.words r.key r.annex r.space follows.0 are in
-    (lt, (is.words, follows.1, is.annex, is.space, follows.2))
+may_be_kept g age n (content.Root r) lt are follows = grind (arith, nat_tests, root_is g age r.state r.words r.key r.annex r.space follows.0 are)
 may_be_kept g age n (content.Annex registers) lt are follows = (lt, (are, follows))
 may_be_kept g age n (content.Bank limit) lt are follows = (lt, (are.each 0 void_held (omega arith)).0)
 
 holds_page : (g : Geometry) (age n : ℕ) (c : Content Cap) → g.nodes ≤ n → IsOfKind g n c → MayBeKept g age c → HoldsPage c
-holds_page g age n content.Free le kind may = tt
-holds_page g age n (content.Page words) le kind may = may
-holds_page g age n other le kind may = absurd (omega (arith, le, kind))
+holds_page g age n c le kind may = grind (arith, nat_tests)
 
 page_may_be_kept : (g : Geometry) (age n : ℕ) (c : Content Cap) → g.nodes ≤ n → n < g.nodes + g.pages → HoldsPage c → IsOfKind g n c × MayBeKept g age c
-page_may_be_kept g age n content.Free le lt holds = (tt, tt)
-page_may_be_kept g age n (content.Page words) le lt holds = ((le, lt), holds)
-page_may_be_kept g age n other le lt holds = absurd holds
+page_may_be_kept g age n c le lt holds = grind (arith, nat_tests)
 
 -- ---- frames
 
 free_role : (c : Content Cap) → IsTrue (is_free c) → role_of c ≡ role.Free
-free_role content.Free t = refl
-free_role other t = absurd (false≢true t)
+free_role c t = grind (arith, nat_tests)
 
 role_free : (c : Content Cap) → role_of c ≡ role.Free → IsTrue (is_free c)
-role_free content.Free e = refl
-role_free other e = absurd cc
+role_free c e = grind (arith, nat_tests)
 
 front_of : (g : Geometry) (age : ℕ) (f : Frame) → IsKept g age f → IsFront age f
-front_of g age f is =
-    record { role = is.role; allocations = is.allocations; calls = is.calls; owner = is.owner; unowned = λ t. is.unowned (is.role ∙ free_role f.content t) }
+front_of g age f is = grind (arith, nat_tests, free_role)
 
 kept_of : (g : Geometry) (age : ℕ) (f : Frame) → IsFront age f → MayBeKept g age f.content → IsKept g age f
-kept_of g age f is may =
-    record {
-      role = is.role;
-      allocations = is.allocations;
-      calls = is.calls;
-      owner = is.owner;
-      unowned = λ e. is.unowned (role_free f.content (sym is.role ∙ e));
-      content = may;
-    }
+kept_of g age f is may = grind (arith, nat_tests, role_free)
 
 pub node_keepable : (g : Geometry) (age n : ℕ) (f : Frame) → n < g.nodes → IsNodeFrame g age f → IsKeepable g age n f
-node_keepable g age n f lt is =
-    let may = may_be_kept g age n f.content lt is.slots is.follows in
-    record { kind = may.0; kept = kept_of g age f is.front may.1 }
+node_keepable g age n f lt is = grind (arith, nat_tests, may_be_kept g age n f.content lt is.slots is.follows)
 
 pub keepable_node : (g : Geometry) (age n : ℕ) (f : Frame) → n < g.nodes → IsKeepable g age n f → IsNodeFrame g age f
-keepable_node g age n f lt is = record {
-  front = front_of g age f is.kept;
-  slots = slots_kept g age n f.content lt is.kind is.kept.content;
-  follows = follows_role g age n f.content lt is.kind is.kept.content;
-}
+keepable_node g age n f lt is = grind (arith, nat_tests, front_of, slots_kept, follows_role)
 
 pub page_keepable : (g : Geometry) (age n : ℕ) (f : Frame) → g.nodes ≤ n → n < g.nodes + g.pages → IsPageFrame age f → IsKeepable g age n f
-page_keepable g age n f le lt is =
-    let may = page_may_be_kept g age n f.content le lt is.holds in
-    record { kind = may.0; kept = kept_of g age f is.front may.1 }
+page_keepable g age n f le lt is = grind (arith, nat_tests, page_may_be_kept, kept_of)
 
 pub keepable_page : (g : Geometry) (age n : ℕ) (f : Frame) → g.nodes ≤ n → IsKeepable g age n f → IsPageFrame age f
 keepable_page g age n f le is = record { front = front_of g age f is.kept; holds = holds_page g age n f.content le is.kind is.kept.content }

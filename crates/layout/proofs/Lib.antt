@@ -18,7 +18,6 @@ pub mod SlotsOf
 pub mod Totals
 pub mod Denoted
 pub mod Shapes
-mod Searching
 pub mod Clusters
 mod Runs
 mod Zeros

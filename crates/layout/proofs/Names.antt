@@ -1,6 +1,6 @@
 -- The names that the proofs here cite: of other crates, and of the definitions of this one.
 pub use Rattle.byteorder.specs.Endian.{IsRead, little_number}
-pub use Rattle.byteorder.specs.Numbers.{little_from-lt, little_from-take, little_number-reads_back}
+pub use Rattle.byteorder.specs.Numbers.{little_from-take, little_number-reads_back}
 pub use Rattle.device.specs.Calls.{sectors_of}
 pub use Rattle.device.specs.Disk.{Image}
 pub use Rattle.model.specs.Capability.{IsAccess, access_bits, tag_of}
@@ -12,7 +12,6 @@ pub use Rattle.model.specs.Sound.{IsOfKind}
 pub use Rattle.model.specs.declared.access.Access.{Access}
 pub use Rattle.model.specs.declared.capability.Cap.{Cap}
 pub use Rattle.model.specs.declared.capability.Capability.{Capability}
-pub use Rattle.model.specs.declared.capability.Capability.TheVariants.{Bank, Discrim, Number, Process, Resume, Space, Start, Void}
 pub use Rattle.model.specs.declared.frame.Frame.{Frame}
 pub use Rattle.model.specs.declared.frame.ObjectHeader.{ObjectHeader}
 pub use Rattle.model.specs.declared.geometry.Geometry.{Geometry}
@@ -21,17 +20,17 @@ pub use Rattle.model.specs.declared.object.ContentRef.{ContentRef}
 pub use Rattle.model.specs.declared.object.Role.{Role}
 pub use Rattle.model.specs.declared.object.Root.{Root}
 pub use Rattle.model.specs.declared.object.State.{State}
-pub use Rattle.model.specs.declared.object.State.TheVariants.{Available, Running, Waiting}
-pub use Rattle.std.proofs.Common.{Bool, Bor, Err, List, None, Ok, Option, Result, Some, [], ap, append_assoc, arith, below_more, cond, drop, false, get_or, inl}
-pub use Rattle.std.proofs.Common.{inr, length, nat_le, nat_lt, refl, rules, set, subst, suc, sym, take, true, zero, ℕ, ⊎_elim}
+pub use Rattle.std.proofs.Common.{Bool, Bor, List, None, Result, Some, [], ap, append_assoc, arith, cond, drop, false, get_or, inl, inr, length, nat_lt, refl}
+pub use Rattle.std.proofs.Common.{rules, set, subst, suc, sym, take, true, zero, ℕ, ⊎_elim}
 pub use Rattle.std.proofs.Math.Seq.{take-add}
 pub use Rattle.std.proofs.lemmas.Bool.{cases_eq, cases_lt, eq-eqb, false≢true, le-ltb, lt-ltb, ne_eqb}
 pub use Rattle.std.proofs.lemmas.Bool.Decides.{nat_tests}
+pub use Rattle.std.proofs.lemmas.Grind.{common_steps}
 pub use Rattle.std.proofs.lemmas.List.{append-nil, drop-append-le, drop-drop, drop-replicate, drop-take, drop_all, drop_at, drop_more, get_or-append-add}
-pub use Rattle.std.proofs.lemmas.List.{get_or-append_right, get_or-drop, get_or-map, get_or-replicate, get_or-set_other, get_or-set_same, get_or-take}
-pub use Rattle.std.proofs.lemmas.List.{get_or_append_left, get_or_default, get_or_past, length-append, length-drop, length-map, length-replicate, length-set}
-pub use Rattle.std.proofs.lemmas.List.{length-take, length-take-le, replicate-append-replicate, same_lists, take-append-drop, take-append-le, take-replicate}
-pub use Rattle.std.proofs.lemmas.List.{take_all, take_at, take_more, take_more_set, take_rest}
+pub use Rattle.std.proofs.lemmas.List.{get_or-append_right, get_or-drop, get_or-map, get_or-replicate, get_or-take, get_or_append_left, get_or_default}
+pub use Rattle.std.proofs.lemmas.List.{get_or_past, length-append, length-drop, length-map, length-replicate, length-set, length-take, length-take-le}
+pub use Rattle.std.proofs.lemmas.List.{replicate-append-replicate, same_lists, take-append-drop, take-append-le, take-replicate, take_all, take_at, take_more}
+pub use Rattle.std.proofs.lemmas.List.{take_more_set, take_rest}
 pub use Rattle.std.proofs.lemmas.List.Concat.{flat_map-append}
 pub use Rattle.std.proofs.lemmas.List.Elements.{All-append, All-cons, All-from_recursion, All-head, All-map, All-nil, All-push, All-replicate, All-same}
 pub use Rattle.std.proofs.lemmas.List.Elements.{All-tail, All-weaker}
@@ -41,16 +40,16 @@ pub use Rattle.std.proofs.lemmas.Result.{IfErr-weaker, IfOk-weaker, err_from_is_
 pub use Rattle.std.proofs.lemmas.Slice.{between-put_mid, between_is, drop-put_mid, take-put_mid, take-put_mid_below}
 pub use Rattle.std.proofs.lemmas.Slice.Eq.{slice_eq-Decides}
 pub use Rattle.std.specs.Int.{from_le_bytes, w32, w64}
-pub use Rattle.std.specs.List.{All, between, flat_map, range_with_len}
-pub use Rattle.std.specs.Prelude.{IfNone, IfSome, IsTrue, OnOk, bit_or, codes, map, nat_eq, replicate, ⊤}
+pub use Rattle.std.specs.List.{All, between, flat_map}
+pub use Rattle.std.specs.Prelude.{IfNone, IfSome, IsTrue, OnOk, Option, bit_or, codes, map, nat_eq, replicate, ⊤}
 unfoldable pub use Rattle.layout.specs.Bytes.{half_number, number, number_from, short_number, zeros}
 pub use Rattle.layout.specs.Capability.{HeadFits, assembled, head_number, height_of, key_of, number_of}
 unfoldable pub use Rattle.layout.specs.Capability.{capability_bytes, head_bytes}
 pub use Rattle.layout.specs.Clusters.{IsAlone, IsBlankBehind}
-pub use Rattle.layout.specs.Directory.{AllFitting, AreRising, HaveOwnSlots, IsDirectory, entry_at, entry_bytes}
+pub use Rattle.layout.specs.Directory.{AllFitting, AreRising, IsDirectory, entry_at}
 unfoldable pub use Rattle.layout.specs.Directory.{directory_bytes}
 pub use Rattle.layout.specs.Frame.{FollowsRole, HoldsPage, IsBody, IsFrameOf, IsFront, IsNodeFrame, IsPageBody, IsPageFrame, body_in, content_of, frame_bytes}
-pub use Rattle.layout.specs.Frame.{frame_length, frame_of, number_cap, page_body_in, page_words, role_in, root_from, root_slots, slots_of, state_in}
+pub use Rattle.layout.specs.Frame.{frame_length, number_cap, page_body_in, page_words, role_in, root_from, root_slots, slots_of, state_in}
 unfoldable pub use Rattle.layout.specs.Frame.{front_bytes, front_numbers, node_frame_bytes, page_frame_bytes, slots_bytes, words_bytes}
 pub use Rattle.layout.specs.FrameReader.{cap_with, node_from, page_from}
 unfoldable pub use Rattle.layout.specs.FrameReader.{cap_from, frame_from, header_from, slots_from, words_from}
@@ -59,11 +58,11 @@ pub use Rattle.layout.specs.Gate.{gate_bytes}
 pub use Rattle.layout.specs.Half.{half_of}
 pub use Rattle.layout.specs.Header.{IsHeader}
 unfoldable pub use Rattle.layout.specs.Header.{header_bytes}
-pub use Rattle.layout.specs.Homes.{place_length, range_with, rank_in, shape_of}
-pub use Rattle.layout.specs.Image.{Encodes, HasDirectory, HasHeader, HasNoHeader, HasPlan, IsBadBy, IsTooSmall, SavedState, bytes_at, frame_in, half_sector}
-pub use Rattle.layout.specs.Image.{option_at, shaped_at, slot_in, total_in}
+pub use Rattle.layout.specs.Homes.{range_with}
+pub use Rattle.layout.specs.Image.{Encodes, HasDirectory, HasHeader, HasNoHeader, HasPlan, IsBadBy, IsTooSmall, SavedState, frame_in, half_sector, shaped_at}
+pub use Rattle.layout.specs.Image.{slot_in, total_in}
 unfoldable pub use Rattle.layout.specs.Image.{sectors_from}
-pub use Rattle.layout.specs.Shape.{node_shape, shape_bytes, shape_length}
+pub use Rattle.layout.specs.Shape.{shape_bytes, shape_length}
 pub use Rattle.layout.specs.Spelt.{AreSpelt, IsSpelt, count_of, frame_read}
 unfoldable pub use Rattle.layout.specs.Spelt.{frames_read}
 pub use Rattle.layout.specs.Superblock.{AreApart, Cover, HasMark, IsApart, IsInside, IsNext, IsPlan, IsWithin, Plan, RangeFits, extent_at, extents, half_extent}
@@ -72,7 +71,6 @@ unfoldable pub use Rattle.layout.specs.Superblock.{ranges_bytes, superblock_byte
 pub use Rattle.layout.specs.declared.bad_image.BadImage.{BadImage}
 pub use Rattle.layout.specs.declared.bad_image.BadImage.TheVariants.{BadFrame}
 pub use Rattle.layout.specs.declared.body.Body.{Body}
-pub use Rattle.layout.specs.declared.body.Scratch.{Scratch}
 pub use Rattle.layout.specs.declared.directory.Entry.{Entry}
 pub use Rattle.layout.specs.declared.extent.Extent.{Extent}
 pub use Rattle.layout.specs.declared.extent.HomeRange.{HomeRange}
@@ -82,6 +80,5 @@ pub use Rattle.layout.specs.declared.half.Half.{Half}
 pub use Rattle.layout.specs.declared.half.Half.TheVariants.{First, Second}
 pub use Rattle.layout.specs.declared.header.CheckpointHeader.{CheckpointHeader}
 pub use Rattle.layout.specs.declared.shape.Shape.{Shape}
-pub use Rattle.layout.specs.declared.shape.Shape.TheVariants.{Node, Packed, Page}
+pub use Rattle.layout.specs.declared.shape.Shape.TheVariants.{Packed}
 pub use Rattle.layout.specs.declared.version.Version.{Version}
-pub use Rattle.layout.specs.declared.version.Version.TheVariants.{One, Two}

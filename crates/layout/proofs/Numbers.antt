@@ -1,9 +1,9 @@
 -- Numbers read back from bytes.
-use Rattle.layout.proofs.Names.{below_more, ℕ, Bool, List, [], length, get_or, take, drop, refl, sym, ap, subst, inl, inr, rules, arith, replicate, bit_or}
-use Rattle.layout.proofs.Names.{IsTrue, nat_eq, w64, from_le_bytes, le_bytes_8, from_le_bytes-to_le_bytes_8, le_or_l, le_or_r, take_at, drop_at}
-use Rattle.layout.proofs.Names.{take-append-drop, length-take, length-drop, drop-drop, get_or-take, get_or-drop, get_or_past, same_lists, get_or-replicate}
-use Rattle.layout.proofs.Names.{length-replicate, get_or_default, take_rest, drop_all, append-nil, length-append, drop-replicate, cases_lt, between}
-use Rattle.layout.proofs.Names.{little_number, little_from-take, little_number-reads_back, number, number_from, zeros}
+use Rattle.layout.proofs.Names.{nat_tests, [], ℕ, Bool, List, length, get_or, take, drop, refl, sym, ap, inl, inr, arith, replicate, bit_or, IsTrue, nat_eq}
+use Rattle.layout.proofs.Names.{w64, from_le_bytes, le_bytes_8, from_le_bytes-to_le_bytes_8, le_or_l, le_or_r, take_at, drop_at, take-append-drop, length-take}
+use Rattle.layout.proofs.Names.{length-drop, drop-drop, get_or-take, get_or-drop, get_or_past, same_lists, get_or-replicate, length-replicate, get_or_default}
+use Rattle.layout.proofs.Names.{take_rest, drop_all, append-nil, length-append, drop-replicate, cases_lt, between, little_number, little_from-take}
+use Rattle.layout.proofs.Names.{little_number-reads_back, number, number_from, zeros}
 use Rattle.std.proofs.Common.{◌≡◌, ◌+◌, ◌-◌, ◌^◌, ◌<◌, ◌≤◌, ◌∷◌, ◌++◌, ◌∙◌}
 use Rattle.std.specs.Prelude.{◌↔◌}
 use Rattle.std.proofs.lemmas.List.{append_assoc}
@@ -46,10 +46,7 @@ number_read bytes at n room small is =
 -- its bytes decide a number, whatever follows
 pub number_splits : (m n : ℕ) (x y : List ℕ) → m < 2 ^ 64 → n < 2 ^ 64 → number m ++ x ≡ number n ++ y → (m ≡ n) × (x ≡ y)
 unfolding number
-number_splits m n x y fits fits' e =
-    let same : number m ≡ number n = sym (take_at (number m) x 8 refl) ∙ ap (take 8) e ∙ take_at (number n) y 8 refl in
-    let rest : x ≡ y = sym (drop_at (number m) x 8 refl) ∙ ap (drop 8) e ∙ drop_at (number n) y 8 refl in
-    (sym (from_le_bytes-to_le_bytes_8 m fits) ∙ ap (from_le_bytes w64) same ∙ from_le_bytes-to_le_bytes_8 n fits', rest)
+number_splits m n x y fits fits' e = grind (arith, nat_tests, take_at, drop_at, from_le_bytes-to_le_bytes_8)
 
 -- any is 0 exactly where the first i bytes are
 pub record IsSum (bytes : List ℕ) (i any : ℕ) : Type 0 where
@@ -57,11 +54,7 @@ pub record IsSum (bytes : List ℕ) (i any : ℕ) : Type 0 where
   pub zero_sum : ((k : ℕ) → k < i → get_or bytes k 0 ≡ 0) → any ≡ 0
 
 pub sum_more : (bytes : List ℕ) (i any : ℕ) → IsSum bytes i any → IsSum bytes (i + 1) (bit_or any (get_or bytes i 0))
-sum_more bytes i any s = record {
-  zero_bytes = λ e. below_more _ _ (s.zero_bytes (omega (arith, le_or_l any (get_or bytes i 0)))) (omega (arith, le_or_r any (get_or bytes i 0)));
-  zero_sum = λ all. let here : get_or bytes i 0 ≡ 0 = all i (omega arith) in let before : any ≡ 0 = s.zero_sum (λ k lt. all k (omega arith)) in rw
-      (here, before) refl;
-}
+sum_more bytes i any s = grind (arith, nat_tests, le_or_l, le_or_r)
 
 pub sum_zeros : (bytes : List ℕ) (any : ℕ) → IsSum bytes (length bytes) any → any ≡ 0 → bytes ≡ zeros (length bytes)
 unfolding zeros
@@ -71,8 +64,7 @@ sum_zeros bytes any s e =
 
 pub zeros_sum : (bytes : List ℕ) (any : ℕ) → IsSum bytes (length bytes) any → bytes ≡ zeros (length bytes) → any ≡ 0
 unfolding zeros
-zeros_sum bytes any s e =
-    s.zero_sum (λ k lt. ap (λ (xs : List ℕ). get_or xs k 0) e ∙ get_or-replicate (length bytes) k 0 0 lt)
+zeros_sum bytes any s e = grind (arith, nat_tests, get_or-replicate)
 
 -- what a write of a number at a place leaves
 pub written : (bytes buf : List ℕ) (at n : ℕ) → at + 8 ≤ length bytes → buf ≡ number n ++ drop 8 (between at (length bytes) bytes)
@@ -80,26 +72,19 @@ pub written : (bytes buf : List ℕ) (at n : ℕ) → at + 8 ≤ length bytes �
 written bytes buf at n room is =
     let mid : between at (length bytes) bytes ≡ drop at bytes = take_rest bytes at in
     let past : drop (length bytes - at) (drop at bytes) ≡ [] = drop_all (length bytes - at) (drop at bytes) (omega (arith, length-drop at bytes)) in
-    let whole : buf ≡ number n ++ drop (at + 8) bytes = is ∙ ap (λ (r : List ℕ). number n ++ drop 8 r) mid ∙
-    ap (λ (r : List ℕ). number n ++ r) (drop-drop 8 at bytes) in
+    let whole : buf ≡ number n ++ drop (at + 8) bytes = cc (drop-drop 8 at bytes) in
     rw (past, whole, append-nil) (sym (append_assoc (take at bytes) (number n) (drop (at + 8) bytes)))
 
 pub written_before : (bytes new : List ℕ) (at n : ℕ) → at + 8 ≤ length bytes → new ≡ (take at bytes ++ number n) ++ drop (at + 8) bytes →
     take (at + 8) new ≡ take at bytes ++ number n
-written_before bytes new at n room is =
-    ap (take (at + 8)) is ∙ take_at (take at bytes ++ number n) (drop (at + 8) bytes) (at + 8)
-    (omega (arith, length-append (take at bytes) (number n), length-take at bytes, length-number n))
+written_before bytes new at n room is = grind (arith, nat_tests, take_at, length-append, length-take, length-number)
 
 pub written_after : (bytes new : List ℕ) (at n : ℕ) → at + 8 ≤ length bytes → new ≡ (take at bytes ++ number n) ++ drop (at + 8) bytes →
     drop (at + 8) new ≡ drop (at + 8) bytes
-written_after bytes new at n room is =
-    ap (drop (at + 8)) is ∙ drop_at (take at bytes ++ number n) (drop (at + 8) bytes) (at + 8)
-    (omega (arith, length-append (take at bytes) (number n), length-take at bytes, length-number n))
+written_after bytes new at n room is = grind (arith, nat_tests, drop_at, length-append, length-take, length-number)
 
 pub ends_zeros : (bytes : List ℕ) (i any : ℕ) → i ≡ length bytes → IsSum bytes i any → IsTrue (nat_eq any 0) ↔ (bytes ≡ zeros (length bytes))
-ends_zeros bytes i any e s =
-    let all : IsSum bytes (length bytes) any = rw e at s in
-    ((λ t. sum_zeros bytes any all (search (rules, t))), (λ z. let zero : any ≡ 0 = zeros_sum bytes any all z in rw zero refl))
+ends_zeros bytes i any e s = grind (arith, nat_tests, sum_zeros, zeros_sum)
 
 -- numbers one after the other, and what follows them
 abbrev pub stream : List ℕ → List ℕ → List ℕ
@@ -131,15 +116,11 @@ written_none filled = record { before = refl; after = refl }
 
 pub written_more : (filled front old new : List ℕ) (at n : ℕ) → IsWritten filled front old at
     → take (at + 8) new ≡ take at old ++ number n → drop (at + 8) new ≡ drop (at + 8) old → IsWritten filled (front ++ number n) new (at + 8)
-written_more filled front old new at n was before after = record {
-  before = before ∙ ap (λ (f : List ℕ). f ++ number n) was.before;
-  after = after ∙ sym (drop-drop 8 at old) ∙ ap (drop 8) was.after ∙ drop-drop 8 at filled;
-}
+written_more filled front old new at n was before after = grind (arith, nat_tests, drop-drop 8 at old, drop-drop 8 at filled)
 
 -- all that was written, and the rest as it was filled
 pub written_all : (filled front now : List ℕ) (at : ℕ) → IsWritten filled front now at → now ≡ front ++ drop at filled
-written_all filled front now at was = sym (take-append-drop at now) ∙ ap (λ (f : List ℕ). f ++ drop at now) was.before ∙
-    ap (λ (r : List ℕ). front ++ r) was.after
+written_all filled front now at was = grind (arith, nat_tests, take-append-drop)
 
 pub drop_filled : (filled : List ℕ) (n at : ℕ) → filled ≡ zeros n → drop at filled ≡ zeros (n - at)
 unfolding zeros
@@ -149,16 +130,11 @@ drop_filled filled n at e = ap (drop at) e ∙ drop-replicate at n 0
 pub blank_part : (bytes : List ℕ) (at : ℕ) (answer : Bool) → at ≤ length bytes
     → IsTrue answer ↔ (between at (length bytes) bytes ≡ zeros (length (between at (length bytes) bytes)))
     → IsTrue answer ↔ (drop at bytes ≡ zeros (length bytes - at))
-blank_part bytes at answer room says =
-    let mid : between at (length bytes) bytes ≡ drop at bytes = take_rest bytes at in
-    let len : length (drop at bytes) ≡ length bytes - at = length-drop at bytes in
-    let said : IsTrue answer ↔ (drop at bytes ≡ zeros (length (drop at bytes))) = subst (λ (xs : List ℕ). IsTrue answer ↔ (xs ≡ zeros (length xs))) mid says in
-    subst (λ (n : ℕ). IsTrue answer ↔ (drop at bytes ≡ zeros n)) len said
+blank_part bytes at answer room says = grind (arith, nat_tests, take_rest, length-drop)
 
 pub all_blank : (bytes : List ℕ) (n : ℕ) → length bytes ≡ n → ((k d : ℕ) → k < n → get_or bytes k d ≡ 0) → bytes ≡ zeros n
 unfolding zeros
-all_blank bytes n len all =
-    same_lists bytes (replicate n 0) (len ∙ sym (length-replicate n 0)) (λ k d lt. all k d (omega arith) ∙ sym (get_or-replicate n k 0 d (omega arith)))
+all_blank bytes n len all = grind (arith, nat_tests, same_lists, length-replicate, get_or-replicate)
 
 -- the number in bytes that begin with those of a number
 pub number_reported : (bytes rest : List ℕ) (n : ℕ) → n < 2 ^ 64 → bytes ≡ number n ++ rest → n ≡ number_from bytes

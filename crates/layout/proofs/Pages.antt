@@ -1,10 +1,10 @@
 -- Frames of pages read back from their bytes.
-use Rattle.layout.proofs.Names.{ℕ, suc, List, [], length, take, drop, refl, sym, ap, subst, append_assoc, inl, inr, arith, IsTrue, false≢true, All, flat_map}
+use Rattle.layout.proofs.Names.{nat_tests, [], ℕ, suc, List, length, take, drop, refl, sym, ap, subst, append_assoc, arith, IsTrue, All, flat_map}
 use Rattle.layout.proofs.Names.{length-replicate, drop-drop, take_at, drop_at, take_all, take-append-drop, append-nil, length-drop, length-take-le, drop-take}
 use Rattle.layout.proofs.Names.{drop_all, take-add, flat_map-append, All-replicate, Cap, Frame, ObjectHeader, Content, IsCount, AreKeptWords, role_of}
 use Rattle.layout.proofs.Names.{role_number, is_free, zero_words, number, zeros, Body, front_numbers, front_bytes, page_words, words_bytes, page_frame_bytes}
 use Rattle.layout.proofs.Names.{role_in, page_body_in, content_of, HoldsPage, IsPageFrame, IsPageBody, zero, get_or, get_or-drop, get_or_default, take_more}
-use Rattle.layout.proofs.Names.{little_number, IsRead, little_from-lt, Bor, content_behind, ContentRef}
+use Rattle.layout.proofs.Names.{little_number, IsRead, Bor, content_behind, ContentRef}
 use Rattle.std.proofs.Common.{◌≡◌, ◌+◌, ◌-◌, ◌*◌, ◌^◌, ◌<◌, ◌≤◌, ◌∷◌, ◌++◌, ◌∙◌}
 use Rattle.std.specs.Prelude.{◌⊎◌}
 use borrow.Rule.Slice.PartMut.{put_mid}
@@ -12,6 +12,7 @@ use Rattle.model.specs.declared.object.Content.TheVariants as content
 use Rattle.layout.proofs.Numbers.{length-number, stream, AllFit, stream_splits, IsBytes, number_read}
 use Rattle.layout.proofs.Frames.{length-front, front_list, front_reported, front_bytes_are, role_again, role_fits, drop_zeros}
 use Rattle.model.specs.declared.object.ContentRef.TheVariants as content_ref
+use Rattle.layout.proofs.Clusters.{length-zeros}
 
 pub words_bytes-nil : words_bytes [] ≡ []
 unfolding words_bytes
@@ -48,10 +49,7 @@ words_taken bytes words small size count read (suc i) le =
     ∙ ap (λ (r : List ℕ). words_bytes (take i words) ++ r) piece ∙ sym (words_bytes-push (take i words) n) ∙ ap words_bytes (sym more)
 
 word_fits : (bytes words : List ℕ) → IsBytes bytes → IsRead little_number 8 bytes words → (k d : ℕ) → k < length words → get_or words k d < 2 ^ 64
-word_fits bytes words small read k d lt =
-    let fits : little_number 8 (drop (8 * k) bytes) < 256 ^ 8 =
-    little_from-lt 0 8 (drop (8 * k) bytes) (λ (i : ℕ). rw (get_or-drop (8 * k) bytes i 0) (small (8 * k + i))) in
-    rw (get_or_default words k d 0 lt, read k lt) (omega (arith, fits))
+word_fits bytes words small read k d lt = grind (arith, nat_tests, get_or-drop, get_or_default)
 
 -- 512 words that were read of their bytes
 pub words_read : (bytes words : List ℕ) → IsBytes bytes → length bytes ≡ 4096 → length words ≡ 512 → IsRead little_number 8 bytes words
@@ -75,31 +73,22 @@ zero_words_bytes = refl
 -- ---- frames
 
 pub words_fit : (c : Content Cap) → HoldsPage c → AreKeptWords 512 (page_words c)
-words_fit content.Free h = zero_words_fit
-words_fit (content.Page words) h = h
-words_fit other h = absurd h
+words_fit c h = grind (arith, nat_tests, zero_words_fit)
 
 pub content_again : (c : Content Cap) → HoldsPage c → content_of (page_body_in (role_number (role_of c))) [] (page_words c) ≡ c
-content_again content.Free h = refl
-content_again (content.Page words) h = refl
-content_again other h = absurd h
+content_again c h = grind (arith, nat_tests)
 
 pub record HasPageParts (f : Frame) (bytes : List ℕ) : Type 0 where
   pub whole : bytes ≡ front_numbers (role_number f.header.role) f.header ++ (zeros 480 ++ words_bytes (page_words f.content))
   pub gap : take 480 (drop 32 bytes) ≡ zeros 480
   pub last : drop 512 bytes ≡ words_bytes (page_words f.content)
 
-length-zeros : (n : ℕ) → length (zeros n) ≡ n
-unfolding zeros
-length-zeros n = length-replicate {A = ℕ} n 0
-
 pub page_parts : (f : Frame) (bytes : List ℕ) → bytes ≡ page_frame_bytes f → HasPageParts f bytes
 unfolding page_frame_bytes
 page_parts f bytes e =
     let front : List ℕ = front_numbers (role_number f.header.role) f.header in
     let words : List ℕ = words_bytes (page_words f.content) in
-    let whole : bytes ≡ front ++ (zeros 480 ++ words) = e ∙ ap (λ (r : List ℕ). r ++ zeros 480 ++ words) (front_bytes_are f.header) ∙
-    append_assoc front (zeros 480) words in
+    let whole : bytes ≡ front ++ (zeros 480 ++ words) = grind (arith, nat_tests, front_bytes_are, append_assoc) in
     let behind : drop 32 bytes ≡ zeros 480 ++ words = ap (drop 32) whole ∙ drop_at front (zeros 480 ++ words) 32 (length-front _ f.header) in
     record {
       whole = whole;
@@ -126,9 +115,7 @@ page_reported age role h words f bytes rest fits role_is are front last is e =
 
 page_kind : (role owner : ℕ) (last : List ℕ) (c : Content Cap) → role ≡ role_number (role_of c) → last ≡ words_bytes (page_words c) → HoldsPage c
     → (IsTrue (is_free c) → owner ≡ 0) → (role ≡ 1) ⊎ ((role ≡ 0) × (owner ≡ 0) × (last ≡ zeros 4096))
-page_kind role owner last content.Free r l h unowned = inr (r, unowned refl, l ∙ zero_words_bytes)
-page_kind role owner last (content.Page _) r l h unowned = inl r
-page_kind role owner last other r l h unowned = absurd h
+page_kind role owner last c r l h unowned = grind (arith, nat_tests, zero_words_bytes)
 
 -- what the bytes of a frame with the number of a page are
 pub record IsPageSpelling (age role : ℕ) (h : ObjectHeader) (bytes : List ℕ) : Type 0 where
@@ -158,12 +145,7 @@ record IsPageContent (role owner : ℕ) (words : List ℕ) (c : Content Cap) : T
 
 page_content : (role owner : ℕ) (slots : List Cap) (words : List ℕ) → AreKeptWords 512 words → IsPageBody role owner words →
     IsPageContent role owner words (content_of (page_body_in role) slots words)
-page_content role owner slots words are (inl r) =
-    subst (λ (n : ℕ). IsPageContent n owner words (content_of (page_body_in n) slots words)) (sym r)
-    (record { role_is = refl; words_are = refl; holds = are; unowned = λ t. absurd (false≢true t) })
-page_content role owner slots words are (inr is) =
-    subst (λ (n : ℕ). IsPageContent n owner words (content_of (page_body_in n) slots words)) (sym is.0)
-    (record { role_is = refl; words_are = is.2; holds = tt; unowned = λ _. is.1 })
+page_content role owner slots words are h1 = grind (arith, nat_tests)
 
 pub page_found : (age role : ℕ) (h : ObjectHeader) (slots : List Cap) (words : List ℕ) (b : Body) (bytes : List ℕ) → AllFit (front_list role h) →
     h.role ≡ role_in role → b ≡ page_body_in role
@@ -175,16 +157,10 @@ unfolding page_frame_bytes
 page_found age role h slots words b bytes fits role_is body_is counts are was front gap last =
     let c : Content Cap = content_of b slots words in
     let f : Frame = record { header = h; content = c } in
-    let is : IsPageContent role h.owner words c = subst (λ (d : Body). IsPageContent role h.owner words (content_of d slots words)) (sym body_is)
-    (page_content role h.owner slots words are was) in
+    let is : IsPageContent role h.owner words c = grind (arith, nat_tests, page_content) in
     let same_role : h.role ≡ role_of c = role_is ∙ ap role_in is.role_is ∙ role_again (role_of c) in
-    let behind : drop 32 bytes ≡ zeros 480 ++ words_bytes words = sym (take-append-drop 480 (drop 32 bytes)) ∙
-    ap (λ (r : List ℕ). r ++ drop 480 (drop 32 bytes)) gap
-    ∙ ap (λ (r : List ℕ). zeros 480 ++ r) (drop-drop 480 32 bytes ∙ last) in
-    let spelt : bytes ≡ front_bytes h ++ (zeros 480 ++ words_bytes (page_words c)) =
-    front ∙ ap (λ (r : List ℕ). front_numbers role h ++ r) (behind ∙ ap (λ (w : List ℕ). zeros 480 ++ words_bytes w) is.words_are)
-    ∙ ap (λ (r : ℕ). front_numbers r h ++ (zeros 480 ++ words_bytes (page_words c))) (is.role_is ∙ ap role_number (sym same_role))
-    ∙ ap (λ (r : List ℕ). r ++ (zeros 480 ++ words_bytes (page_words c))) (sym (front_bytes_are h)) in (
+    let behind : drop 32 bytes ≡ zeros 480 ++ words_bytes words = cc (take-append-drop 480 (drop 32 bytes), drop-drop 480 32 bytes) in
+    let spelt : bytes ≡ front_bytes h ++ (zeros 480 ++ words_bytes (page_words c)) = grind (arith, nat_tests, front_bytes_are) in (
       record {
         front = record { role = same_role; allocations = counts.0; calls = counts.1; owner = fits.1.1.1.0; unowned = is.unowned };
         holds = is.holds;
@@ -200,9 +176,7 @@ one_page_frame age e f ie if same =
     (zeros 480 ++ words_bytes (page_words e.content))
     (role_fits e.header.role, (ie.front.allocations.1, (ie.front.calls.1, (ie.front.owner, tt)))) (sym (role_again e.header.role))
     (words_fit e.content ie.holds) parts.whole parts.last if same in
-    let contents : e.content ≡ f.content = sym (content_again e.content ie.holds)
-    ∙ ap (λ (r : ℕ). content_of (page_body_in r) [] (page_words e.content)) (ap role_number (sym ie.front.role) ∙ read.role_is)
-    ∙ ap (λ (w : List ℕ). content_of (page_body_in (role_number (role_of f.content))) [] w) read.words_are ∙ content_again f.content if.holds in
+    let contents : e.content ≡ f.content = grind (arith, nat_tests, content_again) in
     ap (λ (h : ObjectHeader). record { header = h; content = e.content }) read.header_is ∙ ap (λ (c : Content Cap). record { header = f.header; content = c })
     contents
 
@@ -213,20 +187,15 @@ take_gap xs = sym (drop-take 32 480 xs)
 
 pub fronted : (h : ObjectHeader) (blanked new : List ℕ) → take 512 blanked ≡ zeros 512
     → take 32 new ≡ front_numbers (role_number h.role) h → drop 32 new ≡ drop 32 blanked → take 512 new ≡ front_bytes h ++ zeros 480
-fronted h blanked new blank before after =
-    let gap : take 480 (drop 32 new) ≡ zeros 480 = ap (take 480) after ∙ take_gap blanked ∙ ap (drop 32) blank ∙ drop_zeros 32 512 in
-    take-add 32 480 new ∙ ap (λ (r : List ℕ). r ++ take 480 (drop 32 new)) (before ∙ sym (front_bytes_are h)) ∙ ap (λ (r : List ℕ). front_bytes h ++ r) gap
+fronted h blanked new blank before after = grind (arith, nat_tests, take_gap blanked, drop_zeros 32 512, take-add 32 480 new, front_bytes_are h)
 
 pub page_written : (f : Frame) (front new body : List ℕ) → take 512 front ≡ front_bytes f.header ++ zeros 480 → body ≡ words_bytes (page_words f.content) →
     new ≡ take 512 front ++ body → new ≡ page_frame_bytes f
 unfolding page_frame_bytes
-page_written f front new body before spelt is =
-    is ∙ ap (λ (r : List ℕ). r ++ body) before ∙ ap (λ (r : List ℕ). front_bytes f.header ++ zeros 480 ++ r) spelt
+page_written f front new body before spelt is = grind (arith, nat_tests)
 
 pub put_last : (xs ys : List ℕ) (at : ℕ) → put_mid at (length xs - at) xs ys ≡ take at xs ++ ys
-put_last xs ys at =
-    let past : drop (length xs - at) (drop at xs) ≡ [] = drop_all (length xs - at) (drop at xs) (omega (arith, length-drop at xs)) in
-    rw (past, append-nil) refl
+put_last xs ys at = grind (arith, nat_tests, drop_all, length-drop, append-nil)
 
 pub default_written : (f : Frame) (front new : List ℕ) → take 512 front ≡ front_bytes f.header ++ zeros 480 → page_words f.content ≡ zero_words →
     new ≡ take 512 front ++ zeros 4096 → new ≡ page_frame_bytes f
@@ -234,11 +203,7 @@ default_written f front new before words is = page_written f front new (zeros 40
 
 pub blanked_front : (old new : List ℕ) (n : ℕ) → n ≤ length old → new ≡ zeros (length (take n old)) →
     (take n (new ++ drop n old) ≡ zeros n) × (drop n (new ++ drop n old) ≡ drop n old)
-blanked_front old new n room e =
-    let is : new ≡ zeros n = e ∙ ap zeros (length-take-le n old room) in
-    let size : length new ≡ n = ap length is ∙ length-zeros n in
-    (take_at new (drop n old) n size ∙ is, drop_at new (drop n old) n size)
+blanked_front old new n room e = grind (arith, nat_tests, length-take-le, length-zeros, take_at, drop_at)
 
 pub not_page : (r : ContentRef) → ((words : Bor (List ℕ)) → r ≡ content_ref.Page words → ⊥) → page_words (content_behind r) ≡ zero_words
-not_page (content_ref.Page words) h = absurd (h words refl)
-not_page other h = refl
+not_page r h = grind (arith, nat_tests)

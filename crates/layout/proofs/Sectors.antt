@@ -1,5 +1,5 @@
 -- Bytes that are sectors of an image.
-use Rattle.layout.proofs.Names.{ℕ, zero, suc, List, [], length, take, drop, refl, sym, ap, subst, arith, take-append-drop, drop-drop, Image, sectors_from}
+use Rattle.layout.proofs.Names.{[], ℕ, zero, suc, List, length, take, drop, refl, sym, ap, subst, arith, take-append-drop, drop-drop, Image, sectors_from}
 use Rattle.std.proofs.Common.{◌≡◌, ◌+◌, ◌*◌, ◌/◌, ◌%◌, ◌<◌, ◌∷◌, ◌++◌, ◌∙◌, length-drop}
 
 no_bytes : (bytes : List ℕ) → length bytes ≡ 0 → [] ≡ bytes

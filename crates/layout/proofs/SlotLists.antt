@@ -1,9 +1,9 @@
 -- Capabilities one after the other.
-use Rattle.layout.proofs.Names.{ℕ, List, [], length, get_or, set, take, drop, refl, sym, ap, append_assoc, arith, replicate, All, between, same_lists}
-use Rattle.layout.proofs.Names.{take_rest, length-replicate, get_or-replicate, drop_more, take_more, take_more_set, take_all, take_at, drop_at, append-nil}
-use Rattle.layout.proofs.Names.{length-append, length-set, length-take, length-drop, take-append-drop, take-add, flat_map-append, All-push, All-replicate}
-use Rattle.layout.proofs.Names.{All-nil, All-head, All-tail, All-same, take-put_mid, Cap, Geometry, void_held, IsKeptCap, AreKeptSlots, number, short_number}
-use Rattle.layout.proofs.Names.{capability_bytes, head_bytes, slots_bytes}
+use Rattle.layout.proofs.Names.{nat_tests, [], ℕ, List, length, get_or, set, take, drop, refl, sym, ap, append_assoc, arith, replicate, All, between}
+use Rattle.layout.proofs.Names.{same_lists, take_rest, length-replicate, get_or-replicate, drop_more, take_more, take_more_set, take_all, take_at, drop_at}
+use Rattle.layout.proofs.Names.{append-nil, length-append, length-set, length-take, length-drop, take-append-drop, take-add, flat_map-append, All-push}
+use Rattle.layout.proofs.Names.{All-replicate, All-nil, All-head, All-tail, All-same, take-put_mid, Cap, Geometry, void_held, IsKeptCap, AreKeptSlots, number}
+use Rattle.layout.proofs.Names.{short_number, capability_bytes, head_bytes, slots_bytes}
 use Rattle.std.proofs.Common.{◌≡◌, ◌+◌, ◌-◌, ◌*◌, ◌<◌, ◌≤◌, ◌∷◌, ◌++◌, ◌∙◌}
 use borrow.Rule.Slice.PartMut.{put_mid}
 use Rattle.layout.proofs.Capabilities.{one_capability}
@@ -25,14 +25,11 @@ unfolding slots_bytes
 slots_bytes-append bs cs = flat_map-append capability_bytes bs cs
 
 pub slots_bytes-push : (cs : List Cap) (c : Cap) → slots_bytes (cs ++ c ∷ []) ≡ slots_bytes cs ++ capability_bytes c
-slots_bytes-push cs c = slots_bytes-append cs (c ∷ []) ∙
-    ap (λ (r : List ℕ). slots_bytes cs ++ r)
-    (slots_bytes-cons c [] ∙ ap (λ (r : List ℕ). capability_bytes c ++ r) slots_bytes-nil ∙ append-nil (capability_bytes c))
+slots_bytes-push cs c = grind (arith, nat_tests, slots_bytes-append, slots_bytes-cons, slots_bytes-nil, append-nil)
 
 pub length-slots : (cs : List Cap) → length (slots_bytes cs) ≡ 24 * length cs
 length-slots [] = ap length slots_bytes-nil
-length-slots (c ∷ cs) = ap length (slots_bytes-cons c cs) ∙ length-append (capability_bytes c) (slots_bytes cs) ∙
-    omega (arith, length-capability c, length-slots cs)
+length-slots (c ∷ cs) = grind (arith, nat_tests, slots_bytes-cons, length-append, length-capability, length-slots cs)
 
 -- one capability more is written
 pub slot_written : (caps : List Cap) (into buf : List ℕ) (i k : ℕ) (d : Cap) → i < length caps → length into ≡ 24 * length caps → k ≡ 24
@@ -51,9 +48,7 @@ pub record AreRead (g : Geometry) (age : ℕ) (bytes : List ℕ) (into : List Ca
   pub count : length into ≡ 32
 
 take_bytes : (bytes : List ℕ) (i : ℕ) → take (24 * (i + 1)) bytes ≡ take (24 * i) bytes ++ take 24 (drop (24 * i) bytes)
-take_bytes bytes i =
-    let next : 24 * (i + 1) ≡ 24 * i + 24 = omega arith in
-    ap (λ (n : ℕ). take n bytes) next ∙ take-add (24 * i) 24 bytes
+take_bytes bytes i = grind (arith, nat_tests, take-add (24 * i) 24 bytes)
 
 pub slot_read : (g : Geometry) (age : ℕ) (bytes : List ℕ) (into : List Cap) (i : ℕ) (c : Cap) → i < 32
     → AreRead g age bytes into i → IsKeptCap g age c → take 24 (drop (24 * i) bytes) ≡ capability_bytes c → AreRead g age bytes (set into i c) (i + 1)
@@ -73,11 +68,7 @@ none_read g age bytes into len = record { bytes_are = sym slots_bytes-nil; each 
 
 pub all_read : (g : Geometry) (age : ℕ) (bytes : List ℕ) (into : List Cap) (i : ℕ) → 32 ≤ i → length bytes ≡ 768 → AreRead g age bytes into i →
     AreKeptSlots g age into × (bytes ≡ slots_bytes into)
-all_read g age bytes into i done len was =
-    let whole : take i into ≡ into = take_all i into (omega (arith, was.count)) in (
-      record { count = was.count; each = All-same (IsKeptCap g age) into (take i into) (sym whole) was.each },
-      sym (take_all (24 * i) bytes (omega arith)) ∙ was.bytes_are ∙ ap slots_bytes whole,
-    )
+all_read g age bytes into i done len was = grind (arith, nat_tests, take_all, All-same)
 
 pub piece_is : (bytes : List ℕ) (at : ℕ) → between at (at + 24) bytes ≡ take 24 (drop at bytes)
 piece_is bytes at = let size : at + 24 - at ≡ 24 = omega arith in ap (λ (n : ℕ). take n (drop at bytes)) size
@@ -88,8 +79,7 @@ piece_of cs i d lt =
     let c : Cap = get_or cs i d in
     let parts : cs ≡ take i cs ++ c ∷ drop (i + 1) cs = sym (take-append-drop i cs) ∙ ap (λ (r : List Cap). take i cs ++ r) (drop_more cs i d lt) in
     let bytes_are : slots_bytes cs ≡ slots_bytes (take i cs) ++ (capability_bytes c ++ slots_bytes (drop (i + 1) cs)) =
-    ap slots_bytes parts ∙ slots_bytes-append (take i cs) (c ∷ drop (i + 1) cs) ∙
-    ap (λ (r : List ℕ). slots_bytes (take i cs) ++ r) (slots_bytes-cons c (drop (i + 1) cs)) in
+    grind (arith, nat_tests, slots_bytes-append, slots_bytes-cons) in
     let size : length (slots_bytes (take i cs)) ≡ 24 * i = length-slots (take i cs) ∙ ap (λ (n : ℕ). 24 * n) (omega (arith, length-take i cs)) in
     ap (λ (bs : List ℕ). take 24 (drop (24 * i) bs)) bytes_are
     ∙ ap (take 24) (drop_at (slots_bytes (take i cs)) (capability_bytes c ++ slots_bytes (drop (i + 1) cs)) (24 * i) size)
@@ -109,10 +99,8 @@ slots_split g age [] [] x y fb fc len e = (refl, ap (λ (r : List ℕ). r ++ x) 
 slots_split g age [] (c ∷ cs) x y fb fc len e = absurd (omega (arith, len))
 slots_split g age (b ∷ bs) [] x y fb fc len e = absurd (omega (arith, len))
 slots_split g age (b ∷ bs) (c ∷ cs) x y fb fc len e =
-    let left : slots_bytes (b ∷ bs) ++ x ≡ capability_bytes b ++ (slots_bytes bs ++ x) = ap (λ (r : List ℕ). r ++ x) (slots_bytes-cons b bs) ∙
-    append_assoc (capability_bytes b) (slots_bytes bs) x in
-    let right : slots_bytes (c ∷ cs) ++ y ≡ capability_bytes c ++ (slots_bytes cs ++ y) = ap (λ (r : List ℕ). r ++ y) (slots_bytes-cons c cs) ∙
-    append_assoc (capability_bytes c) (slots_bytes cs) y in
+    let left : slots_bytes (b ∷ bs) ++ x ≡ capability_bytes b ++ (slots_bytes bs ++ x) = grind (arith, nat_tests, slots_bytes-cons, append_assoc) in
+    let right : slots_bytes (c ∷ cs) ++ y ≡ capability_bytes c ++ (slots_bytes cs ++ y) = grind (arith, nat_tests, slots_bytes-cons, append_assoc) in
     let whole : capability_bytes b ++ (slots_bytes bs ++ x) ≡ capability_bytes c ++ (slots_bytes cs ++ y) = sym left ∙ e ∙ right in
     let first : b ≡ c = one_capability g age b c (All-head (IsKeptCap g age) b bs fb) (All-head (IsKeptCap g age) c cs fc)
     (sym (take_at (capability_bytes b) (slots_bytes bs ++ x) 24 (length-capability b)) ∙ ap (take 24) whole ∙
@@ -125,9 +113,7 @@ slots_split g age (b ∷ bs) (c ∷ cs) x y fb fc len e =
 -- ---- slots that are void
 
 voids_are : (xs : List Cap) (n : ℕ) → length xs ≡ n → All (λ c. c ≡ void_held) xs → xs ≡ replicate n void_held
-voids_are xs n len all =
-    same_lists xs (replicate n void_held) (len ∙ sym (length-replicate n void_held))
-    (λ k d lt. all k d lt ∙ sym (get_or-replicate n k void_held d (omega arith)))
+voids_are xs n len all = grind (arith, nat_tests, same_lists, length-replicate, get_or-replicate)
 
 are_voids : (xs : List Cap) (n : ℕ) → xs ≡ replicate n void_held → All (λ c. c ≡ void_held) xs
 are_voids xs n e = All-same (λ (c : Cap). c ≡ void_held) xs (replicate n void_held) e (All-replicate (λ (c : Cap). c ≡ void_held) n void_held refl)
@@ -137,15 +123,8 @@ front_part slots n = let e : n - 0 ≡ n = omega arith in ap (λ (m : ℕ). take
 
 pub held_from : (slots caps : List Cap) → length slots ≡ 32 → length caps ≤ 32 → between 0 (length caps) slots ≡ caps
     → All (λ c. c ≡ void_held) (between (length caps) (length slots) slots) → slots ≡ caps ++ replicate (32 - length caps) void_held
-held_from slots caps len few front rest =
-    let n : ℕ = length caps in
-    let behind : drop n slots ≡ replicate (32 - n) void_held =
-    voids_are (drop n slots) (32 - n) (omega (arith, length-drop n slots))
-    (All-same (λ (c : Cap). c ≡ void_held) (drop n slots) (between n (length slots) slots) (sym (take_rest slots n)) rest) in
-    sym (take-append-drop n slots) ∙ ap (λ (r : List Cap). r ++ drop n slots) (sym (front_part slots n) ∙ front) ∙ ap (λ (r : List Cap). caps ++ r) behind
+held_from slots caps len few front rest = grind (arith, nat_tests, voids_are, length-drop, All-same, take_rest, take-append-drop, front_part)
 
 pub held_rest : (slots caps : List Cap) → slots ≡ caps ++ replicate (32 - length caps) void_held →
     All (λ c. c ≡ void_held) (between (length caps) (length slots) slots)
-held_rest slots caps e =
-    are_voids (between (length caps) (length slots) slots) (32 - length caps)
-    (take_rest slots (length caps) ∙ ap (drop (length caps)) e ∙ drop_at caps (replicate (32 - length caps) void_held) (length caps) refl)
+held_rest slots caps e = grind (arith, nat_tests, are_voids, take_rest, drop_at)

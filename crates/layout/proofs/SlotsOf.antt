@@ -1,6 +1,6 @@
 -- The slots that a directory gives.
-use Rattle.layout.proofs.Names.{ℕ, zero, suc, Bool, Some, None, List, [], length, refl, sym, ap, subst, inl, inr, arith, cases_eq, eq-eqb, ne_eqb, Entry}
-use Rattle.layout.proofs.Names.{entry_at, AreRising, slot_in}
+use Rattle.layout.proofs.Names.{nat_tests, [], ℕ, zero, suc, Bool, Some, None, List, length, refl, sym, ap, subst, inl, inr, arith, cases_eq, eq-eqb, ne_eqb}
+use Rattle.layout.proofs.Names.{Entry, entry_at, AreRising, slot_in}
 use Rattle.std.proofs.Common.{◌≡◌, ◌+◌, ◌<◌, ◌∷◌, ◌∙◌}
 use Rattle.std.specs.Prelude.{if◌then◌else◌}
 
@@ -38,11 +38,7 @@ rising_behind e es rising i lt =
 rising_above : (es : List Entry) (e : Entry) (i : ℕ) → AreRising (e ∷ es) → i < length es → e.object < (entry_at es i).object
 rising_above es e zero rising lt = rising 0 (omega (arith, lt))
 rising_above es e (suc i) rising lt =
-    let less : e.object < (entry_at es i).object = rising_above es e i rising (omega (arith, lt)) in
-    let next : i + 1 ≡ suc i = omega arith in
-    let more : (entry_at es i).object < (entry_at es (suc i)).object =
-    subst (λ (k : ℕ). (entry_at es i).object < (entry_at es k).object) next (rising_behind e es rising i (omega (arith, lt))) in
-    omega (arith, less, more)
+    grind (arith, nat_tests, rising_behind e es rising i (omega (arith, lt)), rising_above es e i rising (omega (arith, lt)))
 
 -- each entry of a directory gives its object its slot
 pub own_slot : (es : List Entry) (i : ℕ) → AreRising es → i < length es → slot_in es (entry_at es i).object ≡ Some (entry_at es i).slot
@@ -52,14 +48,6 @@ own_slot (e ∷ es) (suc i) rising lt =
     let less = rising_above es e i rising (omega (arith, lt)) in
     slot_behind e es (entry_at es i).object (λ same. omega (arith, less, same)) ∙ own_slot es i (rising_behind e es rising) (omega (arith, lt))
 
--- two entries have two objects
-pub two_objects : (es : List Entry) (i j : ℕ) → AreRising es → i < j → j < length es → (entry_at es i).object ≡ (entry_at es j).object → ⊥
-two_objects [] i j rising lt within same = omega (arith, within)
-two_objects (e ∷ es) zero zero rising lt within same = omega (arith, lt)
-two_objects (e ∷ es) zero (suc j) rising lt within same = let less = rising_above es e j rising (omega (arith, within)) in omega (arith, less, same)
-two_objects (e ∷ es) (suc i) zero rising lt within same = omega (arith, lt)
-two_objects (e ∷ es) (suc i) (suc j) rising lt within same = two_objects es i j (rising_behind e es rising) (omega (arith, lt)) (omega (arith, within)) same
-
 -- each object is less than those behind it
 pub rising_to : (es : List Entry) (i j : ℕ) → AreRising es → i < j → j < length es → (entry_at es i).object < (entry_at es j).object
 rising_to [] i j rising lt within = absurd (omega (arith, within))
@@ -67,6 +55,10 @@ rising_to (e ∷ es) zero zero rising lt within = absurd (omega (arith, lt))
 rising_to (e ∷ es) zero (suc j) rising lt within = rising_above es e j rising (omega (arith, within))
 rising_to (e ∷ es) (suc i) zero rising lt within = absurd (omega (arith, lt))
 rising_to (e ∷ es) (suc i) (suc j) rising lt within = rising_to es i j (rising_behind e es rising) (omega (arith, lt)) (omega (arith, within))
+
+-- two entries have two objects
+pub two_objects : (es : List Entry) (i j : ℕ) → AreRising es → i < j → j < length es → (entry_at es i).object ≡ (entry_at es j).object → ⊥
+two_objects es i j rising lt within same = omega (arith, rising_to es i j rising lt within, same)
 
 -- an object that no entry names has no slot
 pub no_slot : (es : List Entry) (n : ℕ) → ((i : ℕ) → i < length es → (entry_at es i).object ≡ n → ⊥) → slot_in es n ≡ None

@@ -1,8 +1,8 @@
 -- What bytes spell is what is read of them.
-use Rattle.layout.proofs.Names.{ℕ, List, length, sym, ap, subst, arith, map, range_with_len, same_lists, length-map-range_with_len, get_or-map-range_with_len}
-use Rattle.layout.proofs.Names.{Frame, Geometry, frame_at, blank_frame, IsKeepable, Image, Entry, CheckpointHeader, IsFrameOf, frame_bytes, frame_from}
-use Rattle.layout.proofs.Names.{frame_in, HasPlan, HasHeader, HasDirectory, Encodes, count_of, frame_read, frames_read, IsSpelt, AreSpelt, Plan}
-use Rattle.std.proofs.Common.{◌≡◌, ◌<◌, ◌∙◌}
+use Rattle.layout.proofs.Names.{nat_tests, ℕ, List, length, arith, same_lists, length-map-range_with_len, get_or-map-range_with_len, Frame, Geometry, frame_at}
+use Rattle.layout.proofs.Names.{blank_frame, IsKeepable, Image, Entry, CheckpointHeader, IsFrameOf, frame_bytes, frame_from, frame_in, HasPlan, HasHeader}
+use Rattle.layout.proofs.Names.{HasDirectory, Encodes, count_of, frame_read, frames_read, IsSpelt, AreSpelt, Plan}
+use Rattle.std.proofs.Common.{◌≡◌, ◌<◌}
 use Rattle.layout.specs.Spelt.{state_in}
 use Rattle.layout.proofs.FrameReaders.{frame_again}
 
@@ -19,28 +19,18 @@ read_at image p generation es n lt = get_or-map-range_with_len (frame_read image
 pub read_same : (new old : Image) (p : Plan) (a b : ℕ) (ds es : List Entry) → ((n : ℕ) → n < count_of p → frame_in new p a ds n ≡ frame_in old p b es n) →
     frames_read new p a ds ≡ frames_read old p b es
 unfolding frames_read
-read_same new old p a b ds es same =
-    same_lists (map (frame_read new p a ds) (range_with_len 0 (count_of p))) (map (frame_read old p b es) (range_with_len 0 (count_of p)))
-    (length-map-range_with_len (frame_read new p a ds) 0 (count_of p) ∙ sym (length-map-range_with_len (frame_read old p b es) 0 (count_of p)))
-    (λ n d lt.
-    let few : n < count_of p = omega (arith, lt, length-map-range_with_len (frame_read new p a ds) 0 (count_of p)) in
-    get_or-map-range_with_len (frame_read new p a ds) 0 (count_of p) n n d few (omega arith)
-    ∙ ap (frame_from p.geometry n) (same n few)
-    ∙ sym (get_or-map-range_with_len (frame_read old p b es) 0 (count_of p) n n d few (omega arith)))
+read_same new old p a b ds es same = grind (arith, nat_tests, same_lists, length-map-range_with_len, get_or-map-range_with_len)
 
 -- and what is spelt stays so
 pub spelt_same : (new old : Image) (p : Plan) (age a b : ℕ) (ds es : List Entry) (n : ℕ) → frame_in new p a ds n ≡ frame_in old p b es n →
     IsSpelt old p age b es n → IsSpelt new p age a ds n
-spelt_same new old p age a b ds es n same is =
-    subst (λ (bytes : List ℕ). IsFrameOf p.geometry age n bytes (frame_from p.geometry n bytes)) (sym same) is
+spelt_same new old p age a b ds es n same is = grind (arith, nat_tests)
 
 -- bytes that spell a frame are read as that, and are spelt
 pub spelt_read : (image : Image) (p : Plan) (age generation : ℕ) (es : List Entry) (n : ℕ) (f : Frame) →
     IsFrameOf p.geometry age n (frame_in image p generation es n) f
     → IsSpelt image p age generation es n × (frame_read image p generation es n ≡ f)
-spelt_read image p age generation es n f is =
-    let same : frame_read image p generation es n ≡ f = frame_again p.geometry age n (frame_in image p generation es n) f is in
-    (subst (IsFrameOf p.geometry age n (frame_in image p generation es n)) (sym same) is, same)
+spelt_read image p age generation es n f is = grind (arith, nat_tests, frame_again p.geometry age n (frame_in image p generation es n) f is)
 
 -- what is spelt at one age and can be kept at another is spelt at that
 pub spelt_at : (image : Image) (p : Plan) (first second generation : ℕ) (es : List Entry) (n : ℕ) → IsSpelt image p first generation es n →
@@ -52,17 +42,9 @@ spelt_at image p first second generation es n is keepable = (keepable, is.1)
 pub denotes : (image : Image) (size : ℕ) (p : Plan) (h : CheckpointHeader) (es : List Entry) → HasPlan image size p → HasHeader image p h →
     HasDirectory image p h es → AreSpelt image p h.age h.generation es
     → Encodes image size (state_in image p h es)
-denotes image size p h es plan header directory spelt = record {
-  plan = plan;
-  header = header;
-  directory = directory;
-  count = length_read image p h.generation es;
-  each = λ n lt. subst (IsFrameOf p.geometry h.age n (frame_in image p h.generation es n)) (sym (read_at image p h.generation es n lt)) (spelt n lt);
-}
+denotes image size p h es plan header directory spelt = grind (arith, nat_tests, length_read, read_at)
 
 -- bytes of a frame that can be kept are read as that, and spell it
 pub bytes_spelt : (g : Geometry) (age n : ℕ) (bytes : List ℕ) (f : Frame) → IsKeepable g age n f → bytes ≡ frame_bytes g n f →
     IsFrameOf g age n bytes (frame_from g n bytes) × (frame_from g n bytes ≡ f)
-bytes_spelt g age n bytes f keepable is =
-    let same : frame_from g n bytes ≡ f = frame_again g age n bytes f (keepable, is) in
-    (subst (IsFrameOf g age n bytes) (sym same) (keepable, is), same)
+bytes_spelt g age n bytes f keepable is = grind (arith, nat_tests, frame_again g age n bytes f (keepable, is))

@@ -1,17 +1,17 @@
 -- Superblocks read back from their bytes.
-use Rattle.layout.proofs.Names.{ℕ, zero, suc, List, [], length, get_or, set, take, drop, refl, sym, ap, subst, append_assoc, arith, All, between, replicate}
-use Rattle.layout.proofs.Names.{codes, map, IfSome, IfNone, w32, from_le_bytes, le_bytes_8, from_le_bytes-to_le_bytes_4, same_lists, take_more, take_more_set}
-use Rattle.layout.proofs.Names.{take_all, take_at, drop_at, drop-drop, append-nil, length-append, length-replicate, get_or-replicate, length-take-le}
-use Rattle.layout.proofs.Names.{length-drop, take-append-drop, length-map, get_or_append_left, get_or-append-add, get_or-map, take-add, flat_map-append}
-use Rattle.layout.proofs.Names.{All-same, All-push, All-nil, All-tail, All-head, All-append, All-replicate, Geometry, Extent, HomeRange, Version, One, Two}
-use Rattle.layout.proofs.Names.{number, half_number, zeros, Plan, version_number, plan_of, extents, range_extent, half_extent, IsWithin, range_bytes}
-use Rattle.layout.proofs.Names.{ranges_bytes, unused, superblock_bytes, HasMark, IsPlan, RangeFits}
+use Rattle.layout.proofs.Names.{extents, nat_tests, [], ℕ, zero, suc, List, length, get_or, set, take, drop, refl, sym, ap, subst, append_assoc, arith, All}
+use Rattle.layout.proofs.Names.{between, replicate, codes, map, IfSome, IfNone, w32, from_le_bytes, le_bytes_8, from_le_bytes-to_le_bytes_4, same_lists}
+use Rattle.layout.proofs.Names.{take_more, take_more_set, take_all, take_at, drop_at, drop-drop, append-nil, length-append, length-replicate, get_or-replicate}
+use Rattle.layout.proofs.Names.{length-take-le, length-drop, take-append-drop, length-map, get_or_append_left, get_or-append-add, get_or-map, take-add}
+use Rattle.layout.proofs.Names.{flat_map-append, All-same, All-push, All-nil, All-tail, All-head, All-append, All-replicate, Geometry, Extent, HomeRange}
+use Rattle.layout.proofs.Names.{Version, number, half_number, zeros, Plan, version_number, plan_of, range_extent, half_extent, IsWithin, range_bytes}
+use Rattle.layout.proofs.Names.{ranges_bytes, unused, superblock_bytes, HasMark, IsPlan, RangeFits, Option}
 use Rattle.std.proofs.Common.{◌≡◌, ◌+◌, ◌-◌, ◌*◌, ◌/◌, ◌%◌, ◌^◌, ◌<◌, ◌≤◌, ◌∷◌, ◌++◌, ◌∙◌}
-use Rattle.std.specs.Prelude.{Option, Some, None}
+use Rattle.std.specs.Prelude.{Some, None}
 use borrow.Rule.Slice.PartMut.{put_mid}
 use Rattle.layout.proofs.Numbers.{length-number, number_splits, stream, AllFit, stream_splits, IsWritten}
 use Rattle.layout.proofs.Capabilities.{small_8}
-use Rattle.layout.proofs.Extents.{counts_within, firsts_within}
+use Rattle.layout.proofs.Extents.{ranges_within}
 use Rattle.layout.proofs.Frames.{drop_zeros, zeros_add, zeros_none, mid_put}
 
 -- ---- ranges
@@ -32,27 +32,14 @@ unfolding ranges_bytes
 append_ranges qs rs = flat_map-append range_bytes qs rs
 
 push_range : (rs : List HomeRange) (r : HomeRange) → ranges_bytes (rs ++ r ∷ []) ≡ ranges_bytes rs ++ (number r.first ++ number r.count ++ number r.sector)
-push_range rs r = append_ranges rs (r ∷ []) ∙
-    ap (λ (x : List ℕ). ranges_bytes rs ++ x) (cons_range r [] ∙ ap (λ (x : List ℕ). number r.first ++ (number r.count ++ (number r.sector ++ x))) no_range
-    ∙ sym (three (number r.first) (number r.count) (number r.sector) []) ∙ append-nil (number r.first ++ number r.count ++ number r.sector))
+push_range rs r = grind (arith, nat_tests, append_ranges, cons_range, no_range, three, append-nil)
 
 pub length-ranges : (rs : List HomeRange) → length (ranges_bytes rs) ≡ 24 * length rs
 length-ranges [] = ap length no_range
-length-ranges (r ∷ rs) = ap length (cons_range r rs) ∙ length-append (number r.first) (number r.count ++ (number r.sector ++ ranges_bytes rs))
-    ∙ omega (
-      arith,
-      length-append (number r.count) (number r.sector ++ ranges_bytes rs),
-      length-append (number r.sector) (ranges_bytes rs),
-      length-number r.first,
-      length-number r.count,
-      length-number r.sector,
-      length-ranges rs,
-    )
+length-ranges (r ∷ rs) = grind (arith, nat_tests, cons_range, length-append, length-number, length-ranges rs)
 
 same_range : (q r : HomeRange) → q.first ≡ r.first → q.count ≡ r.count → q.sector ≡ r.sector → q ≡ r
-same_range q r a b c = ap (λ (x : ℕ). record { first = x; count = q.count; sector = q.sector }) a ∙
-    ap (λ (x : ℕ). record { first = r.first; count = x; sector = q.sector }) b
-    ∙ ap (λ (x : ℕ). record { first = r.first; count = r.count; sector = x }) c
+same_range q r a b c = grind (arith, nat_tests)
 
 three_same : (q r : HomeRange) → q.first ∷ q.count ∷ q.sector ∷ [] ≡ r.first ∷ r.count ∷ r.sector ∷ [] → q ≡ r
 three_same q r e = same_range q r (cc) (cc) (cc)
@@ -95,16 +82,12 @@ range_read bytes into i a b c lt before fa fb fc ea eb ec =
     let more : take (i + 1) (set into i r) ≡ take i into ++ r ∷ [] = take_more_set into i r lt in
     let next : 24 * (i + 1) ≡ 24 * i + 24 = omega arith in
     let place : 24 * i + 8 + 8 ≡ 24 * i + 16 = omega arith in
-    let all : drop (24 * i) bytes ≡ (number a ++ number b ++ number c) ++ drop (24 * i + 16 + 8) bytes =
-    ea ∙ ap (λ (x : List ℕ). number a ++ x) (eb ∙ ap (λ (x : List ℕ). number b ++ x) (ap (λ (n : ℕ). drop n bytes) place ∙ ec)) ∙
-    sym (three (number a) (number b) (number c) (drop (24 * i + 16 + 8) bytes)) in
-    let size : length (number a ++ number b ++ number c) ≡ 24 = length-append (number a ++ number b) (number c) ∙
-    omega (arith, length-append (number a) (number b), length-number a, length-number b, length-number c) in
+    let all : drop (24 * i) bytes ≡ (number a ++ number b ++ number c) ++ drop (24 * i + 16 + 8) bytes = grind (arith, nat_tests, three) in
+    let size : length (number a ++ number b ++ number c) ≡ 24 = grind (arith, nat_tests, length-append, length-number) in
     let piece : take 24 (drop (24 * i) bytes) ≡ number a ++ number b ++ number c = ap (take 24) all ∙
     take_at (number a ++ number b ++ number c) (drop (24 * i + 16 + 8) bytes) 24 size in
     record {
-      bytes_are = ap (λ (n : ℕ). take n bytes) next ∙ take-add (24 * i) 24 bytes ∙ ap (λ (x : List ℕ). x ++ take 24 (drop (24 * i) bytes)) before.bytes_are
-          ∙ ap (λ (x : List ℕ). ranges_bytes (take i into) ++ x) piece ∙ sym (push_range (take i into) r) ∙ ap ranges_bytes (sym more);
+      bytes_are = grind (arith, nat_tests, take-add, push_range);
       each = All-same RangeFits (take (i + 1) (set into i r)) (take i into ++ r ∷ []) more (All-push RangeFits (take i into) r before.each (fa, fb, fc));
     }
 
@@ -136,10 +119,7 @@ magic_is = refl
 -- a version and a count in one number
 halves_number : (v n : ℕ) → v < 2 ^ 32 → n < 2 ^ 32 → half_number v ++ half_number n ≡ number (v + 4294967296 * n)
 unfolding number half_number
-halves_number v n fv fn =
-    sym (le_bytes_8 (v % 256 ∷ v / 256 % 256 ∷ v / 65536 % 256 ∷ v / 16777216 % 256 ∷ n % 256 ∷ n / 256 % 256 ∷ n / 65536 % 256 ∷ n / 16777216 % 256 ∷ [])
-    (v + 4294967296 * n) refl
-    (small_8 _ _ _ _ _ _ _ _ (omega arith) (omega arith) (omega arith) (omega arith) (omega arith) (omega arith) (omega arith) (omega arith)) (omega arith))
+halves_number v n fv fn = grind (arith, nat_tests, le_bytes_8, small_8)
 
 length-half : (n : ℕ) → length (half_number n) ≡ 4
 unfolding half_number
@@ -159,14 +139,10 @@ unfolding half_number
 half_reported m n fm fn e = sym (from_le_bytes-to_le_bytes_4 m fm) ∙ ap (from_le_bytes w32) e ∙ from_le_bytes-to_le_bytes_4 n fn
 
 pub few_versions : (v : Version) → version_number v ≤ 2
-few_versions One = omega arith
-few_versions Two = omega arith
+few_versions v = grind (arith, nat_tests)
 
 one_version : (v w : Version) → version_number v ≡ version_number w → v ≡ w
-one_version One One e = refl
-one_version One Two e = absurd (omega (arith, e))
-one_version Two One e = absurd (omega (arith, e))
-one_version Two Two e = refl
+one_version v w e = grind (arith, nat_tests)
 
 -- the version for a second number
 pub version_reported : (bytes : List ℕ) (second : ℕ) (v : Version) → drop 8 bytes ≡ number second ++ drop 16 bytes → second < 2 ^ 64 →
@@ -191,9 +167,7 @@ magic_from bytes m first fits mark =
 pub version_from : (bytes : List ℕ) (second : ℕ) (v : Version) → drop 8 bytes ≡ number second ++ drop 16 bytes → second < 2 ^ 64 →
     take 4 (drop 8 bytes) ≡ half_number (version_number v)
     → second % 4294967296 ≡ version_number v
-version_from bytes second v next fits is =
-    half_reported (second % 4294967296) (version_number v) (omega arith) (omega (arith, few_versions v))
-    (sym (front_half second (drop 16 bytes) fits) ∙ sym (ap (take 4) next) ∙ is)
+version_from bytes second v next fits is = grind (arith, nat_tests, half_reported, few_versions, front_half)
 
 -- ---- what an answered version says of a sector
 
@@ -284,32 +258,10 @@ plan_fits p is =
     let zero_half = half_within p 0 (omega arith) is in
     let one_half = half_within p 1 (omega arith) is in
     record {
-      numbers = (
-        omega arith,
-        (
-          omega (arith, is.few, few_versions p.version),
-          (
-            omega (arith, is.geometry.most_nodes),
-            (
-              omega (arith, is.geometry.most_pages),
-              (
-                omega (arith, is.geometry.most_log),
-                (omega (arith, zero_half, is.total), (omega (arith, one_half, is.total), (omega (arith, is.total), tt))),
-              ),
-            ),
-          ),
-        ),
-      );
+      numbers = omega (arith, is.few, few_versions p.version, is.geometry, zero_half, one_half, is.total);
       ranges = All-append RangeFits p.ranges (replicate (8 - length p.ranges) unused)
-          (λ k d lt.
-          let count = counts_within p.geometry 0 p.ranges is.cover k d lt in
-          let first = firsts_within p.geometry 0 p.ranges is.cover k d lt in
-          let sector = extent_of_range p k d lt is in (
-            omega (arith, first, is.geometry.most_nodes, is.geometry.most_pages),
-            omega (arith, count, is.geometry.most_nodes, is.geometry.most_pages),
-            omega (arith, sector, is.total),
-          ))
-          (All-replicate RangeFits (8 - length p.ranges) unused (omega arith, omega arith, omega arith));
+          (λ k d lt. omega (arith, ranges_within p.geometry 0 p.ranges is.cover k d lt, extent_of_range p k d lt is, is.geometry, is.total))
+          (All-replicate RangeFits (8 - length p.ranges) unused (omega arith));
     }
 
 -- what was read of the bytes of a superblock
@@ -324,14 +276,7 @@ geometry_of n p r = record { nodes = n; pages = p; log = r }
 
 same_plan : (v : Version) (rs : List HomeRange) (a b c d e f a' b' c' d' e' f' : ℕ) → a ∷ b ∷ c ∷ d ∷ e ∷ f ∷ [] ≡ a' ∷ b' ∷ c' ∷ d' ∷ e' ∷ f' ∷ []
     → plan_of v (geometry_of a b c) rs d e f ≡ plan_of v (geometry_of a' b' c') rs d' e' f'
-same_plan v rs a b c d e f a' b' c' d' e' f' same =
-    let ea : a ≡ a' = cc in
-    let eb : b ≡ b' = cc in
-    let ec : c ≡ c' = cc in
-    let ed : d ≡ d' = cc in
-    let ee : e ≡ e' = cc in
-    let ef : f ≡ f' = cc in
-    rw (ea, eb, ec, ed, ee, ef) refl
+same_plan v rs a b c d e f a' b' c' d' e' f' same = grind (arith, nat_tests)
 
 list_tail : (a b : ℕ) (xs ys : List ℕ) → a ∷ xs ≡ b ∷ ys → (a ≡ b) × (xs ≡ ys)
 list_tail a b xs ys e = (cc, cc)
@@ -353,15 +298,13 @@ plan_reported p v bytes m second g all half_0 half_1 total fits ranges_fit eight
       used_is = omega (arith, two.0, small);
       few = is.few;
       all_are = rest.0;
-      plan_is = same_plan v p.ranges g.nodes g.pages g.log half_0 half_1 total p.geometry.nodes p.geometry.pages p.geometry.log p.half_0 p.half_1 p.total two.1
-          ∙ ap (λ (w : Version). plan_of w p.geometry p.ranges p.half_0 p.half_1 p.total) same;
+      plan_is = grind (arith, nat_tests, same_plan);
     }
 
 -- the ranges in use are those of the superblock, and the others unused
 pub used_are : (p : Plan) (v : Version) (second : ℕ) (g : Geometry) (all : List HomeRange) (half_0 half_1 total : ℕ) →
     IsPlanRead p v second g all half_0 half_1 total → take (second / 4294967296) all ≡ p.ranges
-used_are p v second g all half_0 half_1 total read = ap (λ (n : ℕ). take n all) read.used_is ∙ ap (take (length p.ranges)) read.all_are ∙
-    take_at p.ranges (replicate (8 - length p.ranges) unused) (length p.ranges) refl
+used_are p v second g all half_0 half_1 total read = grind (arith, nat_tests, take_at)
 
 pub others_are : (p : Plan) (v : Version) (second : ℕ) (g : Geometry) (all : List HomeRange) (half_0 half_1 total : ℕ) →
     IsPlanRead p v second g all half_0 half_1 total
@@ -375,9 +318,7 @@ others_are p v second g all half_0 half_1 total read =
 pub all_from : (all : List HomeRange) (used : ℕ) → length all ≡ 8 → used ≤ 8 → All (λ r. r ≡ unused) (drop used all) → all ≡ eight_ranges (take used all)
 all_from all used eight few blank =
     let size : length (take used all) ≡ used = length-take-le used all (omega arith) in
-    let behind : drop used all ≡ replicate (8 - used) unused = same_lists (drop used all) (replicate (8 - used) unused)
-    (length-drop used all ∙ ap (λ (n : ℕ). n - used) eight ∙ sym (length-replicate (8 - used) unused))
-    (λ k d lt. blank k d lt ∙ sym (get_or-replicate (8 - used) k unused d (omega (arith, length-drop used all)))) in
+    let behind : drop used all ≡ replicate (8 - used) unused = grind (arith, nat_tests, same_lists, length-drop, length-replicate, get_or-replicate) in
     sym (take-append-drop used all) ∙ ap (λ (r : List HomeRange). take used all ++ r) (behind ∙ ap (λ (n : ℕ). replicate (8 - n) unused) (sym size))
 
 pub plan_found : (v : Version) (bytes : List ℕ) (second : ℕ) (g : Geometry) (all : List HomeRange) (half_0 half_1 total used : ℕ)
@@ -386,13 +327,7 @@ pub plan_found : (v : Version) (bytes : List ℕ) (second : ℕ) (g : Geometry) 
     drop 256 bytes ≡ zeros 256
     → bytes ≡ superblock_bytes (plan_of v g (take used all) half_0 half_1 total)
 plan_found v bytes second g all half_0 half_1 total used read version u few eight others blank =
-    let size : length (take used all) ≡ used = length-take-le used all (omega arith) in
-    let count : second ≡ version_number v + 4294967296 * length (take used all) = omega (arith, version, u, size) in
-    let p : Plan = plan_of v g (take used all) half_0 half_1 total in
-    read ∙ ap (λ (x : ℕ). stream (magic ∷ x ∷ numbers_of p) (ranges_bytes all ++ drop 256 bytes)) count
-    ∙ ap (λ (x : List HomeRange). stream (magic ∷ second_of p ∷ numbers_of p) (ranges_bytes x ++ drop 256 bytes)) (all_from all used eight few others)
-    ∙ ap (λ (x : List ℕ). stream (magic ∷ second_of p ∷ numbers_of p) (ranges_bytes (eight_ranges p.ranges) ++ x)) blank
-    ∙ sym (plan_stream p (omega (arith, size)))
+    grind (arith, nat_tests, length-take-le, all_from, plan_stream)
 
 -- eight numbers are read, and the ranges behind them
 pub eight_read : (bytes : List ℕ) (m s a b c d e f : ℕ) (all : List HomeRange) → bytes ≡ number m ++ drop 8 bytes → drop 8 bytes ≡ number s ++ drop 16 bytes →
@@ -402,13 +337,7 @@ pub eight_read : (bytes : List ℕ) (m s a b c d e f : ℕ) (all : List HomeRang
     → drop 56 bytes ≡ number f ++ drop 64 bytes → between 64 256 bytes ≡ ranges_bytes all →
     bytes ≡ stream (m ∷ s ∷ a ∷ b ∷ c ∷ d ∷ e ∷ f ∷ []) (ranges_bytes all ++ drop 256 bytes)
 eight_read bytes m s a b c d e f all em es ea eb ec ed ee ef er =
-    let rest : drop 64 bytes ≡ ranges_bytes all ++ drop 256 bytes = sym (take-append-drop 192 (drop 64 bytes)) ∙
-    ap (λ (r : List ℕ). r ++ drop 192 (drop 64 bytes)) er ∙ ap (λ (r : List ℕ). ranges_bytes all ++ r) (drop-drop 192 64 bytes) in
-    let last : drop 40 bytes ≡ stream (d ∷ e ∷ f ∷ []) (ranges_bytes all ++ drop 256 bytes) = ed ∙
-    ap (λ (r : List ℕ). number d ++ r) (ee ∙ ap (λ (r : List ℕ). number e ++ r) (ef ∙ ap (λ (r : List ℕ). number f ++ r) rest)) in
-    em ∙ ap (λ (r : List ℕ). number m ++ r)
-    (es ∙ ap (λ (r : List ℕ). number s ++ r)
-    (ea ∙ ap (λ (r : List ℕ). number a ++ r) (eb ∙ ap (λ (r : List ℕ). number b ++ r) (ec ∙ ap (λ (r : List ℕ). number c ++ r) last))))
+    grind (arith, nat_tests, take-append-drop 192 (drop 64 bytes), drop-drop 192 64 bytes)
 
 -- given bytes spell at most one superblock
 pub one_plan : (p q : Plan) → IsPlan p → IsPlan q → superblock_bytes p ≡ superblock_bytes q → p ≡ q
@@ -442,18 +371,15 @@ last_ranges all used eight = take_all (8 - used) (drop used all) (omega (arith, 
 pub plan_same : (p : Plan) (v : Version) (second : ℕ) (g : Geometry) (all : List HomeRange) (half_0 half_1 total : ℕ) →
     IsPlanRead p v second g all half_0 half_1 total
     → plan_of v g (take (second / 4294967296) all) half_0 half_1 total ≡ p
-plan_same p v second g all half_0 half_1 total read =
-    ap (λ (rs : List HomeRange). plan_of v g rs half_0 half_1 total) (used_are p v second g all half_0 half_1 total read) ∙ read.plan_is
+plan_same p v second g all half_0 half_1 total read = cc (used_are p v second g all half_0 half_1 total read)
 
 pub plan_read : (bytes : List ℕ) (q : Plan) (made : Option Plan) → bytes ≡ superblock_bytes q → IfSome made (λ s. s ≡ q) →
     IfSome made (λ s. bytes ≡ superblock_bytes s)
-plan_read bytes q None read reported = reported
-plan_read bytes q (Some s) read reported = read ∙ ap superblock_bytes (sym reported)
+plan_read bytes q made read reported = grind (arith, nat_tests)
 
 pub none_read_of : (bytes : List ℕ) (q : Plan) (made : Option Plan) → ((p : Plan) → IsPlan p → bytes ≡ superblock_bytes p → q ≡ p) → IfNone made (IsPlan q → ⊥)
     → IfNone made ((p : Plan) → IsPlan p → bytes ≡ superblock_bytes p → ⊥)
-none_read_of bytes q None same reported = λ p is e. reported (subst IsPlan (sym (same p is e)) is)
-none_read_of bytes q (Some s) same reported = reported
+none_read_of bytes q made same reported = grind (arith, nat_tests)
 
 -- ---- writing
 
@@ -472,11 +398,7 @@ three_zeros = refl
 
 unused_bytes : (k : ℕ) → ranges_bytes (replicate k unused) ≡ zeros (24 * k)
 unused_bytes zero = no_range ∙ sym zeros_none
-unused_bytes (suc k) =
-    let size : 24 + 24 * k ≡ 24 * suc k = omega arith in
-    cons_range unused (replicate k unused) ∙ ap (λ (z : List ℕ). number 0 ++ (number 0 ++ (number 0 ++ z))) (unused_bytes k) ∙
-    sym (three (number 0) (number 0) (number 0) (zeros (24 * k)))
-    ∙ ap (λ (z : List ℕ). z ++ zeros (24 * k)) three_zeros ∙ zeros_add 24 (24 * k) ∙ ap zeros size
+unused_bytes (suc k) = grind (arith, nat_tests, cons_range, three, three_zeros, zeros_add, unused_bytes k)
 
 pub plan_written : (p : Plan) (blanked eight new : List ℕ) (k : ℕ) → length p.ranges ≤ 8 → blanked ≡ zeros 512
     → IsWritten blanked (number magic ++ number (second_of p) ++ number p.geometry.nodes ++ number p.geometry.pages ++ number p.geometry.log ++ number p.half_0
@@ -487,8 +409,7 @@ plan_written p blanked eight new k few blank was size is =
     let front : List ℕ = number magic ++ number (second_of p) ++ number p.geometry.nodes ++ number p.geometry.pages ++ number p.geometry.log ++ number p.half_0
     ++ number p.half_1 ++ number p.total in
     let rest : drop (64 + k) eight ≡ ranges_bytes (replicate (8 - n) unused) ++ zeros 256 =
-    sym (drop-drop k 64 eight) ∙ ap (drop k) (was.after ∙ ap (drop 64) blank ∙ drop_zeros 64 512) ∙ drop_zeros k 448 ∙ ap zeros (rest_size n k few size)
-    ∙ sym (zeros_add (24 * (8 - n)) 256) ∙ ap (λ (z : List ℕ). z ++ zeros 256) (sym (unused_bytes (8 - n))) in
+    cc (drop-drop k 64 eight, drop_zeros 64 512, drop_zeros k 448, rest_size n k few size, zeros_add (24 * (8 - n)) 256, unused_bytes (8 - n)) in
     is ∙ mid_put 64 k eight (ranges_bytes p.ranges)
     ∙ ap (λ (f : List ℕ). f ++ ranges_bytes p.ranges ++ drop (64 + k) eight) was.before
     ∙ ap (λ (r : List ℕ). front ++ ranges_bytes p.ranges ++ r) rest

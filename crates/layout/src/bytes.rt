@@ -5,6 +5,7 @@ ghost use Rattle.layout.specs.Bytes.{number, zeros};
 use byteorder::{ByteOrder, LittleEndian};
 
 /// The number in the eight bytes from a place on.
+#[tactic(auto, using(crate::proofs::Numbers::number_read, std::proofs::lemmas::List::take_rest))]
 pub fn number_at(bytes: &[u8], at: usize) -> u64
     requires { at + 8 ≤ length bytes.now }
     ensures { drop at bytes.now ≡ number result ++ drop (at + 8) bytes.now }
@@ -22,6 +23,7 @@ pub fn put_number(bytes: &mut [u8], at: usize, n: u64)
 }
 
 // Whether all bytes are 0.
+#[tactic(auto, using(crate::proofs::Numbers::sum_more, crate::proofs::Numbers::ends_zeros))]
 fn are_zeros(bytes: &[u8]) -> bool
     ensures { IsTrue result ↔ (bytes.now ≡ zeros (length bytes.now)) }
 {
@@ -50,6 +52,7 @@ pub fn is_blank_between(bytes: &[u8], from: usize, to: usize) -> bool
 }
 
 /// Makes all bytes 0.
+#[tactic(auto, using(crate::proofs::Numbers::all_blank))]
 pub fn blank(bytes: &mut [u8])
     ensures { bytes.new ≡ zeros (length bytes.old) }
 {

@@ -64,6 +64,7 @@ pub fn half_extent(geometry: Geometry, sector: u64) -> Extent
 }
 
 /// Writes the sectors of ranges and of two log halves.
+#[tactic(auto, using(std::proofs::lemmas::List::take_all, crate::proofs::Extents::two_set))]
 pub fn fill_extents(
     version: Version,
     geometry: Geometry,

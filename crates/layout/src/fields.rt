@@ -8,6 +8,7 @@ use crate::front::decode_front;
 use model::ObjectHeader;
 
 /// The total of sectors in the sector of a superblock, whatever its other bytes are.
+#[tactic(auto, using(crate::proofs::Numbers::number_reported))]
 pub fn total_in(bytes: &[u8]) -> u64
     requires { 64 ≤ length bytes.now }
     ensures { result ≡ total_in bytes.now }
@@ -16,6 +17,7 @@ pub fn total_in(bytes: &[u8]) -> u64
 }
 
 /// The sequence number in the sector of a header, whatever its other bytes are.
+#[tactic(auto, using(crate::proofs::Numbers::number_reported))]
 pub fn sequence_in(bytes: &[u8]) -> u64
     requires { 16 ≤ length bytes.now }
     ensures { result ≡ sequence_in bytes.now }

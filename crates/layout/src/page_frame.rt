@@ -21,6 +21,7 @@ pub const PAGE_FRAME_BYTES: usize = 4608;
 const FRONT_BYTES: usize = 512;
 
 // Reads 512 words one after the other.
+#[tactic(auto, using(crate::proofs::Pages::words_read))]
 fn read_words(bytes: &[u8], into: &mut [u64])
     requires bytes { length bytes.now ≡ 4096 }
     requires words { length into.old ≡ 512 }

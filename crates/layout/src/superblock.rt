@@ -57,6 +57,7 @@ fn is_next(geometry: Geometry, range: HomeRange, next: u64) -> bool
     range.first == next && range.count > 0 && is_of_one_kind
 }
 
+#[tactic(auto, using(crate::proofs::Extents::not_covered))]
 fn do_cover(geometry: Geometry, ranges: &[HomeRange]) -> bool
     requires { IsGeometry geometry }
     ensures { IsTrue result ↔ Cover geometry 0 ranges.now }

@@ -3,8 +3,8 @@ use Rattle.reach.proofs.Names.{nat_tests, ℕ, Bool, true, false, is_some, Optio
 use Rattle.reach.proofs.Names.{sym, ap, subst, arith, IsTrue, All, cases_eq, length-reverse, length_push, reverse-append, same_Some, Capability, Void, Page}
 use Rattle.reach.proofs.Names.{Node, Space, Process, Start, Resume, Bank, Content, Object, IsClosed, StaysInside, slots_in, annex_at, content_at, root_at}
 use Rattle.reach.proofs.Names.{Found, Levels, Step, Way, Conveys, IsChain, IsPath, IsShortest, IsStep, IsWay, held_by, StepsAreAuthority, IsAfter, IsFoundIn}
-use Rattle.reach.proofs.Names.{IsFrom, IsSearched, found_at, IsReach}
-use Rattle.std.proofs.Common.{◌≡◌, ◌+◌, ◌<◌, ◌≤◌, ◌∷◌, ◌++◌, ◌∙◌, slice_index_or}
+use Rattle.reach.proofs.Names.{IsFrom, IsSearched, found_at, IsReach, slice_index_or}
+use Rattle.std.proofs.Common.{◌≡◌, ◌+◌, ◌<◌, ◌∷◌, ◌++◌, ◌∙◌}
 use Rattle.model.specs.declared.object.Content.TheVariants as content
 use Rattle.reach.specs.declared.step.Way.TheVariants as way
 use Rattle.reach.proofs.Finding.{some_of}
@@ -24,14 +24,11 @@ stays_inside inside other conveyed = inl tt
 -- the slots of an object
 slots_inside : (os : List Object) (inside : ℕ → Bool) (n i : ℕ) (x : Content Capability) → ((w : Way) (m : ℕ) → IsWay os n x w m → IsTrue (inside m)) →
     StaysInside inside (slice_index_or (slots_in x) i Void)
-slots_inside os inside n i content.Free continues = inl tt
-slots_inside os inside n i (content.Page words) continues = inl tt
 slots_inside os inside n i (content.Node slots) continues = stays_inside inside (slice_index_or slots i Void)
     (λ m conveys. continues (way.Slot i (slice_index_or slots i Void)) m (refl, conveys))
-slots_inside os inside n i (content.Root root) continues = inl tt
 slots_inside os inside n i (content.Annex slots) continues = stays_inside inside (slice_index_or slots i Void)
     (λ m conveys. continues (way.Slot i (slice_index_or slots i Void)) m (refl, conveys))
-slots_inside os inside n i (content.Bank limit) continues = inl tt
+slots_inside os inside n i x continues = inl tt
 
 -- a set that no step leaves is closed
 pub closed_by_steps : (os : List Object) (inside : ℕ → Bool) → ((s : Step) → IsStep os s → IsTrue (inside s.from) → IsTrue (inside s.to)) → IsClosed os inside
@@ -46,14 +43,12 @@ closed_by_steps os inside continues = record {
 -- no step leaves a closed set
 module _ (os : List Object) (inside : ℕ → Bool) (closed : IsClosed os inside) where
   held_inside : (n i : ℕ) (x : Content Capability) → content_at os n ≡ x → IsTrue (inside n) → StaysInside inside (slice_index_or (held_by os x) i Void)
-  held_inside n i content.Free is member = inl tt
-  held_inside n i (content.Page words) is member = inl tt
   held_inside n i (content.Node slots) is member = subst (λ (x : Content Capability). StaysInside inside (slice_index_or (slots_in x) i Void)) is
       (closed.slots n i member)
   held_inside n i (content.Root root) is member = grind (arith, nat_tests)
   held_inside n i (content.Annex slots) is member = subst (λ (x : Content Capability). StaysInside inside (slice_index_or (slots_in x) i Void)) is
       (closed.slots n i member)
-  held_inside n i (content.Bank limit) is member = inl tt
+  held_inside n i x is member = inl tt
 
   way_inside : (n : ℕ) (w : Way) (m : ℕ) → IsWay os n (content_at os n) w m → IsTrue (inside n) → IsTrue (inside m)
   way_inside n w m by member = grind (arith, nat_tests, named_inside, held_inside)
@@ -87,8 +82,7 @@ module _ (os : List Object) (starts : List ℕ) (level : ℕ) (l : Levels) (over
   continues_along : (ss : List Step) (n k m : ℕ) → IsFoundIn l n k → IsPath os n ss m → IsFoundIn l m (k + length ss)
   continues_along [] n k m found path = subst (λ (j : ℕ). IsFoundIn l j (k + 0)) path (found.0, found.1, omega (arith, found.2))
   continues_along (s ∷ ss) n k m found path =
-      let end = continues_along ss s.to (k + 1) m (continues_on n k found s (path.0, path.1)) path.2 in
-      (end.0, end.1, omega (arith, end.2))
+      grind (arith, nat_tests, continues_along ss s.to (k + 1) m (continues_on n k found s (path.0, path.1)) path.2, continues_on)
 
   pub found_by_chain : (steps : List Step) (o : ℕ) → IsChain os starts steps o → IsFoundIn l o (length steps)
   found_by_chain steps o chain =
@@ -104,15 +98,11 @@ module _ (os : List Object) (starts : List ℕ) (level : ℕ) (l : Levels) (over
 
   -- what was found is a closed set with the first numbers
   found_closed : IsClosed os (λ n. is_some (found_at l n))
-  found_closed = closed_by_steps os (λ n. is_some (found_at l n)) (λ s by member.
-      let found = some_found s.from member in
-      let next = continues_on s.from found.0.level (found.0, found.1, omega arith) s (refl, by) in
-      found_some s.to next.0 next.1)
+  found_closed = closed_by_steps os (λ n. is_some (found_at l n)) (grind (arith, nat_tests, some_found, continues_on, found_some))
 
   pub reached_found : (inside : ℕ → Bool) (o : ℕ) → IsReach os starts inside → IsTrue (inside o) → IsTrue (is_some (found_at l o))
-  reached_found inside o reach member =
-      reach.least (λ n. is_some (found_at l n)) found_closed
-      (λ k d lt. let found = searched.begins k d lt in found_some (slice_index_or starts k d) found.0 found.1) o member
+  reached_found inside o reach member = reach.least (λ n. is_some (found_at l n)) found_closed
+      (λ k d lt. let found = searched.begins k d lt in found_some _ _ found.1) o member
 
   module _ (o : ℕ) (none : is_some (found_at l o) ≡ false) where
     pub no_chain : (steps : List Step) → IsChain os starts steps o → ⊥
@@ -146,16 +136,14 @@ module _ (os : List Object) (starts : List ℕ) (level : ℕ) (l : Levels) (over
     -- at the beginning of a shortest chain
     pub back_whole : option_and_then (λ (f : Found). f.step) (found_at l at) ≡ None → (g : Found) → found_at l o ≡ Some g →
         IsShortest os starts (reverse steps) o
-    back_whole none g is = ⊎_elim
-        (λ first. record {
-          chain = (at, first.1, back.path);
-          least = λ others chain.
-              let found = found_by_chain others o chain in
-              let same : found.0 ≡ g = same_Some found.0 g (sym found.1 ∙ is) in
-              let level : found.0.level ≡ g.level = ap (λ (f : Found). f.level) same in
-              omega (arith, level, found.2, back.count g is, first.0.level, length-reverse steps);
-        })
-        (λ after. let wrong : Some after.step ≡ None = sym after.is ∙ step_is None none in absurd (cc)) (searched.linked at back.found back.is)
+    back_whole none g is = ⊎_elim (λ first. record {
+      chain = (at, first.1, back.path);
+      least = λ others chain.
+          let found = found_by_chain _ o chain in
+          let same : found.0 ≡ g = same_Some found.0 g (sym found.1 ∙ is) in
+          let level : found.0.level ≡ g.level = ap (λ (f : Found). f.level) same in
+          omega (arith, level, found.2, back.count g is, first.0.level, length-reverse steps);
+    }) (λ after. let wrong : Some after.step ≡ None = sym after.is ∙ step_is None none in absurd (cc)) (searched.linked at back.found back.is)
 
     pub back_shortest : option_and_then (λ (f : Found). f.step) (found_at l at) ≡ None → is_some (found_at l o) ≡ true → IsShortest os starts (reverse steps) o
     back_shortest none some = let found = some_found o some in back_whole none found.0 found.1

@@ -1,7 +1,7 @@
 -- A set that was followed whole is closed, and the least.
-use Rattle.reach.proofs.Names.{ℕ, zero, suc, nat_eq, Bool, false, List, length, replicate, refl, sym, ap, subst, arith, IsTrue, slice_index_or, All, nat_tests}
-use Rattle.reach.proofs.Names.{is_marked, Object, IsClosed, object_at, AreBy, IsKept, with_free, run_confined, Frontier, Grows, HasNoneLeft, IsDone, IsWithin}
-use Rattle.reach.proofs.Names.{Takes, BoundsRuns, IsClosedAt, IsReach}
+use Rattle.reach.proofs.Names.{ℕ, suc, nat_eq, Bool, false, List, length, replicate, refl, sym, ap, subst, arith, IsTrue, All, nat_tests, is_marked, Object}
+use Rattle.reach.proofs.Names.{IsClosed, run_confined, Frontier, Grows, HasNoneLeft, IsDone, IsWithin, Takes, BoundsRuns, IsClosedAt, IsReach}
+use Rattle.std.specs.Prelude.{slice_index_or}
 use Rattle.std.proofs.Common.{◌≡◌, ◌<◌, ◌≤◌, ◌+◌, ◌∙◌}
 
 -- a closed set is so at each member
@@ -14,9 +14,8 @@ closed_more os old new n more at = grind (arith, nat_tests)
 
 -- none is marked in a new set
 none_marked : (count n : ℕ) → is_marked (replicate count false) n ≡ false
-none_marked zero n = refl
-none_marked (suc c) zero = refl
 none_marked (suc c) (suc n) = none_marked c n
+none_marked count n = refl
 
 -- the invariant while the first numbers are found
 pub record Begins (os : List Object) (starts : List ℕ) (at : ℕ) (f : Frontier) : Type 0 where
@@ -32,12 +31,9 @@ pub record Follows (os : List Object) (starts : List ℕ) (f : Frontier) : Type 
   pub closed : (n : ℕ) → IsDone f n → IsClosedAt os (is_marked f.found) n
   pub least : (other : ℕ → Bool) → IsClosed os other → All (λ p. IsTrue (other p)) starts → IsWithin f other
 
-marked_not : (marks : List Bool) (count n : ℕ) → marks ≡ replicate count false → IsTrue (is_marked marks n) → ⊥
-marked_not marks count n is inside = grind (arith, nat_tests, none_marked)
-
 pub begun : (os : List Object) (starts : List ℕ) (f : Frontier) (count : ℕ) → count ≡ length os → f.found ≡ replicate count false →
     length (replicate count false) ≡ count → Begins os starts 0 f
-begun os starts f count same is long = grind (arith, nat_tests, marked_not)
+begun os starts f count same is long = grind (arith, nat_tests, none_marked)
 
 pub one_begun : (os : List Object) (starts : List ℕ) (at : ℕ) (d : ℕ) (old new : Frontier) → Begins os starts at old → Grows old new → at < length starts
     → ((e : ℕ) → IsTrue (is_marked new.found (slice_index_or starts at e)))
@@ -81,7 +77,4 @@ pub all_followed : (os : List Object) (starts : List ℕ) (old new : Frontier) �
 all_followed os starts old new follows none = grind (arith, nat_tests)
 
 pub bounds_runs : (os : List Object) (inside : ℕ → Bool) → IsClosed os inside → BoundsRuns os inside
-bounds_runs os inside closed g s t turns is sound run by n out =
-    subst (λ (l : List Object). IsKept inside (object_at l n) (object_at t.now.objects n)) is
-    (run_confined g inside s t turns sound (subst (λ (l : List Object). IsClosed l inside) (sym is) closed) run
-    (subst (λ (l : List Object). AreBy (with_free l inside) turns) (sym is) by) n (subst (λ (l : List Object). with_free l inside n ≡ false) (sym is) out))
+bounds_runs os inside closed = grind (arith, nat_tests, run_confined)

@@ -1,9 +1,9 @@
 -- What holds as numbers are found by steps.
 use Rattle.reach.proofs.Names.{nat_tests, ℕ, max, zero, suc, true, false, is_some, Option, None, Some, List, [], length, length-set, slice_set, inl, inr}
-use Rattle.reach.proofs.Names.{⊎_elim, refl, sym, ap, subst, arith, cases_lt, get_or-set_same, get_or-set_other, same_Some, Capability, Void, Object, is_free}
-use Rattle.reach.proofs.Names.{content_at, owner_at, Found, Levels, Step, Way, Conveys, Begins, FindsBy, IsBy, IsFoundBy, IsHeldIn, IsOwnedBelow, IsTheStep}
-use Rattle.reach.proofs.Names.{found_at, missing}
-use Rattle.std.proofs.Common.{◌≡◌, ◌≢◌, ◌⊎◌, ◌+◌, ◌<◌, ◌≤◌, ◌∷◌, ◌∙◌, slice_index_or}
+use Rattle.reach.proofs.Names.{⊎_elim, refl, sym, ap, arith, get_or-set_same, get_or-set_other, same_Some, Capability, Void, Object, is_free, content_at}
+use Rattle.reach.proofs.Names.{owner_at, Found, Levels, Step, Way, Conveys, Begins, FindsBy, IsBy, IsFoundBy, IsHeldIn, IsOwnedBelow, IsTheStep, found_at}
+use Rattle.reach.proofs.Names.{missing, slice_index_or}
+use Rattle.std.proofs.Common.{◌≡◌, ◌≢◌, ◌⊎◌, ◌+◌, ◌<◌, ◌≤◌, ◌∷◌, ◌∙◌}
 use Rattle.reach.specs.declared.step.Way.TheVariants as way
 
 -- no number is missing more often than there are numbers
@@ -18,13 +18,8 @@ pub missing_fewer : {X : Type 0} (xs : List (Option X)) (n : ℕ) (x : X) → n 
 missing_fewer [] n x lt none = absurd (omega (arith, lt))
 missing_fewer (None ∷ xs) zero x lt none = omega arith
 missing_fewer (Some y ∷ xs) zero x lt none = absurd (cc)
-missing_fewer (None ∷ xs) (suc n) x lt none = let rest : missing (slice_set xs n (Some x)) + 1 ≡ missing xs = missing_fewer xs n x (omega (arith, lt)) none in
-    omega (arith, rest)
+missing_fewer (None ∷ xs) (suc n) x lt none = grind (arith, nat_tests, missing_fewer xs n x (omega (arith, lt)) none)
 missing_fewer (Some y ∷ xs) (suc n) x lt none = missing_fewer xs n x (omega (arith, lt)) none
-
--- what is there, and what isn't
-pub none_of : {X : Type 0} (o : Option X) → is_some o ≡ false → o ≡ None
-none_of {X} o is = grind (arith, nat_tests)
 
 pub some_of : {X : Type 0} (o : Option X) → is_some o ≡ true → (x : X) × (o ≡ Some x)
 some_of {X} o is = grind (arith, nat_tests)
@@ -119,8 +114,7 @@ finds_both P Q R level a b c from_first from_next either first next = record {
 pub finds_by : (from : ℕ) (by : Way) (c : Capability) (to level : ℕ) (a b : Levels) → Conveys c to →
     FindsBy (IsTheStep (record { from = from; way = by; to = to })) level a b → FindsBy (IsBy from by c) level a b
 finds_by from by c to level a b conveys = finds_same (IsTheStep (record { from = from; way = by; to = to })) (IsBy from by c) level a b
-    (λ s is. (is.0, is.1, subst (Conveys c) (sym is.2) conveys))
-    (λ s is. (is.0, is.1, same_Some s.to to (sym is.2.1 ∙ conveys.1)))
+    (λ s is. (is.0, is.1, rw is.2 conveys)) (λ s is. (is.0, is.1, same_Some s.to to (sym is.2.1 ∙ conveys.1)))
 
 -- one capability more of a list
 pub held_next : (slots : List Capability) (i from level : ℕ) (a b c : Levels) → FindsBy (IsHeldIn slots i from) level a b
@@ -128,10 +122,7 @@ pub held_next : (slots : List Capability) (i from level : ℕ) (a b c : Levels) 
 held_next slots i from level a b c first next = finds_both (IsHeldIn slots i from)
     (IsBy from (way.Slot i (slice_index_or slots i Void)) (slice_index_or slots i Void)) (IsHeldIn slots (i + 1) from) level a b c
     (λ s held. (held.0, omega (arith, held.1), held.2)) (λ s by. (i, omega arith, by))
-    (λ s held. elim (cases_lt held.0 i) [
-      | inl below ↦ inl (held.0, below, held.2)
-      | inr past ↦ grind (arith, nat_tests)
-    ]) first next
+    grind (arith, nat_tests) first next
 
 -- one number more that a bank may own
 pub owned_next_step : (os : List Object) (i bank level : ℕ) (step : Step) (a b c : Levels) → step.from ≡ bank → step.way ≡ way.Owner → step.to ≡ i
@@ -142,16 +133,10 @@ owned_next_step os i bank level step a b c from by to free owner first next = fi
     (λ s owned. (owned.0, owned.1, omega (arith, owned.2), owned.3, owned.4))
     (λ s is. let here : s.to ≡ i = is.2 ∙ to in
     (is.0 ∙ from, is.1 ∙ by, omega (arith, here), ap (λ (n : ℕ). is_free (content_at os n)) here ∙ free, ap (λ (n : ℕ). owner_at os n) here ∙ owner))
-    (λ s owned. elim (cases_lt s.to i) [
-      | inl below ↦ inl (owned.0, owned.1, below, owned.3, owned.4)
-      | inr past ↦ let here : s.to ≡ i = omega (arith, past, owned.2) in inr (owned.0 ∙ sym from, owned.1 ∙ sym by, here ∙ sym to)
-    ]) first next
+    grind (arith, nat_tests) first next
 
 pub owned_skip : (os : List Object) (i bank level : ℕ) (a b : Levels) → (is_free (content_at os i) ≡ false → owner_at os i ≡ bank → ⊥)
     → FindsBy (IsOwnedBelow os i bank) level a b → FindsBy (IsOwnedBelow os (i + 1) bank) level a b
 owned_skip os i bank level a b other = finds_same (IsOwnedBelow os i bank) (IsOwnedBelow os (i + 1) bank) level a b
     (λ s owned. (owned.0, owned.1, omega (arith, owned.2), owned.3, owned.4))
-    (λ s owned. elim (cases_lt s.to i) [
-      | inl below ↦ (owned.0, owned.1, below, owned.3, owned.4)
-      | inr past ↦ grind (arith, nat_tests)
-    ])
+    grind (arith, nat_tests)

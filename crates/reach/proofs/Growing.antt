@@ -1,7 +1,8 @@
 -- What holds as more numbers are found.
-use Rattle.reach.proofs.Names.{ℕ, Bool, false, Option, None, Some, List, subst, ⊎_elim, inl, inr, arith, IsTrue, slice_index_or, nat_tests, Capability, IsWeak}
-use Rattle.reach.proofs.Names.{named, StaysInside, Object, is_free, content_at, owner_at, Frontier, Grows}
-use Rattle.std.proofs.Common.{◌≡◌, ◌<◌, ◌+◌, ◌∙◌}
+use Rattle.reach.proofs.Names.{ℕ, Bool, false, Option, None, Some, List, subst, ⊎_elim, arith, IsTrue, nat_tests, Capability, IsWeak, named, StaysInside}
+use Rattle.reach.proofs.Names.{Object, is_free, content_at, owner_at, Frontier, Grows}
+use Rattle.std.specs.Prelude.{slice_index_or}
+use Rattle.std.proofs.Common.{◌≡◌, ◌<◌, ◌+◌}
 
 -- a number that is named is in a set
 abbrev pub IsIn : (ℕ → Bool) → Option ℕ → Type 0
@@ -13,13 +14,6 @@ named_inside other c n strong is stays = ⊎_elim (λ weak. absurd (strong weak)
 
 pub grows_more : (a b c : Frontier) → Grows a b → Grows b c → Grows a c
 grows_more a b c first next = grind (arith, nat_tests)
-
--- what stays inside does so in a greater set
-named_more : (old new : ℕ → Bool) (o : Option ℕ) → ((n : ℕ) → IsTrue (old n) → IsTrue (new n)) → IsIn old o → IsIn new o
-named_more old new o more inside = grind (arith, nat_tests)
-
-pub stays_more : (old new : ℕ → Bool) (c : Capability) → ((n : ℕ) → IsTrue (old n) → IsTrue (new n)) → StaysInside old c → StaysInside new c
-stays_more old new c more stays = ⊎_elim (λ weak. inl weak) (λ inside. inr (named_more old new (named c) more inside)) stays
 
 -- a list of capabilities, with one more that stays inside
 pub stay_one : (old new : ℕ → Bool) (cs : List Capability) (i : ℕ) → ((n : ℕ) → IsTrue (old n) → IsTrue (new n))

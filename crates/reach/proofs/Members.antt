@@ -1,7 +1,8 @@
 -- What a member of a closed set holds, in a sound world.
-use Rattle.reach.proofs.Names.{nat_tests, ℕ, zero, suc, Bool, false, List, [], length, refl, sym, ap, subst, arith, IsTrue, slice_index_or, All, get_or_default}
-use Rattle.reach.proofs.Names.{Capability, Void, Page, Node, Space, Process, Start, Resume, Bank, Content, Object, Root, StaysInside, free, is_bank, is_node}
-use Rattle.reach.proofs.Names.{is_page, is_root, root_in, slots_in, NamesItsKind, content_at, slot_at, NamesWithin, AreSoundObjects, IsClosedAt}
+use Rattle.reach.proofs.Names.{nat_tests, ℕ, zero, suc, Bool, false, List, [], length, refl, sym, ap, subst, arith, IsTrue, All, get_or_default, Capability}
+use Rattle.reach.proofs.Names.{Void, Page, Node, Space, Process, Start, Resume, Bank, Content, Object, Root, StaysInside, free, is_bank, is_node, is_page}
+use Rattle.reach.proofs.Names.{is_root, root_in, slots_in, NamesItsKind, content_at, slot_at, NamesWithin, AreSoundObjects, IsClosedAt}
+use Rattle.std.specs.Prelude.{slice_index_or}
 use Rattle.std.proofs.Common.{◌≡◌, ◌<◌, ◌∷◌, ◌∙◌}
 use Rattle.model.specs.declared.object.Content.TheVariants as content
 
@@ -37,9 +38,7 @@ slot_is os n slots is k d lt = ap (λ (l : List Capability). slice_index_or l k 
 
 pub slots_known : (os : List Object) (n count : ℕ) (slots : List Capability) → AreSoundObjects os → count ≡ length os → slots_in (content_at os n) ≡ slots →
     All (NamesWithin count) slots
-slots_known os n count slots sound same is k d lt =
-    subst (λ (m : ℕ). NamesWithin m (slice_index_or slots k d)) (sym same)
-    (subst (NamesWithin (length os)) (slot_is os n slots is k d lt) (names_within os (slot_at os n k) (sound.2.slots n k).1))
+slots_known os n count slots sound same is k d lt = rw same (rw (← slot_is os n slots is k d lt) (names_within os (slot_at os n k) (sound.2.slots n k).1))
 
 pub slots_stay : (os : List Object) (n : ℕ) (slots : List Capability) (other : ℕ → Bool) → slots_in (content_at os n) ≡ slots → IsClosedAt os other n →
     All (StaysInside other) slots

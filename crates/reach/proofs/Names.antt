@@ -10,30 +10,28 @@ pub use Rattle.model.specs.Text.{line_of, spaced}
 pub use Rattle.model.specs.World.{annex_at, content_at, is_process, object_at, owner_at, root_at, slot_at}
 pub use Rattle.model.specs.declared.capability.Capability.{Capability}
 pub use Rattle.model.specs.declared.capability.Capability.TheVariants.{Bank, Node, Page, Process, Resume, Space, Start, Void}
-pub use Rattle.model.specs.declared.frame.ObjectHeader.{ObjectHeader}
 pub use Rattle.model.specs.declared.object.Content.{Content}
 pub use Rattle.model.specs.declared.object.Object.{Object}
 pub use Rattle.model.specs.declared.object.Root.{Root}
 pub use Rattle.model_laws.proofs.ConfinedRuns.{run_confined}
-pub use Rattle.model_laws.specs.Confinement.{AreBy, IsKept, with_free}
 pub use Rattle.script.proofs.Fronts.{text_fails, writes_after, writes_fail, wrote_trans}
 pub use Rattle.script.specs.Writing.{Writes, Wrote}
 pub use Rattle.std.proofs.Common.{Bool, Err, List, None, Option, Some, Vec, [], add-one, ap, append-nil, append_assoc, arith, codes, decimal, drop, false}
 pub use Rattle.std.proofs.Common.{get_or, inl, inr, is_some, length, length-set, length-take-le, max, nat_eq, not, option_and_then, refl, replicate, reverse}
-pub use Rattle.std.proofs.Common.{rules, slice_set, subst, suc, sym, take, true, zero, ℕ, ⊎_elim}
+pub use Rattle.std.proofs.Common.{rules, slice_index_or, slice_set, subst, suc, sym, take, true, zero, ℕ, ⊎_elim}
 pub use Rattle.std.proofs.Math.Seq.{take-suc}
 pub use Rattle.std.proofs.lemmas.Bool.{cases_eq, cases_lt}
 pub use Rattle.std.proofs.lemmas.Bool.Decides.{nat_tests}
-pub use Rattle.std.proofs.lemmas.Grind.{flat_map-append}
+pub use Rattle.std.proofs.lemmas.Grind.{common_steps, flat_map-append}
 pub use Rattle.std.proofs.lemmas.List.{get_or-set_other, get_or-set_same, get_or_default, length-replicate, length-reverse, length_push, reverse-append}
 pub use Rattle.std.proofs.lemmas.List.{take-append-drop, take_all, take_more}
 pub use Rattle.std.proofs.lemmas.Option.{same_Some}
 pub use Rattle.std.proofs.lemmas.Result.{err_from_is_err_and}
 pub use Rattle.std.specs.List.{All, Contains, count_by, enumerate_from, find, flat_map}
-pub use Rattle.std.specs.Prelude.{IsTrue, slice_index_or}
+pub use Rattle.std.specs.Prelude.{IsTrue}
 pub use Rattle.std.specs.declared.alloc.Global.{Global}
 pub use Rattle.reach.specs.Chain.{Conveys, IsChain, IsPath, IsShortest, IsStep, IsWay, held_by}
-pub use Rattle.reach.specs.ChainLines.{step_line, steps_text}
+pub use Rattle.reach.specs.ChainLines.{step_line}
 unfoldable pub use Rattle.reach.specs.ChainLines.{chain_text}
 pub use Rattle.reach.specs.Frontier.{Grows, HasNoneLeft, IsDone, IsWithin, NamesWithin, Takes}
 pub use Rattle.reach.specs.Laws.{StepsAreAuthority}

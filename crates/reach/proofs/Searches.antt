@@ -1,19 +1,16 @@
 -- What holds as levels are followed.
-use Rattle.reach.proofs.Names.{ℕ, zero, suc, true, false, Option, None, Some, List, [], length, replicate, inl, inr, ⊎_elim, sym, ap, subst, arith, Contains}
+use Rattle.reach.proofs.Names.{ℕ, zero, suc, true, false, Option, None, Some, List, [], length, replicate, inl, inr, ⊎_elim, sym, subst, arith, Contains}
 use Rattle.reach.proofs.Names.{cases_lt, nat_tests, get_or_default, length-replicate, Object, Found, Levels, Step, Begins, FindsBy, IsAfter, IsAt, IsFirst}
-use Rattle.reach.proofs.Names.{IsFoundBy, IsFoundIn, IsFrom, IsFromLevel, IsSearched, found_at, has_level, missing}
-use Rattle.std.proofs.Common.{◌≡◌, ◌==◌, ◌+◌, ◌<◌, ◌≤◌, ◌∷◌, ◌∙◌, slice_index_or}
+use Rattle.reach.proofs.Names.{IsFoundBy, IsFoundIn, IsFrom, IsFromLevel, IsSearched, found_at, has_level, missing, slice_index_or}
+use Rattle.std.proofs.Common.{◌≡◌, ◌+◌, ◌<◌, ◌≤◌, ◌∷◌, ◌∙◌}
 use Rattle.reach.proofs.Finding.{finds_both, finds_same, missing_most}
 
 -- the level of what was found
 at_of : (o : Option Found) (k : ℕ) → has_level o k ≡ true → (f : Found) × (o ≡ Some f) × (f.level ≡ k)
 at_of o k test = grind (arith, nat_tests)
 
-same_level : (f : Found) (k : ℕ) → f.level ≡ k → (f.level == k) ≡ true
-same_level f k is = grind (arith, nat_tests)
-
 level_of : (o : Option Found) (f : Found) (k : ℕ) → o ≡ Some f → f.level ≡ k → has_level o k ≡ true
-level_of o f k is at = ap (λ (p : Option Found). has_level p k) is ∙ same_level f k at
+level_of o f k is at = grind (arith, nat_tests)
 
 -- the numbers below one were followed where they are at the level
 module _ (os : List Object) (start now : Levels) (level i : ℕ) (first : FindsBy (IsFromLevel os start level i) (level + 1) start now) where
@@ -23,17 +20,15 @@ module _ (os : List Object) (start now : Levels) (level i : ℕ) (first : FindsB
   pub level_next : (new : Levels) → has_level (found_at now i) level ≡ true → FindsBy (IsFrom os i) (level + 1) now new →
       FindsBy (IsFromLevel os start level (i + 1)) (level + 1) start new
   level_next new test next = finds_both (IsFromLevel os start level i) (IsFrom os i) (IsFromLevel os start level (i + 1)) (level + 1) start now new
-      (λ s from. (from.0, omega (arith, from.1), from.2))
-      (λ s from. (subst (λ (k : ℕ). IsAt start k level) (sym from.0) (at_once i (at_of (found_at now i) level test)), omega (arith, from.0), from.1))
+      (λ s from. (from.0, omega (arith, from.1), from.2)) (λ s from. (rw from.0 (at_once i (at_of (found_at now i) level test)), omega (arith, from.0), from.1))
       (λ s from. elim (cases_lt s.from i) [
         | inl below ↦ inl (from.0, below, from.2)
         | inr past ↦ inr (omega (arith, past, from.1), from.2)
       ]) first next
 
   pub level_skip : has_level (found_at now i) level ≡ false → FindsBy (IsFromLevel os start level (i + 1)) (level + 1) start now
-  level_skip test = finds_same (IsFromLevel os start level i) (IsFromLevel os start level (i + 1)) (level + 1) start now
-      (λ s from. (from.0, omega (arith, from.1), from.2))
-      (λ s from. elim (cases_lt s.from i) [
+  level_skip test = finds_same (IsFromLevel os start level i) (IsFromLevel os start level (i + 1)) _ start now
+      (λ s from. (from.0, omega (arith, from.1), from.2)) (λ s from. elim (cases_lt s.from i) [
         | inl below ↦ (from.0, below, from.2)
         | inr past ↦ grind (arith, nat_tests, level_of)
       ]) first
@@ -47,9 +42,8 @@ pub record Begun (os : List Object) (starts : List ℕ) (i : ℕ) (l : Levels) :
   pub work : missing l.found.items ≤ length os
 
 none_found : (count n : ℕ) (f : Found) → slice_index_or (replicate count None) n None ≡ Some f → ⊥
-none_found zero n f is = absurd (cc)
-none_found (suc c) zero f is = absurd (cc)
 none_found (suc c) (suc n) f is = none_found c n f is
+none_found count n f is = absurd (cc)
 
 pub begun_none : (os : List Object) (starts : List ℕ) (count : ℕ) (l : Levels) → l.found.items ≡ replicate count None → count ≡ length os → l.greatest ≡ 0 →
     Begun os starts 0 l
@@ -107,12 +101,10 @@ module _ (os : List Object) (starts : List ℕ) (level : ℕ) (old new : Levels)
   continues_here n f is at s from = grind (arith, nat_tests, found_below, deepest_now)
 
   continues_now : (n : ℕ) (f : Found) → found_at new n ≡ Some f → f.level < level + 1 → (s : Step) → IsFrom os n s → IsFoundIn new s.to (f.level + 1)
-  continues_now n f is lt s from = ⊎_elim
-      (λ before. elim (cases_lt f.level level) [
-        | inl below ↦ kept_in s.to (f.level + 1) (searched.continues n f before below s from)
-        | inr past ↦ continues_here n f before (omega (arith, past, lt)) s from
-      ])
-      (λ now. absurd (omega (arith, now.at, lt))) (finds.each n f is)
+  continues_now n f is lt s from = ⊎_elim (λ before. elim (cases_lt f.level level) [
+    | inl below ↦ kept_in s.to _ (searched.continues n f before below s from)
+    | inr past ↦ continues_here n f before (omega (arith, past, lt)) s from
+  ]) (λ now. absurd (omega (arith, now.at, lt))) (finds.each n f is)
 
   pub searched_next : IsSearched os starts (level + 1) new
   searched_next = grind (arith, nat_tests, kept_in, after_before, after_now, continues_now, deepest_now)

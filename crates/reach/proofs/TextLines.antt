@@ -1,25 +1,21 @@
 -- Lines, one for each of the items of a list.
-use Rattle.reach.proofs.Names.{nat_tests, ℕ, suc, add-one, length-take-le, List, [], length, get_or, take, drop, refl, sym, ap, append-nil, arith, flat_map}
+use Rattle.reach.proofs.Names.{nat_tests, ℕ, add-one, length-take-le, List, [], length, get_or, take, drop, refl, sym, ap, append-nil, arith, flat_map}
 use Rattle.reach.proofs.Names.{enumerate_from, flat_map-append, take-append-drop, take_all, take-suc}
 use Rattle.std.proofs.Common.{◌≡◌, ◌+◌, ◌<◌, ◌≤◌, ◌∷◌, ◌++◌, ◌∙◌}
 
 enumerate_append : {A : Type 0} (n : ℕ) (xs ys : List A) → enumerate_from n (xs ++ ys) ≡ enumerate_from n xs ++ enumerate_from (n + length xs) ys
 enumerate_append n [] ys = let same : n + 0 ≡ n = omega arith in rw same refl
-enumerate_append {A} n (x ∷ xs) ys =
-    let same : n + 1 + length xs ≡ n + suc (length xs) = omega arith in
-    ap (λ (l : List (ℕ × A)). (n, x) ∷ l) (enumerate_append (n + 1) xs ys ∙ ap (λ (k : ℕ). enumerate_from (n + 1) xs ++ enumerate_from k ys) same)
+enumerate_append {A} n (x ∷ xs) ys = grind (arith, nat_tests, enumerate_append (n + 1) xs ys)
 
 -- the lines of items alone
 module _ {A : Type 0} (line : A → List ℕ) (xs : List A) where
   pub plain_more : (i : ℕ) (d : A) → i < length xs → flat_map line (take (i + 1) xs) ≡ flat_map line (take i xs) ++ line (get_or xs i d)
   plain_more i d lt =
       let front : take (i + 1) xs ≡ take i xs ++ (get_or xs i d ∷ []) = rw add-one (take-suc xs i d lt) in
-      ap (flat_map line) front ∙ flat_map-append line (take i xs) (get_or xs i d ∷ []) ∙
-      ap (λ (l : List ℕ). flat_map line (take i xs) ++ l) (append-nil (line (get_or xs i d)))
+      ap (flat_map line) front ∙ flat_map-append line (take i xs) (get_or xs i d ∷ []) ∙ ap (λ (l : List ℕ). flat_map line (take i xs) ++ l) (append-nil _)
 
   pub plain_split : (i : ℕ) (d : A) → i < length xs → flat_map line xs ≡ (flat_map line (take i xs) ++ line (get_or xs i d)) ++ flat_map line (drop (i + 1) xs)
-  plain_split i d lt =
-      ap (flat_map line) (sym (take-append-drop (i + 1) xs)) ∙ flat_map-append line (take (i + 1) xs) (drop (i + 1) xs)
+  plain_split i d lt = ap (flat_map line) (sym (take-append-drop _ xs)) ∙ flat_map-append line (take (i + 1) xs) (drop (i + 1) xs)
       ∙ ap (λ (t : List ℕ). t ++ flat_map line (drop (i + 1) xs)) (plain_more i d lt)
 
   pub plain_all : (i : ℕ) → length xs ≤ i → flat_map line (take i xs) ≡ flat_map line xs
@@ -34,16 +30,11 @@ module _ {A : Type 0} (line : ℕ × A → List ℕ) (xs : List A) where
   lines_more i d lt =
       let here : 0 + length (take i xs) ≡ i = omega (arith, length-take-le i xs (omega arith)) in
       let front : take (i + 1) xs ≡ take i xs ++ (get_or xs i d ∷ []) = rw add-one (take-suc xs i d lt) in
-      ap (λ (l : List A). flat_map line (enumerate_from 0 l)) front
-      ∙ ap (flat_map line) (enumerate_append 0 (take i xs) (get_or xs i d ∷ []))
-      ∙ flat_map-append line (enumerate_from 0 (take i xs)) ((0 + length (take i xs), get_or xs i d) ∷ [])
-      ∙ ap (λ (k : ℕ). lines_before i ++ (line (k, get_or xs i d) ++ [])) here
-      ∙ ap (λ (l : List ℕ). lines_before i ++ l) (append-nil (line (i, get_or xs i d)))
+      grind (arith, nat_tests, enumerate_append, flat_map-append, append-nil)
 
   pub lines_whole : (i : ℕ) → flat_map line (enumerate_from 0 xs) ≡ lines_before i ++ flat_map line (enumerate_from (0 + length (take i xs)) (drop i xs))
-  lines_whole i =
-      ap (λ (l : List A). flat_map line (enumerate_from 0 l)) (sym (take-append-drop i xs))
-      ∙ ap (flat_map line) (enumerate_append 0 (take i xs) (drop i xs))
+  lines_whole i = ap (λ (l : List A). flat_map line (enumerate_from 0 l)) (sym (take-append-drop i xs))
+      ∙ ap (flat_map line) (enumerate_append 0 _ _)
       ∙ flat_map-append line (enumerate_from 0 (take i xs)) (enumerate_from (0 + length (take i xs)) (drop i xs))
 
   pub lines_split : (i : ℕ) (d : A) → i < length xs

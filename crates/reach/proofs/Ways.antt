@@ -1,8 +1,8 @@
 -- The ways from an object, by what it holds.
 use Rattle.reach.proofs.Names.{nat_tests, ℕ, zero, suc, false, not, List, [], length, inl, inr, refl, sym, ap, subst, arith, Capability, Void, Content, Object}
 use Rattle.reach.proofs.Names.{Root, IsWeak, is_free, slots_in, content_at, owner_at, Levels, Step, Way, Conveys, IsWay, FindsBy, IsBy, IsFrom, IsHeldIn}
-use Rattle.reach.proofs.Names.{IsOwnedBelow, IsTheStep}
-use Rattle.std.proofs.Common.{◌≡◌, ◌⊎◌, ◌<◌, ◌∷◌, ◌∙◌, slice_index_or}
+use Rattle.reach.proofs.Names.{IsOwnedBelow, IsTheStep, slice_index_or}
+use Rattle.std.proofs.Common.{◌≡◌, ◌⊎◌, ◌<◌, ◌∷◌, ◌∙◌}
 use Rattle.model.specs.declared.object.Content.TheVariants as content
 use Rattle.reach.specs.declared.step.Way.TheVariants as way
 use Rattle.reach.proofs.Finding.{finds_both, finds_same}
@@ -28,11 +28,8 @@ void_conveys c m is conveys = conveys.0 (subst IsWeak is tt)
 
 -- a capability of a list
 module _ (slots : List Capability) (i : ℕ) (c : Capability) (m : ℕ) (is : slice_index_or slots i Void ≡ c) (conveys : Conveys c m) where
-  held_conveys : Conveys (slice_index_or slots i Void) m
-  held_conveys = subst (λ (d : Capability). Conveys d m) (sym is) conveys
-
   pub held_way : (from : ℕ) (s : Step) → s.from ≡ from → s.way ≡ way.Slot i c → s.to ≡ m → IsHeldIn slots (length slots) from s
-  held_way from s same by to = grind (arith, nat_tests, conveys_within, held_conveys)
+  held_way from s same by to = grind (arith, nat_tests, conveys_within)
 
 -- of a list of slots
 slots_held : (os : List Object) (n : ℕ) (slots : List Capability) (w : Way) (m : ℕ) → IsWay os n (content.Node slots) w m → (s : Step) → s.from ≡ n →
@@ -63,8 +60,7 @@ bank_owned os n limit way.Annex m by s same is to = let wrong = by.0 in absurd (
 bank_owned os n limit way.Owner m by s same is to =
     let free : is_free (content_at os s.to) ≡ false = ap (λ (k : ℕ). is_free (content_at os k)) to ∙ by.1 in
     (same, is, known os s.to (λ x. not (is_free x)) refl (ap not free), free, ap (λ (k : ℕ). owner_at os k) to ∙ by.2)
-bank_owned os n limit (way.Space c) m by s same is to = absurd (void_conveys c m by.0 by.1)
-bank_owned os n limit (way.Slot i c) m by s same is to = absurd (void_conveys c m by.0 by.1)
+bank_owned os n limit w m by s same is to = absurd (grind (arith, nat_tests))
 
 owned_bank : (os : List Object) (n limit : ℕ) (s : Step) → IsOwnedBelow os (length os) n s → IsWay os n (content.Bank limit) s.way s.to
 owned_bank os n limit s owned = subst (λ (w : Way). IsWay os n (content.Bank limit) w s.to) (sym owned.1) (refl, owned.3, owned.4)

@@ -1,6 +1,6 @@
 -- A text is a capability's where its pieces are the capability's words.
-use Rattle.script.proofs.Names.{nat_tests, ℕ, not, Bool, true, false, List, [], length, codes, decimal, refl, sym, ap, arith, flat_map, list_all, same_Some}
-use Rattle.script.proofs.Names.{All-nil, All-cons, All-weaker, AllPass-from_list_all, join_with_byte-slice_split, Access, Capability, spaced, access_text}
+use Rattle.script.proofs.Names.{not, list_all, access_text, nat_tests, ℕ, Bool, true, false, List, [], length, codes, decimal, refl, sym, ap, arith, flat_map}
+use Rattle.script.proofs.Names.{same_Some, All-nil, All-cons, All-weaker, AllPass-from_list_all, join_with_byte-slice_split, Access, Capability, spaced}
 use Rattle.script.proofs.Names.{capability_text, IsSpaceless, split_spaced, decimal_is_word, access_words, capability_words, kind_name, words_of}
 use Rattle.std.proofs.Common.{◌≡◌, ◌≢◌, ◌<◌, ◌^◌, ◌==◌, if◌then◌else◌, ◌∷◌, ◌++◌, ◌∙◌, All}
 use Rattle.model.specs.declared.capability.Capability.TheVariants as capability

@@ -1,8 +1,8 @@
 -- A capability is read from its words, and from no others.
-use Rattle.script.proofs.Names.{nat_tests, ℕ, List, [], Option, None, Some, codes, decimal, inl, append-nil, refl, sym, ap, subst, arith, IfSome, bytes_eq}
+use Rattle.script.proofs.Names.{bytes_eq, nat_tests, ℕ, List, [], Option, None, Some, codes, decimal, inl, append-nil, refl, sym, ap, subst, arith, IfSome}
 use Rattle.script.proofs.Names.{bytes_eq-Decides, lt-ltb, le-leb, Access, Capability, IsAccess, IsWellFormed, named, Kind, kind_name, access_words}
 use Rattle.script.proofs.Names.{capability_words, access_in, access_at, height_at, key_at, one_of, object_of, capability_at, Words, number_at}
-use Rattle.std.proofs.Common.{◌≡◌, ◌≢◌, ◌≤◌, ◌<◌, ◌^◌, ◌&&◌, if◌then◌else◌, ◌∷◌, ◌++◌, ◌∙◌}
+use Rattle.std.proofs.Common.{if◌then◌else◌, ◌≡◌, ◌≢◌, ◌≤◌, ◌<◌, ◌^◌, ◌∷◌, ◌++◌, ◌∙◌}
 use Rattle.model.specs.declared.capability.Capability.TheVariants as capability
 use Rattle.script.specs.declared.named.Kind.TheVariants as kind
 use Rattle.script.proofs.Commands.{bind_some, guard_some, both, some_is, number_again, number_takes}
@@ -41,7 +41,6 @@ HasText c = IsWellFormed c × IfSome (named c) (λ o. o < 2 ^ 64)
 pub capability_again : (c : Capability) → HasText c
     → (words : Words) × (capability_words c ≡ kind_name (kind_for c) ∷ words) × (capability_at (kind_for c) words ≡ Some (c, []))
 unfolding capability_words capability_at kind_for
-capability_again capability.Void has = ([], refl, refl)
 capability_again (capability.Number n) has = (decimal n ∷ [], refl, rw (number_again n [] has.0) refl)
 capability_again (capability.Page o a) has = (decimal o ∷ access_words a, refl, rw (number_again o (access_words a) has.1, access_again a has.0) refl)
 capability_again (capability.Node o a) has = (decimal o ∷ access_words a, refl, rw (number_again o (access_words a) has.1, access_again a has.0) refl)
@@ -55,7 +54,7 @@ capability_again (capability.Start p key) has =
     (decimal p ∷ decimal key ∷ [], refl, rw (number_again p (decimal key ∷ []) has.1, key_again key [] has.0) refl)
 capability_again (capability.Resume p) has = (decimal p ∷ [], refl, rw (number_again p [] has.1) refl)
 capability_again (capability.Bank b) has = (decimal b ∷ [], refl, rw (number_again b [] has.1) refl)
-capability_again capability.Discrim has = ([], refl, refl)
+capability_again c has = ([], refl, refl)
 
 -- ---- what is read was spelt
 
@@ -98,14 +97,7 @@ object_takes make words p e =
     let two = bind_some (access_at one.0.1) _ p one.2 in
     let t = number_takes words one.0 one.1 in
     let u = access_takes one.0.1 two.0 two.1 in
-    let is = some_is _ _ two.2 in (
-      one.0.0,
-      two.0.0,
-      t.0,
-      u.0,
-      sym (ap (λ (q : Capability × Words). q.0) is),
-      t.1 ∙ ap (λ (w : Words). decimal one.0.0 ∷ w) (u.1 ∙ ap (λ (q : Capability × Words). access_words two.0.0 ++ q.1) is),
-    )
+    grind (arith, nat_tests, some_is)
 
 one_read : (k : Kind) (words : Words) (p : Capability × Words) (c : Capability) → p.0 ≡ c → HasText c → kind_name k ∷ words ≡ capability_words c ++ p.1 →
     IsReadFrom k words p
@@ -120,10 +112,7 @@ space_takes words p e =
     let t = number_takes words one.0 one.1 in
     let u = height_takes one.0.1 two.0 two.1 in
     let v = access_takes two.0.1 three.0 three.1 in
-    subst (IsReadFrom kind.Space words) (some_is _ _ three.2) (
-      ((u.0, u.1, v.0), t.0),
-      ap (λ (w : Words). codes "space" ∷ w) (t.1 ∙ ap (λ (w : Words). decimal one.0.0 ∷ w) (u.2 ∙ ap (λ (w : Words). decimal two.0.0 ∷ w) v.1)),
-    )
+    grind (arith, nat_tests, some_is)
 
 start_takes : (words : Words) (p : Capability × Words) → capability_at kind.Start words ≡ Some p → IsReadFrom kind.Start words p
 unfolding capability_at capability_words
@@ -132,21 +121,17 @@ start_takes words p e =
     let two = bind_some (key_at one.0.1) _ p one.2 in
     let t = number_takes words one.0 one.1 in
     let u = key_takes one.0.1 two.0 two.1 in
-    subst (IsReadFrom kind.Start words) (some_is _ _ two.2)
-    ((u.0, t.0), ap (λ (w : Words). codes "start" ∷ w) (t.1 ∙ ap (λ (w : Words). decimal one.0.0 ∷ w) u.1))
+    rw (← some_is _ _ two.2) ((u.0, t.0), ap (λ (w : Words). codes "start" ∷ w) (t.1 ∙ ap (λ (w : Words). decimal one.0.0 ∷ w) u.1))
 
 capability_takes : (k : Kind) (words : Words) (p : Capability × Words) → capability_at k words ≡ Some p → IsReadFrom k words p
 unfolding capability_at capability_words
 capability_takes kind.Void words p e = subst (IsReadFrom kind.Void words) (some_is _ _ e) ((tt, tt), refl)
-capability_takes kind.Number words p e = grind (arith, nat_tests, one_takes, one_read)
 capability_takes kind.Page words p e = grind (arith, nat_tests, object_takes, one_read)
 capability_takes kind.Node words p e = grind (arith, nat_tests, object_takes, one_read)
 capability_takes kind.Space words p e = space_takes words p e
-capability_takes kind.Process words p e = grind (arith, nat_tests, one_takes, one_read)
 capability_takes kind.Start words p e = start_takes words p e
-capability_takes kind.Resume words p e = grind (arith, nat_tests, one_takes, one_read)
-capability_takes kind.Bank words p e = grind (arith, nat_tests, one_takes, one_read)
 capability_takes kind.Discrim words p e = subst (IsReadFrom kind.Discrim words) (some_is _ _ e) ((tt, tt), refl)
+capability_takes k words p e = grind (arith, nat_tests, one_takes, one_read)
 
 -- ---- the kind of a word
 
@@ -167,16 +152,13 @@ kind_at_name : (k : Kind) → kind_at (kind_name k) ≡ Some k
 unfolding kind_at
 kind_at_name k = grind (arith, nat_tests)
 
-one_kind : (j k : Kind) → kind_name j ≡ kind_name k → j ≡ k
-one_kind j k same = some_is j k (sym (kind_at_name j) ∙ ap kind_at same ∙ kind_at_name k)
-
 -- ---- what the words of a text name
 
 -- what was read is any capability with these words
 pub arguments_are : (words rest : Words) (word : List ℕ) (k : Kind) (c : Capability) → words ≡ word ∷ rest → word ≡ kind_name k → HasText c →
     words ≡ capability_words c
     → capability_at k rest ≡ Some (c, [])
-arguments_are words rest word k c split is has whole = grind (arith, nat_tests, capability_again, kind_for, one_kind)
+arguments_are words rest word k c split is has whole = grind (arith, nat_tests, capability_again, kind_for, some_is, kind_at_name)
 
 pub capability_found : (words rest left : Words) (word : List ℕ) (k : Kind) (c : Capability) → words ≡ word ∷ rest → word ≡ kind_name k
     → capability_at k rest ≡ Some (c, left) → left ≡ [] → HasText c × (words ≡ capability_words c)

@@ -1,9 +1,9 @@
 -- A command is read from its words, and from no others.
-use Rattle.script.proofs.Names.{nat_tests, ℕ, Bool, true, cond, List, [], map, Option, None, Some, length, decimal, codes, append-nil, append_assoc, refl, sym}
-use Rattle.script.proofs.Names.{ap, subst, arith, IfSome, IfNone, All, bytes_eq, digits_value, bytes_eq-Decides, lt-ltb, Command, Operation, Call, Return, Send}
-use Rattle.script.proofs.Names.{Fits, command_words, operation_name, Keyword, keyword_name, Words, Gives, number_in, number_at, register_at, numbers_at}
+use Rattle.script.proofs.Names.{Call, Return, Send, nat_tests, ℕ, Bool, true, cond, List, [], map, Option, None, Some, length, decimal, codes, append-nil}
+use Rattle.script.proofs.Names.{append_assoc, refl, sym, ap, subst, arith, IfSome, IfNone, All, bytes_eq, digits_value, bytes_eq-Decides, lt-ltb, Command}
+use Rattle.script.proofs.Names.{Operation, Fits, command_words, Keyword, keyword_name, Words, Gives, number_in, number_at, register_at, numbers_at}
 use Rattle.script.proofs.Names.{registers_at, invocation_at, one_at, arguments_at}
-use Rattle.std.proofs.Common.{◌≡◌, ◌≢◌, ◌<◌, ◌^◌, ◌&&◌, if◌then◌else◌, ◌∷◌, ◌++◌, ◌∙◌}
+use Rattle.std.proofs.Common.{if◌then◌else◌, ◌≡◌, ◌≢◌, ◌<◌, ◌^◌, ◌&&◌, ◌∷◌, ◌++◌, ◌∙◌}
 use Rattle.script.specs.Reading.{◌>>=◌}
 use Rattle.model.specs.declared.command.Command.TheVariants as command
 use Rattle.script.specs.declared.keyword.Keyword.TheVariants as keyword
@@ -75,11 +75,7 @@ four_again read limit again (a ∷ b ∷ c ∷ d ∷ []) rest four small =
       again c (decimal d ∷ rest) (small 2 0 (omega arith)),
       again d rest (small 3 0 (omega arith)),
     ) refl
-four_again read limit again [] rest four small = absurd (omega arith)
-four_again read limit again (a ∷ []) rest four small = absurd (omega arith)
-four_again read limit again (a ∷ b ∷ []) rest four small = absurd (omega arith)
-four_again read limit again (a ∷ b ∷ c ∷ []) rest four small = absurd (omega arith)
-four_again read limit again (a ∷ b ∷ c ∷ d ∷ e ∷ more) rest four small = absurd (omega arith)
+four_again read limit again numbers rest four small = absurd (omega arith)
 
 pub all_four : (limit a b c d : ℕ) → a < limit → b < limit → c < limit → d < limit → All (λ n. n < limit) (a ∷ b ∷ c ∷ d ∷ [])
 all_four limit a b c d pa pb pc pd is e lt = grind (arith, nat_tests)
@@ -161,13 +157,10 @@ command_again (command.Store p a v) fits = (
 )
 command_again (command.Show n) fits = (decimal n ∷ [], refl, rw (number_again n [] fits) refl)
 command_again (command.Evict n) fits = (decimal n ∷ [], refl, rw (number_again n [] fits) refl)
-command_again command.Checkpoint fits = ([], refl, refl)
 command_again (command.Stabilize n) fits = (decimal n ∷ [], refl, rw (number_again n [] fits) refl)
-command_again command.Commit fits = ([], refl, refl)
 command_again (command.Migrate n) fits = (decimal n ∷ [], refl, rw (number_again n [] fits) refl)
 command_again (command.Journal n) fits = (decimal n ∷ [], refl, rw (number_again n [] fits) refl)
-command_again command.Restart fits = ([], refl, refl)
-command_again command.Cut fits = ([], refl, refl)
+command_again c fits = ([], refl, refl)
 
 -- ---- the words of what was read
 
@@ -196,10 +189,7 @@ invocation_end o words a b c d p one two three four is =
     let tb = register_takes a.1 b two in
     let tc = four_takes number_at (2 ^ 64) number_takes b.1 c three in
     let td = four_takes register_at 32 register_takes c.1 d four in
-    subst (IsReadFrom (keyword.Invoke o) words) (some_is _ _ is) (
-      (ta.0, tb.0, tc.0, tc.1, td.0, td.1),
-      invocation_words (operation_name o) (decimal a.0) (decimal b.0) (map decimal c.0) (map decimal d.0) words a.1 b.1 c.1 d.1 ta.1 tb.1 tc.2 td.2,
-    )
+    grind (arith, nat_tests, some_is, invocation_words)
 
 invocation_takes : (o : Operation) (words : Words) (p : Command × Words) → invocation_at o words ≡ Some p → IsReadFrom (keyword.Invoke o) words p
 unfolding invocation_at numbers_at registers_at
@@ -231,19 +221,12 @@ arguments_takes keyword.Store words p e =
     let a = number_takes words one.0 one.1 in
     let b = number_takes one.0.1 two.0 two.1 in
     let c = number_takes two.0.1 three.0 three.1 in
-    subst (IsReadFrom keyword.Store words) (some_is _ _ three.2) (
-      (a.0, b.0, c.0),
-      ap (λ (w : Words). codes "store" ∷ w) (a.1 ∙ ap (λ (w : Words). decimal one.0.0 ∷ w) (b.1 ∙ ap (λ (w : Words). decimal two.0.0 ∷ w) c.1)),
-    )
-arguments_takes keyword.Show words p e = grind (arith, nat_tests, one_takes, one_read)
-arguments_takes keyword.Evict words p e = grind (arith, nat_tests, one_takes, one_read)
+    grind (arith, nat_tests, some_is)
 arguments_takes keyword.Checkpoint words p e = subst (IsReadFrom keyword.Checkpoint words) (some_is _ _ e) (tt, refl)
-arguments_takes keyword.Stabilize words p e = grind (arith, nat_tests, one_takes, one_read)
 arguments_takes keyword.Commit words p e = subst (IsReadFrom keyword.Commit words) (some_is _ _ e) (tt, refl)
-arguments_takes keyword.Migrate words p e = grind (arith, nat_tests, one_takes, one_read)
-arguments_takes keyword.Journal words p e = grind (arith, nat_tests, one_takes, one_read)
 arguments_takes keyword.Restart words p e = subst (IsReadFrom keyword.Restart words) (some_is _ _ e) (tt, refl)
 arguments_takes keyword.Cut words p e = subst (IsReadFrom keyword.Cut words) (some_is _ _ e) (tt, refl)
+arguments_takes k words p e = grind (arith, nat_tests, one_takes, one_read)
 
 -- ---- the keyword of a word
 
@@ -268,16 +251,13 @@ keyword_at_name : (k : Keyword) → keyword_at (keyword_name k) ≡ Some k
 unfolding keyword_at
 keyword_at_name k = grind (arith, nat_tests)
 
-one_keyword : (j k : Keyword) → keyword_name j ≡ keyword_name k → j ≡ k
-one_keyword j k same = some_is j k (sym (keyword_at_name j) ∙ ap keyword_at same ∙ keyword_at_name k)
-
 -- ---- what the words of a line say
 
 -- the arguments that were read are those of any command with these words
 arguments_are : (words rest : Words) (word : List ℕ) (k : Keyword) (c : Command) → words ≡ word ∷ rest → word ≡ keyword_name k → Fits c →
     words ≡ command_words c
     → arguments_at k rest ≡ Some (c, [])
-arguments_are words rest word k c split named fits whole = grind (arith, nat_tests, command_again, keyword_for, one_keyword)
+arguments_are words rest word k c split named fits whole = grind (arith, nat_tests, command_again, keyword_for, some_is, keyword_at_name)
 
 pub command_found : (words rest left : Words) (word : List ℕ) (k : Keyword) (c : Command) → words ≡ word ∷ rest → word ≡ keyword_name k
     → arguments_at k rest ≡ Some (c, left) → left ≡ [] → Fits c × (words ≡ command_words c)

@@ -2,7 +2,7 @@
 use Rattle.script.proofs.Names.{nat_tests, ℕ, List, [], Option, Result, Ok, Err, length, take, drop, sym, ap, subst, append_assoc, append-nil, arith}
 use Rattle.script.proofs.Names.{take-append-drop, take_all, length-drop, take-add, Appends-trans, Appends, Keeps, line_of, RunFault, AppendsFront, Writes}
 use Rattle.script.proofs.Names.{Written, Wrote, WroteFront}
-use Rattle.std.proofs.Common.{◌≡◌, ◌+◌, ◌-◌, ◌<◌, ◌++◌, ◌∙◌}
+use Rattle.std.proofs.Common.{◌≡◌, ◌+◌, ◌-◌, ◌++◌, ◌∙◌}
 
 -- the first n bytes are a beginning
 pub front_at : (a b : Option (List ℕ)) (bytes : List ℕ) (n : ℕ) → Appends a b (take n bytes) → AppendsFront a b bytes
@@ -14,35 +14,19 @@ kept_nil a b h = grind (arith, nat_tests, append-nil)
 -- a write of the rest took n bytes more
 pub took_more : (a b c : Option (List ℕ)) (bytes : List ℕ) (i n : ℕ) → Appends a b (take i bytes)
     → Appends b c (take n (take (length bytes - i) (drop i bytes))) → Appends a c (take (i + n) bytes)
-took_more a b c bytes i n h k =
-    let whole : take (length bytes - i) (drop i bytes) ≡ drop i bytes = take_all (length bytes - i) (drop i bytes) (omega (arith, length-drop i bytes)) in
-    let k' : Appends b c (take n (drop i bytes)) = subst (λ (xs : List ℕ). Appends b c (take n xs)) whole k in
-    subst (λ (xs : List ℕ). Appends a c xs) (sym (take-add i n bytes)) (Appends-trans a b c _ _ h k')
-
--- a beginning of the second text, after the first
-pub front_after : (a b c : Option (List ℕ)) (first second : List ℕ) → Appends a b first → AppendsFront b c second → AppendsFront a c (first ++ second)
-front_after a b c first second h (front, rest, is, k) =
-    (first ++ front, rest, ap (λ (xs : List ℕ). first ++ xs) is ∙ sym (append_assoc first front rest), Appends-trans a b c first front h k)
-
--- a beginning of the first text
-pub front_before : (a b : Option (List ℕ)) (first second : List ℕ) → AppendsFront a b first → AppendsFront a b (first ++ second)
-front_before a b first second (front, rest, is, k) =
-    (front, rest ++ second, ap (λ (xs : List ℕ). xs ++ second) is ∙ append_assoc front rest second, k)
+took_more a b c bytes i n h k = grind (arith, nat_tests, take_all, length-drop, take-add, Appends-trans)
 
 -- one text was written, and then another
 pub wrote_trans : (a b c : Written) (first second : List ℕ) → Wrote a b first → Wrote b c second → Wrote a c (first ++ second)
-wrote_trans a b c first second h k = record {
-  taken = Appends-trans a.contents b.contents c.contents first second h.taken k.taken;
-  none_failed = k.none_failed ∙ h.none_failed;
-}
+wrote_trans a b c first second h k = grind (arith, nat_tests, Appends-trans)
 
 -- a beginning of the second text, after the first
 pub second_front : (a b c : Written) (first second : List ℕ) → Wrote a b first → WroteFront b c second → WroteFront a c (first ++ second)
-second_front a b c first second h k = search (arith, nat_tests, front_after)
+second_front a b c first second h k = grind (arith, nat_tests, append_assoc, Appends-trans)
 
 -- a beginning of the first text
 pub first_front : (a b : Written) (first second : List ℕ) → WroteFront a b first → WroteFront a b (first ++ second)
-first_front a b first second h = record { taken = front_before a.contents b.contents first second h.taken; failed = h.failed }
+first_front a b first second h = grind (arith, nat_tests, append_assoc)
 
 -- the first text was written, and then the second or a beginning of it
 pub writes_after : (a b c : Written) (r : Result (Unit {0}) RunFault) (first second : List ℕ) → Wrote a b first → Writes b c r second →
@@ -53,8 +37,7 @@ writes_after a b c (Err e) first second h w = (w.0, second_front a b c first sec
 -- a step failed that began the second text, and a third was to follow
 pub writes_fail : (a b c : Written) (e : RunFault) (first second third text : List ℕ) → text ≡ (first ++ second) ++ third
     → Wrote a b first → Writes b c (Err e) second → Writes a c (Err e) text
-writes_fail a b c e first second third text is h w =
-    (w.0, subst (WroteFront a c) (sym is) (first_front a c (first ++ second) third (second_front a b c first second h w.1)))
+writes_fail a b c e first second third text is h w = (w.0, subst (WroteFront a c) (sym is) (first_front a c _ third (second_front a b c first _ h w.1)))
 
 -- the first text failed
 pub text_fails : (a b : Written) (e : RunFault) (first second text : List ℕ) → text ≡ first ++ second → Writes a b (Err e) first →
@@ -64,8 +47,7 @@ text_fails a b e first second text is w = (w.0, subst (WroteFront a b) (sym is) 
 -- the first line failed
 pub line_fails : (a b : Written) (e : RunFault) (line spelled second text : List ℕ) → line ≡ spelled → text ≡ line_of spelled ++ second
     → Writes a b (Err e) (line_of line) → Writes a b (Err e) text
-line_fails a b e line spelled second text same is w =
-    (w.0, subst (WroteFront a b) (ap (λ (t : List ℕ). line_of t ++ second) same ∙ sym is) (first_front a b (line_of line) second w.1))
+line_fails a b e line spelled second text same is w = (w.0, rw (← ap (λ (t : List ℕ). line_of t ++ second) same ∙ sym is) (first_front a b _ _ w.1))
 
 -- the first line was written, and then the second text or a beginning of it
 pub line_and : (a b c : Written) (r : Result (Unit {0}) RunFault) (line spelled second text : List ℕ) → line ≡ spelled →

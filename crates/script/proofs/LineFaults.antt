@@ -1,8 +1,8 @@
 -- Words that can't stand at their places, and lines whose words can.
 use Rattle.script.proofs.Names.{ℕ, zero, suc, Bool, true, false, List, [], None, Some, length, take, get_or, decimal, codes, refl, sym, ap, subst, arith}
-use Rattle.script.proofs.Names.{append_assoc, append-nil, map, ⊎_elim, slice_get, All, nat_tests, take_all, IsInRange, decimal_digit, digits_more}
-use Rattle.script.proofs.Names.{digit_value_digit, AllDigits, digits_value, Command, Fits, Says, command_words, operation_name, spelling_from_words, Keyword}
-use Rattle.script.proofs.Names.{LineFault, keyword_name, AreOperands, HasWord, IsFaultOf, IsOperand, IsWordFault, Names, are_registers, Words, number_at}
+use Rattle.script.proofs.Names.{append_assoc, append-nil, map, slice_get, All, nat_tests, take_all, IsInRange, decimal_digit, digits_more, digit_value_digit}
+use Rattle.script.proofs.Names.{AllDigits, digits_value, Command, Fits, Says, command_words, spelling_from_words, Keyword, LineFault, keyword_name, AreOperands}
+use Rattle.script.proofs.Names.{HasWord, IsFaultOf, IsOperand, IsWordFault, Names, are_registers, Words, number_at}
 use Rattle.std.proofs.Common.{◌≡◌, ◌≢◌, ◌+◌, ◌<◌, ◌≤◌, ◌^◌, if◌then◌else◌, ◌==◌, ◌∷◌, ◌++◌, ◌∙◌}
 use Rattle.model.specs.declared.command.Command.TheVariants as command
 use Rattle.model.specs.declared.line.Line.TheVariants as line
@@ -59,17 +59,12 @@ empty_list (b ∷ bs) none = let zero_long : length (b ∷ bs) ≡ 0 = grind (ar
 abbrev pub Taken : List Bool → Words → ℕ → Words → Type 0
 Taken registers all count left = (before : Words) × (all ≡ before ++ left) × (length before ≡ count) × AreOperands (take count registers) before
 
-pub none_taken : (registers : List Bool) (all : Words) → Taken registers all 0 all
-none_taken registers all = ([], refl, refl, tt)
-
 operands_more : (registers : List Bool) (before : Words) (count : ℕ) (word : List ℕ) → count < length registers → length before ≡ count →
     AreOperands (take count registers) before →
     IsOperand (get_or registers count false) word → AreOperands (take (suc count) registers) (before ++ word ∷ [])
-operands_more [] before count word lt long are is = absurd (omega (arith, lt))
 operands_more (r ∷ rs) [] zero word lt long are is = (is, tt)
-operands_more (r ∷ rs) [] (suc count) word lt long are is = absurd (omega (arith, long))
-operands_more (r ∷ rs) (w ∷ ws) zero word lt long are is = absurd (omega (arith, long))
 operands_more (r ∷ rs) (w ∷ ws) (suc count) word lt long are is = (are.0, operands_more rs ws count word (omega (arith, lt)) (omega (arith, long)) are.1 is)
+operands_more registers before count word lt long are is = absurd (grind (arith, nat_tests))
 
 pub one_taken : (registers : List Bool) (all : Words) (count : ℕ) (left next : Words) (word : List ℕ) → count < length registers →
     Taken registers all count left →
@@ -89,9 +84,8 @@ one_taken registers all count left next word lt taken is operand =
 
 operands_length : (registers : List Bool) (words : Words) → AreOperands registers words → length words ≡ length registers
 operands_length [] [] are = refl
-operands_length [] (w ∷ ws) are = absurd are
-operands_length (r ∷ rs) [] are = absurd are
 operands_length (r ∷ rs) (w ∷ ws) are = ap suc (operands_length rs ws are.1)
+operands_length registers words are = absurd are
 
 -- ---- faults of a line
 
@@ -147,8 +141,7 @@ module _ (k : Keyword) (all left : Words) (count : ℕ) (end : length (are_regis
       (line : List ℕ) → Names line k all → IsFaultOf line (fault.EmptyWord place)
   empty_word word rest place is at none line names =
       let split : all ≡ taken.0 ++ word ∷ rest = taken.1 ∙ ap (λ (l : Words). taken.0 ++ l) is in
-      subst (HasWord line place) none (has_word line k taken.0 rest word place (names ∙ ap (λ (l : Words). keyword_name k ∷ l) split)
-      (omega (arith, at, operands_length (are_registers k) taken.0 operands)))
+      rw (← none) (has_word line k _ rest word place (names ∙ ap (λ (l : Words). keyword_name k ∷ l) split) (omega (arith, at, operands_length _ _ operands)))
 
 -- the same of a table
 module _ (registers : List Bool) (k : Keyword) (same : registers ≡ are_registers k) (all left : Words) (count : ℕ) (taken : Taken registers all count left)
@@ -158,16 +151,13 @@ module _ (registers : List Bool) (k : Keyword) (same : registers ≡ are_registe
 
     pub fault_in_table : (rest : Words) (place : ℕ) (word : List ℕ) (why : LineFault) → count < length registers → left ≡ word ∷ rest → place ≡ count + 2 →
         IsWordFault word place (get_or registers count false) why → (line : List ℕ) → Names line k all → IsFaultOf line why
-    fault_in_table rest place word why lt is at faulty =
-        word_is_fault k all left rest count place word why (subst (λ (rs : List Bool). count < length rs) same lt) taken_of is at
-        (subst (λ (rs : List Bool). IsWordFault word place (get_or rs count false) why) same faulty)
+    fault_in_table rest place word why lt is at faulty = word_is_fault k all left rest count place word why (rw (← same) lt) taken_of is at (rw (← same) faulty)
 
     pub empty_behind_table : length registers ≤ count → (word : List ℕ) (rest : Words) (place : ℕ) → left ≡ word ∷ rest → place ≡ length registers + 1 + 1 →
         (length word == 0) ≡ true →
         (line : List ℕ) → Names line k all → IsFaultOf line (fault.EmptyWord place)
-    empty_behind_table end word rest place is at none =
-        empty_word k all left count (subst (λ (rs : List Bool). length rs ≤ count) same end) taken_of word rest place is
-        (subst (λ (rs : List Bool). place ≡ length rs + 1 + 1) same at) (empty_list word none)
+    empty_behind_table end word rest place is at none = empty_word k all left count (rw (← same) end) taken_of word rest place is
+        (rw (← same) at) (empty_list word none)
 
 -- ---- a line without a fault is a command's
 
@@ -210,9 +200,7 @@ spells (keyword.Invoke o) ws are =
     let sent = four true [] words.1 words.5 in (
       command.Invoke (record { operation = o; process = p.0; register = r.0; words = words.0; sent = sent.0 }),
       (p.2, r.2, words.2, words.3, sent.2, sent.3),
-      ap (λ (w : Words). operation_name o ∷ w)
-          (sym (p.3 ∙ ap (λ (w : Words). decimal p.0 ∷ w) (r.3 ∙ ap (λ (w : Words). decimal r.0 ∷ w) (words.4 ∙ ap (λ (w : Words). map decimal words.0 ++ w)
-          (sent.4 ∙ ap (λ (w : Words). map decimal sent.0 ++ w) (none sent.1 sent.5) ∙ append-nil (map decimal sent.0)))))),
+      grind (arith, nat_tests, none, append-nil),
     )
 spells keyword.Load ws are =
     let p = first false (false ∷ []) ws are in
@@ -227,9 +215,7 @@ spells keyword.Store ws are =
     let v = first false [] a.1 a.4 in (
       command.Store p.0 a.0 v.0,
       (p.2, a.2, v.2),
-      ap (λ (w : Words). codes "store" ∷ w)
-          (sym (p.3 ∙ ap (λ (w : Words). decimal p.0 ∷ w)
-          (a.3 ∙ ap (λ (w : Words). decimal a.0 ∷ w) (v.3 ∙ ap (λ (w : Words). decimal v.0 ∷ w) (none v.1 v.4))))),
+      grind (arith, nat_tests, none),
     )
 spells keyword.Show ws are = one_spells keyword.Show (λ n. command.Show n) (λ n small. small) (λ n. refl) ws are
 spells keyword.Evict ws are = one_spells keyword.Evict (λ n. command.Evict n) (λ n small. small) (λ n. refl) ws are

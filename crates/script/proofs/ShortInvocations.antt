@@ -44,9 +44,8 @@ pub invocation_said : (o : Operation) (line : List ℕ) (one two three four : Wo
     → number_at one ≡ Some (process, two) → register_at two ≡ Some (register, three) → numbers_at three ≡ Some (words, four) →
     registers_at four ≡ Some (sent, [])
     → Fits (invocation o process register words sent) × (words_of line ≡ command_words (invocation o process register words sent))
-invocation_said o line one two three four process register words sent named a b c d =
-    command_found (words_of line) one [] (operation_name o) (keyword.Invoke o) (invocation o process register words sent) named refl
-    (invocation_read o one two three four process register words sent a b c d) refl
+invocation_said o line one two three four process register words sent named a b c d = command_found _ one [] _ _ _ named refl
+    (invocation_read o one two three four _ _ words sent a b c d) refl
 
 -- four bytes as one number
 abbrev four : ℕ → ℕ → ℕ → ℕ → ℕ
@@ -69,23 +68,21 @@ void_read text at whole bytes begins ends =
     let moved : (i j d : ℕ) → i ≡ j → get_or text j 0 ≡ d → get_or text i 0 ≡ d = λ i j d same is. ap (λ (k : ℕ). get_or text k 0) same ∙ is in
     let first = one_digit text at 0 (omega (arith, whole)) ((omega (arith, a.0), omega (arith, a.0)), omega (arith, a.0)) a.1 in
     let third_space = moved (at + 2 + 1) (at + 3) 32 (omega arith) a.3 in
-    let second = one_digit text (at + 2) 0 (omega (arith, whole)) ((omega (arith, a.2), omega (arith, a.2)), omega (arith, a.2)) third_space in
+    let second = one_digit text _ 0 (omega (arith, whole)) ((omega (arith, a.2), omega (arith, a.2)), omega (arith, a.2)) third_space in
     let fifth = moved (at + 2 + 2) (at + 3 + 1) 48 (omega arith) b.1 in
     let fifth_space = moved (at + 2 + 2 + 1) (at + 3 + 2) 32 (omega arith) b.2 in
-    let third = one_digit text (at + 2 + 2) 0 (omega (arith, whole)) ((omega (arith, fifth), omega (arith, fifth)), omega (arith, fifth)) fifth_space in
+    let third = one_digit text _ 0 (omega (arith, whole)) ((omega (arith, fifth), omega (arith, fifth)), omega (arith, fifth)) fifth_space in
     let seventh = moved (at + 2 + 2 + 2) (at + 3 + 3) 48 (omega arith) b.3 in
-    let fourth = last_one text (at + 2 + 2 + 2) 0 (omega (arith, whole)) ((omega (arith, seventh), omega (arith, seventh)), omega (arith, seventh)) in
+    let fourth = last_one text _ 0 (omega (arith, whole)) ((omega (arith, seventh), omega (arith, seventh)), omega (arith, seventh)) in
     registers_read _ _ _ _ 0 0 0 0 (register_reads _ _ 0 first (omega arith)) (register_reads _ _ 0 second (omega arith))
-    (register_reads _ _ 0 third (omega arith))
-    (register_reads _ _ 0 fourth (omega arith))
+    (register_reads _ _ 0 third (omega arith)) (register_reads _ _ 0 fourth (omega arith))
 
 -- a line that names a load and two numbers
 pub load_said : (line : List ℕ) (one two : Words) (process address : ℕ) → words_of line ≡ keyword_name keyword.Load ∷ one
     → number_at one ≡ Some (process, two) → number_at two ≡ Some (address, [])
     → Fits (command.Load process address) × (words_of line ≡ command_words (command.Load process address))
 unfolding arguments_at
-load_said line one two process address named a b =
-    command_found (words_of line) one [] (keyword_name keyword.Load) keyword.Load (command.Load process address) named refl (rw (a, b) refl) refl
+load_said line one two process address named a b = command_found _ one [] (keyword_name keyword.Load) keyword.Load _ named refl (rw (a, b) refl) refl
 
 -- a line that names a store and three numbers
 pub store_said : (line : List ℕ) (one two three : Words) (process address value : ℕ) → words_of line ≡ keyword_name keyword.Store ∷ one

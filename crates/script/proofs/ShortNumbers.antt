@@ -16,11 +16,7 @@ Begins text size n =
 word_ends : (text : List ℕ) (size n : ℕ) → Begins text size n → (size < length text → get_or text size 0 ≡ 32) → first_end text ≡ size
 word_ends text size n begins space =
     let long : length (take size text) ≡ size = length-take-le size text begins.1 in
-    position_or_len_is (λ b. b == 32) text size 0 begins.1
-    (λ k lt.
-    let digit = digit_at (take size text) k begins.2 (omega (arith, long, lt)) in
-    let same = get_or-take size text k 0 lt in
-    let other : get_or text k 0 ≡ 32 → ⊥ = λ e. omega (arith, e, digit, same) in grind (arith, nat_tests))
+    position_or_len_is (λ b. b == 32) text size 0 begins.1 (grind (arith, nat_tests, digit_at, get_or-take))
     (λ lt. let here = space lt in grind (arith, nat_tests))
 
 word_is : (text : List ℕ) (size n : ℕ) → Begins text size n → first_end text ≡ size → first_word text ≡ decimal n
@@ -31,8 +27,7 @@ digits_first : (text : List ℕ) (size n : ℕ) → Begins text size n → size 
 digits_first text size n begins within space =
     let ends = word_ends text size n begins (λ _. space) in
     let left : take (length text - (size + 1)) (drop (size + 1) text) ≡ drop (size + 1) text = grind (arith, nat_tests, take_all, length-drop) in
-    subst (λ (rest : List ℕ). number_at (words_of text) ≡ Some (n, words_of rest)) left
-    (number_gives (Some n) (first_word text) (words_of text) (words_of (take (length text - (size + 1)) (drop (size + 1) text)))
+    rw (← left) (number_gives (Some n) (first_word text) (words_of text) (words_of (take (length text - (size + 1)) (drop (size + 1) text)))
     (word_and_more text size (sym ends) within) (begins.5, word_is text size n begins ends) tt)
 
 digits_alone : (text : List ℕ) (size n : ℕ) → Begins text size n → size ≡ length text → number_at (words_of text) ≡ Some (n, [])
@@ -50,11 +45,7 @@ IsDigit text at digit = IsInRange 48 57 (get_or text at 0) × (digit ≡ get_or 
 
 digit_more : (text : List ℕ) (at size value digit : ℕ) → at + size < length text → Values text at size value → IsDigit text (at + size) digit
     → Values text at (size + 1) (value * 10 + digit)
-digit_more text at size value digit within so_far is =
-    let same = get_or-drop at text size 0 in
-    let more = value_more (drop at text) size value (omega (arith, within, length-drop at text)) so_far.0 so_far.1
-    (subst (λ (d : ℕ). IsInRange 48 57 d) (sym same) is.0) in
-    (more.0, omega (arith, more.1, same, is.1))
+digit_more text at size value digit within so_far is = grind (arith, nat_tests, get_or-drop, value_more, length-drop)
 
 values_one : (text : List ℕ) (at one : ℕ) → at < length text → IsDigit text at one → Values text at 1 one
 values_one text at one within first =
@@ -86,32 +77,25 @@ number_read : (text : List ℕ) (at size next n : ℕ) → next ≡ at + size + 
     → number_at (words_of (drop at text)) ≡ Some (n, words_of (drop next text))
 number_read text at size next n behind within space begins =
     let rest : drop (size + 1) (drop at text) ≡ drop next text = drop-drop (size + 1) at text ∙ ap (λ (k : ℕ). drop k text) (omega (arith, behind)) in
-    subst (λ (r : List ℕ). number_at (words_of (drop at text)) ≡ Some (n, words_of r)) rest
-    (digits_first (drop at text) size n begins (omega (arith, within, length-drop at text)) (get_or-drop at text size 0 ∙ space))
+    rw (← rest) (digits_first (drop at text) size n begins (omega (arith, within, length-drop at text)) (get_or-drop at text size 0 ∙ space))
 
 pub one_digit : (text : List ℕ) (at n : ℕ) → at + 1 < length text → IsDigit text at n → get_or text (at + 1) 0 ≡ 32
     → number_at (words_of (drop at text)) ≡ Some (n, words_of (drop (at + 2) text))
-one_digit text at n within first space =
-    number_read text at 1 (at + 2) n (omega arith) within space
+one_digit text at n within first space = number_read text at 1 _ n (omega arith) within space
     (begins_behind text at 1 n (omega (arith, within)) (omega arith) (values_one text at n (omega (arith, within)) first) (λ _. refl) (omega (arith, first)))
 
 pub two_digits : (text : List ℕ) (at one two n : ℕ) → at + 2 < length text → IsDigit text at one → (get_or text at 0 ≡ 48 → ⊥) → IsDigit text (at + 1) two
     → get_or text (at + 2) 0 ≡ 32 → n ≡ one * 10 + two → number_at (words_of (drop at text)) ≡ Some (n, words_of (drop (at + 3) text))
-two_digits text at one two n within first some second space is =
-    rw is
-    (number_read text at 2 (at + 3) (one * 10 + two) (omega arith) within space
-    (begins_behind text at 2 (one * 10 + two) (omega (arith, within)) (omega arith) (values_two text at one two (omega (arith, within)) first second)
+two_digits text at one two n within first some second space is = rw is (number_read text at 2 _ _ (omega arith) within space
+    (begins_behind text at 2 _ (omega (arith, within)) (omega arith) (values_two text at one two (omega (arith, within)) first second)
     (λ zero. absurd (some zero)) (omega (arith, first, second))))
 
 pub three_digits : (text : List ℕ) (at one two three n : ℕ) → at + 3 < length text → IsDigit text at one → (get_or text at 0 ≡ 48 → ⊥) →
     IsDigit text (at + 1) two
     → IsDigit text (at + 2) three → get_or text (at + 3) 0 ≡ 32 → n ≡ (one * 10 + two) * 10 + three
     → number_at (words_of (drop at text)) ≡ Some (n, words_of (drop (at + 4) text))
-three_digits text at one two three n within first some second third space is =
-    rw is
-    (number_read text at 3 (at + 4) ((one * 10 + two) * 10 + three) (omega arith) within space
-    (begins_behind text at 3 ((one * 10 + two) * 10 + three) (omega (arith, within)) (omega arith)
-    (values_three text at one two three (omega (arith, within)) first second third)
+three_digits text at one two three n within first some second third space is = rw is (number_read text at 3 _ _ (omega arith) within space
+    (begins_behind text at 3 _ (omega (arith, within)) (omega arith) (values_three text at one two three (omega (arith, within)) first second third)
     (λ zero. absurd (some zero)) (omega (arith, first, second, third))))
 
 -- the value of few digits
@@ -158,19 +142,12 @@ last_one_found text at r whole found = grind (arith, nat_tests, last_one)
 pub last_two : (text : List ℕ) (at one two n : ℕ) → length text ≡ at + 2 → IsDigit text at one → (get_or text at 0 ≡ 48 → ⊥) → IsDigit text (at + 1) two →
     n ≡ one * 10 + two
     → number_at (words_of (drop at text)) ≡ Some (n, [])
-last_two text at one two n whole first some second is =
-    rw is
-    (digits_alone (drop at text) 2 (one * 10 + two)
-    (begins_behind text at 2 (one * 10 + two) (omega (arith, whole)) (omega arith) (values_two text at one two (omega (arith, whole)) first second)
-    (λ zero. absurd (some zero)) (omega (arith, first, second)))
-    (omega (arith, whole, length-drop at text)))
+last_two text at one two n whole first some second is = rw is (digits_alone _ 2 _
+    (begins_behind text at 2 _ (omega (arith, whole)) (omega arith) (values_two text at one two (omega (arith, whole)) first second)
+    (λ zero. absurd (some zero)) (omega (arith, first, second))) (omega (arith, whole, length-drop at text)))
 
 pub last_three : (text : List ℕ) (at one two three n : ℕ) → length text ≡ at + 3 → IsDigit text at one → (get_or text at 0 ≡ 48 → ⊥) → IsDigit text (at + 1) two
     → IsDigit text (at + 2) three → n ≡ (one * 10 + two) * 10 + three → number_at (words_of (drop at text)) ≡ Some (n, [])
-last_three text at one two three n whole first some second third is =
-    rw is
-    (digits_alone (drop at text) 3 ((one * 10 + two) * 10 + three)
-    (begins_behind text at 3 ((one * 10 + two) * 10 + three) (omega (arith, whole)) (omega arith)
-    (values_three text at one two three (omega (arith, whole)) first second third)
-    (λ zero. absurd (some zero)) (omega (arith, first, second, third)))
+last_three text at one two three n whole first some second third is = rw is (digits_alone _ 3 _ (begins_behind text at 3 _ (omega (arith, whole)) (omega arith)
+    (values_three text at one two three (omega (arith, whole)) first second third) (λ zero. absurd (some zero)) (omega (arith, first, second, third)))
     (omega (arith, whole, length-drop at text)))

@@ -12,13 +12,9 @@ spelling_said c fits skipped = skip_is_no_command (spelling c) c (length-spellin
 pub says_said : (text : List ℕ) (c : Command) → Fits c × (words_of text ≡ command_words c) → Says text (line.Command c)
 says_said text c said = (said.0, spelling_from_words text c said.1)
 
--- a line spells one command
-one_spelling : (text : List ℕ) (c d : Command) → Fits c → Fits d → words_of text ≡ command_words c → text ≡ spelling d → c ≡ d
-one_spelling text c d fits_c fits_d words spelt = grind (arith, nat_tests, spells_one, spelling_from_words)
-
 pub no_spelling : (text : List ℕ) (d : Command) → Fits d → words_of text ≢ command_words d → text ≢ spelling d
 no_spelling text d fits none spelt = none (ap words_of spelt ∙ split_spelling d fits)
 
 pub reads_said : (text : List ℕ) (c : Command) → Fits c × (words_of text ≡ command_words c) → (d : Command) → Fits d → text ≡ spelling d
     → line.Command c ≡ line.Command d
-reads_said text c said d fits spelt = ap (λ e. line.Command e) (one_spelling text c d said.0 fits said.1 spelt)
+reads_said text c said d fits spelt = grind (arith, nat_tests, spells_one, spelling_from_words)

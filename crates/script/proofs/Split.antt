@@ -23,11 +23,10 @@ pub word_alone : (text : List ℕ) (end : ℕ) → end ≡ first_end text → le
 word_alone text end is past = grind (arith, nat_tests, take_all, slice_split_none, fails_before_first)
 
 pub begins_with_word : (text : List ℕ) → (left : List (List ℕ)) × (words_of text ≡ first_word text ∷ left)
-begins_with_word text =
-    elim (cases_lt (first_end text) (length text)) [
-      | inl lt ↦ (words_of (take (length text - (first_end text + 1)) (drop (first_end text + 1) text)), word_and_more text (first_end text) refl lt)
-      | inr le ↦ ([], word_alone text (first_end text) refl le)
-    ]
+begins_with_word text = elim (cases_lt (first_end text) (length text)) [
+  | inl lt ↦ (words_of (take (length text - (first_end text + 1)) (drop (first_end text + 1) text)), word_and_more text _ refl lt)
+  | inr le ↦ ([], word_alone text _ refl le)
+]
 
 pub some_word : (line : List ℕ) → words_of line ≡ [] → ⊥
 some_word line none = let long : length (words_of line) ≡ 0 = ap length none in omega (arith, length-slice_split is_space line)

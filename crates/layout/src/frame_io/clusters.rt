@@ -9,6 +9,7 @@ ghost use Rattle.layout.specs.Clusters.{IsBlankBehind};
 const PLACE_BYTES: usize = 800;
 
 // Makes all bytes 0.
+#[tactic(auto, using(crate::proofs::Numbers::all_blank))]
 fn blank(bytes: &mut [u8])
     ensures { bytes.new ≡ zeros (length bytes.old) }
 {
@@ -16,6 +17,7 @@ fn blank(bytes: &mut [u8])
 }
 
 /// Makes the bytes of a cluster 0 that lie behind its first `nodes` places. The frames in these places stay.
+#[tactic(auto, using(crate::proofs::Zeros::places_stay))]
 pub fn blank_behind(cluster: &mut [u8], nodes: u64)
     requires nodes { nodes ≤ 5 }
     requires cluster { length cluster.old ≡ 4096 }

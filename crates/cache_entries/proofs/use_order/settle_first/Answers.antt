@@ -1,4 +1,4 @@
-use Rattle.cache_entries.proofs.Names.{rules}
+use Rattle.std.proofs.Common.{rules}
 use Rattle.cache_entries.proofs.Turns.{settles}
 use Rattle.cache_entries.proofs.use_order.settle_first.Goals as goal
 

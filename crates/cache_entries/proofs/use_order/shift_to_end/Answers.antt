@@ -1,5 +1,5 @@
-use Rattle.cache_entries.proofs.Names.{[], length, set, subst, arith, without, slice_get_within}
-use Rattle.std.proofs.Common.{◌≡◌, ◌∷◌, ◌++◌, ◌+◌, ◌<◌, ◌-◌}
+use Rattle.cache_entries.proofs.Names.{rules, arith, slice_get_within}
+use Rattle.std.proofs.Common.{◌+◌, ◌-◌}
 use Rattle.cache_entries.proofs.Moves.{move_begun, moved_up, moved_last}
 use Rattle.cache_entries.proofs.use_order.shift_to_end.Goals as goal
 
@@ -12,9 +12,4 @@ loop-i-preserved c =
     c.loop-i.auto.i (omega arith) (omega (arith, c.loop-i-test.true)) c.loop-i.invariant
 
 pub returns : goal.returns
-returns c =
-    let within : c.args.place < length c.args.numbers.now = slice_get_within c.args.numbers.now c.args.place c.args.number c.requires.there in
-    let last : c.loop-i.i ≡ length c.args.numbers.now - 1 = omega (arith, within, c.loop-i-test.false, c.loop-i.auto.i-end (omega (arith, within))) in
-    subst (λ k. set c.loop-i.numbers k c.args.number ≡ without c.args.number c.args.numbers.now ++ c.args.number ∷ []) last
-    (moved_last c.args.number c.loop-i.numbers c.args.numbers.now c.args.place c.loop-i.i c.requires.there c.requires.once c.loop-i.auto.i
-    (omega (arith, last, within)) c.loop-i.invariant)
+returns c = search (rules, slice_get_within, moved_last)

@@ -1,19 +1,11 @@
-use Rattle.capability.proofs.Names.{sym, ap, Capability, Content, root_in, content_behind}
-use Rattle.std.proofs.Common.{◌∙◌}
+use Rattle.std.proofs.Common.{rules}
 use Rattle.model.specs.declared.object.Content.TheVariants as content
 use Rattle.capability.proofs.FrameLists.{content_there, no_process_annex}
 use Rattle.capability.proofs.References.{not_root}
 use Rattle.capability.proofs.objects.annex.Goals as goal
 
 pub returns-in_default : goal.returns-in_default
-returns-in_default g c =
-    let p = g.F.Frames.parts c.args.store.now in
-    let known = (g.met.F.Frames.known_fetched c.args.store.now c.args.process c.requires.fetched).0 in
-    sym (no_process_annex p c.args.process known (content_behind c.frame.result) (sym c.frame.ensures) (not_root c.frame.result c.in_default.not-Root))
+returns-in_default g c = search (rules, no_process_annex, not_root)
 
 pub returns-in-Root : goal.returns-in-Root
-returns-in-Root g c =
-    let p = g.F.Frames.parts c.args.store.now in
-    let known = (g.met.F.Frames.known_fetched c.args.store.now c.args.process c.requires.fetched).0 in
-    sym (ap (λ (d : Content Capability). (root_in d).annex)
-    (content_there p c.args.process known (content.Root c.in-Root.root.now) (sym c.frame.ensures ∙ ap content_behind c.in-Root.is)))
+returns-in-Root g c = search (rules, content_there)

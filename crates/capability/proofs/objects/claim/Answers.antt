@@ -1,20 +1,13 @@
+use Rattle.std.proofs.Common.{rules}
 use Rattle.capability.proofs.Edits.{claim_objects, claim_stays_current}
 use Rattle.capability.proofs.Keeping.{claim_stays_keepable}
 use Rattle.capability.proofs.objects.claim.Goals as goal
 
 pub returns-clause-objects : goal.returns-clause-objects
-returns-clause-objects g c =
-    let old = g.F.Frames.parts c.args.store.now in
-    let new = g.F.Frames.parts c.claim.new.self in
-    let at = g.met.F.PresentFrames.known_announced c.args.store.now c.args.number c.requires.announced in
-    claim_objects old new c.args.number at.1 c.args.fresh c.args.owner c.claim.ensures.parts_are
+returns-clause-objects g c = search (rules, claim_objects)
 
 pub returns-clause-current : goal.returns-clause-current
-returns-clause-current g c =
-    let old = g.F.Frames.parts c.args.store.now in
-    let new = g.F.Frames.parts c.claim.new.self in
-    let at = g.met.F.PresentFrames.known_announced c.args.store.now c.args.number c.requires.announced in
-    claim_stays_current old new c.args.number at.1 c.args.fresh c.args.owner c.claim.ensures.parts_are
+returns-clause-current g c = search (rules, claim_stays_current)
 
 pub returns-clause-keepable : goal.returns-clause-keepable
 returns-clause-keepable g c =

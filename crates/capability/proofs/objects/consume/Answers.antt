@@ -1,20 +1,13 @@
+use Rattle.std.proofs.Common.{rules}
 use Rattle.capability.proofs.Counts.{current_called, objects_called}
 use Rattle.capability.proofs.Keeping.{call_stays_keepable}
 use Rattle.capability.proofs.objects.consume.Goals as goal
 
 pub returns-clause-objects : goal.returns-clause-objects
-returns-clause-objects g c =
-    let old = g.F.Frames.parts c.args.store.now in
-    let new = g.F.Frames.parts c.consume.new.self in
-    let at = g.met.F.PresentFrames.known_announced c.args.store.now c.args.process c.requires.announced in
-    objects_called c.args.process old new at.0 c.consume.ensures.parts_are c.requires.current
+returns-clause-objects g c = search (rules, objects_called)
 
 pub returns-clause-current : goal.returns-clause-current
-returns-clause-current g c =
-    let old = g.F.Frames.parts c.args.store.now in
-    let new = g.F.Frames.parts c.consume.new.self in
-    let at = g.met.F.PresentFrames.known_announced c.args.store.now c.args.process c.requires.announced in
-    current_called c.args.process old new at.0 c.consume.ensures.parts_are c.requires.current
+returns-clause-current g c = search (rules, current_called)
 
 pub returns-clause-keepable : goal.returns-clause-keepable
 returns-clause-keepable g c =

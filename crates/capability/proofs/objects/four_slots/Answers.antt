@@ -1,14 +1,9 @@
-use Rattle.capability.proofs.Names.{ℕ, sym, arith, content_behind}
+use Rattle.capability.proofs.Names.{rules, sym, arith, content_behind}
 use Rattle.capability.proofs.FrameLists.{slot_there, no_slot_there}
 use Rattle.capability.proofs.objects.four_slots.Goals as goal
 
 pub returns-in_default : goal.returns-in_default
-returns-in_default g c =
-    let p = g.F.Frames.parts c.args.store.now in
-    let known = (g.met.F.Frames.known_fetched c.args.store.now c.args.number c.requires.fetched).0 in
-    let none = λ (i : ℕ). no_slot_there p c.args.number known (content_behind c.frame.result) (sym c.frame.ensures) i
-    (c.slots_behind.ensures.none c.in_default.is) in
-    cc (none c.args.first, none c.args.second, none c.args.third, none c.args.fourth)
+returns-in_default g c = search (rules, no_slot_there)
 
 pub returns : goal.returns
 returns g c =

@@ -23,8 +23,7 @@ returns g c =
     let caps = c.args.message.now.capabilities in
     let size : length caps ≡ 4 = search rules in
     let live = λ (hs : List ObjectHeader). map (live_cap hs) caps in
-    let held : c.live_cap.result ∷ c.live_cap-2.result ∷ c.live_cap-3.result ∷ c.live_cap-4.result ∷ [] ≡ live c.table-table.result.now = cc
-    (c.live_cap.ensures, c.live_cap-2.ensures, c.live_cap-3.ensures, c.live_cap-4.ensures, four (live_cap c.table-table.result.now) caps size) in
+    let held : c.live_cap.result ∷ c.live_cap-2.result ∷ c.live_cap-3.result ∷ c.live_cap-4.result ∷ [] ≡ live c.table-table.result.now = search four in
     edited F.parts F.IsFetched g.F.PresentFrames.IsAnnounced F.ContinuesTo s _ n _ _ _ c.set_last_slots.ensures
     (slots_edit (F.parts s) _ n at.0 at.1 28 (omega arith) caps
     (c.set_last_slots.ensures.parts_are ∙ ap (λ (cs : List Cap). with_held (F.parts s) n (with_slots_in (held_at (F.parts s).contents n) 28 cs))

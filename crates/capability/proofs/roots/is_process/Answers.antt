@@ -1,12 +1,10 @@
-use Rattle.std.proofs.Common.{sym, ap, ◌∙◌}
-use Rattle.capability.proofs.Roles.{is_root_role, no_root_role, process_by_role, role_there}
+use Rattle.std.proofs.Common.{rules}
+use Rattle.std.proofs.Common.{sym, ◌∙◌}
+use Rattle.capability.proofs.Roles.{no_root_role, process_by_role, role_there}
 use Rattle.capability.proofs.roots.is_process.Goals as goal
 
 pub returns-in-Root : goal.returns-in-Root
-returns-in-Root g c =
-    let p = g.F.Frames.parts c.args.store.now in
-    sym (process_by_role p c.args.number c.requires ∙ role_there p c.args.number c.table.result.now c.header.result c.table.ensures c.header.ensures ∙
-    ap is_root_role c.in-Root.is)
+returns-in-Root g c = search (rules, process_by_role, role_there)
 
 pub returns-in_default : goal.returns-in_default
 returns-in_default g c =

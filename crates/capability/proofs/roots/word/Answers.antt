@@ -1,12 +1,7 @@
-use Rattle.capability.proofs.Names.{sym, ap, Capability, Content, root_in}
-use Rattle.std.specs.Prelude.{slice_index}
+use Rattle.std.proofs.Common.{rules}
 use Rattle.model.specs.declared.object.Content.TheVariants as content
 use Rattle.capability.proofs.FrameLists.{content_there}
 use Rattle.capability.proofs.roots.word.Goals as goal
 
 pub returns : goal.returns
-returns g c =
-    let p = g.F.Frames.parts c.args.store.now in
-    let known = (g.met.F.Frames.known_fetched c.args.store.now c.args.process c.requires.fetched).0 in
-    sym (ap (λ (d : Content Capability). slice_index (root_in d).words c.args.index)
-    (content_there p c.args.process known (content.Root c.root.result.now) c.root.ensures))
+returns g c = search (rules, content_there)

@@ -1,4 +1,4 @@
-use Rattle.std.proofs.Common.{refl}
+use Rattle.std.proofs.Common.{rules}
 use Rattle.collections.proofs.Marks.{clear_by_word, full_by_word}
 use Rattle.collections.proofs.bits.first_clear.Goals as goal
 
@@ -7,5 +7,4 @@ returns-in-Some-clause-some c = clear_by_word _ _ _ _ (c.type_inv.words c.loop-w
     c.loop-word.invariant _ c.in-Some.ensures.some
 
 pub loop-word-preserved : goal.loop-word-preserved
-loop-word-preserved c = full_by_word _ _ _ _ (c.type_inv.words c.loop-word.word).fits c.saturating_sub.ensures c.loop-word.auto.word c.loop-word.invariant
-    (c.in_default.ensures.none refl)
+loop-word-preserved c = search (rules, full_by_word)

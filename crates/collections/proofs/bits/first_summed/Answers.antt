@@ -1,3 +1,4 @@
+use Rattle.std.proofs.Common.{rules}
 use Rattle.std.proofs.Common.{refl, arith}
 use Rattle.collections.proofs.Marks.{none_past_words, first_by_word, first_later, none_later, later_fits}
 use Rattle.collections.proofs.bits.first_summed.Goals as goal
@@ -12,9 +13,7 @@ pub returns-in_err-later-clause-none : goal.returns-in_err-later-clause-none
 returns-in_err-later-clause-none c _ = none_later _ _ c.requires.summed _ (c.in_default.ensures.none refl) (c.in_err-later.ensures.none refl)
 
 pub overflow_add-result-2 : goal.overflow_add-result-2
-overflow_add-result-2 c =
-    record { fits = later_fits _ _ c.requires.summed _ c.requires.few c.in_ok-later.ensures.some.set (c.type_inv.words c.in_ok-later.later).fits }
+overflow_add-result-2 c = search (rules, later_fits)
 
 pub returns-clause-some : goal.returns-clause-some
-returns-clause-some c = first_later _ _ c.requires.summed _ (c.in_default.ensures.none refl) _ c.in_ok-later.ensures.some
-    (c.type_inv.words c.in_ok-later.later).fits
+returns-clause-some c = search (rules, first_later)

@@ -1,4 +1,4 @@
-use Rattle.command_line.proofs.Names.{rules, found_of, rows_of}
+use Rattle.command_line.proofs.Names.{common_steps, arith, rules, found_of, rows_of}
 use Rattle.command_line.proofs.Getters.{flagged, given, missing, unflagged}
 use Rattle.command_line.proofs.arguments.flag_of.Goals as goal
 
@@ -7,5 +7,4 @@ returns-in-Some c = flagged (rows_of (found_of c.args.inner.now)) c.args.name.no
     (given (found_of c.args.inner.now) c.args.name.now c.get_str.result c.in-Some.word c.get_str.ensures (search rules)) (search rules)
 
 pub returns-in-None : goal.returns-in-None
-returns-in-None c = unflagged (rows_of (found_of c.args.inner.now)) c.args.name.now
-    (missing (found_of c.args.inner.now) c.args.name.now c.get_str.result c.get_str.ensures (search rules))
+returns-in-None c = grind (arith, common_steps, unflagged, missing)

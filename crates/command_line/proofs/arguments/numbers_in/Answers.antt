@@ -1,10 +1,7 @@
-use Rattle.command_line.proofs.Names.{rules, arith, get_or, IsNumber, greatest_number}
+use Rattle.command_line.proofs.Names.{rules, get_or, IsNumber, greatest_number}
 use Rattle.command_line.proofs.Getters.{held}
-use Rattle.command_line.proofs.Numbers.{no_word, numbers_all, numbers_bad, numbers_next}
+use Rattle.command_line.proofs.Numbers.{no_word, numbers_bad, numbers_next}
 use Rattle.command_line.proofs.arguments.numbers_in.Goals as goal
-
-pub loop-word-init : goal.loop-word-init
-loop-word-init c = (search rules, λ k d lt. absurd (omega arith))
 
 pub returns-in-None-clause-none : goal.returns-in-None-clause-none
 returns-in-None-clause-none c = λ _. numbers_bad c.args.words.now c.loop-word.word-index no_word c.loop-word-test.true (c.number_in.ensures.none (search rules))
@@ -16,6 +13,3 @@ loop-word-preserved c =
     (held (IsNumber 0 greatest_number (get_or c.args.words.now c.loop-word.word-index no_word).now) c.number_in.result c.in-Some.number
     c.number_in.ensures.named (search rules)) in
     search rules
-
-pub returns-clause-named : goal.returns-clause-named
-returns-clause-named c = numbers_all c.args.words.now c.loop-word.word-index c.loop-word.numbers.items c.loop-word-test.false c.loop-word.invariant

@@ -1,15 +1,13 @@
-use Rattle.command_line.proofs.Names.{rules, codes, refl, found_of, rows_of}
-use Rattle.command_line.proofs.Getters.{given, missing}
-use Rattle.command_line.proofs.Lacking.{lacks}
+use Rattle.command_line.proofs.Names.{rules, codes, refl, found_of}
+use Rattle.command_line.proofs.Getters.{given}
+use Rattle.command_line.proofs.Lacking.{lacking}
 use Rattle.command_line.proofs.requested.build_of.Goals as goal
 
 pub returns-in_err-get_str-clause-none : goal.returns-in_err-get_str-clause-none
-returns-in_err-get_str-clause-none c = λ _. lacks (codes "build") (codes "DESCRIPTION") (rows_of (found_of c.args.inner.now)) refl
-    (missing (found_of c.args.inner.now) (codes "DESCRIPTION") _ c.get_str.ensures (search rules))
+returns-in_err-get_str-clause-none c = λ _. lacking (codes "build") (codes "DESCRIPTION") (found_of c.args.inner.now) _ refl c.get_str.ensures (search rules)
 
 pub returns-in_err-get_str-2-clause-none : goal.returns-in_err-get_str-2-clause-none
-returns-in_err-get_str-2-clause-none c = λ _. lacks (codes "build") (codes "IMAGE") (rows_of (found_of c.args.inner.now)) refl
-    (missing (found_of c.args.inner.now) (codes "IMAGE") _ c.get_str-2.ensures (search rules))
+returns-in_err-get_str-2-clause-none c = λ _. lacking (codes "build") (codes "IMAGE") (found_of c.args.inner.now) _ refl c.get_str-2.ensures (search rules)
 
 pub returns-clause-named : goal.returns-clause-named
 returns-clause-named c = (

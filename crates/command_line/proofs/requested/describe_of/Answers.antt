@@ -1,11 +1,10 @@
 use Rattle.command_line.proofs.Names.{rules, codes, refl, found_of, rows_of, AreSizes}
-use Rattle.command_line.proofs.Getters.{given, held, missing}
-use Rattle.command_line.proofs.Lacking.{lacks}
+use Rattle.command_line.proofs.Getters.{given, held}
+use Rattle.command_line.proofs.Lacking.{lacking}
 use Rattle.command_line.proofs.requested.describe_of.Goals as goal
 
 pub returns-in_err-image-clause-none : goal.returns-in_err-image-clause-none
-returns-in_err-image-clause-none c = λ _. lacks (codes "describe") (codes "IMAGE") (rows_of (found_of c.args.inner.now)) refl
-    (missing (found_of c.args.inner.now) (codes "IMAGE") _ c.get_str.ensures (search rules))
+returns-in_err-image-clause-none c = λ _. lacking (codes "describe") (codes "IMAGE") (found_of c.args.inner.now) _ refl c.get_str.ensures (search rules)
 
 pub returns-clause-named : goal.returns-clause-named
 returns-clause-named c = (

@@ -1,18 +1,17 @@
 use Rattle.command_line.proofs.Names.{rules, codes, refl, found_of, rows_of, IsNumberOption}
-use Rattle.command_line.proofs.Getters.{given, held, missing}
-use Rattle.command_line.proofs.Lacking.{lacks, wrong}
+use Rattle.command_line.proofs.Getters.{given, held}
+use Rattle.command_line.proofs.Lacking.{lacking, wrong}
 use Rattle.command_line.proofs.requested.draw_of.Goals as goal
 
 pub returns-in_err-image-clause-none : goal.returns-in_err-image-clause-none
-returns-in_err-image-clause-none c = λ _. lacks (codes "draw") (codes "IMAGE") (rows_of (found_of c.args.inner.now)) refl
-    (missing (found_of c.args.inner.now) (codes "IMAGE") _ c.get_str.ensures (search rules))
+returns-in_err-image-clause-none c = λ _. lacking (codes "draw") (codes "IMAGE") (found_of c.args.inner.now) _ refl c.get_str.ensures (search rules)
 
 pub returns-in_err-from-clause-none : goal.returns-in_err-from-clause-none
-returns-in_err-from-clause-none c = λ _. wrong (codes "draw") (codes "from") (rows_of (found_of c.args.inner.now)) 0 18446744073709551615 refl
+returns-in_err-from-clause-none c = λ _. wrong (codes "draw") (codes "from") (rows_of (found_of c.args.inner.now)) _ _ refl
     (c.number_of.ensures.none (search rules))
 
 pub returns-in_err-to-clause-none : goal.returns-in_err-to-clause-none
-returns-in_err-to-clause-none c = λ _. wrong (codes "draw") (codes "to") (rows_of (found_of c.args.inner.now)) 0 18446744073709551615 refl
+returns-in_err-to-clause-none c = λ _. wrong (codes "draw") (codes "to") (rows_of (found_of c.args.inner.now)) _ _ refl
     (c.number_of-2.ensures.none (search rules))
 
 pub returns-clause-named : goal.returns-clause-named

@@ -11,12 +11,9 @@ returns-in_err-matches-clause-refused g c =
     c.in_err-matches.ensures.passes c.in_err-matches.ensures.kinds)
 
 pub returns-in_ok-error-in-None-clause-refused : goal.returns-in_ok-error-in-None-clause-refused
-returns-in_ok-error-in-None-clause-refused g c = value_refused (map g.S.AsStr.text c.args.words.now) c.in_ok-error-in-None.field-0
-    c.in_ok-error-in-None.ensures.kind
-    (unnamed (map g.S.AsStr.text c.args.words.now) c.args.command.now c.in_ok-matches.matches c.requires.0 c.in_ok-matches.ensures.ok.2
+returns-in_ok-error-in-None-clause-refused g c = value_refused _ _ c.in_ok-error-in-None.ensures.kind (unnamed _ _ _ c.requires.0 c.in_ok-matches.ensures.ok.2
     (c.in_ok-job.ensures.none (search rules)))
 
 pub returns-in-Some-clause-named : goal.returns-in-Some-clause-named
-returns-in-Some-clause-named g c = named_by (map g.S.AsStr.text c.args.words.now) c.args.command.now c.in_ok-matches.matches c.requires.0
-    c.in_ok-matches.ensures.ok.2 c.in-Some.job
-    (held (NamesJob (subcommand_rows_of c.in_ok-matches.matches)) c.in_ok-job.field-0 c.in-Some.job c.in_ok-job.ensures.named (search rules))
+returns-in-Some-clause-named g c = named_by _ _ _ c.requires.0 c.in_ok-matches.ensures.ok.2 _
+    (held (NamesJob (subcommand_rows_of c.in_ok-matches.matches)) _ _ c.in_ok-job.ensures.named (search rules))

@@ -1,23 +1,21 @@
 use Rattle.command_line.proofs.Names.{rules, codes, refl, found_of, rows_of, IsNumberOption, IsCache}
-use Rattle.command_line.proofs.Getters.{given, held, missing}
-use Rattle.command_line.proofs.Lacking.{lacks, wrong}
+use Rattle.command_line.proofs.Getters.{given, held}
+use Rattle.command_line.proofs.Lacking.{lacking, wrong}
 use Rattle.command_line.proofs.requested.run_of.Goals as goal
 
 pub returns-in_err-image-clause-none : goal.returns-in_err-image-clause-none
-returns-in_err-image-clause-none c = λ _. lacks (codes "run") (codes "IMAGE") (rows_of (found_of c.args.inner.now)) refl
-    (missing (found_of c.args.inner.now) (codes "IMAGE") _ c.get_str.ensures (search rules))
+returns-in_err-image-clause-none c = λ _. lacking (codes "run") (codes "IMAGE") (found_of c.args.inner.now) _ refl c.get_str.ensures (search rules)
 
 pub returns-in_err-word-clause-none : goal.returns-in_err-word-clause-none
-returns-in_err-word-clause-none c = λ _. lacks (codes "run") (codes "SCRIPT") (rows_of (found_of c.args.inner.now)) refl
-    (missing (found_of c.args.inner.now) (codes "SCRIPT") _ c.get_str-2.ensures (search rules))
+returns-in_err-word-clause-none c = λ _. lacking (codes "run") (codes "SCRIPT") (found_of c.args.inner.now) _ refl c.get_str-2.ensures (search rules)
 
 pub returns-in_err-cache-clause-none : goal.returns-in_err-cache-clause-none
-returns-in_err-cache-clause-none c = λ _. wrong (codes "run") (codes "cache") (rows_of (found_of c.args.inner.now)) 8 8192 refl
+returns-in_err-cache-clause-none c = λ _. wrong (codes "run") (codes "cache") (rows_of (found_of c.args.inner.now)) _ _ refl
     (c.cache_of.ensures.none (search rules))
 
 pub returns-in_err-stop_after-clause-none : goal.returns-in_err-stop_after-clause-none
-returns-in_err-stop_after-clause-none c =
-    λ _. wrong (codes "run") (codes "stop-after") (rows_of (found_of c.args.inner.now)) 0 18446744073709551615 refl (c.number_of.ensures.none (search rules))
+returns-in_err-stop_after-clause-none c = λ _. wrong (codes "run") (codes "stop-after") (rows_of (found_of c.args.inner.now)) _ _ refl
+    (c.number_of.ensures.none (search rules))
 
 pub returns-clause-named : goal.returns-clause-named
 returns-clause-named c = (

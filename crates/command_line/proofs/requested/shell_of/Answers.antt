@@ -1,14 +1,13 @@
 use Rattle.command_line.proofs.Names.{rules, codes, refl, found_of, rows_of, IsCache}
-use Rattle.command_line.proofs.Getters.{given, held, missing}
-use Rattle.command_line.proofs.Lacking.{lacks, wrong}
+use Rattle.command_line.proofs.Getters.{given, held}
+use Rattle.command_line.proofs.Lacking.{lacking, wrong}
 use Rattle.command_line.proofs.requested.shell_of.Goals as goal
 
 pub returns-in_err-image-clause-none : goal.returns-in_err-image-clause-none
-returns-in_err-image-clause-none c = λ _. lacks (codes "shell") (codes "IMAGE") (rows_of (found_of c.args.inner.now)) refl
-    (missing (found_of c.args.inner.now) (codes "IMAGE") _ c.get_str.ensures (search rules))
+returns-in_err-image-clause-none c = λ _. lacking (codes "shell") (codes "IMAGE") (found_of c.args.inner.now) _ refl c.get_str.ensures (search rules)
 
 pub returns-in_err-cache-clause-none : goal.returns-in_err-cache-clause-none
-returns-in_err-cache-clause-none c = λ _. wrong (codes "shell") (codes "cache") (rows_of (found_of c.args.inner.now)) 8 8192 refl
+returns-in_err-cache-clause-none c = λ _. wrong (codes "shell") (codes "cache") (rows_of (found_of c.args.inner.now)) _ _ refl
     (c.cache_of.ensures.none (search rules))
 
 pub returns-clause-named : goal.returns-clause-named

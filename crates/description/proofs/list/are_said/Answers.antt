@@ -20,8 +20,7 @@ loop-i-preserved g c =
     let v = c.index.result.now in
     let within : c.loop-i.i < length vs = grind (arith, common_steps) in
     let at : get_or vs c.loop-i.i v ≡ v = grind (arith, common_steps) in
-    one_more (λ w. (x : g.row.T.Denot) × g.T.FromValue.IsSaid (view w) x) vs c.loop-i.i v within (sym at) c.loop-i.invariant
-    (c.is_said.ensures.0 c.if-not-is_said.false)
+    one_more (λ w. (x : g.row.T.Denot) × g.T.FromValue.IsSaid (view w) x) vs _ v within (sym at) c.loop-i.invariant (c.is_said.ensures.0 c.if-not-is_said.false)
 
 pub returns : goal.returns
 returns g c =

@@ -11,8 +11,7 @@ returns-in_err-entry g c =
     let v = c.index.result.now in
     let within : c.loop-i.i < length vs = grind (arith, common_steps) in
     let at : get_or vs c.loop-i.i v ≡ v = grind (arith, common_steps) in
-    failed_list (λ x. P (view v) x) (λ xs. IsList P (view c.args.value.now) xs) c.in_err-entry.field-0.0 c.from_residual-in_err-entry.result
-    c.from_residual-in_err-entry.ensures.1 c.in_err-entry.ensures
+    failed_list (λ x. P (view v) x) (λ xs. IsList P (view c.args.value.now) xs) _ _ c.from_residual-in_err-entry.ensures.1 c.in_err-entry.ensures
     (λ xs list. each_read P (view c.args.value.now) vs c.loop-i.i xs v c.in_ok-items.ensures within at list)
 
 pub loop-i-preserved : goal.loop-i-preserved
@@ -21,5 +20,4 @@ loop-i-preserved g c =
     let v = c.index.result.now in
     let within : c.loop-i.i < length vs = grind (arith, common_steps) in
     let at : get_or vs c.loop-i.i v ≡ v = grind (arith, common_steps) in
-    rw c.in_ok-push.ensures.items
-    (one_more g.T.FromValue.IsSaid vs c.loop-i.i c.loop-i.list.items v c.in_ok-entry.entry within at c.loop-i.invariant c.in_ok-entry.ensures)
+    rw c.in_ok-push.ensures.items (one_more g.T.FromValue.IsSaid vs _ _ v _ within at c.loop-i.invariant c.in_ok-entry.ensures)

@@ -1,4 +1,4 @@
-use Rattle.description.proofs.Names.{sym, refl, true, false, slice_index_or, length-replicate, length-set}
+use Rattle.description.proofs.Names.{common_steps, arith, sym, refl, true, false, slice_index_or, length-replicate, length-set}
 use Rattle.std.proofs.Common.{◌∙◌}
 use Rattle.std.specs.Prelude.{Bool}
 use Rattle.description.proofs.Lists.{all_new, not_new, still_new, ended_new}
@@ -11,11 +11,7 @@ pub contains-requires : goal.contains-requires
 contains-requires c = rw c.loop-number.invariant.0 (c.requires c.loop-number.number-index 0 c.loop-number-test.true)
 
 pub returns-then-contains : goal.returns-then-contains
-returns-then-contains c = (
-  λ never. absurd cc,
-  λ distinct. absurd (not_new c.args.numbers.now c.loop-number.seen c.loop-number.number-index c.loop-number-test.true
-      (sym c.contains.ensures ∙ c.if-contains.true) c.loop-number.invariant.1 distinct),
-)
+returns-then-contains c = grind (arith, common_steps, not_new)
 
 pub set-requires : goal.set-requires
 set-requires c = rw c.loop-number.invariant.0 (c.requires c.loop-number.number-index 0 c.loop-number-test.true)

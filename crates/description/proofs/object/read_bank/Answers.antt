@@ -3,5 +3,4 @@ use Rattle.description.proofs.Parts.{missed}
 use Rattle.description.proofs.object.read_bank.Goals as goal
 
 pub returns-in_err-check_keys : goal.returns-in_err-check_keys
-returns-in_err-check_keys c = missed _ (IsBank (table_view c.args.table.now)) c.in_err-check_keys.field-0.0 c.from_residual.result c.from_residual.ensures.1
-    c.in_err-check_keys.ensures (λ _ is. (tt, is.known))
+returns-in_err-check_keys c = missed _ (IsBank (table_view c.args.table.now)) _ _ c.from_residual.ensures.1 c.in_err-check_keys.ensures (λ _ is. (tt, is.known))

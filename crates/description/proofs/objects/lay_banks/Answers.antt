@@ -7,13 +7,10 @@ pub loop-bank-init : goal.loop-bank-init
 loop-bank-init c = none_laid OfBank c.args.banks.now c.args.world.now
 
 pub loop-bank-preserved : goal.loop-bank-preserved
-loop-bank-preserved c =
-    more_laid OfBank c.args.banks.now c.args.world.now c.loop-bank.world _ c.loop-bank.bank-index
-    (slice_index_or c.args.banks.now c.loop-bank.bank-index (record { number = 0; owner = 0; limit = 0 }))
+loop-bank-preserved c = more_laid OfBank _ _ _ _ _ _
     (drop_more c.args.banks.now c.loop-bank.bank-index (record { number = 0; owner = 0; limit = 0 }) c.loop-bank-test.true)
     (let owner : (slice_index_or c.args.banks.now c.loop-bank.bank-index (record { number = 0; owner = 0; limit = 0 })).owner < 2 ^ 64 = search rules in
-    (owner, c.bank_of.ensures.fits))
-    (put_same _ _ _ _ _ _ c.bank_of.ensures.bank c.put.ensures) c.loop-bank.invariant
+    (owner, c.bank_of.ensures.fits)) (put_same _ _ _ _ _ _ c.bank_of.ensures.bank c.put.ensures) c.loop-bank.invariant
 
 pub put-requires-clause-within : goal.put-requires-clause-within
 put-requires-clause-within c = still_within _ _ _ (c.requires.within c.loop-bank.bank-index (record { number = 0; owner = 0; limit = 0 }) c.loop-bank-test.true)

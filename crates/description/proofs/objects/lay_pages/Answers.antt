@@ -1,4 +1,4 @@
-use Rattle.description.proofs.Names.{ap, rules, subst, sym, vec_len, All, OfPage, words_of}
+use Rattle.description.proofs.Names.{ap, rules, subst, sym, All, OfPage, words_of}
 use Rattle.std.proofs.Common.{◌∙◌, ◌<◌, ◌^◌}
 use Rattle.model.specs.declared.object.Content.TheVariants as content
 use Rattle.description.proofs.LaidFrames.{all_laid, more_laid, none_laid, put_same, split_at, still_within}
@@ -8,9 +8,7 @@ pub loop-page-init : goal.loop-page-init
 loop-page-init c = none_laid OfPage c.args.pages.now c.args.world.now
 
 pub loop-page-preserved : goal.loop-page-preserved
-loop-page-preserved c =
-    more_laid OfPage c.args.pages.now c.args.world.now c.loop-page.world _ c.loop-page.page-index c.page-item.result
-    (split_at c.args.pages.now c.loop-page.page-index c.page-item.result c.loop-page-test.true c.page-item.is)
+loop-page-preserved c = more_laid OfPage _ _ _ _ _ _ (split_at _ _ _ c.loop-page-test.true c.page-item.is)
     (let owner : c.page-item.result.owner < 2 ^ 64 = search rules in
     (owner, subst (λ xs. All (λ w. w < 2 ^ 64) (words_of xs)) c.deref.ensures.value c.in_ok-words.ensures.fits))
     (put_same _ _ _ _ _ _ (ap content.Page c.in_ok-words.ensures.words ∙ ap (λ xs. content.Page (words_of xs)) c.deref.ensures.value) c.put.ensures)
@@ -18,8 +16,7 @@ loop-page-preserved c =
 
 pub put-requires-clause-within : goal.put-requires-clause-within
 put-requires-clause-within c = still_within _ _ _
-    (subst (λ e. e.number < vec_len c.args.world.now.headers) (sym c.page-item.is)
-    (c.requires.within c.loop-page.page-index c.page-item.result c.loop-page-test.true)) c.loop-page.invariant.headers
+    (rw c.page-item.is (c.requires.within c.loop-page.page-index c.page-item.result c.loop-page-test.true)) c.loop-page.invariant.headers
 
 pub put-requires-clause-even : goal.put-requires-clause-even
 put-requires-clause-even c = c.loop-page.invariant.contents ∙ c.requires.even ∙ sym c.loop-page.invariant.headers

@@ -1,4 +1,4 @@
-use Rattle.description.proofs.Names.{rules, subst, sym, vec_len, OfRoot}
+use Rattle.description.proofs.Names.{rules, sym, OfRoot}
 use Rattle.std.proofs.Common.{◌∙◌, ◌<◌, ◌^◌}
 use Rattle.description.proofs.LaidFrames.{all_laid, more_laid, none_laid, put_same, split_at, still_within}
 use Rattle.description.proofs.objects.lay_roots.Goals as goal
@@ -7,20 +7,16 @@ pub loop-process-init : goal.loop-process-init
 loop-process-init c = none_laid OfRoot c.args.processes.now c.args.world.now
 
 pub loop-process-preserved : goal.loop-process-preserved
-loop-process-preserved c =
-    more_laid OfRoot c.args.processes.now c.args.world.now c.loop-process.world _ c.loop-process.process-index c.process-item.result
-    (split_at c.args.processes.now c.loop-process.process-index c.process-item.result c.loop-process-test.true c.process-item.is)
+loop-process-preserved c = more_laid OfRoot _ _ _ _ _ _ (split_at _ _ _ c.loop-process-test.true c.process-item.is)
     (let owner : c.process-item.result.owner < 2 ^ 64 = search rules in (owner, c.root_of.ensures.fits))
     (put_same _ _ _ _ _ _ c.root_of.ensures.root c.put.ensures) c.loop-process.invariant
 
 pub put-requires-clause-within : goal.put-requires-clause-within
 put-requires-clause-within c = still_within _ _ _
-    (subst (λ e. e.root < vec_len c.args.world.now.headers) (sym c.process-item.is)
-    (c.requires.within c.loop-process.process-index c.process-item.result c.loop-process-test.true)) c.loop-process.invariant.headers
+    (rw c.process-item.is (c.requires.within c.loop-process.process-index c.process-item.result c.loop-process-test.true)) c.loop-process.invariant.headers
 
 pub put-requires-clause-even : goal.put-requires-clause-even
 put-requires-clause-even c = c.loop-process.invariant.contents ∙ c.requires.even ∙ sym c.loop-process.invariant.headers
 
 pub returns : goal.returns
-returns c = all_laid OfRoot c.args.processes.now c.args.world.now c.loop-process.world c.loop-process.process-index c.loop-process-test.false
-    c.loop-process.invariant
+returns c = all_laid OfRoot _ _ _ _ c.loop-process-test.false c.loop-process.invariant

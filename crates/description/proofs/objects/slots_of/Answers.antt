@@ -1,12 +1,9 @@
-use Rattle.description.proofs.Names.{None, slot_held, slots_of}
+use Rattle.description.proofs.Names.{common_steps, arith, slot_held, slots_of}
 use Rattle.description.proofs.Lists.{each_done, each_wrote}
 use Rattle.description.proofs.objects.slots_of.Goals as goal
 
 pub loop-entry-preserved : goal.loop-entry-preserved
-loop-entry-preserved c =
-    each_wrote (λ s. s.index) slot_held c.args.entries.now c.loop-entry.slots _ _ c.loop-entry.entry-index (record { index = 0; capability = None })
-    c.slot_held.result c.loop-entry-test.true c.set.ensures.set
-    c.slot_held.ensures c.loop-entry.invariant
+loop-entry-preserved c = grind (arith, common_steps, each_wrote)
 
 pub returns : goal.returns
 unfolding slots_of

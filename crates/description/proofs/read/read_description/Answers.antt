@@ -6,8 +6,7 @@ use Rattle.description.proofs.read.read_description.Goals as goal
 pub returns-in_err-check_keys : goal.returns-in_err-check_keys
 returns-in_err-check_keys c =
     let said = IsDescription (table_view c.args.table.now) in
-    as_read said c.from_residual.result (missed _ said c.in_err-check_keys.field-0.0 c.from_residual.result
-    c.from_residual.ensures.1 c.in_err-check_keys.ensures (λ _ is. (tt, is.known)))
+    as_read said _ (missed _ said _ _ c.from_residual.ensures.1 c.in_err-check_keys.ensures (λ _ is. (tt, is.known)))
 
 pub returns-in_err-ranges : goal.returns-in_err-ranges
 returns-in_err-ranges c =

@@ -8,8 +8,7 @@ returns-in-Some c = wide_text (view c.args.value.now) c.in-Some.number c.in-Some
     (subst (λ (o : Option Capability). IsCapability (view c.args.value.now) o) c.in-Some.ensures.found.1 c.in_ok-capability.ensures)
 
 pub returns-in-None : goal.returns-in-None
-returns-in-None c =
-    (refl, other_text (view c.args.value.now) c.in_ok-capability.capability c.requires c.in_ok-capability.ensures c.in-None.ensures.none)
+returns-in-None c = (refl, other_text _ _ c.requires c.in_ok-capability.ensures c.in-None.ensures.none)
 
 pub returns-in_err-capability : goal.returns-in_err-capability
 returns-in_err-capability c = missed (IsCapability (view c.args.value.now)) (IsWideNumber (view c.args.value.now)) c.in_err-capability.field-0.0

@@ -1,5 +1,5 @@
-use Rattle.description.proofs.Names.{true, false, refl, arith, to_z-of_z, is_negative, unsigned_abs, view}
-use Rattle.std.proofs.Common.{◌≡◌, ◌<◌, ◌^◌}
+use Rattle.description.proofs.Names.{common_steps, true, refl, arith, to_z-of_z, is_negative, view}
+use Rattle.std.proofs.Common.{◌≡◌}
 use Rattle.description.proofs.Types.{natural, negative}
 use Rattle.description.proofs.value.number_of.Goals as goal
 
@@ -9,8 +9,4 @@ returns-then-is_negative c =
     (refl, negative (view c.args.value.now) c.in-Some.number c.in-Some.ensures below)
 
 pub returns-else-is_negative : goal.returns-else-is_negative
-returns-else-is_negative c =
-    let above : is_negative c.in-Some.number ≡ false = grind (arith, to_z-of_z) in
-    let size : c.unsigned_abs.result ≡ unsigned_abs c.in-Some.number = grind (arith, to_z-of_z) in
-    let small : unsigned_abs c.in-Some.number < 2 ^ 63 = grind (arith, to_z-of_z) in
-    rw size (natural (view c.args.value.now) c.in-Some.number c.in-Some.ensures above small)
+returns-else-is_negative c = grind (arith, common_steps, natural)

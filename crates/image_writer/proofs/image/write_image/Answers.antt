@@ -1,5 +1,5 @@
-use Rattle.image_writer.proofs.Names.{refl, frames_in, first_state}
-use Rattle.image_writer.proofs.FreshImages.{header_fits, no_directory, on_ok}
+use Rattle.image_writer.proofs.Names.{refl, frames_in, first_state, on_ok_weaker}
+use Rattle.image_writer.proofs.FreshImages.{header_fits, no_directory}
 use Rattle.image_writer.proofs.image.write_image.Goals as goal
 
 pub write_saved-requires-clause-header : goal.write_saved-requires-clause-header
@@ -10,11 +10,12 @@ write_saved-requires-clause-directory g c = no_directory c.args.superblock.now.g
 
 pub returns-clause-holds : goal.returns-clause-holds
 returns-clause-holds g c =
-    on_ok c.write_saved.result (λ denotes. (first_state c.args.superblock.now c.args.age (frames_in c.args.headers.now c.args.contents.now), denotes, refl))
+    on_ok_weaker c.write_saved.result
+    (λ denotes. (first_state c.args.superblock.now c.args.age (frames_in c.args.headers.now c.args.contents.now), denotes, refl))
     c.write_saved.ensures.denotes
 
 pub returns-clause-crash : goal.returns-clause-crash
 returns-clause-crash g c =
-    on_ok c.write_saved.result
+    on_ok_weaker c.write_saved.result
     (λ crash x left. (first_state c.args.superblock.now c.args.age (frames_in c.args.headers.now c.args.contents.now), crash x left, refl))
     c.write_saved.ensures.crash

@@ -1,7 +1,7 @@
-use Rattle.image_writer.proofs.Names.{rules, ap, arith, sym, elsewhere_on, elsewhere_same, leaves_on, narrowed, frames_in, object_count, length_in}
+use Rattle.image_writer.proofs.Names.{ap, arith, sym, elsewhere_on, elsewhere_same, leaves_on, narrowed, frames_in, object_count, length_in, on_ok_weaker}
 use Rattle.std.proofs.Common.{◌-◌, ◌∙◌}
 use Rattle.image_writer.proofs.ClosedGates.{after_closing, closing, gates_within}
-use Rattle.image_writer.proofs.FreshImages.{all_written, five, on_ok, widened}
+use Rattle.image_writer.proofs.FreshImages.{all_written, five, widened}
 use Rattle.image_writer.proofs.image.write_parts.Goals as goal
 
 pub write_frames-requires-clause-headers : goal.write_frames-requires-clause-headers
@@ -89,7 +89,7 @@ returns-clause-any_moment g c =
 
 pub returns-clause-written : goal.returns-clause-written
 returns-clause-written g c =
-    on_ok c.sync.result
+    on_ok_weaker c.sync.result
     (λ durable. all_written c.args.superblock.now c.args.header c.args.entries.now (frames_in c.args.headers.now c.args.contents.now)
     (g.D.Device.disk c.write_opening_sectors.new.device).seen (g.D.Device.disk c.write_frames.new.device).seen (g.D.Device.disk c.sync.new.self).seen
     c.geometry-nodes.ensures.fits

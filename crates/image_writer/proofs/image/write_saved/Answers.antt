@@ -1,12 +1,12 @@
-use Rattle.image_writer.proofs.Names.{ap, arith, Image, elsewhere_on, is_open, Encodes, frames_in, kept_of, state_of}
+use Rattle.image_writer.proofs.Names.{ap, arith, Image, elsewhere_on, is_open, Encodes, frames_in, kept_of, state_of, on_ok_weaker}
 use Rattle.std.proofs.Common.{◌∙◌}
-use Rattle.image_writer.proofs.FreshImages.{denotes, durable_is, five, not_yet, on_ok, opening_run, widened}
+use Rattle.image_writer.proofs.FreshImages.{denotes, durable_is, five, not_yet, opening_run, widened}
 use Rattle.image_writer.proofs.image.write_saved.Goals as goal
 
 pub returns-clause-denotes : goal.returns-clause-denotes
 returns-clause-denotes g c =
     let size = c.open_gate.ensures.size ∙ c.write_parts.ensures.size in
-    on_ok c.open_gate.result
+    on_ok_weaker c.open_gate.result
     (λ gate. denotes c.args.superblock.now c.args.header c.args.entries.now (frames_in c.args.headers.now c.args.contents.now)
     (g.D.Device.disk c.write_parts.new.device).seen (g.D.Device.disk c.open_gate.new.device).seen
     c.in_ok-write_parts.ensures.written c.requires.first c.open_gate.ensures.elsewhere (ap is_open gate) (g.D.Device.disk c.open_gate.new.device).sectors
@@ -21,7 +21,7 @@ returns-clause-crash g c =
     durable_is c.open_gate.result (g.D.Device.disk c.open_gate.new.device).may_leave
     (λ (i : Image). Encodes i (g.D.Device.disk c.open_gate.new.device).sectors (state_of c.args.superblock.now c.args.header c.args.entries.now fs))
     (g.D.Device.disk c.open_gate.new.device).seen
-    (on_ok c.open_gate.result
+    (on_ok_weaker c.open_gate.result
     (λ gate. denotes c.args.superblock.now c.args.header c.args.entries.now fs (g.D.Device.disk c.write_parts.new.device).seen
     (g.D.Device.disk c.open_gate.new.device).seen
     c.in_ok-write_parts.ensures.written c.requires.first c.open_gate.ensures.elsewhere (ap is_open gate) (g.D.Device.disk c.open_gate.new.device).sectors

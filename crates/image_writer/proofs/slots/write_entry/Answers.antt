@@ -1,5 +1,4 @@
-use Rattle.image_writer.proofs.Names.{subst, OnOk, frame_bytes, bytes_at, slot_sector, Plan, header_at, IsOwn, sym, inl, inr, shape_of, slice_index_or, Cap}
-use Rattle.image_writer.proofs.Names.{Content, content_behind}
+use Rattle.image_writer.proofs.Names.{subst, slot_sector, IsOwn, sym, inl, inr, shape_of, slice_index_or, Cap, Content, content_behind}
 use Rattle.std.proofs.Common.{◌≡◌, ◌∙◌}
 use Rattle.image_writer.proofs.SlotFrames.{own_written_at}
 use Rattle.image_writer.proofs.slots.write_entry.Goals as goal

@@ -1,12 +1,11 @@
-use Rattle.image_writer.proofs.Names.{length, refl, directory_length, directory_sector, frames_in}
-use Rattle.image_writer.proofs.FreshImages.{on_ok}
+use Rattle.image_writer.proofs.Names.{length, refl, directory_length, directory_sector, frames_in, on_ok_weaker}
 use Rattle.image_writer.proofs.SlotFrames.{slots_stay}
 use Rattle.image_writer.proofs.slots.write_log.Goals as goal
 
 pub returns-clause-slots : goal.returns-clause-slots
 returns-clause-slots g c =
     let change = rw c.requires.same at c.write_directory.ensures.writes.elsewhere in
-    on_ok c.write_directory.result
+    on_ok_weaker c.write_directory.result
     (λ written. slots_stay c.args.home.now c.args.generation (directory_sector c.args.home.now c.args.generation) (directory_length (length c.args.entries.now))
     c.args.entries.now (frames_in c.args.headers.now c.args.contents.now)
     (g.D.Device.disk c.write_slots.new.device).seen (g.D.Device.disk c.write_directory.new.device).seen c.requires.directory refl change

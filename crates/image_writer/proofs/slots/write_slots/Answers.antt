@@ -1,5 +1,5 @@
-use Rattle.image_writer.proofs.Names.{rules, length, inr, entry_at, place_length, slot_sector, frames_in}
-use Rattle.std.proofs.Common.{◌≡◌, ◌<◌, ◌∙◌}
+use Rattle.image_writer.proofs.Names.{rules, inr, entry_at, place_length, slot_sector, frames_in}
+use Rattle.std.proofs.Common.{◌≡◌, ◌∙◌}
 use Rattle.image_writer.proofs.ClosedGates.{closed_on, leaves_closed}
 use Rattle.image_writer.proofs.SlotFrames.{one_more_slot, slot_behind, stays_in_half}
 use Rattle.image_writer.proofs.slots.write_slots.Goals as goal

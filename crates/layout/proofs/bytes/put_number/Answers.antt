@@ -1,12 +1,10 @@
-use Rattle.layout.specs.Bytes.{number}
+use Rattle.layout.proofs.Names.{rules, number}
 use Rattle.layout.proofs.Numbers.{written, written_before, written_after}
 use Rattle.layout.proofs.bytes.put_number.Goals as goal
 
 pub returns-clause-before : goal.returns-clause-before
 unfolding number
-returns-clause-before c =
-    written_before c.args.bytes.now _ c.args.at c.args.n c.requires
-    (written c.args.bytes.now c.write_u64.new.buf c.args.at c.args.n c.requires c.write_u64.ensures)
+returns-clause-before c = search (rules, written_before, written)
 
 pub returns-clause-after : goal.returns-clause-after
 unfolding number

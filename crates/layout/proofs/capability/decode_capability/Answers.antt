@@ -1,15 +1,10 @@
-use Rattle.layout.proofs.Names.{refl, sym, arith, false≢true}
+use Rattle.layout.proofs.Names.{rules, refl, sym, arith, false≢true}
 use Rattle.std.proofs.Common.{◌∙◌}
 use Rattle.layout.proofs.Capabilities.{as_numbers, three_read, none_spelt}
 use Rattle.layout.proofs.capability.decode_capability.Goals as goal
 
 pub returns-then-read-clause-found : goal.returns-then-read-clause-found
-returns-then-read-clause-found c =
-    let read = three_read c.args.bytes.now c.number_at-head.result c.number_at-object.result c.number_at-count.result c.requires c.number_at-head.ensures
-    c.number_at-object.ensures c.number_at-count.ensures in
-    let spelt = as_numbers (record { what = c.assembled-read.result.what; count = c.number_at-count.result }) c.assembled-read.ensures.fits in
-    let is = c.assembled-read.ensures.spelt.0 c.if-read.true in
-    (is.2, read ∙ rw (spelt, is.0, is.1) refl)
+returns-then-read-clause-found c = search (rules, three_read, as_numbers)
 
 pub returns-else-read-clause-refused : goal.returns-else-read-clause-refused
 returns-else-read-clause-refused c =

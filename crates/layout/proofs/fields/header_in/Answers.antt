@@ -1,4 +1,4 @@
-use Rattle.std.proofs.Common.{drop, sym, arith}
+use Rattle.layout.proofs.Names.{drop, sym, arith}
 use Rattle.layout.proofs.FrameReaders.{front_tells}
 use Rattle.layout.proofs.fields.header_in.Goals as goal
 

@@ -1,30 +1,13 @@
-use Rattle.layout.proofs.Names.{drop, refl, sym, ap, subst, ℕ, List, arith, rules, false≢true, CheckpointHeader, zeros, IsHeader}
-use Rattle.std.proofs.Common.{◌∷◌, ◌∙◌, ◌-◌}
-use Rattle.layout.proofs.Numbers.{stream}
-use Rattle.layout.proofs.Headers.{five_read, header_stream, spelt_header, fields}
+use Rattle.layout.proofs.Names.{refl, sym, ap, subst, ℕ, arith, rules, false≢true, CheckpointHeader, zeros, IsHeader}
+use Rattle.std.proofs.Common.{◌∙◌, ◌-◌}
+use Rattle.layout.proofs.Headers.{five_read, header_stream, spelt_header}
 use Rattle.layout.proofs.header.decode_header.Goals as goal
 use Rattle.layout.proofs.header.decode_header.Goals.{else-magic-eq-HEADER_MAGIC-via-then-magic-eq-HEADER_MAGIC+then-is_blank+else-is_header}
 use Rattle.layout.proofs.header.decode_header.Goals.{else-magic-eq-HEADER_MAGIC-via-then-magic-eq-HEADER_MAGIC+else-is_blank}
 use Rattle.layout.proofs.header.decode_header.Goals.{else-magic-eq-HEADER_MAGIC-via-else-magic-eq-HEADER_MAGIC}
 
 pub returns-then-is_header-clause-found : goal.returns-then-is_header-clause-found
-returns-then-is_header-clause-found c =
-    let read = five_read c.args.bytes.now c.number_at-magic.result c.number_at-sequence.result c.number_at-generation.result c.number_at-entries.result
-    c.number_at-age.result
-    c.number_at-magic.ensures c.number_at-sequence.ensures c.number_at-generation.ensures c.number_at-entries.ensures c.number_at-age.ensures in
-    let header : CheckpointHeader =
-    record {
-      sequence = c.number_at-sequence.result;
-      generation = c.number_at-generation.result;
-      entries = c.number_at-entries.result;
-      age = c.number_at-age.result;
-    } in (
-      search rules,
-      read ∙ ap (λ (m : ℕ). stream (m ∷ fields header) (drop 40 c.args.bytes.now)) c.if-magic-eq-HEADER_MAGIC.true
-          ∙ ap (λ (r : List ℕ). stream (0x4441_4548_534f_5245 ∷ fields header) r)
-          (c.is_blank_from-is_blank.ensures.0 c.if-is_blank.true ∙ ap (λ (n : ℕ). zeros (n - 40)) c.requires)
-          ∙ sym (header_stream header),
-    )
+returns-then-is_header-clause-found c = search (rules, five_read, header_stream)
 
 pub returns-else-magic-eq-HEADER_MAGIC-clause-refused : goal.returns-else-magic-eq-HEADER_MAGIC-clause-refused
 returns-else-magic-eq-HEADER_MAGIC-clause-refused c =

@@ -1,4 +1,4 @@
-use Rattle.layout.proofs.Names.{ℕ, List, [], refl, sym, ap, subst, arith, false≢true, err_from_is_err_and, Cap, ObjectHeader, IsCount, zeros, Body, IsBody}
+use Rattle.layout.proofs.Names.{[], ℕ, List, refl, sym, ap, subst, arith, false≢true, err_from_is_err_and, Cap, ObjectHeader, IsCount, zeros, Body, IsBody}
 use Rattle.layout.proofs.Names.{slots_of, content_of, body_in, front_numbers, role_in}
 use Rattle.std.proofs.Common.{◌≡◌, ◌-◌, ◌∙◌}
 use Rattle.std.specs.Prelude.{◌++◌, drop}

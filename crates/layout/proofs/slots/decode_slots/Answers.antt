@@ -1,6 +1,6 @@
 use Rattle.layout.proofs.Names.{length, sym, ap, arith, err_from_is_err_and}
 use Rattle.std.proofs.Common.{◌*◌, ◌∙◌}
-use Rattle.layout.proofs.SlotLists.{none_read, slot_read, all_read, none_spelt, piece_is}
+use Rattle.layout.proofs.SlotLists.{none_read, slot_read, none_spelt, piece_is}
 use Rattle.layout.proofs.slots.decode_slots.Goals as goal
 
 pub loop-i-init : goal.loop-i-init
@@ -24,8 +24,3 @@ loop-i-preserved c =
     (slot_read c.args.geometry c.args.age c.args.bytes.now c.loop-i.into c.loop-i.i c.in_ok-cap.cap
     (omega (arith, c.as_slice-i-end.ensures.length, ap length c.as_slice-i-end.ensures.value)) c.loop-i.invariant found.0
     (sym (piece_is c.args.bytes.now (24 * c.loop-i.i)) ∙ found.1))
-
-pub returns-clause-found : goal.returns-clause-found
-returns-clause-found c =
-    all_read c.args.geometry c.args.age c.args.bytes.now c.loop-i.into c.loop-i.i
-    (omega (arith, c.as_slice-i-end.ensures.length, ap length c.as_slice-i-end.ensures.value)) c.requires c.loop-i.invariant

@@ -1,4 +1,4 @@
-use Rattle.layout.proofs.Names.{ℕ, List, length, ap, subst, arith, Geometry, zeros, Plan, IsPlan, version_number, ranges_bytes}
+use Rattle.layout.proofs.Names.{nat_tests, ℕ, List, length, ap, subst, arith, Geometry, zeros, Plan, IsPlan, version_number, ranges_bytes}
 use Rattle.std.proofs.Common.{◌≡◌, ◌+◌, ◌-◌, ◌*◌, ◌∙◌}
 use borrow.Rule.Slice.PartMut.{put_mid}
 use Rattle.layout.proofs.Numbers.{IsWritten, written_none, written_more}
@@ -12,8 +12,7 @@ returns c =
     let is : IsPlan p = c.ranges-ranges.ensures.fits in
     let count : length c.ranges-ranges.result.now ≡ length p.ranges = ap length c.ranges-ranges.ensures.value in
     let version : c.number-version.result ≡ version_number p.version = c.number-version.ensures.value ∙ ap version_number c.version.ensures.value in
-    let second : c.number-version.result + 4294967296 * length c.ranges-ranges.result.now ≡ second_of p = ap
-    (λ (n : ℕ). c.number-version.result + 4294967296 * n) count ∙ ap (λ (v : ℕ). v + 4294967296 * length p.ranges) version in
+    let second : c.number-version.result + 4294967296 * length c.ranges-ranges.result.now ≡ second_of p = grind (arith, nat_tests) in
     let was = (written_more old _ _ _ 56 _ (written_more old _ _ _ 48 _ (written_more old _ _ _ 40 _ (written_more old _ _ _ 32 _ (written_more old _ _ _ 24 _
     (written_more old _ _ _ 16 _ (written_more old _ _ _ 8 _ (written_more old _ _ _ 0 _ (written_none old)
     c.put_number.ensures.before c.put_number.ensures.after)

@@ -1,4 +1,4 @@
-use Rattle.layout.proofs.Names.{ℕ, drop, sym, ap, arith, false≢true, zeros}
+use Rattle.layout.proofs.Names.{rules, ℕ, drop, sym, ap, arith, false≢true, zeros}
 use Rattle.std.proofs.Common.{◌≡◌, ◌-◌, ◌∙◌}
 use Rattle.layout.proofs.Superblocks.{magic_from, marked, versions_reported, unmarked}
 use Rattle.layout.proofs.superblock.version_in.Goals as goal
@@ -27,6 +27,4 @@ returns-clause-version c =
     c.with_number.result c.with_number.ensures.some
 
 pub returns-clause-none : goal.returns-clause-none
-returns-clause-none c =
-    unmarked c.args.bytes.now c.number_at-magic.result c.number_at-second.result c.number_at-magic.ensures c.number_at-second.ensures (omega arith)
-    c.with_number.result c.with_number.ensures.none
+returns-clause-none c = search (rules, unmarked)

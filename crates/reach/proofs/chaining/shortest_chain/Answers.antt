@@ -1,6 +1,6 @@
-use Rattle.reach.proofs.Names.{List, reverse, refl, rules, subst, sym, Step, IsShortest}
+use Rattle.reach.proofs.Names.{common_steps, arith, reverse, refl, rules, sym}
 use Rattle.std.proofs.Common.{◌≡◌}
-use Rattle.reach.proofs.Chains.{IsBack, back_first, back_level, back_next, back_shortest, chain_inside, no_chain, not_reached}
+use Rattle.reach.proofs.Chains.{back_first, back_level, back_next, back_shortest, chain_inside, no_chain, not_reached}
 use Rattle.reach.proofs.chaining.shortest_chain.Invariants.{level_of}
 use Rattle.reach.proofs.chaining.shortest_chain.Goals as goal
 
@@ -15,34 +15,23 @@ returns-then-not-contains-clause-reach c =
     not_reached c.args.objects.now c.args.starts.now searched.0 c.in_ok-levels.levels searched.1 searched.2 c.args.object (sym c.if-not-contains.ensures)
 
 pub loop-step-init : goal.loop-step-init
-loop-step-init c =
-    let searched = c.in_ok-levels.ensures in
-    subst (λ (steps : List Step). IsBack c.args.objects.now c.in_ok-levels.levels c.args.object c.args.object steps) (sym c.new-steps.ensures.items)
-    (back_first c.args.objects.now c.args.starts.now searched.0 c.in_ok-levels.levels searched.1 searched.2 c.args.object (sym c.if-not-contains.ensures))
+loop-step-init c = grind (arith, common_steps, back_first)
 
 pub loop-step-smaller : goal.loop-step-smaller
 loop-step-smaller c =
     let searched = c.in_ok-levels.ensures in
-    back_level c.args.objects.now c.args.starts.now searched.0 c.in_ok-levels.levels searched.1 searched.2 c.args.object c.loop-step.at c.loop-step.steps.items
-    c.loop-step.invariant c.in-Some.step (sym c.in-Some.ensures)
-    level_of (λ f. refl)
+    back_level _ _ _ _ searched.1 searched.2 _ _ _ c.loop-step.invariant _ (sym c.in-Some.ensures) level_of (λ f. refl)
 
 pub loop-step-preserved : goal.loop-step-preserved
 loop-step-preserved c =
     let searched = c.in_ok-levels.ensures in
-    back_next c.args.objects.now c.args.starts.now searched.0 c.in_ok-levels.levels searched.1 searched.2 c.args.object c.loop-step.at c.loop-step.steps.items
-    c.loop-step.invariant c.in-Some.step c.push.new.self.items
-    (sym c.in-Some.ensures) (search rules)
+    back_next _ _ _ _ searched.1 searched.2 _ _ _ c.loop-step.invariant _ _ (sym c.in-Some.ensures) (search rules)
 
 pub returns-clause-shortest : goal.returns-clause-shortest
 returns-clause-shortest c =
     let searched = c.in_ok-levels.ensures in
     let reversed : c.reverse.new.self.items ≡ reverse c.loop-step.steps.items = search rules in
-    subst (λ (steps : List Step). IsShortest c.args.objects.now c.args.starts.now steps c.args.object) (sym reversed)
-    (back_shortest c.args.objects.now c.args.starts.now searched.0 c.in_ok-levels.levels searched.1 searched.2 c.args.object c.loop-step.at
-    c.loop-step.steps.items c.loop-step.invariant
-    (sym c.in_default.ensures) (sym c.if-not-contains.ensures))
+    rw reversed (back_shortest _ _ _ _ searched.1 searched.2 _ _ _ c.loop-step.invariant (sym c.in_default.ensures) (sym c.if-not-contains.ensures))
 
 pub returns-clause-reach : goal.returns-clause-reach
-returns-clause-reach c inside reach =
-    chain_inside c.args.objects.now inside reach.closed c.args.starts.now c.reverse.new.self.items c.args.object reach.begins (returns-clause-shortest c).chain
+returns-clause-reach c inside reach = chain_inside _ inside reach.closed _ _ _ reach.begins (returns-clause-shortest c).chain

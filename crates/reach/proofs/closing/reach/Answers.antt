@@ -1,5 +1,4 @@
-use Rattle.reach.proofs.Names.{ℕ, Bool, List, ap, arith, length, refl, subst, sym, IsTrue, get_or_default, is_marked, Frontier, IsReach}
-use Rattle.std.proofs.Common.{◌∙◌}
+use Rattle.reach.proofs.Names.{arith, refl, get_or_default, is_marked}
 use Rattle.reach.proofs.ClosedSets.{all_begun, all_followed, bounds_runs, one_begun, one_followed}
 use Rattle.reach.proofs.closing.reach.Goals as goal
 
@@ -8,28 +7,17 @@ loop-start-preserved c =
     let starts = c.args.starts.now in
     let at = c.loop-start.start-index in
     one_begun c.args.objects.now starts at 0 c.loop-start.frontier c.add.new.self c.loop-start.invariant c.add.ensures.grows c.loop-start-test.true
-    (λ e. subst (λ (n : ℕ). IsTrue (is_marked c.add.new.self.found n)) (get_or_default starts at 0 e c.loop-start-test.true) c.add.ensures.found)
-    c.add.ensures.least
+    (λ e. rw (← get_or_default starts at 0 e c.loop-start-test.true) c.add.ensures.found) c.add.ensures.least
 
 pub loop-number-init : goal.loop-number-init
-loop-number-init c = all_begun c.args.objects.now c.args.starts.now c.loop-start.start-index c.loop-start.frontier c.loop-start.invariant
-    (omega (arith, c.loop-start-test.false))
+loop-number-init c = all_begun _ _ _ _ c.loop-start.invariant (omega (arith, c.loop-start-test.false))
 
 pub loop-number-preserved : goal.loop-number-preserved
-loop-number-preserved c =
-    one_followed c.args.objects.now c.args.starts.now c.in-Some.number c.loop-number.frontier c.take.new.self c.follow_member.new.frontier
-    c.loop-number.invariant
+loop-number-preserved c = one_followed _ _ _ _ _ _ c.loop-number.invariant
     c.in-Some.ensures.some c.follow_member.ensures.grows c.follow_member.ensures.closed c.follow_member.ensures.least
 
 pub returns-clause-reach : goal.returns-clause-reach
-returns-clause-reach c =
-    subst (λ (marks : List Bool). IsReach c.args.objects.now c.args.starts.now (is_marked marks)) (sym c.into_found.ensures)
-    (all_followed c.args.objects.now c.args.starts.now c.loop-number.frontier c.take.new.self c.loop-number.invariant (c.in_default.ensures.none refl))
-
-pub returns-clause-count : goal.returns-clause-count
-returns-clause-count c =
-    ap (λ (marks : List Bool). length marks) c.into_found.ensures ∙ ap (λ (f : Frontier). length f.found) (c.in_default.ensures.none refl).same ∙
-    c.loop-number.invariant.count
+returns-clause-reach c = rw c.into_found.ensures (all_followed _ _ _ _ c.loop-number.invariant (c.in_default.ensures.none refl))
 
 pub returns-clause-bounds : goal.returns-clause-bounds
 returns-clause-bounds c = bounds_runs c.args.objects.now (is_marked c.into_found.result) (returns-clause-reach c).closed

@@ -1,14 +1,9 @@
-use Rattle.reach.proofs.Names.{ℕ, List, Option, Vec, subst, sym, Global, line_of, Writes, Step, chain_text, steps_text}
+use Rattle.reach.proofs.Names.{common_steps, arith, ℕ, List, Option, Vec, subst, sym, Global, line_of, Writes, Step, chain_text}
 use Rattle.reach.proofs.explaining.print_chain.Goals as goal
 
 pub returns-in-Some : goal.returns-in-Some
 unfolding chain_text
-returns-in-Some g c =
-    subst (λ (chain : Option (Vec Step Global)). Writes (g.W.Output.written c.args.writer.now) (g.W.Output.written c.print_to.new.writer) c.print_to.result
-    (chain_text c.args.objects.now c.args.object chain)) (sym c.in-Some.is)
-    (subst (λ (steps : List Step). Writes (g.W.Output.written c.args.writer.now) (g.W.Output.written c.print_to.new.writer) c.print_to.result
-    (steps_text c.args.objects.now steps c.args.object)) c.deref.ensures.value
-    c.print_to.ensures)
+returns-in-Some g c = grind (arith, common_steps)
 
 pub returns-in-None : goal.returns-in-None
 unfolding chain_text

@@ -1,4 +1,4 @@
-use Rattle.reach.proofs.Names.{ℕ, List, Err, subst, sym, wrote_trans, err_from_is_err_and, Wrote, line_of, Writes, writes_fail, step_line}
+use Rattle.reach.proofs.Names.{common_steps, arith, sym, wrote_trans, err_from_is_err_and, writes_fail, step_line}
 use Rattle.reach.specs.declared.step.Way.TheVariants as way
 use Rattle.reach.proofs.TextLines.{plain_all, plain_more, plain_split}
 use Rattle.reach.proofs.explaining.print_steps.Goals as goal
@@ -7,21 +7,13 @@ pub returns-in_err-write_to : goal.returns-in_err-write_to
 returns-in_err-write_to g c =
     let p = err_from_is_err_and c.from_residual.result c.from_residual.ensures.1 in
     rw (p.1, p.2) (writes_fail _ _ _ _ _ _ _ _
-    (plain_split (step_line c.args.objects.now) c.args.steps.now c.loop-step.step-index (record { from = 0; way = way.Annex; to = 0 })
-    c.loop-step-test.true)
-    c.loop-step.invariant
-    (subst (λ (text : List ℕ). Writes (g.W.Output.written c.loop-step.writer) (g.W.Output.written c.write_to.new.writer) (Err c.in_err-write_to.field-0.0)
-    (line_of text)) c.line_of_step.ensures.text c.in_err-write_to.ensures))
+    (plain_split (step_line c.args.objects.now) c.args.steps.now c.loop-step.step-index (record { from = 0; way = way.Annex; to = 0 }) c.loop-step-test.true)
+    c.loop-step.invariant (rw (← c.line_of_step.ensures.text) c.in_err-write_to.ensures))
 
 pub loop-step-preserved : goal.loop-step-preserved
-loop-step-preserved g c =
-    subst (Wrote _ _) (sym
+loop-step-preserved g c = rw (← sym
     (plain_more (step_line c.args.objects.now) c.args.steps.now c.loop-step.step-index (record { from = 0; way = way.Annex; to = 0 })
-    c.loop-step-test.true))
-    (wrote_trans _ _ _ _ _ c.loop-step.invariant
-    (subst (λ (text : List ℕ). Wrote (g.W.Output.written c.loop-step.writer) (g.W.Output.written c.write_to.new.writer) (line_of text))
-    c.line_of_step.ensures.text c.in_ok-write_to.ensures))
+    c.loop-step-test.true)) (wrote_trans _ _ _ _ _ c.loop-step.invariant (rw (← c.line_of_step.ensures.text) c.in_ok-write_to.ensures))
 
 pub returns : goal.returns
-returns g c = subst (Wrote _ _) (plain_all (step_line c.args.objects.now) c.args.steps.now c.loop-step.step-index c.loop-step-test.false)
-    c.loop-step.invariant
+returns g c = grind (arith, common_steps, plain_all)

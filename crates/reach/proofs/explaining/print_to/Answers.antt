@@ -1,4 +1,5 @@
-use Rattle.reach.proofs.Names.{refl, err_from_is_err_and, text_fails, writes_after, line_of, spaced, object_at, flat_map, step_line, words_of}
+use Rattle.reach.proofs.Names.{common_steps, arith, refl, err_from_is_err_and, text_fails, writes_after, line_of, spaced, object_at, flat_map, step_line}
+use Rattle.reach.proofs.Names.{words_of}
 use Rattle.reach.proofs.explaining.print_to.Goals as goal
 
 pub returns-in_err-print_steps : goal.returns-in_err-print_steps
@@ -8,7 +9,4 @@ returns-in_err-print_steps g c =
     (line_of (spaced (words_of c.args.object (object_at c.args.objects.now c.args.object)))) _ refl c.in_err-print_steps.ensures)
 
 pub returns : goal.returns
-returns g c =
-    writes_after _ (g.W.Output.written c.print_steps.new.writer) _ _ (flat_map (step_line c.args.objects.now) c.args.steps.now)
-    (line_of (spaced (words_of c.args.object (object_at c.args.objects.now c.args.object))))
-    c.in_ok-print_steps.ensures c.print_object.ensures
+returns g c = grind (arith, common_steps, writes_after)

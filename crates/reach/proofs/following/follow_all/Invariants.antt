@@ -1,4 +1,5 @@
-use Rattle.reach.proofs.Names.{ℕ, Bool, slice_index_or, All, is_marked, Capability, StaysInside, Grows, IsWithin}
+use Rattle.reach.proofs.Names.{ℕ, Bool, All, is_marked, Capability, StaysInside, Grows, IsWithin}
+use Rattle.std.specs.Prelude.{slice_index_or}
 use Rattle.std.proofs.Common.{◌<◌}
 use Rattle.reach.proofs.following.follow_all.Given as goal
 

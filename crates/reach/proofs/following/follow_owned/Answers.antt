@@ -13,7 +13,7 @@ loop-number-preserved c =
     let is : object_at os at ≡ o = get_or_default os at free o c.loop-number-test.true ∙ sym c.index-objects-number.is in
     elim c.if-is_owned.branch [
       | then-is_owned w ↦ rw (w.frontier-is) (record {
-        grows = grows_more c.args.frontier.now c.loop-number.frontier w.add.new.self i.grows w.add.ensures.grows;
+        grows = grows_more _ _ _ i.grows w.add.ensures.grows;
         owned = grind (arith, nat_tests, owned_next);
         least = λ other all within.
             let test = c.is_owned.ensures.0 w.if-is_owned.true in
@@ -22,8 +22,7 @@ loop-number-preserved c =
       })
       | else-is_owned w ↦ rw (w.frontier-is) (record {
         grows = i.grows;
-        owned = owned_next (is_marked c.loop-number.frontier.found) (is_marked c.loop-number.frontier.found) os c.args.bank at (λ n inside. inside) i.owned
-            (λ free owned.
+        owned = owned_next (is_marked c.loop-number.frontier.found) (is_marked c.loop-number.frontier.found) os _ at (λ n inside. inside) i.owned (λ free owned.
             let reported = c.is_owned.ensures.1 (sym (ap (λ (p : Object). is_free p.content) is) ∙ free, sym (ap (λ (p : Object). p.owner) is) ∙ owned) in
             let not = w.if-is_owned.false in cc);
         least = i.least;

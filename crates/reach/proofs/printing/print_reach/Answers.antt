@@ -42,9 +42,7 @@ unfolding reach_text
 returns g c =
     let os = c.args.objects.now in
     let marks = c.args.inside.now in
-    let is = counted marks c.numbered.result c.count_members.result c.numbered.ensures.text c.count_members.ensures in
-    writes_after _ (g.W.Output.written c.write_to.new.writer) _ _ (members os marks ++ line_of (closed marks)) (pulled os marks)
-    (wrote_trans _ (g.W.Output.written c.print_members.new.writer) _ (members os marks) (line_of (closed marks)) c.in_ok-print_members.ensures
+    let is = counted marks _ _ c.numbered.ensures.text c.count_members.ensures in
+    writes_after _ _ _ _ _ _ (wrote_trans _ _ _ _ _ c.in_ok-print_members.ensures
     (subst (λ (l : List ℕ). Wrote (g.W.Output.written c.print_members.new.writer) (g.W.Output.written c.write_to.new.writer) (line_of l)) is
-    c.in_ok-write_to.ensures))
-    c.print_all_pulls.ensures
+    c.in_ok-write_to.ensures)) c.print_all_pulls.ensures

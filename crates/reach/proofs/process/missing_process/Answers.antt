@@ -1,6 +1,6 @@
-use Rattle.reach.proofs.Names.{nat_tests, ℕ, zero, suc, true, false, not, List, [], length, Some, None, inl, inr, refl, sym, ap, arith, IsTrue, find, cases_lt}
-use Rattle.reach.proofs.Names.{get_or_default, Object, is_process}
-use Rattle.std.proofs.Common.{◌≡◌, ◌<◌, ◌∷◌, slice_index_or}
+use Rattle.reach.proofs.Names.{common_steps, nat_tests, ℕ, zero, suc, true, false, not, List, [], length, Some, None, inl, inr, refl, sym, ap, arith, IsTrue}
+use Rattle.reach.proofs.Names.{find, cases_lt, get_or_default, Object, is_process, slice_index_or}
+use Rattle.std.proofs.Common.{◌≡◌, ◌<◌, ◌∷◌}
 use Rattle.reach.proofs.process.missing_process.Goals as goal
 
 module _ (os : List Object) where
@@ -20,9 +20,7 @@ module _ (os : List Object) where
       rw test (find_none xs (λ k d below. all (suc k) d (omega (arith, below))))
 
 pub returns-then-not-is_process-clause-first : goal.returns-then-not-is_process-clause-first
-returns-then-not-is_process-clause-first c =
-    sym (find_first c.args.objects.now c.args.numbers.now c.loop-number.number-index c.loop-number.invariant c.loop-number-test.true
-    (sym c.if-not-is_process.ensures))
+returns-then-not-is_process-clause-first c = grind (arith, common_steps, find_first)
 
 pub loop-number-preserved : goal.loop-number-preserved
 loop-number-preserved c k d lt = elim (cases_lt k c.loop-number.number-index) [
@@ -31,8 +29,7 @@ loop-number-preserved c k d lt = elim (cases_lt k c.loop-number.number-index) [
 ]
 
 pub returns-clause-first : goal.returns-clause-first
-returns-clause-first c = sym
-    (find_none c.args.objects.now c.args.numbers.now (λ k d lt. c.loop-number.invariant k d (omega (arith, lt, c.loop-number-test.false))))
+returns-clause-first c = sym (find_none _ _ (λ k d lt. c.loop-number.invariant k d (omega (arith, lt, c.loop-number-test.false))))
 
 pub returns-clause-none : goal.returns-clause-none
 returns-clause-none c none k d lt = c.loop-number.invariant k d (omega (arith, lt, c.loop-number-test.false))

@@ -1,4 +1,5 @@
-use Rattle.reach.proofs.Names.{ℕ, IsTrue, slice_index_or, is_process}
+use Rattle.reach.proofs.Names.{ℕ, IsTrue, is_process}
+use Rattle.std.specs.Prelude.{slice_index_or}
 use Rattle.std.proofs.Common.{◌<◌}
 use Rattle.reach.proofs.process.missing_process.Given as goal
 

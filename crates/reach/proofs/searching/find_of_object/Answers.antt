@@ -7,28 +7,23 @@ use Rattle.reach.proofs.searching.find_of_object.Goals as goal
 
 pub find_held-requires-clause-known : goal.find_held-requires-clause-known
 find_held-requires-clause-known c =
-    let is = content_is c.args.objects.now c.args.number c.index-objects-number.result (content.Node c.in-Node.slots) c.requires.known c.in-Node.is in
-    slots_known c.args.objects.now c.args.number _ c.as_slice.result.now c.requires.sound c.requires.count
-    (ap (λ (x : Content Capability). slots_in x) is ∙ sym c.as_slice.ensures.value)
+    let is = content_is _ _ _ _ c.requires.known c.in-Node.is in
+    slots_known _ _ _ _ c.requires.sound c.requires.count (ap (λ (x : Content Capability). slots_in x) is ∙ sym c.as_slice.ensures.value)
 
 pub find_held-requires-in-Annex-clause-known : goal.find_held-requires-in-Annex-clause-known
 find_held-requires-in-Annex-clause-known c =
-    let is = content_is c.args.objects.now c.args.number c.index-objects-number.result (content.Annex c.in-Annex.registers) c.requires.known c.in-Annex.is in
-    slots_known c.args.objects.now c.args.number _ c.as_slice-in-Annex.result.now c.requires.sound c.requires.count
-    (ap (λ (x : Content Capability). slots_in x) is ∙ sym c.as_slice-in-Annex.ensures.value)
+    let is = content_is _ _ _ _ c.requires.known c.in-Annex.is in
+    slots_known _ _ _ _ c.requires.sound c.requires.count (ap (λ (x : Content Capability). slots_in x) is ∙ sym c.as_slice-in-Annex.ensures.value)
 
 pub returns-in-Node : goal.returns-in-Node
 returns-in-Node c =
-    let is = content_is c.args.objects.now c.args.number c.index-objects-number.result (content.Node c.in-Node.slots) c.requires.known c.in-Node.is in
-    finds_of_slots c.args.objects.now c.args.number c.args.level c.args.levels.now c.find_held.new.levels c.as_slice.result.now
-    (is ∙ ap content.Node (sym c.as_slice.ensures.value)) c.find_held.ensures
+    let is = content_is _ _ _ _ c.requires.known c.in-Node.is in
+    finds_of_slots _ _ _ _ _ _ (is ∙ ap content.Node (sym c.as_slice.ensures.value)) c.find_held.ensures
 
 pub returns-in-Annex : goal.returns-in-Annex
 returns-in-Annex c =
-    let is = content_is c.args.objects.now c.args.number c.index-objects-number.result (content.Annex c.in-Annex.registers) c.requires.known c.in-Annex.is in
-    finds_of_registers c.args.objects.now c.args.number c.args.level c.args.levels.now c.find_held-in-Annex.new.levels c.as_slice-in-Annex.result.now
-    (is ∙ ap content.Annex (sym c.as_slice-in-Annex.ensures.value))
-    c.find_held-in-Annex.ensures
+    let is = content_is _ _ _ _ c.requires.known c.in-Annex.is in
+    finds_of_registers _ _ _ _ _ _ (is ∙ ap content.Annex (sym c.as_slice-in-Annex.ensures.value)) c.find_held-in-Annex.ensures
 
 pub returns-in-Bank : goal.returns-in-Bank
 returns-in-Bank c =

@@ -1,6 +1,5 @@
 use Rattle.reach.proofs.Names.{ℕ, arith, ap, refl, subst, sym, get_or_default, Object, free, is_free, object_at, FindsBy, IsOwnedBelow}
 use Rattle.std.proofs.Common.{◌≡◌, ◌∙◌}
-use Rattle.reach.specs.declared.step.Way.TheVariants as way
 use Rattle.reach.proofs.Finding.{finds_none, owned_next_step, owned_skip}
 use Rattle.reach.proofs.searching.find_owned.Goals as goal
 use Rattle.reach.proofs.searching.find_owned.Goals.{then-is_owned, else-is_owned}
@@ -23,12 +22,9 @@ loop-number-preserved c =
     elim c.if-is_owned.branch [
       | then-is_owned w ↦
           let test = c.is_owned.ensures.0 w.if-is_owned.true in
-          rw (w.levels-is) (owned_next_step os at c.args.bank c.args.level (record { from = c.args.bank; way = way.Owner; to = at }) c.args.levels.now
-          c.loop-number.levels w.add.new.self refl refl refl
+          rw (w.levels-is) (owned_next_step os at _ _ _ _ _ _ refl refl refl
           (ap (λ (p : Object). is_free p.content) is ∙ test.0) (ap (λ (p : Object). p.owner) is ∙ test.1) c.loop-number.invariant w.add.ensures)
-      | else-is_owned w ↦
-          rw (w.levels-is) (owned_skip os at c.args.bank c.args.level c.args.levels.now c.loop-number.levels
-          (λ free owned.
+      | else-is_owned w ↦ rw (w.levels-is) (owned_skip os at _ _ _ _ (λ free owned.
           let reported = c.is_owned.ensures.1 (sym (ap (λ (p : Object). is_free p.content) is) ∙ free, sym (ap (λ (p : Object). p.owner) is) ∙ owned) in
           let wrong = w.if-is_owned.false in cc) c.loop-number.invariant)
     ]

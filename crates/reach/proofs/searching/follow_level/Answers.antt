@@ -1,18 +1,12 @@
-use Rattle.reach.proofs.Names.{ℕ, arith, length, rules, subst, sym, FindsBy, IsFromLevel}
-use Rattle.std.proofs.Common.{◌+◌, ◌<◌, ◌^◌}
+use Rattle.reach.proofs.Names.{common_steps, ℕ, arith, subst, sym, FindsBy, IsFromLevel}
+use Rattle.std.proofs.Common.{◌+◌}
 use Rattle.reach.proofs.Finding.{finds_none}
 use Rattle.reach.proofs.Searches.{level_next, level_skip}
 use Rattle.reach.proofs.searching.follow_level.Goals as goal
 use Rattle.reach.proofs.searching.follow_level.Goals.{then-is_at, else-is_at}
 
 pub loop-number-init : goal.loop-number-init
-loop-number-init c = finds_none (IsFromLevel c.args.objects.now c.args.levels.now c.args.level 0) (c.args.level + 1) c.args.levels.now
-    (λ s from. absurd (omega (arith, from.1)))
-
-pub overflow_add-level : goal.overflow_add-level
-overflow_add-level c =
-    let bound : length c.args.objects.now < 2 ^ 63 = search rules in
-    omega (arith, bound, c.requires.level, c.requires.few)
+loop-number-init c = grind (arith, common_steps, finds_none)
 
 pub find_of_object-requires-clause-level : goal.find_of_object-requires-clause-level
 find_of_object-requires-clause-level c = omega (arith, c.requires.level, c.loop-number.invariant.later)
@@ -22,11 +16,8 @@ loop-number-preserved c =
     let os = c.args.objects.now in
     let i = c.loop-number.number in
     elim c.if-is_at.branch [
-      | then-is_at w ↦
-          rw (w.levels-is) (level_next os c.args.levels.now c.loop-number.levels c.args.level i c.loop-number.invariant w.find_of_object.new.levels
-          (sym w.if-is_at.ensures) w.find_of_object.ensures)
-      | else-is_at w ↦
-          rw (w.levels-is) (level_skip os c.args.levels.now c.loop-number.levels c.args.level i c.loop-number.invariant (sym w.if-is_at.ensures))
+      | then-is_at w ↦ rw (w.levels-is) (level_next os _ _ _ i c.loop-number.invariant _ (sym w.if-is_at.ensures) w.find_of_object.ensures)
+      | else-is_at w ↦ rw (w.levels-is) (level_skip os _ _ _ i c.loop-number.invariant (sym w.if-is_at.ensures))
     ]
 
 pub returns : goal.returns

@@ -1,5 +1,5 @@
-use Rattle.reach.proofs.Names.{nat_tests, [], List, ap, arith, length, rules, take_all, take_more, ObjectHeader, object_at, objects_in, length_objects}
-use Rattle.std.proofs.Common.{◌≡◌, ◌<◌, ◌++◌, ◌∷◌, ◌∙◌}
+use Rattle.reach.proofs.Names.{common_steps, nat_tests, [], arith, length, rules, take_all, take_more, object_at, objects_in, length_objects}
+use Rattle.std.proofs.Common.{◌≡◌, ◌<◌, ◌++◌, ◌∷◌}
 use Rattle.reach.proofs.world.read_objects.Goals as goal
 
 pub loop-number-preserved : goal.loop-number-preserved
@@ -19,14 +19,4 @@ loop-number-preserved g c =
     }
 
 pub returns-clause-objects : goal.returns-clause-objects
-returns-clause-objects g c =
-    let p = g.F.Frames.parts c.args.store.now in
-    c.loop-number.invariant.read
-    ∙ take_all c.loop-number.number (objects_in p)
-    (omega (
-      arith,
-      c.loop-number-test.false,
-      c.count-number-end.ensures,
-      ap (λ (hs : List ObjectHeader). length hs) c.table.ensures,
-      length_objects p.headers p.contents,
-    ))
+returns-clause-objects g c = grind (arith, common_steps, take_all, length_objects)

@@ -1,5 +1,4 @@
 use Rattle.script.proofs.Names.{rules}
-use Rattle.std.proofs.Common.{◌<◌}
 use Rattle.script.proofs.LineFaults.{too_great, zero_longer}
 use Rattle.script.proofs.line_fault.number_fault.Goals as goal
 

@@ -1,5 +1,4 @@
 use Rattle.script.proofs.Names.{rules, None, Some, arith, first_word}
-use Rattle.std.proofs.Common.{◌∙◌}
 use Rattle.script.proofs.FirstWords.{word_length, word_reads}
 use Rattle.script.proofs.Numbers.{decimal_not_empty, decimal_no_zero, number_found, number_none}
 use Rattle.script.proofs.number.number_in_front.Goals as goal

@@ -11,5 +11,4 @@ fault_number_is f = grind (arith, nat_tests)
 pub returns-in-MemoryFault : goal.returns-in-MemoryFault
 unfolding printed
 returns-in-MemoryFault g c = writes_same _ _ _ _ _ (rw (c.in-MemoryFault.is)
-    (ap (λ (k : ℕ). line_of (spaced (codes "memory" ∷ codes "fault" ∷ decimal k ∷ []))) (fault_number_is c.in-MemoryFault.fault)))
-    c.print_numbered.ensures
+    (ap (λ (k : ℕ). line_of (spaced (codes "memory" ∷ codes "fault" ∷ decimal k ∷ []))) (fault_number_is _))) c.print_numbered.ensures

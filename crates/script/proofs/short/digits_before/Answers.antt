@@ -11,24 +11,22 @@ returns-then-byte-eq-SPACE c = λ within.
     c.requires.some c.loop-place.invariant.values
 
 pub overflow_mul-number : goal.overflow_mul-number
-overflow_mul-number c =
-    omega (
-      arith,
-      value_below c.args.text.now c.args.at (c.loop-place.place - c.args.at) 18 c.loop-place.number
-          (omega (arith, c.loop-place.invariant.begun, c.loop-place-test.true, c.digits_end-place-end.ensures.within))
-          (omega (arith, c.loop-place-test.true, c.digits_end-place-end.ensures.few)) c.loop-place.invariant.values,
-    )
+overflow_mul-number c = omega (
+  arith,
+  value_below c.args.text.now c.args.at (c.loop-place.place - c.args.at) 18 _
+      (omega (arith, c.loop-place.invariant.begun, c.loop-place-test.true, c.digits_end-place-end.ensures.within))
+      (omega (arith, c.loop-place-test.true, c.digits_end-place-end.ensures.few)) c.loop-place.invariant.values,
+)
 
 pub overflow_add-number : goal.overflow_add-number
-overflow_add-number c =
-    omega (
-      arith,
-      value_below c.args.text.now c.args.at (c.loop-place.place - c.args.at) 18 c.loop-place.number
-          (omega (arith, c.loop-place.invariant.begun, c.loop-place-test.true, c.digits_end-place-end.ensures.within))
-          (omega (arith, c.loop-place-test.true, c.digits_end-place-end.ensures.few)) c.loop-place.invariant.values,
-      c.from-byte.ensures,
-      c.if-byte-gt-LAST_DIGIT.false,
-    )
+overflow_add-number c = omega (
+  arith,
+  value_below c.args.text.now c.args.at (c.loop-place.place - c.args.at) 18 _
+      (omega (arith, c.loop-place.invariant.begun, c.loop-place-test.true, c.digits_end-place-end.ensures.within))
+      (omega (arith, c.loop-place-test.true, c.digits_end-place-end.ensures.few)) c.loop-place.invariant.values,
+  c.from-byte.ensures,
+  c.if-byte-gt-LAST_DIGIT.false,
+)
 
 pub loop-place-preserved : goal.loop-place-preserved
 loop-place-preserved c = search (rules, place_more)

@@ -4,24 +4,22 @@ use Rattle.script.proofs.ShortNumbers.{digits_last, place_more, value_below}
 use Rattle.script.proofs.short.last_digits.Goals as goal
 
 pub overflow_mul-number : goal.overflow_mul-number
-overflow_mul-number c =
-    omega (
-      arith,
-      value_below c.args.text.now c.args.at (c.loop-place.place - c.args.at) 18 c.loop-place.number
-          (omega (arith, c.loop-place.invariant.begun, c.loop-place.invariant.within)) (omega (arith, c.loop-place-test.true, c.if-text-at-gt19.false))
-          c.loop-place.invariant.values,
-    )
+overflow_mul-number c = omega (
+  arith,
+  value_below c.args.text.now c.args.at (c.loop-place.place - c.args.at) 18 _
+      (omega (arith, c.loop-place.invariant.begun, c.loop-place.invariant.within)) (omega (arith, c.loop-place-test.true, c.if-text-at-gt19.false))
+      c.loop-place.invariant.values,
+)
 
 pub overflow_add-number : goal.overflow_add-number
-overflow_add-number c =
-    omega (
-      arith,
-      value_below c.args.text.now c.args.at (c.loop-place.place - c.args.at) 18 c.loop-place.number
-          (omega (arith, c.loop-place.invariant.begun, c.loop-place.invariant.within)) (omega (arith, c.loop-place-test.true, c.if-text-at-gt19.false))
-          c.loop-place.invariant.values,
-      c.from-byte.ensures,
-      c.if-byte-gt-LAST_DIGIT.false,
-    )
+overflow_add-number c = omega (
+  arith,
+  value_below c.args.text.now c.args.at (c.loop-place.place - c.args.at) 18 _
+      (omega (arith, c.loop-place.invariant.begun, c.loop-place.invariant.within)) (omega (arith, c.loop-place-test.true, c.if-text-at-gt19.false))
+      c.loop-place.invariant.values,
+  c.from-byte.ensures,
+  c.if-byte-gt-LAST_DIGIT.false,
+)
 
 pub loop-place-preserved : goal.loop-place-preserved
 loop-place-preserved c = search (rules, place_more)

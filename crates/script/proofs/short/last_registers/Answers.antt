@@ -1,5 +1,4 @@
 use Rattle.std.proofs.Common.{rules}
-use Rattle.std.proofs.Common.{◌∙◌}
 use Rattle.script.proofs.ShortInvocations.{registers_read, void_read}
 use Rattle.script.proofs.short.last_registers.Goals as goal
 

@@ -12,8 +12,7 @@ returns-in_err-print_capability g c =
     c.loop-index.invariant c.in_err-print_capability.ensures)
 
 pub loop-index-preserved : goal.loop-index-preserved
-loop-index-preserved g c =
-    subst (Wrote _ _) (sym (lines_more (capability_line c.args.name.now) c.args.capabilities.now c.loop-index.index Void c.loop-index-test.true))
+loop-index-preserved g c = subst (Wrote _ _) (sym (lines_more (capability_line c.args.name.now) _ _ Void c.loop-index-test.true))
     (wrote_trans _ _ _ _ _ c.loop-index.invariant c.in_ok-print_capability.ensures)
 
 pub returns : goal.returns

@@ -1,5 +1,4 @@
-use Rattle.std.proofs.Common.{rules}
-use Rattle.std.proofs.Common.{◌∙◌, append_assoc}
+use Rattle.script.proofs.Names.{rules, append_assoc}
 use Rattle.script.proofs.Fronts.{writes_same}
 use Rattle.script.proofs.Texts.{capability_has_line}
 use Rattle.script.proofs.shown.print_capability.Goals as goal

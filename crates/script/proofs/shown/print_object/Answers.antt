@@ -13,8 +13,7 @@ returns-in_err-print-in-Page g c =
     c.in_err-print-in-Page.ensures)
 
 pub returns-in_ok-print-in-Page : goal.returns-in_ok-print-in-Page
-returns-in_ok-print-in-Page g c =
-    line_and _ _ _ _ _ _ (word_lines c.in-Page.words) _ c.begin_heading.ensures.text (object_page _ _ _ _ c.in-Page.words c.in-Page.is)
+returns-in_ok-print-in-Page g c = line_and _ _ _ _ _ _ _ _ c.begin_heading.ensures.text (object_page _ _ _ _ _ c.in-Page.is)
     c.in_ok-print-in-Page.ensures (rw c.as_slice.ensures.value at c.print_words.ensures)
 
 pub returns-in-Bank : goal.returns-in-Bank

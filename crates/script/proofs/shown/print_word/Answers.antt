@@ -1,5 +1,4 @@
 use Rattle.script.proofs.Names.{rules, append_assoc}
-use Rattle.std.proofs.Common.{◌≡◌, ◌==◌}
 use Rattle.script.proofs.Fronts.{writes_same}
 use Rattle.script.proofs.shown.print_word.Goals as goal
 

@@ -1,4 +1,4 @@
-use Rattle.script.proofs.Names.{subst, sym, arith, err_from_is_err_and, Wrote, word_line, word_lines}
+use Rattle.script.proofs.Names.{subst, arith, err_from_is_err_and, Wrote, word_line, word_lines}
 use Rattle.script.proofs.Fronts.{wrote_trans, writes_fail}
 use Rattle.script.proofs.Texts.{lines_split, lines_more, lines_all}
 use Rattle.script.proofs.shown.print_words.Goals as goal
@@ -11,9 +11,7 @@ returns-in_err-print_word g c =
     c.loop-index.invariant c.in_err-print_word.ensures)
 
 pub loop-index-preserved : goal.loop-index-preserved
-loop-index-preserved g c =
-    subst (Wrote _ _) (sym (lines_more word_line c.args.words.now c.loop-index.index 0 c.loop-index-test.true))
-    (wrote_trans _ _ _ _ _ c.loop-index.invariant c.in_ok-print_word.ensures)
+loop-index-preserved g c = rw (lines_more word_line _ _ 0 c.loop-index-test.true) (wrote_trans _ _ _ _ _ c.loop-index.invariant c.in_ok-print_word.ensures)
 
 pub returns : goal.returns
 unfolding word_lines

@@ -1,8 +1,6 @@
-use Rattle.cache_entries.proofs.Names.{AreSpread, subst}
+use Rattle.std.proofs.Common.{rules}
 use Rattle.cache_entries.proofs.Turns.{spread_in_turn}
 use Rattle.cache_entries.proofs.use_order.UseOrder.spread.Goals as goal
 
 pub returns : goal.returns
-returns c =
-    let i = c.self.inside in
-    subst AreSpread c.self.view_is (spread_in_turn i.latest.items i.order c.self.invariant.0.listed c.len.ensures.spread)
+returns c = search (rules, spread_in_turn)

@@ -11,6 +11,4 @@ invariant_of-self c =
     _ (c.fill-2.ensures.items (λ y e. e) ∙ ap (λ (k : ℕ). replicate k 0) summary)
 
 pub returns : goal.returns
-returns c =
-    let words : vec_len c.self.inside.words ≡ length c.self.inside.words.items = search rules in
-    cleared _ _ _ c.self.invariant _ c.self.view_is _ (c.fill.ensures.items (λ y e. e) ∙ ap (λ (k : ℕ). replicate k 0) words)
+returns c = search (rules, cleared)

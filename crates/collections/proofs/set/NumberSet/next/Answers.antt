@@ -1,8 +1,5 @@
-use Rattle.collections.proofs.Marks.{few_marks, few_words, next_is_marked, none_is_marked}
+use Rattle.collections.proofs.Marks.{few_marks, next_is_marked, none_is_marked}
 use Rattle.collections.proofs.set.NumberSet.next.Goals as goal
-
-pub first_summed-requires-clause-few : goal.first_summed-requires-clause-few
-first_summed-requires-clause-few c = few_words _ _ _ c.self.invariant _ c.self.view_is _ c.deref.ensures.value
 
 pub returns-clause-some : goal.returns-clause-some
 returns-clause-some c = next_is_marked _ _ _ c.self.invariant _ c.self.view_is _ c.deref.ensures.value _ _ c.first_summed.ensures.some

@@ -1,3 +1,4 @@
+use Rattle.std.proofs.Common.{rules}
 use Rattle.std.proofs.Common.{◌∙◌}
 use Rattle.std.proofs.lemmas.List.{with_items_is}
 use Rattle.collections.proofs.Marks.{has_word, has_word_above, marks_set, set_summed}
@@ -17,6 +18,4 @@ invariant_of-self c =
     _ _ _ c.deref_mut-2.ensures.value c.put_bit-word.ensures.word c.put_bit.ensures.put _ stored_summary
 
 pub returns : goal.returns
-returns c =
-    let stored = with_items_is c.self.inside.words c.put_bit-word.new.words (c.put_bit-word.ensures.put.same_length ∙ c.deref_mut.ensures.len) in
-    marks_set _ _ _ c.self.invariant _ c.self.view_is _ _ c.requires _ _ c.deref_mut.ensures.value c.put_bit-word.ensures.put _ stored
+returns c = search (rules, with_items_is, marks_set)

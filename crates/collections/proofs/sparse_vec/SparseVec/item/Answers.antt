@@ -1,27 +1,12 @@
-use Rattle.std.proofs.Common.{arith}
+use Rattle.std.proofs.Common.{rules}
 use Rattle.collections.proofs.Positions.{has_place, inside_at, item_read}
 use Rattle.collections.proofs.sparse_vec.SparseVec.item.Goals as goal
 
 pub index-at-requires : goal.index-at-requires
-index-at-requires g c =
-    omega (
-      arith,
-      has_place c.self.inside.items.items c.self.inside.at.items c.self.invariant.0 c.args.self.now c.self.view_is c.args.place c.requires,
-      c.self.inside.at.ok.0,
-    )
+index-at-requires g c = search (rules, has_place)
 
 pub index-requires : goal.index-requires
-index-requires g c =
-    let i = c.self.inside in
-    omega (
-      arith,
-      inside_at i.items.items i.at.items c.self.invariant.0 c.args.self.now c.self.view_is c.args.place c.index-at.result.now
-          c.index-at.ensures c.requires,
-      i.items.ok.0,
-    )
+index-requires g c = search (rules, inside_at)
 
 pub returns : goal.returns
-returns g c =
-    let i = c.self.inside in
-    item_read i.items.items i.at.items c.self.invariant.0 c.args.self.now c.self.view_is c.args.place c.index-at.result.now c.index-at.ensures c.requires
-    c.index.result.now c.index.ensures
+returns g c = search (rules, item_read)

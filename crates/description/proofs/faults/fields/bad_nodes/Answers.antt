@@ -1,11 +1,10 @@
-use Rattle.description.proofs.Names.{subst, All-more, AreSlots}
+use Rattle.description.proofs.Names.{All-more, AreSlots}
 use Rattle.description.proofs.FaultElements.{all_taken}
 use Rattle.description.proofs.faults.fields.bad_nodes.Goals as goal
 
 pub loop-k-preserved : goal.loop-k-preserved
-loop-k-preserved c =
-    All-more (λ n. AreSlots 0 n.slots.items) c.args.nodes.now c.loop-k.k c.index-nodes-k.result c.loop-k-test.true c.loop-k.invariant
-    (subst (λ es. AreSlots 0 es) c.deref.ensures.value c.in-None.ensures)
+loop-k-preserved c = All-more (λ n. AreSlots 0 n.slots.items) c.args.nodes.now c.loop-k.k c.index-nodes-k.result c.loop-k-test.true c.loop-k.invariant
+    (rw (← c.deref.ensures.value) c.in-None.ensures)
 
 pub returns : goal.returns
 returns c = all_taken (λ n. AreSlots 0 n.slots.items) c.args.nodes.now c.loop-k.k c.loop-k-test.false c.loop-k.invariant

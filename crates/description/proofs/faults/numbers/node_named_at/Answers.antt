@@ -1,17 +1,13 @@
-use Rattle.std.proofs.Common.{◌∙◌, refl}
+use Rattle.description.proofs.Names.{common_steps, arith, refl}
+use Rattle.std.proofs.Common.{◌∙◌}
 use Rattle.description.proofs.NumberPlaces.{annex_number, node_number}
 use Rattle.description.proofs.faults.numbers.node_named_at.Goals as goal
 
 pub returns-then-annex-processes-clause-number : goal.returns-then-annex-processes-clause-number
-returns-then-annex-processes-clause-number c =
-    let d = c.args.description.now in
-    annex_number d c.args.place _ _ c.len-banks.result c.len-processes.result (c.len-banks.ensures ∙ d.banks.ok.0) (c.len-processes.ensures ∙ d.processes.ok.0)
-    c.if-place-banks.false refl
-    c.if-root-processes.false refl c.if-annex-processes.true
+returns-then-annex-processes-clause-number c = grind (arith, common_steps, annex_number)
 
 pub returns-clause-number : goal.returns-clause-number
 returns-clause-number c =
     let d = c.args.description.now in
-    node_number d c.args.place _ _ c.len-banks.result c.len-processes.result (c.len-banks.ensures ∙ d.banks.ok.0) (c.len-processes.ensures ∙ d.processes.ok.0)
-    c.if-place-banks.false refl
+    node_number d _ _ _ _ _ (c.len-banks.ensures ∙ d.banks.ok.0) (c.len-processes.ensures ∙ d.processes.ok.0) c.if-place-banks.false refl
     c.if-root-processes.false refl c.if-annex-processes.false

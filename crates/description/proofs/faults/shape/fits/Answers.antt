@@ -13,10 +13,8 @@ returns-in-ProcessState c = let ms = table_view c.args.table.now in rw c.in-Proc
 
 pub returns-in-ProcessWords : goal.returns-in-ProcessWords
 returns-in-ProcessWords c = let ms = table_view c.args.table.now in rw c.in-ProcessWords.is
-    (read_or_not (λ words. AtOr (0 ∷ 0 ∷ 0 ∷ 0 ∷ []) (codes "words") AreFour ms words) c.four_or_zeros.result c.is_ok-in-ProcessWords.result
-    c.is_ok-in-ProcessWords.ensures.value c.four_or_zeros.ensures)
+    (read_or_not (λ words. AtOr (0 ∷ 0 ∷ 0 ∷ 0 ∷ []) (codes "words") AreFour ms words) _ _ c.is_ok-in-ProcessWords.ensures.value c.four_or_zeros.ensures)
 
 pub returns-in-ProcessSpace : goal.returns-in-ProcessSpace
 returns-in-ProcessSpace c = let ms = table_view c.args.table.now in rw c.in-ProcessSpace.is
-    (read_or_not (λ space. AtOr (Some Void) (codes "space") IsCapability ms space) c.capability_or_void.result c.is_ok-in-ProcessSpace.result
-    c.is_ok-in-ProcessSpace.ensures.value c.capability_or_void.ensures)
+    (read_or_not (λ space. AtOr (Some Void) (codes "space") IsCapability ms space) _ _ c.is_ok-in-ProcessSpace.ensures.value c.capability_or_void.ensures)

@@ -1,11 +1,6 @@
-use Rattle.description.proofs.Names.{table_view, view, IsPage, IsTable}
+use Rattle.description.proofs.Names.{common_steps, arith}
 use Rattle.description.proofs.Parts.{as_read, in_table, missed, page_numbers_of}
 use Rattle.description.proofs.object.PageEntryFromValue.from_value.Goals as goal
 
 pub returns-in_err-number : goal.returns-in_err-number
-returns-in_err-number c =
-    let d = view c.args.value.now in
-    let ms = table_view c.in_ok-table.table.now in
-    as_read (IsTable IsPage d) c.from_residual-in_err-number.result
-    (missed _ (IsTable IsPage d) c.in_err-number.field-0.0 c.from_residual-in_err-number.result c.from_residual-in_err-number.ensures.1
-    c.in_err-number.ensures (λ x is. page_numbers_of ms x (in_table IsPage d ms x c.in_ok-table.ensures is)))
+returns-in_err-number c = grind (arith, common_steps, as_read, missed, page_numbers_of, in_table)

@@ -6,8 +6,7 @@ pub returns-in_err-fields : goal.returns-in_err-fields
 returns-in_err-fields c =
     let d = view c.args.value.now in
     let ms = table_view c.in_ok-table.table.now in
-    as_read (IsTable IsProcess d) c.from_residual-in_err-fields.result
-    (missed _ (IsTable IsProcess d) c.in_err-fields.field-0.0 c.from_residual-in_err-fields.result c.from_residual-in_err-fields.ensures.1
+    as_read (IsTable IsProcess d) _ (missed _ (IsTable IsProcess d) _ _ c.from_residual-in_err-fields.ensures.1
     c.in_err-fields.ensures (λ x is. process_fields ms x (in_table IsProcess d ms x c.in_ok-table.ensures is)))
 
 pub returns-in_err-registers : goal.returns-in_err-registers

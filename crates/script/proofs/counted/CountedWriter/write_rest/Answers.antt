@@ -2,7 +2,6 @@ use Rattle.script.proofs.Names.{rules, length-take, Appends-kept}
 use Rattle.std.proofs.Common.{length-drop}
 use Rattle.script.proofs.Fronts.{broke_off, kept_nil, took_more, taken_all}
 use Rattle.script.proofs.counted.CountedWriter.write_rest.Goals as goal
-use Rattle.script.proofs.counted.CountedWriter.write_rest.Goals.{in-Err+else-ne}
 
 pub returns-then-done-text : goal.returns-then-done-text
 returns-then-done-text g c = search (rules, taken_all)
@@ -18,16 +17,14 @@ returns-in-Ok-eq0 g c =
 pub returns-then-ne : goal.returns-then-ne
 returns-then-ne g c = (
   c.fail-then-ne.ensures.fault,
-  broke_off _ _ c.args.text.now c.loop.done _
-      (rw c.fail-then-ne.ensures.inner (Appends-kept _ _ _ _ c.loop.invariant.taken c.in-Err.ensures.bytes))
+  broke_off _ _ _ c.loop.done _ (rw c.fail-then-ne.ensures.inner (Appends-kept _ _ _ _ c.loop.invariant.taken c.in-Err.ensures.bytes))
       c.loop.invariant.none_failed c.fail-then-ne.ensures.failures,
 )
 
 pub returns : goal.returns
 returns g c = (
   c.fail-2.ensures.fault,
-  broke_off _ _ c.args.text.now c.loop.done _ (rw c.fail-2.ensures.inner c.loop.invariant.taken)
-      c.loop.invariant.none_failed c.fail-2.ensures.failures,
+  broke_off _ _ _ c.loop.done _ (rw c.fail-2.ensures.inner c.loop.invariant.taken) c.loop.invariant.none_failed c.fail-2.ensures.failures,
 )
 
 pub loop-preserved : goal.loop-preserved

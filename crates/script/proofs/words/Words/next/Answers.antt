@@ -1,5 +1,4 @@
 use Rattle.std.proofs.Common.{rules}
-use Rattle.std.proofs.Common.{◌≡◌, ◌∙◌}
 use Rattle.script.proofs.Split.{no_space, first_piece}
 use Rattle.script.proofs.words.Words.next.Goals as goal
 
