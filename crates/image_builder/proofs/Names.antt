@@ -2,7 +2,6 @@
 pub use Rattle.capability.proofs.Keeping.{keepable_later}
 pub use Rattle.checkpoint.specs.Opened.{OnlyReads}
 pub use Rattle.checkpoint.specs.Saved.{Holds, SavedFrames, kept_of}
-pub use Rattle.layout.specs.declared.open_fault.OpenFault.{OpenFault}
 pub use Rattle.description.proofs.DescribedOnce.{described_once}
 pub use Rattle.description.specs.Described.{HasFields, HasNumbers, IsDescribed, IsWorldFault}
 pub use Rattle.description.specs.Outcomes.{Fails}
@@ -28,8 +27,9 @@ pub use Rattle.layout.specs.Superblock.{Plan}
 pub use Rattle.layout.specs.declared.bad_image.BadImage.{BadImage}
 pub use Rattle.layout.specs.declared.bad_image.BadImage.TheVariants.{BadBank, BadCapability, BadProcess}
 pub use Rattle.layout.specs.declared.directory.Entry.{Entry}
+pub use Rattle.layout.specs.declared.open_fault.OpenFault.{OpenFault}
 pub use Rattle.layout.specs.declared.version.Version.TheVariants.{Two}
-pub use Rattle.migrator.specs.Durable.{DurableState, saved_state, seen_of}
+pub use Rattle.migrator.specs.Durable.{DurableState, saved_by}
 unfoldable pub use Rattle.model.specs.Frame.{frames_in}
 pub use Rattle.model.specs.Keepable.{AreKeepable, IsSoundFrames}
 pub use Rattle.model.specs.Sound.{object_count}
@@ -38,22 +38,21 @@ pub use Rattle.model.specs.declared.frame.Frame.{Frame}
 pub use Rattle.model.specs.declared.frame.ObjectHeader.{ObjectHeader}
 pub use Rattle.model.specs.declared.geometry.Geometry.{Geometry}
 pub use Rattle.model.specs.declared.object.Content.{Content}
-pub use Rattle.object_cache.specs.StoreState.{StoreState, saved_by}
 pub use Rattle.recovery.proofs.Unsound.{sound_banked, sound_named}
 pub use Rattle.recovery.specs.Consistency.{AreBanked, AreNamed, AreWholeProcesses, IsInconsistent}
 pub use Rattle.recovery.specs.Denotes.{IsSoundSaved}
 pub use Rattle.recovery.specs.Recovered.{RefusesToOpen}
-pub use Rattle.std.proofs.Common.{IfOk, List, [], ap, append_assoc, arith, drop, get_or, inl, inr, length, refl, rules, subst, suc, sym, zero, ℕ, ⊎_elim}
+pub use Rattle.std.proofs.Common.{List, [], ap, append_assoc, arith, drop, get_or, inl, inr, length, refl, rules, subst, suc, sym, zero, ℕ, ⊎_elim}
 pub use Rattle.std.proofs.lemmas.Bool.{cases_lt}
 pub use Rattle.std.proofs.lemmas.List.{append-nil, drop_all, drop_more}
 pub use Rattle.std.proofs.lemmas.Result.{err_from_is_err_and}
-pub use Rattle.std.specs.Prelude.{Err, IfErr, IsErrOf, Ok, OnOk, Result, slice_index_or, vec_len}
+pub use Rattle.std.specs.Prelude.{Err, IfErr, IfOk, IsErrOf, Ok, OnOk, Result, slice_index_or, vec_len}
 pub use Rattle.toml.specs.Data.{Members}
 pub use Rattle.toml.specs.View.{table_view}
 pub use Rattle.image_builder.specs.Built.{Builds, BuildsFrom, IsAccepted, IsFirstBroken, IsLeftOf, IsRefused, IsWithinLimits, Refuses, Rule, TellsNoSize}
 pub use Rattle.image_builder.specs.Built.{plan_for}
 pub use Rattle.image_builder.specs.Checked.{AreLaid, IsLeftBuilding, IsRefusedEarly, IsSoundDescription}
 pub use Rattle.image_builder.specs.Laws.{NoFault, OneFault}
-pub use Rattle.image_builder.specs.Upgraded.{IsLeftUpgrading, IsNotUpgraded, IsOnlyRead, IsOpenedFrom, Upgrades, WritesUpgraded, upgraded}
+pub use Rattle.image_builder.specs.Upgraded.{IsLeftUpgrading, IsNotUpgraded, IsOnlyRead, IsOpenedFrom, IsWhole, Upgrades, WritesUpgraded, upgraded}
 unfoldable pub use Rattle.image_builder.specs.Upgraded.{numbered}
 pub use Rattle.image_builder.specs.declared.upgrade_fault.UpgradeFault.{UpgradeFault}

@@ -3,8 +3,9 @@ use Rattle.image_builder.proofs.Names.{ℕ, List, length, ap, inl, inr, refl, su
 use Rattle.image_builder.proofs.Names.{Agrees, Elsewhere, LeavesOnly, agrees_is, OnlyNow, leaves_weaker, started, Entry, Two, IsDirectory, IsHeader, Encodes}
 use Rattle.image_builder.proofs.Names.{SavedState, Plan, OpenFault, OnlyReads, kept_of, laid_again, IsLeftWriting, state_of, kept_holds_the_same, none_is_held}
 use Rattle.image_builder.proofs.Names.{IsSoundSaved, RefusesToOpen, UpgradeFault, IsLeftUpgrading, IsNotUpgraded, IsOnlyRead, Upgrades, numbered, upgraded}
+use Rattle.image_builder.proofs.Names.{IfOk}
 use Rattle.std.proofs.Common.{◌≡◌, ◌<◌, ◌≤◌, ◌∙◌}
-use Rattle.std.specs.Prelude.{◌≢◌, IfOk}
+use Rattle.std.specs.Prelude.{◌≢◌}
 use Rattle.layout.specs.declared.open_fault.OpenFault.TheVariants as opening
 use Rattle.image_builder.specs.declared.upgrade_fault.UpgradeFault.TheVariants as fault
 use Rattle.image_builder.proofs.Images.{holds_one}

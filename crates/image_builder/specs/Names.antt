@@ -1,8 +1,7 @@
 -- The names of other crates that the definitions here cite.
-pub use Rattle.capability.specs.Parts.{frames_of}
+pub use Rattle.capability.specs.Parts.{Parts, frames_of}
 pub use Rattle.checkpoint.specs.Opened.{OnlyReads}
 pub use Rattle.checkpoint.specs.Saved.{Holds, SavedFrames, kept_of}
-pub use Rattle.layout.specs.declared.open_fault.OpenFault.{OpenFault}
 pub use Rattle.description.specs.Described.{HasFields, HasNumbers, IsDescribed}
 pub use Rattle.description.specs.Reading.{IsDescription}
 pub use Rattle.description.specs.declared.entry.Description.{Description}
@@ -18,8 +17,10 @@ pub use Rattle.image_writer.specs.declared.fault.BuildFault.TheVariants.{Shape, 
 pub use Rattle.layout.specs.Image.{Encodes, SavedState}
 pub use Rattle.layout.specs.Superblock.{Plan, version_number}
 pub use Rattle.layout.specs.declared.directory.Entry.{Entry}
+pub use Rattle.layout.specs.declared.open_fault.OpenFault.{OpenFault}
 pub use Rattle.layout.specs.declared.version.Version.{Version}
 pub use Rattle.layout.specs.declared.version.Version.TheVariants.{One, Two}
+pub use Rattle.migrator.specs.Durable.{DurableState, saved_by}
 unfoldable pub use Rattle.model.specs.Frame.{frames_in}
 pub use Rattle.model.specs.Keepable.{AreKeepable, IsSoundFrames}
 pub use Rattle.model.specs.Sound.{object_count}
@@ -27,9 +28,8 @@ pub use Rattle.model.specs.declared.capability.Cap.{Cap}
 pub use Rattle.model.specs.declared.frame.Frame.{Frame}
 pub use Rattle.model.specs.declared.frame.ObjectHeader.{ObjectHeader}
 pub use Rattle.model.specs.declared.object.Content.{Content}
-pub use Rattle.object_cache.specs.StoreState.{StoreState, parts_of, saved_by}
 pub use Rattle.recovery.specs.Consistency.{AreBanked, AreNamed}
 pub use Rattle.recovery.specs.Denotes.{IsSoundSaved}
 pub use Rattle.recovery.specs.Recovered.{RefusesToOpen}
-pub use Rattle.std.specs.Prelude.{List, [], length, ℕ}
+pub use Rattle.std.specs.Prelude.{IfErr, IfOk, IsErrOf, List, OnOk, Result, [], length, ℕ}
 pub use Rattle.toml.specs.Data.{Members}

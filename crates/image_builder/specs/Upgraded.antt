@@ -1,8 +1,9 @@
 -- What `upgrade` writes, and why it doesn't.
 use Rattle.image_builder.specs.Names.{ℕ, List, [], Disk, Image, Elsewhere, LeavesOnly, Entry, Two, Encodes, SavedState}
-use Rattle.image_builder.specs.Names.{OnlyReads, Holds, SavedFrames, kept_of, frames_of, StoreState, parts_of, saved_by}
-use Rattle.image_builder.specs.Names.{laid_again, IsLeftWriting, IsSoundSaved, OpenFault, RefusesToOpen}
-use Rattle.std.specs.Prelude.{◌≡◌, ◌≢◌, ◌⊎◌, ◌↔◌, ◌+◌, ◌<◌, ◌≤◌, ◌∷◌, Result, IfErr, IfOk, IsErrOf, OnOk}
+use Rattle.image_builder.specs.Names.{OnlyReads, Holds, SavedFrames, kept_of, frames_of, Parts, DurableState, saved_by}
+use Rattle.image_builder.specs.Names.{laid_again, IsLeftWriting, IsSoundSaved, OpenFault, RefusesToOpen, Result, IfErr}
+use Rattle.image_builder.specs.Names.{IfOk, IsErrOf, OnOk}
+use Rattle.std.specs.Prelude.{◌≡◌, ◌≢◌, ◌⊎◌, ◌↔◌, ◌+◌, ◌<◌, ◌≤◌, ◌∷◌}
 use Rattle.layout.specs.declared.open_fault.OpenFault.TheVariants as opening
 use Rattle.image_builder.specs.declared.upgrade_fault.UpgradeFault.{UpgradeFault}
 use Rattle.image_builder.specs.declared.upgrade_fault.UpgradeFault.TheVariants as fault
@@ -71,16 +72,16 @@ IsRefusedAsOld disk old fault.NoMemory = Unit {0}
 IsRefusedAsOld disk old _ = ⊥
 
 -- a store has in memory all that its device saves, and that stands for a sound world
-pub record IsWhole {D : Type 0} (disk : D → Disk) (s : StoreState D) : Type 0 where
-  pub saves : Encodes (disk s.durable.beneath).seen (disk s.durable.beneath).sectors (saved_by disk s)
+pub record IsWhole {D : Type 0} (disk : D → Disk) (parts : Parts) (s : DurableState D) : Type 0 where
+  pub saves : Encodes (disk s.beneath).seen (disk s.beneath).sectors (saved_by disk s)
   pub sound : IsSoundSaved (saved_by disk s).plan.geometry (kept_of (saved_by disk s))
-  pub present : frames_of (parts_of disk s) ≡ (saved_by disk s).frames
+  pub present : frames_of parts ≡ (saved_by disk s).frames
 
 -- a store was made of an old device, which was only read and didn't fail: it saves what the device does
-pub record IsOpenedFrom {D : Type 0} (disk : D → Disk) (old : D) (s : StoreState D) : Type 0 where
+pub record IsOpenedFrom {D : Type 0} (disk : D → Disk) (old : D) (s : DurableState D) : Type 0 where
   pub saves : Encodes (disk old).seen (disk old).sectors (saved_by disk s)
-  pub only_reads : OnlyReads (disk old) (disk s.durable.beneath)
-  pub failures : (disk s.durable.beneath).failures ≡ (disk old).failures
+  pub only_reads : OnlyReads (disk old) (disk s.beneath)
+  pub failures : (disk s.beneath).failures ≡ (disk old).failures
 
 -- What a crash leaves while an image is upgraded: what saved frames it holds, if any, it could have left before, or
 -- they

@@ -13,9 +13,8 @@ ghost use Rattle.image_writer.specs.Laid.{laid_again};
 ghost use Rattle.image_writer.specs.Written.{IsLeftWriting};
 ghost use Rattle.recovery.specs.Denotes.{IsSoundSaved};
 ghost use Rattle.migrator.specs.Opened.{IsUnplanned};
-ghost use Rattle.migrator.specs.Durable.{saved_state, seen_of};
+ghost use Rattle.migrator.specs.Durable.{saved_by};
 ghost use Rattle.model.specs.Frame.{frames_in};
-ghost use Rattle.object_cache.specs.StoreState.{parts_of, saved_by};
 ghost use Rattle.capability.specs.Parts.{frames_of};
 ghost use Rattle.image_builder.specs.Upgraded.{IsLeftUpgrading, IsNotUpgraded, IsOpenedFrom, IsRefusedAsOld};
 ghost use Rattle.image_builder.specs.Upgraded.{ReadsAndCloses, Upgrades, WritesUpgraded, numbered};
@@ -26,12 +25,11 @@ use checkpoint::{OpenFault, OpenRefused};
 use device::Device;
 use image_writer::{lay_out_again, write_saved};
 use layout::{CheckpointHeader, Entry, Version};
-use migrator::{Durable, superblock_of};
+use migrator::{Durable, WholeStore, superblock_of};
 use model::{Cap, Content, ObjectHeader};
-use object_cache::PlainStore;
 use recovery::recover;
 use std::alloc::{AllocError, Global};
-use std::marker::Model;
+use std::marker::{Model, PhantomData};
 
 /// How many sectors a device needs for what the image on another saves, by version 2 of the layout.
 /// It reads the superblock alone.
@@ -77,15 +75,14 @@ fn write_over<D: Device, E: Device>(
     new: &mut E,
 ) -> Result<u64, UpgradeFault>
     requires encoded { (image : Image) × (size : ℕ)
-        × Encodes image size (saved_state (seen_of D.disk saved.now) saved.now.books) }
-    requires sound { let state = saved_state (seen_of D.disk saved.now) saved.now.books in
+        × Encodes image size (saved_by D.disk saved.now) }
+    requires sound { let state = saved_by D.disk saved.now in
         IsSoundSaved state.plan.geometry (kept_of state) }
     requires entries { entries.now ≡ numbered 0 saved.now.books.directory }
     requires contents { length contents.now ≡ length headers.now }
     requires frames { frames_in headers.now contents.now
-        ≡ (saved_state (seen_of D.disk saved.now) saved.now.books).frames }
-    ensures { WritesUpgraded E.disk (saved_state (seen_of D.disk saved.now) saved.now.books) new.old
-        new.new result }
+        ≡ (saved_by D.disk saved.now).frames }
+    ensures { WritesUpgraded E.disk (saved_by D.disk saved.now) new.old new.new result }
 {
     let superblock = lay_out_again(Version::Two, saved.superblock());
     let sectors = new.sectors();
@@ -107,16 +104,17 @@ fn write_over<D: Device, E: Device>(
 
 // Writes what a store has of its device's checkpoint, which is all in memory; answers how many sectors the
 // image has, and gives the store's device back.
-fn write_store<D: Device, E: Device>(
+fn write_store<D: Device, E: Device, S: WholeStore<D>>(
     alloc: Global,
-    store: PlainStore<D>,
+    store: S,
     new: &mut E,
 ) -> (Result<u64, UpgradeFault>, D)
-    requires encoded { (image : Image) × (size : ℕ) × Encodes image size (saved_by D.disk store) }
-    requires sound { IsSoundSaved (saved_by D.disk store).plan.geometry (kept_of (saved_by D.disk store)) }
-    requires frames { frames_of (parts_of D.disk store) ≡ (saved_by D.disk store).frames }
-    ensures writes { WritesUpgraded E.disk (saved_by D.disk store) new.old new.new result.0 }
-    ensures device { result.1 ≡ store.durable.beneath }
+    requires encoded { (image : Image) × (size : ℕ) × Encodes image size (saved_by D.disk (S.durable store)) }
+    requires sound { let state = saved_by D.disk (S.durable store) in
+        IsSoundSaved state.plan.geometry (kept_of state) }
+    requires frames { frames_of (S.parts store) ≡ (saved_by D.disk (S.durable store)).frames }
+    ensures writes { WritesUpgraded E.disk (saved_by D.disk (S.durable store)) new.old new.new result.0 }
+    ensures device { result.1 ≡ (S.durable store).beneath }
 {
     let (saved, objects) = store.into_parts(alloc);
     let Ok(objects) = objects else {
@@ -145,36 +143,38 @@ fn of_old(why: OpenFault) -> UpgradeFault
 /// An old image that was opened and read whole, to be written to a new device by version 2 of the
 /// layout. Nothing has been written to the old device.
 #[derive(Drop)]
-pub struct OldImage<D: Device> {
-    store: PlainStore<D>,
+pub struct OldImage<D: Device, S: WholeStore<D>> {
+    store: S,
+    device: PhantomData<D>,
 }
 
-impl<D: Device> Model for OldImage<D> {
-    ghost use Rattle.object_cache.specs.StoreState.{StoreState};
+impl<D: Device, S: WholeStore<D>> Model for OldImage<D, S> {
+    ghost use Rattle.migrator.specs.Durable.{DurableState};
     ghost use Rattle.image_builder.specs.Upgraded.{IsWhole};
 
-    ghost Value = { StoreState D };
+    ghost Value = { DurableState D };
 
-    ghost view = { λ image. image.store };
+    ghost view = { λ image. S.durable image.store };
 
-    ghost invariant = { λ image. IsWhole D.disk image.store };
+    ghost invariant = { λ image. IsWhole D.disk (S.parts image.store) (S.durable image.store) };
 }
 
-impl<D: ClosableDevice> OldImage<D> {
+impl<D: ClosableDevice, S: WholeStore<D>> OldImage<D, S> {
     /// Opens an old device as a kernel does, and reads its image whole.
     ///
     /// `Old` exactly where a kernel doesn't open the device, with its reason, but for want of
     /// memory, and `NoMemory` where memory ran out; no other fault comes. A refusal closes the
     /// device, which was only read.
-    pub fn open(alloc: Global, old: D) -> Result<OldImage<D>, UpgradeFault>
+    pub fn open(alloc: Global, old: D, setting: S::Setting) -> Result<OldImage<D, S>, UpgradeFault>
         ensures opened { IfOk result (λ image. IsOpenedFrom D.disk old image) }
         ensures refused { IfErr result (λ fault. IsRefusedAsOld D.disk old fault) }
         ensures reads { OnErr result (ReadsAndCloses D.disk D.was_closed old
             (IsErrOf result (UpgradeFault.Old OpenFault.Failed))) }
     {
-        match recover::<D, PlainStore<D>>(alloc, old, ()) {
+        match recover::<D, S>(alloc, old, setting) {
             Ok(live) => Ok(OldImage {
                 store: live.into_store(),
+                device: PhantomData,
             }),
             Err(refused) => {
                 let OpenRefused { fault, device } = refused;
@@ -220,9 +220,10 @@ impl<D: ClosableDevice> OldImage<D> {
 /// Opens an old device as a kernel does, and writes what its image saves over whatever a new one
 /// holds, by version 2 of the layout; answers how many sectors the new image has. Apart from that it
 /// is `upgrade`.
-pub fn upgrade_and_count<D: ClosableDevice, E: Device>(
+pub fn upgrade_and_count<D: ClosableDevice, E: Device, S: WholeStore<D>>(
     alloc: Global,
     old: D,
+    setting: S::Setting,
     new: &mut E,
 ) -> Result<u64, UpgradeFault>
     ensures upgraded { IfOk result (λ total.
@@ -240,7 +241,7 @@ pub fn upgrade_and_count<D: ClosableDevice, E: Device>(
     ensures reads { ReadsAndCloses D.disk D.was_closed old
         (IsErrOf result (UpgradeFault.Old OpenFault.Failed)) }
 {
-    match OldImage::open(alloc, old) {
+    match OldImage::<D, S>::open(alloc, old, setting) {
         Ok(image) => image.write_to(alloc, new),
         Err(fault) => Err(fault),
     }
@@ -260,9 +261,10 @@ pub fn upgrade_and_count<D: ClosableDevice, E: Device>(
 /// nothing that can be opened, as no header is committed; or the new image, whole. This holds after
 /// `Failed` too. The old device is only read: nothing is written to it at any moment. `upgrade`
 /// closes it in the end, and doesn't give it back.
-pub fn upgrade<D: ClosableDevice, E: Device>(
+pub fn upgrade<D: ClosableDevice, E: Device, S: WholeStore<D>>(
     alloc: Global,
     old: D,
+    setting: S::Setting,
     new: &mut E,
 ) -> Result<(), UpgradeFault>
     ensures upgraded { OnOk result (Upgrades (D.disk old) (E.disk new.old) (E.disk new.new)) }
@@ -278,7 +280,7 @@ pub fn upgrade<D: ClosableDevice, E: Device>(
     ensures reads { ReadsAndCloses D.disk D.was_closed old
         (IsErrOf result (UpgradeFault.Old OpenFault.Failed)) }
 {
-    match upgrade_and_count(alloc, old, new) {
+    match upgrade_and_count::<D, E, S>(alloc, old, setting, new) {
         Ok(_total) => Ok(()),
         Err(fault) => Err(fault),
     }

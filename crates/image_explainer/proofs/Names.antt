@@ -5,7 +5,7 @@ pub use Rattle.capability.proofs.References.{not_annex, not_node, not_root}
 pub use Rattle.capability.specs.Parts.{Parts, frames_of}
 pub use Rattle.checkpoint.specs.Opened.{OnlyReads, Refuses}
 pub use Rattle.checkpoint.specs.Saved.{Holds, SavedFrames}
-pub use Rattle.checkpoint.specs.Store.{OpensStore}
+pub use Rattle.checkpoint.specs.Store.{OpensStore, View}
 pub use Rattle.device.proofs.Images.{agrees_is}
 pub use Rattle.device.proofs.Moments.{CountsNow}
 pub use Rattle.device.specs.Calls.{Agrees, AreSectors}
@@ -47,7 +47,6 @@ pub use Rattle.model.specs.declared.frame.ObjectHeader.{ObjectHeader}
 pub use Rattle.model.specs.declared.geometry.Geometry.{Geometry}
 pub use Rattle.model.specs.declared.object.Content.{Content}
 pub use Rattle.model.specs.declared.object.ContentRef.{ContentRef}
-pub use Rattle.object_cache.specs.StoreState.{StoreState, parts_of, view_of}
 pub use Rattle.recovery.proofs.BankFaults.{refuted}
 pub use Rattle.recovery.proofs.Denoted.{holds_one}
 pub use Rattle.recovery.proofs.Looking.{HasLooked}

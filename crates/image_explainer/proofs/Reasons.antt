@@ -1,12 +1,13 @@
 -- Faults as reasons to refuse an image.
-use Rattle.image_explainer.proofs.Names.{arith, nat_tests, ℕ, List, Option, None, Some, Ok, inl, inr, ⊎_elim, refl, sym, ap, subst, Frame, AreKeepable, Disk}
-use Rattle.image_explainer.proofs.Names.{Image, BadImage, OpenFault, OnlyReads, Holds, SavedFrames, IsInconsistent, frames_of, consistent_is_sound, OpensStore}
-use Rattle.image_explainer.proofs.Names.{StoreState, parts_of, view_of, saved_of, holds_one, frames_not_bad, SectorFault, IsFault, ImageFault, BreaksFrames}
+use Rattle.image_explainer.proofs.Names.{arith, nat_tests, ℕ, List, Option, None, Some, Ok, Err, inl, inr, ⊎_elim, refl, sym, ap, subst, Frame, AreKeepable}
+use Rattle.image_explainer.proofs.Names.{Disk, Image, BadImage, OpenFault, OnlyReads, Holds, SavedFrames, IsInconsistent, frames_of, consistent_is_sound}
+use Rattle.image_explainer.proofs.Names.{OpensStore, Parts, View, saved_of, holds_one, frames_not_bad, SectorFault, IsFault, ImageFault, BreaksFrames}
 use Rattle.image_explainer.proofs.Names.{reason_of, AreBadForOneReason, Explains, IsExplainedBy, IsConsistentOr}
 use Rattle.std.proofs.Common.{◌≡◌, ◌≤◌, ◌^◌, ◌∙◌}
 use Rattle.std.specs.Prelude.{Result}
 use Rattle.image_explainer.proofs.OneReason.{one_reason as one_sector_reason}
 use Rattle.image_explainer.specs.declared.fault.ImageFault.TheVariants as fault
+use Rattle.layout.specs.declared.open_fault.OpenFault.TheVariants as opening
 
 -- frames with a fault are inconsistent for its reason
 inconsistent : (fs : List Frame) (f : ImageFault) → BreaksFrames fs f → IsInconsistent fs (reason_of f)
@@ -50,22 +51,29 @@ explained_found size c saved None holds is = (
 explained_found size c saved (Some f) holds is = explained_frames size c saved f holds is
 
 -- a store that was made of a device, and the device beneath it after a read
-module _ {D : Type 0} (disk : D → Disk) (device back : D) (s : StoreState D) (opens : OpensStore disk device (parts_of disk s) (view_of disk s))
-    (same : back ≡ s.durable.beneath) where
+module _ {D : Type 0} (disk : D → Disk) (device back : D) (parts : Parts) (view : View D) (opens : OpensStore disk device parts view)
+    (same : back ≡ view.beneath) where
   looked : OnlyReads (disk device) (disk back)
   looked = subst (λ (d : D). OnlyReads (disk device) (disk d)) (sym same) opens.only_reads
 
   unfailed : (disk back).failures ≡ (disk device).failures
   unfailed = ap (λ (d : D). (disk d).failures) same ∙ opens.failures
 
-  pub explains_found : (found : Option ImageFault) → IsConsistentOr (frames_of (parts_of disk s)) found →
+  pub explains_found : (found : Option ImageFault) → IsConsistentOr (frames_of parts) found →
       (let r : Result (Option ImageFault) OpenFault = Ok found in Explains disk device back r)
   explains_found found is =
-      let saved = (view_of disk s).snapshots.saved in (
+      let saved = view.snapshots.saved in (
         explained_found (disk device).sectors (disk device).seen saved found opens.holds (subst (λ (fs : List Frame). IsConsistentOr fs found) opens.frames is),
         looked,
         unfailed,
       )
+
+  -- a refusal that isn't the device's
+  pub explains_refused : (why : OpenFault) → (why ≡ opening.Failed → ⊥) → ((reason : BadImage) → why ≡ opening.Bad reason → ⊥) →
+      (let r : Result (Option ImageFault) OpenFault = Err why in Explains disk device back r)
+  explains_refused opening.Failed other good = absurd (other refl)
+  explains_refused opening.NoMemory other good = (record { is_why = unfailed; only_reads = looked }, tt)
+  explains_refused (opening.Bad reason) other good = absurd (good reason refl)
 
 -- frames are inconsistent for one reason
 one_inconsistency : (fs : List Frame) (a b : BadImage) → IsInconsistent fs a → IsInconsistent fs b → a ≡ b

@@ -6,7 +6,6 @@ ghost use Rattle.layout.specs.Fault.{CountsOpen};
 ghost use Rattle.checkpoint.specs.Opened.{Refuses};
 ghost use Rattle.layout.specs.Calls.{ReadsOnly};
 ghost use Rattle.image_explainer.specs.SectorBreaking.{IsFault};
-ghost use Rattle.object_cache.specs.StoreState.{parts_of, view_of};
 ghost use Rattle.checkpoint.specs.Store.{OpensStore};
 ghost use Rattle.kernel.specs.Opening.{IsNoReason};
 ghost use Rattle.image_explainer.specs.Explained.{Explains};
@@ -17,17 +16,17 @@ use crate::{SectorFault, find_in_sectors};
 use checkpoint::{ObjectStore, OpenFault};
 use device::{Device, SECTOR_SIZE};
 use layout::{Entry, MAX_LOG, Scratch};
-use object_cache::PlainStore;
+use migrator::WholeStore;
 use std::alloc::{AllocError, Global};
 use std::ops::ControlFlow;
 
 // What is wrong with the objects of a store that was made of a device, and the device beneath.
-fn explain_objects<D: Device>(
+fn explain_objects<D: Device, S: WholeStore<D>>(
     alloc: Global,
-    store: PlainStore<D>,
+    store: S,
 ) -> (Result<Option<ImageFault>, OpenFault>, D)
-    requires { (device : D) × OpensStore D.disk device (parts_of D.disk store) (view_of D.disk store) }
-    ensures { (device : D) → OpensStore D.disk device (parts_of D.disk store) (view_of D.disk store)
+    requires { (device : D) × OpensStore D.disk device (S.parts store) (S.view store) }
+    ensures { (device : D) → OpensStore D.disk device (S.parts store) (S.view store)
         → Explains D.disk device result.1 result.0 }
 {
     let mut store = store;
@@ -115,10 +114,14 @@ fn explain_sectors<D: Device>(
 ///
 /// The device is given back, and nothing was written to it, at no moment. `Failed` exactly if the device failed, and
 /// `NoMemory` if memory ran out; never `Bad`.
-pub fn explain<D: Device>(alloc: Global, device: D) -> (Result<Option<ImageFault>, OpenFault>, D)
+pub fn explain<D: Device, S: WholeStore<D>>(
+    alloc: Global,
+    device: D,
+    setting: S::Setting,
+) -> (Result<Option<ImageFault>, OpenFault>, D)
     ensures { Explains D.disk device result.1 result.0 }
 {
-    match PlainStore::<D>::open(alloc, device, (), &mut None) {
+    match S::open(alloc, device, setting, &mut None) {
         Ok(store) => explain_objects(alloc, store),
         Err(refused) => match refused.fault {
             OpenFault::Bad(_) => explain_sectors(alloc, refused.device),

@@ -1,7 +1,6 @@
 -- The outcome of the command that draws.
-use Rattle.jobs.proofs.Names.{Written, List, Result, Ok, Err, sym, subst, arith, Geometry, Object, object_count, Disk, Description, HasNumbers}
-use Rattle.jobs.proofs.Names.{AreSoundObjects, Focus, Fault, Whole, DrawsImage, DrawsPart, IsHeldTo, KeepsPart, KeepsReached, OfWhole, DescribesSaved}
-use Rattle.jobs.proofs.Names.{HoldsOfSaved}
+use Rattle.jobs.proofs.Names.{Written, List, Result, Ok, Err, sym, subst, arith, Geometry, Object, object_count, Disk, Description, HasNumbers, AreSoundObjects}
+use Rattle.jobs.proofs.Names.{Focus, Fault, Whole, DrawsImage, DrawsPart, IsHeldTo, KeepsPart, KeepsReached, OfWhole, DescribesSaved, HoldsOfSaved}
 use Rattle.std.proofs.Common.{◌≡◌, ◌<◌, ◌^◌}
 use Rattle.layout.specs.declared.open_fault.OpenFault.TheVariants as opening
 use Rattle.jobs.specs.declared.fault.Fault.TheVariants as fault

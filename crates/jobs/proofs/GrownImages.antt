@@ -1,6 +1,6 @@
 -- What a description for other sizes is built as.
-use Rattle.jobs.proofs.Names.{Written, ℕ, List, Result, Ok, Err, map, sym, ap, subst, arith, Wrote, nat_tests, same_Some, Members, Frame, Geometry}
-use Rattle.jobs.proofs.Names.{Object, IsSoundFrames, world_at, Saved, IsSound, World, Disk, Holds, SavedFrames, NumberRange, MayBeLaid, numbers_of, first_saved}
+use Rattle.jobs.proofs.Names.{Written, ℕ, List, Result, Ok, Err, map, sym, ap, subst, arith, Wrote, nat_tests, same_Some, Members, Frame, Geometry, Object}
+use Rattle.jobs.proofs.Names.{IsSoundFrames, world_at, Saved, IsSound, World, Disk, Holds, SavedFrames, NumberRange, MayBeLaid, numbers_of, first_saved}
 use Rattle.jobs.proofs.Names.{may_be_laid, Description, IsDescription, IsSame, description_once, HasFields, described_once, GrowthFault, Sizes, Describes}
 use Rattle.jobs.proofs.Names.{plain_frames, IsGrown, IsNotRenumbered, grown_geometry, grown_ranges, CanBeSpelled, brief_grown, fields_grown, not_suited}
 use Rattle.jobs.proofs.Names.{grown_is_described, grown_to_itself, grown_spelled, objects_plain, same_described, WroteFront, Fault, IsGrownFrom}

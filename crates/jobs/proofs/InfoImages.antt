@@ -1,13 +1,13 @@
 -- The lines about what a store has, and those about what its device saves.
 use Rattle.jobs.proofs.Names.{Bool, ℕ, List, [], length, map, cond, refl, sym, ap, subst, arith, Vec, count_by, fold, Global, Disk, SavedState, kept_of, Live}
-use Rattle.jobs.proofs.Names.{saved_of, Recovers, AllObjects, StoreState, AreObjectsOf, parts_of, saved_by, view_of, InfoLine, Cap, Frame, ObjectHeader}
-use Rattle.jobs.proofs.Names.{Content, Object, Role, conveyed, frames_in, headers, object_of, objects_of, world_at, map_content, Plan, Checkpoint, InfoOf}
-use Rattle.jobs.proofs.Names.{has_role, info_lines, lines_over, lines_with, objects_with}
+use Rattle.jobs.proofs.Names.{saved_of, Recovers, AllObjects, AreObjectsOf, IsOver, DurableState, Parts, View, frames_of, saved_by, InfoLine, Cap, Frame}
+use Rattle.jobs.proofs.Names.{ObjectHeader, Content, Object, Role, conveyed, frames_in, headers, object_of, objects_of, world_at, map_content, Plan, Checkpoint}
+use Rattle.jobs.proofs.Names.{InfoOf, has_role, info_lines, lines_over, lines_with, objects_with}
 use Rattle.std.proofs.Common.{◌≡◌, ◌+◌, ◌∷◌, ◌∙◌}
 use Rattle.std.specs.Prelude.{IfOk, Ok, Result}
 use Rattle.model.specs.declared.object.Content.TheVariants as content
 use Rattle.model.specs.declared.object.Role.TheVariants as role
-use Rattle.jobs.proofs.DescribedImages.{encodes, looked, sound}
+use Rattle.jobs.proofs.DescribedImages.{encodes, failures_are, frames_are, looked, sound}
 
 module _ (hs : List ObjectHeader) (r : Role) where
   same_role : (c : Content Cap) → has_role r (map_content (conveyed hs) c) ≡ has_role r c
@@ -55,9 +55,9 @@ lines_saved p reported s hs cs ds plan generation age entries contents whole fra
     (λ r. sym (role_counted hs cs s.header.age r whole) ∙ ap (λ (fs : List Frame). objects_with r (world_at s.header.age fs)) frames)
 
 -- objects that were taken out of a store
-pub objects_found : {D E : Type 0} (s : StoreState D) (found : Result AllObjects E) (os : AllObjects) → found ≡ Ok os →
-    IfOk found (λ (o : AllObjects). AreObjectsOf s o) → AreObjectsOf s os
-objects_found {D} {E} s found os is each = subst (λ (r : Result AllObjects E). IfOk r (λ (o : AllObjects). AreObjectsOf s o)) is each
+pub objects_found : {E : Type 0} (p : Parts) (found : Result AllObjects E) (os : AllObjects) → found ≡ Ok os →
+    IfOk found (λ (o : AllObjects). AreObjectsOf p o) → AreObjectsOf p os
+objects_found {E} p found os is each = subst (λ (r : Result AllObjects E). IfOk r (λ (o : AllObjects). AreObjectsOf p o)) is each
 
 -- lines that were found
 pub lines_found : {E : Type 0} (found : Result (Vec InfoLine Global) E) (lines : Vec InfoLine Global) (are : List InfoLine) → found ≡ Ok lines →
@@ -65,15 +65,19 @@ pub lines_found : {E : Type 0} (found : Result (Vec InfoLine Global) E) (lines :
 lines_found {E} found lines are is each = subst (λ (r : Result (Vec InfoLine Global) E). IfOk r (λ v. v.items ≡ are)) is each
 
 -- what is reported of a store that was made of a device
-module _ {D : Type 0} (disk : D → Disk) (seen_left : (d : D) → (disk d).may_leave (disk d).seen) (device : D) (l : Live (StoreState D))
-    (wakes : Recovers disk (view_of disk) (parts_of disk) device l) where
-  pub informed : (back : D) → back ≡ l.store.durable.beneath → (lines : List InfoLine) →
-      lines ≡ info_lines (saved_by disk l.store).plan (saved_of (kept_of (saved_by disk l.store))) → InfoOf disk device back lines
+module _ {D S : Type 0} (disk : D → Disk) (seen_left : (d : D) → (disk d).may_leave (disk d).seen) (view : S → View D) (parts : S → Parts)
+    (durable : S → DurableState D) (is_over : (s : S) → IsOver disk (view s) (durable s)) (device : D) (l : Live S)
+    (wakes : Recovers disk view parts device l) where
+  pub frames_saved : frames_of (parts l.store) ≡ (saved_by disk (durable l.store)).frames
+  frames_saved = frames_are disk seen_left view parts durable is_over device l wakes
+
+  pub informed : (back : D) → back ≡ (durable l.store).beneath → (lines : List InfoLine) →
+      (let state = saved_by disk (durable l.store) in lines ≡ info_lines state.plan (saved_of (kept_of state))) → InfoOf disk device back lines
   informed back same lines are = record {
-    state = saved_by disk l.store;
-    encodes = encodes disk seen_left device l wakes;
-    sound = sound disk seen_left device l wakes;
+    state = saved_by disk (durable l.store);
+    encodes = encodes disk seen_left view parts durable is_over device l wakes;
+    sound = sound disk seen_left view parts durable is_over device l wakes;
     lines_are = are;
-    failures = ap (λ (d : D). (disk d).failures) same ∙ wakes.failures;
-    only_reads = looked disk seen_left device l wakes back same;
+    failures = failures_are disk seen_left view parts durable is_over device l wakes back same;
+    only_reads = looked disk seen_left view parts durable is_over device l wakes back same;
   }

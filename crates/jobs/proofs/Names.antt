@@ -44,7 +44,9 @@ pub use Rattle.layout.specs.Superblock.{Plan, version_number}
 pub use Rattle.layout.specs.declared.open_fault.OpenFault.{OpenFault}
 pub use Rattle.layout.specs.declared.version.Version.{Version}
 pub use Rattle.layout.specs.declared.version.Version.TheVariants.{Two}
-pub use Rattle.migrator.specs.Durable.{DurableState, saved_state, seen_of, stored_of}
+pub use Rattle.migrator.specs.Durable.{DurableState, saved_by, stored_of}
+pub use Rattle.migrator.specs.WholeStore.{AreObjectsOf, IsOver}
+pub use Rattle.migrator.specs.declared.whole_store.AllObjects.{AllObjects}
 pub use Rattle.model.specs.Frame.{conveyed, headers, object_of}
 unfoldable pub use Rattle.model.specs.Frame.{frames_in, objects_of}
 pub use Rattle.model.specs.Keepable.{IsSoundFrames, world_at}
@@ -61,15 +63,13 @@ pub use Rattle.model.specs.declared.geometry.Geometry.{Geometry}
 pub use Rattle.model.specs.declared.object.Content.{Content}
 pub use Rattle.model.specs.declared.object.Object.{Object}
 pub use Rattle.model.specs.declared.object.Role.{Role}
-pub use Rattle.object_cache.specs.StoreState.{AreObjectsOf, StoreState, parts_of, saved_by, view_of}
-pub use Rattle.object_cache.specs.declared.all_objects.AllObjects.{AllObjects}
 pub use Rattle.reach.proofs.Members.{processes_known}
 unfoldable pub use Rattle.reach.specs.ChainLines.{chain_text}
 unfoldable pub use Rattle.reach.specs.Lines.{reach_text}
 pub use Rattle.reach.specs.Reached.{AreSoundObjects}
 pub use Rattle.recovery.proofs.Unsound.{sound_banked, sound_named}
 pub use Rattle.recovery.specs.Denotes.{saved_of}
-pub use Rattle.recovery.specs.Recovered.{Recovers}
+pub use Rattle.recovery.specs.Recovered.{Recovers, RefusesToOpen}
 pub use Rattle.recovery.specs.declared.live.Live.{Live}
 pub use Rattle.runs.specs.KernelRuns.{AreSeen}
 pub use Rattle.runs.specs.Reader.{failed_reads, left_to_read}

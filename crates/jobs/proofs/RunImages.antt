@@ -1,6 +1,6 @@
 -- The outcomes of the commands that open an image.
-use Rattle.jobs.proofs.Names.{Written, ℕ, List, Ok, Err, sym, ap, subst, Wrote, Running, Saved, line_of, Disk, Parts, Checkpoint, OnlyReads, View}
-use Rattle.jobs.proofs.Names.{Power, Opens, IsDeviceOf, IsReported, WroteFront, ChecksImage, checked_text}
+use Rattle.jobs.proofs.Names.{Written, ℕ, List, Ok, Err, sym, ap, subst, Wrote, Running, Saved, line_of, Disk, Parts, Checkpoint, OnlyReads, View, Power, Opens}
+use Rattle.jobs.proofs.Names.{IsDeviceOf, IsReported, WroteFront, ChecksImage, checked_text}
 use Rattle.std.proofs.Common.{◌≡◌, ◌∙◌}
 use Rattle.std.specs.Prelude.{Some}
 use Rattle.kernel.specs.Power as power

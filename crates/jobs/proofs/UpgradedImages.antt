@@ -1,6 +1,6 @@
 -- The outcome of the command that upgrades.
-use Rattle.jobs.proofs.Names.{Written, ℕ, Ok, Err, refl, ap, arith, subst, sym, IfErr, IsErrOf, OnErr, OnOk, Wrote, line_of, Disk, Two}
-use Rattle.jobs.proofs.Names.{laid_again, UpgradeFault, IsRefusedAsOld, ReadsAndCloses, Upgrades, WroteFront, Fault, UpgradesImage, old_failed, upgraded_text}
+use Rattle.jobs.proofs.Names.{Written, ℕ, Ok, Err, refl, ap, arith, subst, sym, IfErr, IsErrOf, OnErr, OnOk, Wrote, line_of, Disk, Two, laid_again}
+use Rattle.jobs.proofs.Names.{UpgradeFault, IsRefusedAsOld, ReadsAndCloses, Upgrades, WroteFront, Fault, UpgradesImage, old_failed, upgraded_text}
 use Rattle.std.proofs.Common.{◌≡◌, ◌∙◌}
 use Rattle.std.specs.Prelude.{◌↔◌, Result}
 use Rattle.layout.specs.declared.open_fault.OpenFault.TheVariants as opening

@@ -8,7 +8,6 @@ use crate::fault::{Fault, status};
 use checkpoint::{Checkpoint, ObjectStore};
 use device::Device;
 use kernel::Kernel;
-use object_cache::{BoundedCache, Capacity};
 use script::{LineText, Output};
 use std::alloc::Global;
 
@@ -21,16 +20,6 @@ fn checked_line(saved: Checkpoint) -> LineText
     line.named(b"age", saved.age);
     line.named(b"entries", saved.entries);
     line
-}
-
-// The least capacity: the check fetches one object at a time.
-fn least_capacity() -> Capacity
-    ensures { result ≡ 8 }
-{
-    match Capacity::new(8) {
-        Some(capacity) => capacity,
-        None => unreachable!(),
-    }
 }
 
 // Opens a device, reports what checkpoint it holds, and gives it back.
@@ -63,9 +52,10 @@ fn open_and_tell<D: Device, S: ObjectStore<D>, W: Output>(
 /// device isn't opened, and `cannot write output` where the writer fails.
 ///
 /// The device is given back, and nothing was written to it, at no moment.
-pub fn check_image<D: Device, W: Output, V: Output>(
+pub fn check_image<D: Device, S: ObjectStore<D>, W: Output, V: Output>(
     alloc: Global,
     device: D,
+    setting: S::Setting,
     writer: &mut W,
     errors: &mut V,
 ) -> Done<D>
@@ -73,8 +63,7 @@ pub fn check_image<D: Device, W: Output, V: Output>(
         × IsReported outcome (V.written errors.old) (V.written errors.new)
         × ChecksImage D.disk device result.device (W.written writer.old) (W.written writer.new) outcome }
 {
-    let capacity = least_capacity();
-    let (outcome, device) = open_and_tell::<D, BoundedCache<D>, W>(alloc, device, capacity, writer);
+    let (outcome, device) = open_and_tell::<D, S, W>(alloc, device, setting, writer);
     Done {
         status: status(outcome, errors),
         device,

@@ -10,11 +10,11 @@ ghost use Rattle.jobs.specs.Images.{DescribesImage};
 use crate::done::Done;
 use crate::fault::{Fault, status};
 use crate::saved::description_in;
-use checkpoint::{ObjectStore, OpenFault};
+use checkpoint::OpenFault;
 use description::Description;
 use device::Device;
 use image_describer::{GrowthFault, Sizes, grow, text_of};
-use object_cache::PlainStore;
+use migrator::WholeStore;
 use recovery::recover;
 use script::Output;
 use std::alloc::Global;
@@ -70,21 +70,22 @@ fn tell_grown<W: Output>(
 }
 
 // Opens a device, describes all that it saves, renumbered for other sizes, and gives it back.
-fn describe_and_tell<D: Device, W: Output>(
+fn describe_and_tell<D: Device, S: WholeStore<D>, W: Output>(
     alloc: Global,
     device: D,
+    setting: S::Setting,
     sizes: Sizes,
     writer: &mut W,
 ) -> (Result<(), Fault>, D)
     ensures { DescribesImage D.disk sizes device result.1 (W.written writer.old) (W.written writer.new) result.0 }
 {
-    let live = match recover::<D, PlainStore<D>>(alloc, device, ()) {
+    let live = match recover::<D, S>(alloc, device, setting) {
         Ok(live) => live,
         Err(refused) => return (Err(Fault::Open(refused.fault)), refused.device),
     };
     let mut store = live.store;
     let age = store.saved().age;
-    let described = description_in(alloc, &mut store, age);
+    let described = description_in::<D, S>(alloc, &mut store, age);
     let device = store.into_device();
     match described {
         Ok(description) => (tell_grown(alloc, description, sizes, writer), device),
@@ -102,9 +103,10 @@ fn describe_and_tell<D: Device, W: Output>(
 /// - `cannot write output` if the writer fails.
 ///
 /// The device is given back, and nothing was written to it, at no moment.
-pub fn describe_image<D: Device, W: Output, V: Output>(
+pub fn describe_image<D: Device, S: WholeStore<D>, W: Output, V: Output>(
     alloc: Global,
     device: D,
+    setting: S::Setting,
     sizes: Sizes,
     writer: &mut W,
     errors: &mut V,
@@ -113,7 +115,7 @@ pub fn describe_image<D: Device, W: Output, V: Output>(
         × IsReported outcome (V.written errors.old) (V.written errors.new)
         × DescribesImage D.disk sizes device result.device (W.written writer.old) (W.written writer.new) outcome }
 {
-    let (outcome, device) = describe_and_tell(alloc, device, sizes, writer);
+    let (outcome, device) = describe_and_tell::<D, S, W>(alloc, device, setting, sizes, writer);
     Done {
         status: status(outcome, errors),
         device,

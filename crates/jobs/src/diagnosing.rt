@@ -8,6 +8,7 @@ use crate::done::Done;
 use crate::fault::{Fault, status};
 use device::Device;
 use image_explainer::{ImageFault, explain};
+use migrator::WholeStore;
 use script::{LineText, Output};
 use std::alloc::Global;
 
@@ -23,14 +24,15 @@ fn explanation_line(found: Option<ImageFault>) -> LineText
 }
 
 // Opens a device, writes why its image is refused, if it is, and gives the device back.
-fn explain_and_tell<D: Device, W: Output>(
+fn explain_and_tell<D: Device, S: WholeStore<D>, W: Output>(
     alloc: Global,
     device: D,
+    setting: S::Setting,
     writer: &mut W,
 ) -> (Result<Option<ImageFault>, Fault>, D)
     ensures { ExplainsImage D.disk device result.1 (W.written writer.old) (W.written writer.new) result.0 }
 {
-    let (explained, device) = explain(alloc, device);
+    let (explained, device) = explain::<D, S>(alloc, device, setting);
     match explained {
         Ok(found) => match explanation_line(found).write_to(writer) {
             Ok(()) => (Ok(found), device),
@@ -47,9 +49,10 @@ fn explain_and_tell<D: Device, W: Output>(
 /// where the writer fails.
 ///
 /// The device is given back, and nothing was written to it, at no moment.
-pub fn explain_image<D: Device, W: Output, V: Output>(
+pub fn explain_image<D: Device, S: WholeStore<D>, W: Output, V: Output>(
     alloc: Global,
     device: D,
+    setting: S::Setting,
     writer: &mut W,
     errors: &mut V,
 ) -> Done<D>
@@ -57,7 +60,7 @@ pub fn explain_image<D: Device, W: Output, V: Output>(
         × IsReported (without_fault outcome) (V.written errors.old) (V.written errors.new)
         × ExplainsImage D.disk device result.device (W.written writer.old) (W.written writer.new) outcome }
 {
-    let (outcome, device) = explain_and_tell(alloc, device, writer);
+    let (outcome, device) = explain_and_tell::<D, S, W>(alloc, device, setting, writer);
     let status = match outcome {
         Ok(None) => 0,
         Ok(Some(_)) => 1,

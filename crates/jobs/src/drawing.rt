@@ -11,13 +11,13 @@ ghost use Rattle.jobs.specs.Faults.{IsReported, status_of};
 use crate::done::Done;
 use crate::fault::{Fault, status};
 use crate::saved::{Whole, whole_in};
-use checkpoint::{ObjectStore, OpenFault};
+use checkpoint::OpenFault;
 use collections::NumberSet;
 use description::Description;
 use device::Device;
 use image_describer::{draw, has_box, holders, restrict};
+use migrator::WholeStore;
 use model::Object;
-use object_cache::PlainStore;
 use reach::{missing_process, reach};
 use recovery::recover;
 use script::{Output, RunFault};
@@ -132,21 +132,22 @@ fn draw_part<W: Output>(
 }
 
 // Opens a device, draws a part of all that is saved on it, and gives it back.
-fn draw_and_tell<D: Device, W: Output>(
+fn draw_and_tell<D: Device, S: WholeStore<D>, W: Output>(
     alloc: Global,
     device: D,
+    setting: S::Setting,
     focus: Focus,
     writer: &mut W,
 ) -> (Result<(), Fault>, D)
     ensures { DrawsImage D.disk focus device result.1 (W.written writer.old) (W.written writer.new) result.0 }
 {
-    let live = match recover::<D, PlainStore<D>>(alloc, device, ()) {
+    let live = match recover::<D, S>(alloc, device, setting) {
         Ok(live) => live,
         Err(refused) => return (Err(Fault::Open(refused.fault)), refused.device),
     };
     let mut store = live.store;
     let age = store.saved().age;
-    let read = whole_in(alloc, &mut store, age);
+    let read = whole_in::<D, S>(alloc, &mut store, age);
     let device = store.into_device();
     match read {
         Ok(whole) => (draw_part(alloc, whole, focus, writer), device),
@@ -164,9 +165,10 @@ fn draw_and_tell<D: Device, W: Output>(
 /// - `cannot write output` if the writer fails.
 ///
 /// The device is given back, and nothing was written to it, at no moment.
-pub fn draw_image<D: Device, W: Output, V: Output>(
+pub fn draw_image<D: Device, S: WholeStore<D>, W: Output, V: Output>(
     alloc: Global,
     device: D,
+    setting: S::Setting,
     focus: Focus,
     writer: &mut W,
     errors: &mut V,
@@ -175,7 +177,7 @@ pub fn draw_image<D: Device, W: Output, V: Output>(
         × IsReported outcome (V.written errors.old) (V.written errors.new)
         × DrawsImage D.disk focus device result.device (W.written writer.old) (W.written writer.new) outcome }
 {
-    let (outcome, device) = draw_and_tell(alloc, device, focus, writer);
+    let (outcome, device) = draw_and_tell::<D, S, W>(alloc, device, setting, focus, writer);
     Done {
         status: status(outcome, errors),
         device,

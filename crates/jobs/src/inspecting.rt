@@ -3,7 +3,7 @@ ghost use Rattle.std.specs.Prelude.{◌≡◌, IfOk, Result};
 ghost use Rattle.checkpoint.specs.Saved.{kept_of};
 ghost use Rattle.capability.specs.Parts.{frames_of};
 ghost use Rattle.recovery.specs.Denotes.{saved_of};
-ghost use Rattle.object_cache.specs.StoreState.{parts_of, saved_by};
+ghost use Rattle.migrator.specs.Durable.{saved_by};
 ghost use Rattle.jobs.specs.Faults.{IsReported, status_of};
 ghost use Rattle.jobs.specs.Info.{InspectsImage, info_lines};
 
@@ -12,21 +12,21 @@ use crate::fault::{Fault, status};
 use crate::info::{InfoLine, lines_about, print_lines};
 use checkpoint::OpenFault;
 use device::Device;
-use object_cache::PlainStore;
+use migrator::WholeStore;
 use recovery::recover;
 use script::Output;
 use std::alloc::{AllocError, Global};
 
 // The lines about the image of a store that has all its objects as they are saved, and the device
 // beneath. Fails only where memory runs out.
-fn lines_in<D: Device>(
+fn lines_in<D: Device, S: WholeStore<D>>(
     alloc: Global,
-    store: PlainStore<D>,
+    store: S,
 ) -> (Result<Vec<InfoLine>, AllocError>, D)
-    requires { frames_of (parts_of D.disk store) ≡ (saved_by D.disk store).frames }
-    ensures lines { IfOk result.0 (λ lines. lines.items
-        ≡ info_lines (saved_by D.disk store).plan (saved_of (kept_of (saved_by D.disk store)))) }
-    ensures device { result.1 ≡ store.durable.beneath }
+    requires { frames_of (S.parts store) ≡ (saved_by D.disk (S.durable store)).frames }
+    ensures lines { let state = saved_by D.disk (S.durable store) in
+        IfOk result.0 (λ lines. lines.items ≡ info_lines state.plan (saved_of (kept_of state))) }
+    ensures device { result.1 ≡ (S.durable store).beneath }
 {
     let (saved, objects) = store.into_parts(alloc);
     let Ok(objects) = objects else {
@@ -37,18 +37,19 @@ fn lines_in<D: Device>(
 }
 
 // Opens a device, writes the lines about the image that it holds, and gives it back.
-fn inspect_and_tell<D: Device, W: Output>(
+fn inspect_and_tell<D: Device, S: WholeStore<D>, W: Output>(
     alloc: Global,
     device: D,
+    setting: S::Setting,
     writer: &mut W,
 ) -> (Result<(), Fault>, D)
     ensures { InspectsImage D.disk device result.1 (W.written writer.old) (W.written writer.new) result.0 }
 {
-    let live = match recover::<D, PlainStore<D>>(alloc, device, ()) {
+    let live = match recover::<D, S>(alloc, device, setting) {
         Ok(live) => live,
         Err(refused) => return (Err(Fault::Open(refused.fault)), refused.device),
     };
-    let (lines, device) = lines_in(alloc, live.store);
+    let (lines, device) = lines_in::<D, S>(alloc, live.store);
     match lines {
         Ok(lines) => match print_lines(&lines, writer) {
             Ok(()) => (Ok(()), device),
@@ -66,9 +67,10 @@ fn inspect_and_tell<D: Device, W: Output>(
 /// output` where the writer fails.
 ///
 /// The device is given back, and nothing was written to it, at no moment.
-pub fn info_image<D: Device, W: Output, V: Output>(
+pub fn info_image<D: Device, S: WholeStore<D>, W: Output, V: Output>(
     alloc: Global,
     device: D,
+    setting: S::Setting,
     writer: &mut W,
     errors: &mut V,
 ) -> Done<D>
@@ -76,7 +78,7 @@ pub fn info_image<D: Device, W: Output, V: Output>(
         × IsReported outcome (V.written errors.old) (V.written errors.new)
         × InspectsImage D.disk device result.device (W.written writer.old) (W.written writer.new) outcome }
 {
-    let (outcome, device) = inspect_and_tell(alloc, device, writer);
+    let (outcome, device) = inspect_and_tell::<D, S, W>(alloc, device, setting, writer);
     Done {
         status: status(outcome, errors),
         device,

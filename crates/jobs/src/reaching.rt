@@ -10,11 +10,11 @@ ghost use Rattle.jobs.specs.Reaching.{AreProcesses, ReachesImage, TellsReach};
 use crate::done::Done;
 use crate::fault::{Fault, status};
 use crate::saved::objects_of;
-use checkpoint::{ObjectStore, OpenFault};
+use checkpoint::OpenFault;
 use collections::NumberSet;
 use device::Device;
+use migrator::WholeStore;
 use model::Object;
-use object_cache::PlainStore;
 use reach::{Step, missing_process, print_chain, print_reach, reach, shortest_chain};
 use recovery::recover;
 use script::{Output, RunFault};
@@ -107,9 +107,10 @@ fn tell_reach<W: Output>(
 }
 
 // Opens a device, writes what processes can ever change, and gives the device back.
-fn open_and_reach<D: Device, W: Output>(
+fn open_and_reach<D: Device, S: WholeStore<D>, W: Output>(
     alloc: Global,
     device: D,
+    setting: S::Setting,
     processes: &[u64],
     shows: Option<u64>,
     writer: &mut W,
@@ -117,12 +118,12 @@ fn open_and_reach<D: Device, W: Output>(
     ensures { ReachesImage D.disk processes.now shows device result.1 (W.written writer.old) (W.written writer.new)
         result.0 }
 {
-    let live = match recover::<D, PlainStore<D>>(alloc, device, ()) {
+    let live = match recover::<D, S>(alloc, device, setting) {
         Ok(live) => live,
         Err(refused) => return (Err(Fault::Open(refused.fault)), refused.device),
     };
     let mut store = live.store;
-    let read = objects_of(alloc, &mut store);
+    let read = objects_of::<D, S>(alloc, &mut store);
     let device = store.into_device();
     match read {
         Ok(objects) => (
@@ -143,9 +144,10 @@ fn open_and_reach<D: Device, W: Output>(
 /// - `cannot write output` if the writer fails.
 ///
 /// The device is given back, and nothing was written to it at any moment.
-pub fn reach_image<D: Device, W: Output, V: Output>(
+pub fn reach_image<D: Device, S: WholeStore<D>, W: Output, V: Output>(
     alloc: Global,
     device: D,
+    setting: S::Setting,
     processes: &[u64],
     shows: Option<u64>,
     writer: &mut W,
@@ -156,7 +158,9 @@ pub fn reach_image<D: Device, W: Output, V: Output>(
         × ReachesImage D.disk processes.now shows device result.device (W.written writer.old) (W.written writer.new)
         outcome }
 {
-    let (outcome, device) = open_and_reach(alloc, device, processes, shows, writer);
+    let (outcome, device) = open_and_reach::<D, S, W>(
+        alloc, device, setting, processes, shows, writer,
+    );
     Done {
         status: status(outcome, errors),
         device,

@@ -10,6 +10,7 @@ ghost use Rattle.jobs.specs.Images.{UpgradesImage, old_failed, upgraded_text};
 use crate::fault::{Fault, status};
 use device::Device;
 use image_builder::{ClosableDevice, OldImage};
+use migrator::WholeStore;
 use script::{LineText, Output};
 use std::alloc::Global;
 
@@ -30,9 +31,9 @@ fn tell_total<W: Output>(total: u64, writer: &mut W) -> Result<(), Fault>
 }
 
 // Writes what an old image saves to a new device, and reports how many sectors the new image has.
-fn write_and_tell<D: ClosableDevice, E: Device, W: Output>(
+fn write_and_tell<D: ClosableDevice, S: WholeStore<D>, E: Device, W: Output>(
     alloc: Global,
-    image: OldImage<D>,
+    image: OldImage<D, S>,
     new: &mut E,
     writer: &mut W,
 ) -> Result<(), Fault>
@@ -53,9 +54,9 @@ fn write_and_tell<D: ClosableDevice, E: Device, W: Output>(
 
 /// Writes what an old image that was opened saves over a new device by version 2 of the layout, as
 /// `upgrade_image` does, and closes the old device; the lines and the status are the same.
-pub fn upgrade_opened<D: ClosableDevice, E: Device, W: Output, V: Output>(
+pub fn upgrade_opened<D: ClosableDevice, S: WholeStore<D>, E: Device, W: Output, V: Output>(
     alloc: Global,
-    image: OldImage<D>,
+    image: OldImage<D, S>,
     new: &mut E,
     writer: &mut W,
     errors: &mut V,
@@ -82,9 +83,10 @@ pub fn upgrade_opened<D: ClosableDevice, E: Device, W: Output, V: Output>(
 ///
 /// A crash of the new device at any moment leaves the image that was there, as it was; or nothing
 /// that can be opened; or the new image, whole. Nothing is written to the old device at any moment.
-pub fn upgrade_image<D: ClosableDevice, E: Device, W: Output, V: Output>(
+pub fn upgrade_image<D: ClosableDevice, S: WholeStore<D>, E: Device, W: Output, V: Output>(
     alloc: Global,
     old: D,
+    setting: S::Setting,
     new: &mut E,
     writer: &mut W,
     errors: &mut V,
@@ -97,7 +99,7 @@ pub fn upgrade_image<D: ClosableDevice, E: Device, W: Output, V: Output>(
     ensures any_moment { LeavesOnly (E.disk new.old) (E.disk new.new)
         (λ c. IsLeftUpgrading (D.disk old) (E.disk new.old) c) }
 {
-    match OldImage::open(alloc, old) {
+    match OldImage::<D, S>::open(alloc, old, setting) {
         Ok(image) => upgrade_opened(alloc, image, new, writer, errors),
         Err(fault) => status(Err(Fault::Upgrade(fault)), errors),
     }

@@ -1,13 +1,13 @@
 -- The frozen frames become the saved ones.
 use Rattle.migrator.proofs.Names.{nat_tests, IsPlan, ℕ, Bool, cond, Option, Some, None, List, length, refl, sym, ap, subst, arith, replicate, length-replicate}
-use Rattle.migrator.proofs.Names.{Frame, frame_at, IsKeepable, AreKeepable, Image, Disk, Entry, Extent, CheckpointHeader, IsDirectory, IsFrameOf}
-use Rattle.migrator.proofs.Names.{frame_from, IsHeader, frame_in, frame_slot_in, half_sector, count_of, frame_read, frames_read, IsSpelt}
-use Rattle.migrator.proofs.Names.{AreSpelt, Plan, IsApart, IsInside, half_extent, half_within, length_read, read_at, spelt_same, spelt_at, beside_frame_slot}
-use Rattle.migrator.proofs.Names.{places_within, header_sector, place_extent, directory_extent, frames_behind, directories_inside, Place, Nowhere, Whole}
-use Rattle.migrator.proofs.Names.{place_at, slot_of, taken_count, whole_count, entries_of, Put, put_at, put_or, overlaid, slot_bytes, puts_in}
-use Rattle.migrator.proofs.Names.{ArePut, most, Books, IsDurable, frozen_generation, working_generation, committed, generation_after, Stored, saved_state}
-use Rattle.migrator.proofs.Names.{frozen_of, stored_in, IsRunning, IsKept, next_header, puts, on_snapshots, AreComplete, MayAdopt, SavesOnly, SparesKept}
-use Rattle.migrator.proofs.Names.{adopted, SparesFrames, Spares, maps_same, IsSoundOn}
+use Rattle.migrator.proofs.Names.{Frame, frame_at, IsKeepable, AreKeepable, Image, Disk, Entry, Extent, CheckpointHeader, IsDirectory, IsFrameOf, frame_from}
+use Rattle.migrator.proofs.Names.{IsHeader, frame_in, frame_slot_in, half_sector, count_of, frame_read, frames_read, IsSpelt, AreSpelt, Plan, IsApart, IsInside}
+use Rattle.migrator.proofs.Names.{half_extent, half_within, length_read, read_at, spelt_same, spelt_at, beside_frame_slot, places_within, header_sector}
+use Rattle.migrator.proofs.Names.{place_extent, directory_extent, frames_behind, directories_inside, Place, Nowhere, Whole, place_at, slot_of, taken_count}
+use Rattle.migrator.proofs.Names.{whole_count, entries_of, Put, put_at, put_or, overlaid, slot_bytes, puts_in, ArePut, most, Books, IsDurable}
+use Rattle.migrator.proofs.Names.{frozen_generation, working_generation, committed, generation_after, Stored, saved_state, frozen_of, stored_in, IsRunning}
+use Rattle.migrator.proofs.Names.{IsKept, next_header, puts, on_snapshots, AreComplete, MayAdopt, SavesOnly, SparesKept, adopted, SparesFrames, Spares}
+use Rattle.migrator.proofs.Names.{maps_same, IsSoundOn}
 use Rattle.std.proofs.Common.{◌≡◌, ◌+◌, ◌-◌, ◌^◌, ◌<◌, ◌≤◌, ◌∙◌}
 use Rattle.std.specs.Prelude.{◌==◌}
 use Rattle.migrator.proofs.Tables.{all_whole, whole_taken, entries_directory, length_entries, slot_entries, blank_at, blank_table, tally-blank}

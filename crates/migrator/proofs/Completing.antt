@@ -1,14 +1,14 @@
 -- Clusters: those completed before a commit, and one that the device failed to write.
-use Rattle.migrator.proofs.Names.{nat_tests, IsDurable, seen_by, stored_on, frame_at, read_at, place_length, ℕ, Option, Some, None, List, refl, sym, ap, subst}
-use Rattle.migrator.proofs.Names.{arith, Image, Disk, IsTorn, AreKeepable, Entry, Extent, CheckpointHeader, entry_at, half_sector, count_of, IsInside}
+use Rattle.migrator.proofs.Names.{Holds, nat_tests, IsDurable, seen_by, stored_on, frame_at, read_at, place_length, ℕ, Option, Some, None, List, refl, sym, ap}
+use Rattle.migrator.proofs.Names.{subst, arith, Image, Disk, IsTorn, AreKeepable, Entry, Extent, CheckpointHeader, entry_at, half_sector, count_of, IsInside}
 use Rattle.migrator.proofs.Names.{half_extent, found_slot, own_slot, Whole, place_at, slot_of, entries_of, AreComplete, Keeps, Unwritten, mended, IfUnwritten}
 use Rattle.migrator.proofs.Names.{Put, slot_bytes, puts_in, Books, frozen_generation, working_generation, stored_in, frozen_of, next_saved, next_header}
-use Rattle.migrator.proofs.Names.{saved_state, IsKept, LeavesState, MayHaveUnwritten, Holds, LeavesSaved, kept_of, Spares, puts, Touches, SparesPuts, Result}
-use Rattle.migrator.proofs.Names.{[], length, inl, inr, cases_eq, OnOk, OnErr, Elsewhere, image_of, sectors_of, elsewhere_on, OnlyNow, Shape, Packed}
-use Rattle.migrator.proofs.Names.{IsDirectory, home_place, shape_of, bytes_at, sectors_from, shaped_at, slot_in, slot_sector, shape_bytes, Plan, IsPlan}
-use Rattle.migrator.proofs.Names.{IsApart, apart_inside, whole_sectors, IsObject, IsOwn, alone, ranked, begins, place_extent, frames_in_slots}
-use Rattle.migrator.proofs.Names.{halves_within, slots_apart, IsFilled, IsComplete, KeepsOne, HasZerosAt, IsGathered, set, frame_in, frame_from, IsSpelt}
-use Rattle.migrator.proofs.Names.{frame_read, spelt_same, Place, slot_for, IsSpeltIn, Frame, slot_frame, HasUnwritten}
+use Rattle.migrator.proofs.Names.{saved_state, IsKept, LeavesState, MayHaveUnwritten, LeavesSaved, kept_of, Spares, puts, Touches, SparesPuts, Result, []}
+use Rattle.migrator.proofs.Names.{length, inl, inr, cases_eq, OnOk, OnErr, Elsewhere, image_of, sectors_of, elsewhere_on, OnlyNow, Shape, Packed, IsDirectory}
+use Rattle.migrator.proofs.Names.{home_place, shape_of, bytes_at, sectors_from, shaped_at, slot_in, slot_sector, shape_bytes, Plan, IsPlan, IsApart}
+use Rattle.migrator.proofs.Names.{apart_inside, whole_sectors, IsObject, IsOwn, alone, ranked, begins, place_extent, frames_in_slots, halves_within}
+use Rattle.migrator.proofs.Names.{slots_apart, IsFilled, IsComplete, KeepsOne, HasZerosAt, IsGathered, set, frame_in, frame_from, IsSpelt, frame_read}
+use Rattle.migrator.proofs.Names.{spelt_same, Place, slot_for, IsSpeltIn, Frame, slot_frame, HasUnwritten}
 use Rattle.std.proofs.Common.{◌≡◌, ◌*◌, ◌<◌, ◌∙◌, ◌⊎◌, ◌+◌, ◌-◌, ◌≤◌}
 use Rattle.migrator.proofs.Committing.{frozen_fits}
 use Rattle.migrator.proofs.Kept.{GoesOnSeen, goes_spared, puts_same, are_put_same, puts_stay, are_put_on, stored_same, home_stays, readable_stays}
@@ -41,12 +41,7 @@ module _ {old new : Disk} {b : Books} {was now : Option Unwritten} {k : ℕ} (ke
   -- the frozen frames stay in their slots
   frozen_stay : (n s : ℕ) → n < count_of b.plan → place_at b.frozen n ≡ Whole s → slot_bytes after b.plan (frozen_generation b) s n ≡ slot_bytes before b.plan
       (frozen_generation b) s n
-  frozen_stay n s lt is =
-      let entry = found_slot (entries_of b.frozen) n s (slot_entries b.frozen n ∙ ap slot_of is) in
-      subst (λ (m : ℕ). slot_bytes after b.plan (frozen_generation b) s m ≡ slot_bytes before b.plan (frozen_generation b) s m) entry.object_is
-      (subst (λ (t : ℕ). slot_bytes after b.plan (frozen_generation b) t (entry_at (entries_of b.frozen) entry.index).object ≡ slot_bytes before b.plan
-      (frozen_generation b) t (entry_at (entries_of b.frozen) entry.index).object)
-      entry.slot_is (keeps.frames entry.index entry.within))
+  frozen_stay n s lt is = search (arith, found_slot (entries_of b.frozen) n s (slot_entries b.frozen n ∙ ap slot_of is), slot_entries)
 
   pub puts_after : puts_in after b.plan (frozen_generation b) b.frozen ≡ puts_in before b.plan (frozen_generation b) b.frozen
   puts_after = puts_same b.plan (frozen_generation b) (frozen_generation b) b.frozen before after frozen_stay
@@ -310,25 +305,20 @@ keeps_more {p} {generation} {es} {i} {old} {mid} {new} {was} {now} fits is withi
     let low : (entry_at es i).slot < p.geometry.log = (is.each i (record { object = 0; slot = 0 }) within).slot in
     let inside = slots_hold p generation low in
     let half : Extent = record { sector = half_sector p generation; length = 9 * p.geometry.log } in
-    record {
-      touches = touches_on so_far.touches (touches_within inside one.touches);
-      elsewhere = elsewhere_on half.sector half.length (mended old.seen was) mid.seen (mended new.seen now) so_far.elsewhere
-          (elsewhere_within inside one.elsewhere);
-      frames = λ j lt. elim (cases_eq j i) [
-        | inl same ↦ subst (λ (k : ℕ). slot_bytes (mended new.seen now) p generation (entry_at es k).slot (entry_at es k).object ≡ slot_bytes mid.seen p
-            generation (entry_at es k).slot (entry_at es k).object) (sym same) one.own ∙ so_far.frames j lt
-        | inr other ↦ slot_stays generation i fits is within one.elsewhere (entry_at es j).object lt other ∙ so_far.frames j lt
-      ];
-      unwritten = one.unwritten;
-    }
+    search (
+      arith,
+      touches_on so_far.touches (touches_within inside one.touches),
+      elsewhere_on half.sector half.length (mended old.seen was) mid.seen (mended new.seen now) so_far.elsewhere (elsewhere_within inside one.elsewhere),
+      one.unwritten,
+      cases_eq,
+      one,
+      slot_stays,
+    )
 
 -- after the last one
 pub all_complete : (image : Image) (p : Plan) (generation : ℕ) (es : List Entry) → ((i : ℕ) → i < length es → IsComplete image p generation es i) →
     AreComplete image p generation es
-all_complete image p generation es each n s is_n none beside =
-    let first = found_first p es n s beside in
-    subst (λ (slot : ℕ). slot_bytes image p generation slot n ≡ bytes_at image (home_place p n) p n) first.slot_is
-    (each first.index first.within (λ j less same. first.before j less (same ∙ first.home_is)) n is_n (sym first.home_is) none)
+all_complete image p generation es each n s is_n none beside = search (arith, found_first p es n s beside)
 
 -- ---- where nothing is unwritten
 

@@ -1,7 +1,7 @@
 -- The saved frames of a cluster's nodes are put together.
 use Rattle.migrator.proofs.Names.{nat_tests, ℕ, Option, Some, Result, List, length, take, drop, sym, ap, subst, arith, OnOk, drop_at, Image, Disk, Entry, Shape}
-use Rattle.migrator.proofs.Names.{Packed, zeros, home_place, place_length, shape_of, frame_in, frame_slot_in, sector_or, sectors_from, shaped_at}
-use Rattle.migrator.proofs.Names.{slot_in, slot_sector, bytes_at, shape_bytes, Plan, IsPlan, length-zeros, ReadsOnly, WritesAt, IsObject, EndsInZeros, HaveHome}
+use Rattle.migrator.proofs.Names.{Packed, zeros, home_place, place_length, shape_of, frame_in, frame_slot_in, sector_or, sectors_from, shaped_at, slot_in}
+use Rattle.migrator.proofs.Names.{slot_sector, bytes_at, shape_bytes, Plan, IsPlan, length-zeros, ReadsOnly, WritesAt, IsObject, EndsInZeros, HaveHome}
 use Rattle.migrator.proofs.Names.{HoldsHome, IsOwn, alone, ranked, HasZerosAt, IsGathered, IsCopied, Touches}
 use Rattle.std.proofs.Common.{◌≡◌, ◌+◌, ◌-◌, ◌*◌, ◌<◌, ◌++◌, ◌∙◌}
 use Rattle.std.proofs.lemmas.List.{length-append}
@@ -42,19 +42,12 @@ one_more image p generation es number {n} old new few so_far here others = grind
 -- a number that has the home of the first has its rank there
 pub rank_there : {p : Plan} {number n k : ℕ} → IsPlan p → IsObject p.geometry number → shape_of p number ≡ Packed 0 → HaveHome p number n → k < n →
     shape_of p (number + k) ≡ Packed k
-rank_there {p} {number} {k} fits is first have lt =
-    let at = ranked p (number + k) number fits (have.object k lt) is first (have.same k lt) in
-    let rank : number + k - number ≡ k = omega arith in
-    at.2 ∙ ap (λ (r : ℕ). Packed r) rank
+rank_there {p} {number} {n} {k} fits is first have lt = search (arith, ranked p (number + k) number fits (have.object k lt) is first (have.same k lt))
 
 -- once all that have the home are in it, they are gathered
 pub all_in : (image : Image) {p : Plan} (generation : ℕ) (es : List Entry) {number n : ℕ} (cluster : List ℕ) → IsPlan p → IsObject p.geometry number →
     shape_of p number ≡ Packed 0 → HaveHome p number n → AreIn image p generation es number n cluster → IsGathered image p generation es number cluster
-all_in image {p} generation es {number} cluster fits is first have so_far a is_a same =
-    let at = ranked p a number fits is_a is first same in
-    let few = have.all a is_a at.0 same in
-    let one : number + (a - number) ≡ a = omega (arith, at.0) in
-    ap (λ (s : Shape). shape_bytes s cluster) at.2 ∙ so_far (a - number) (omega (arith, few, at.0)) ∙ ap (frame_in image p generation es) one
+all_in image {p} generation es {number} {n} cluster fits is first have so_far a is_a same = search (arith, ranked p a number fits is_a is first same)
 
 -- ---- a home
 

@@ -1,13 +1,12 @@
 -- One object is saved anew: its frame lies in the half of the log that the saved generation used, and it is the one entry of the generation after the next.
 use Rattle.migrator.proofs.Names.{nat_tests, IsIdle, MayReplace, Stays, ℕ, Option, None, List, [], length, get_or, set, refl, sym, ap, subst, arith, option_map}
-use Rattle.migrator.proofs.Names.{get_or_past, get_or_default, Frame, ObjectHeader, Geometry, frame_at, IsKeepable, AreKeptWords, Image, Disk}
-use Rattle.migrator.proofs.Names.{Entry, Extent, IsDirectory, entry_at, IsFrameOf, page_frame_bytes, frame_from, IsHeader, frame_in, frame_slot_in, slot_sector}
-use Rattle.migrator.proofs.Names.{half_sector, sectors_from, shaped_at, bytes_at, count_of, frames_read, AreSpelt, Plan, IsPlan, IsInside}
-use Rattle.migrator.proofs.Names.{half_extent, slot_behind, length_read, read_at, spelt_same, spelt_at, bytes_spelt, Shape, home_place, shape_of, IsShapeFor}
-use Rattle.migrator.proofs.Names.{WritesAt, slot_extent, directory_extent, slots_inside, Put, most, with_words, Books, IsDurable, frozen_generation}
-use Rattle.migrator.proofs.Names.{working_generation, FrozenPuts, Stored, journaled, replaced, stored_in, stored_on, IsKept, replaced_header}
-use Rattle.migrator.proofs.Names.{on_snapshots, first_bytes, first_frame, beside_frame_slot, alone, IsHeaderOf, MayAdopt, SparesKept, adopted, mended}
-use Rattle.migrator.proofs.Names.{MayJournal, directories_inside}
+use Rattle.migrator.proofs.Names.{get_or_past, get_or_default, Frame, ObjectHeader, Geometry, frame_at, IsKeepable, AreKeptWords, Image, Disk, Entry, Extent}
+use Rattle.migrator.proofs.Names.{IsDirectory, entry_at, IsFrameOf, page_frame_bytes, frame_from, IsHeader, frame_in, frame_slot_in, slot_sector, half_sector}
+use Rattle.migrator.proofs.Names.{sectors_from, shaped_at, bytes_at, count_of, frames_read, AreSpelt, Plan, IsPlan, IsInside, half_extent, slot_behind}
+use Rattle.migrator.proofs.Names.{length_read, read_at, spelt_same, spelt_at, bytes_spelt, Shape, home_place, shape_of, IsShapeFor, WritesAt, slot_extent}
+use Rattle.migrator.proofs.Names.{directory_extent, slots_inside, most, with_words, Books, IsDurable, frozen_generation, working_generation, FrozenPuts}
+use Rattle.migrator.proofs.Names.{journaled, replaced, stored_in, stored_on, IsKept, replaced_header, on_snapshots, first_bytes, first_frame, beside_frame_slot}
+use Rattle.migrator.proofs.Names.{alone, IsHeaderOf, MayAdopt, SparesKept, adopted, mended, MayJournal, directories_inside}
 use Rattle.std.proofs.Common.{◌≡◌, ◌+◌, ◌%◌, ◌^◌, ◌<◌, ◌≤◌, ◌∷◌, ◌∙◌}
 use Rattle.std.specs.Prelude.{◌==◌}
 use Rattle.model.specs.declared.object.Content.TheVariants as content
@@ -107,10 +106,14 @@ module _ {old new : Disk} {b : Books} (is : IsDurable old b) (free : b.size ≡ 
       → sectors_from new.seen (slot_sector b.plan b.header.generation 0) 9 ≡ page_frame_bytes (record { header = header; content = content.Page words }) →
       (age : ℕ) → b.header.age ≤ age → IsFrameOf b.plan.geometry age n (first_bytes new.seen b n) (with_words words (frame_at (stored_on old b).saved.frames n))
   spelt_page n {header} {words} page same fits written age le =
-      let keepable = words_keepable page fits
-      (keepable_later b.plan.geometry b.header.age age le (saved_keepable is.kept home (page_known is.kept home page))) in
-      page_spelt b.plan new.seen (slot_sector b.plan b.header.generation 0) keepable.kind.0 keepable
-      (written ∙ ap (λ (h : ObjectHeader). page_frame_bytes (record { header = h; content = content.Page words })) same)
+      search (
+        arith,
+        words_keepable page fits (keepable_later b.plan.geometry b.header.age age le (saved_keepable is.kept home (page_known is.kept home page))),
+        keepable_later,
+        saved_keepable,
+        page_known,
+        page_spelt,
+      )
 
 -- ---- the object of that slot is saved anew
 
@@ -176,14 +179,6 @@ module _ {disk : Disk} {b : Books} {n age : ℕ} (may : MayReplace disk b n age)
 
   spelt_next : AreSpelt disk.seen b.plan age again (one_entry n)
   spelt_next = grind (arith, nat_tests, frame_here, spelt_same, frame_there, kept, spelt_at, keepable_later)
-
-  abbrev stored_as : List Put → Option FrozenPuts → List Frame → Stored
-  stored_as working frozen frames = record {
-    working = working;
-    frozen = frozen;
-    saved = record { geometry = b.plan.geometry; frames = frames; generation = again; entries = 1; age = age };
-    to_move = 1;
-  }
 
   replaced_stored : stored_in disk.seen books ≡ on_snapshots (replaced age n frame) (stored_in disk.seen b)
   replaced_stored = grind (arith, nat_tests, puts_same, slot_same, after_same, parity, none_frozen, frames_next)

@@ -1,10 +1,10 @@
 -- Writes apart from what is kept of a store.
 use Rattle.migrator.proofs.Names.{nat_tests, IsRunning, ℕ, refl, subst, Image, Disk, leaves_weaker, Extent, Encodes, SavedState, Books, saved_state}
-use Rattle.migrator.proofs.Names.{LeavesState, GoesOnDisk, kept_of, Holds, LeavesSaved, Spares, Touches, Option, None, List, set, arith, range_with_len}
-use Rattle.migrator.proofs.Names.{same_lists, length-set, get_or-set_same, get_or-set_other, length-map-range_with_len, get_or-map-range_with_len, Elsewhere}
-use Rattle.migrator.proofs.Names.{entry_at, count_of, Plan, IsPlan, IsApart, spelt_same, home_extent, one_length, Place, Nowhere}
-use Rattle.migrator.proofs.Names.{Whole, place_at, Put, slot_bytes, put_of, puts_in, ArePut, maps_same, SavedFrames, frozen_generation, working_generation}
-use Rattle.migrator.proofs.Names.{FrozenPuts, Stored, stored_in, IsHome, IsKept, SparesFrames, SparesKept, SparesPuts, IsReadable, CheckpointHeader, Entry}
+use Rattle.migrator.proofs.Names.{LeavesState, GoesOnDisk, kept_of, Holds, LeavesSaved, Spares, Touches, None, List, set, arith, range_with_len, same_lists}
+use Rattle.migrator.proofs.Names.{length-set, get_or-set_same, get_or-set_other, length-map-range_with_len, get_or-map-range_with_len, Elsewhere, entry_at}
+use Rattle.migrator.proofs.Names.{count_of, Plan, IsPlan, IsApart, spelt_same, home_extent, one_length, Place, Nowhere, Whole, place_at, slot_bytes, put_of}
+use Rattle.migrator.proofs.Names.{puts_in, ArePut, maps_same, frozen_generation, working_generation, stored_in, IsHome, IsKept, SparesFrames, SparesKept}
+use Rattle.migrator.proofs.Names.{SparesPuts, IsReadable, CheckpointHeader, Entry}
 use Rattle.std.specs.Prelude.{map}
 use Rattle.std.proofs.Common.{◌≡◌, ◌<◌}
 use Rattle.migrator.proofs.PlacesApart.{mended_disk, sound_spared, moments_spared, frame_stays, state_stays, bytes_stay}
@@ -73,9 +73,6 @@ module _ (p : Plan) (generation : ℕ) (ps : List Place) {e : Extent} {old new :
   are_put_on are = are_put_same slot_stays are
 
 -- ---- all of it
-
-abbrev stored_of : List Put → Option FrozenPuts → SavedFrames → ℕ → Stored
-stored_of working frozen saved to_move = record { working = working; frozen = frozen; saved = saved; to_move = to_move }
 
 pub stored_same : (new old : Image) (b : Books) → puts_in new b.plan (working_generation b) b.working ≡ puts_in old b.plan (working_generation b) b.working
     → puts_in new b.plan (frozen_generation b) b.frozen ≡ puts_in old b.plan (frozen_generation b) b.frozen → saved_state new b ≡ saved_state old b →

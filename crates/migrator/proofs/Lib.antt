@@ -6,8 +6,6 @@ mod Gathering
 mod Completing
 pub mod Publishing
 pub mod Putting
-mod Freezing
-mod Tearing
 mod PutFrames
 mod Committing
 pub mod Moving

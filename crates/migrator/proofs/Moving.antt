@@ -1,11 +1,11 @@
 -- Saved frames go home.
 use Rattle.migrator.proofs.Names.{nat_tests, ℕ, Option, Some, None, List, length, refl, sym, ap, subst, arith, Image, Disk, LeavesOnly, leaves_on, entry_at}
 use Rattle.migrator.proofs.Names.{count_of, Plan, IsPlan, apart_turned, own_slot, home_place, place_length, places_apart, MovedBy, home_extent, place_extent}
-use Rattle.migrator.proofs.Names.{Place, slot_of, IsTable, taken_count, IsCopied, IsFirst, SavedFrames, Holds, Books, IsDurable}
-use Rattle.migrator.proofs.Names.{seen_by, Stored, GoesOnDisk, stored_in, stored_on, IsHome, IsRunning, IsKept, Spares, Touches, SparesPuts}
-use Rattle.migrator.proofs.Names.{SparesKept, Unwritten, mended, is_err, Migrates, Publishes, ⊎_elim, all_moved, IsSoundOn, IsLesser, on_snapshots, Result, Ok}
-use Rattle.migrator.proofs.Names.{Err, IsErr, Counts, MayFinish, [], Frame, CheckpointHeader, IsDirectory, IsHeader, frame_in, frame_slot_in, AreSpelt}
-use Rattle.migrator.proofs.Names.{half_within, read_same, spelt_same, frame_slot_entry, directory_extent, home_header, MayAdopt, adopted}
+use Rattle.migrator.proofs.Names.{Place, slot_of, IsTable, taken_count, IsCopied, IsFirst, SavedFrames, Holds, Books, IsDurable, seen_by, Stored, GoesOnDisk}
+use Rattle.migrator.proofs.Names.{stored_in, stored_on, IsHome, IsRunning, IsKept, Spares, Touches, SparesPuts, SparesKept, Unwritten, mended, is_err, Migrates}
+use Rattle.migrator.proofs.Names.{Publishes, ⊎_elim, all_moved, IsSoundOn, IsLesser, on_snapshots, Result, Ok, Err, IsErr, Counts, MayFinish, []}
+use Rattle.migrator.proofs.Names.{CheckpointHeader, IsDirectory, IsHeader, frame_in, frame_slot_in, AreSpelt, half_within, read_same, spelt_same}
+use Rattle.migrator.proofs.Names.{frame_slot_entry, directory_extent, home_header, MayAdopt, adopted}
 use Rattle.std.proofs.Common.{◌≡◌, ◌+◌, ◌-◌, ◌<◌, ◌≤◌, ◌∙◌, ◌⊎◌}
 use Rattle.migrator.proofs.PlacesApart.{frame_stays, mended_disk, touches_mended, place_inside, home_apart, spares_home, at_home}
 use Rattle.migrator.proofs.Kept.{nowhere_frozen, stored_stays, kept_on, goes_seen, goes_spared}
@@ -153,9 +153,6 @@ next_low so_far few lt = subst (λ (x : Books). x.moved < x.header.entries) (sym
 
 -- ---- a migration
 
-abbrev stored_with : Stored → SavedFrames → ℕ → Stored
-stored_with s saved to_move = record { working = s.working; frozen = s.frozen; saved = saved; to_move = to_move }
-
 move_left : {entries m count some : ℕ} → m ≤ entries → IsLesser some count (entries - m) → entries - (m + some) ≡ entries - m - count
 move_left few lesser = ⊎_elim (λ e. omega (arith, e, few)) (λ e. omega (arith, e, few, lesser.0)) lesser.2
 
@@ -227,14 +224,6 @@ module _ {disk : Disk} {b : Books} (may : MayFinish disk b) where
 
   apart : Spares b.plan b.header b.directory (directory_extent b.plan b.header.generation 0)
   apart = grind (arith, nat_tests, half_within, kept, directory_spares)
-
-  abbrev stored_as : List Frame → ℕ → Stored
-  stored_as frames to_move = record
-      (stored_in disk.seen b) {
-        saved =
-            record { geometry = b.plan.geometry; frames = frames; generation = b.header.generation; entries = 0; age = b.header.age };
-        to_move = to_move;
-      }
 
   home_stored : stored_in disk.seen (with_header b header []) ≡ on_snapshots all_moved (stored_in disk.seen b)
   home_stored = grind (arith, nat_tests, read_same, same_frame)

@@ -40,12 +40,11 @@ unfoldable pub use Rattle.layout.specs.Frame.{page_frame_bytes}
 unfoldable pub use Rattle.layout.specs.FrameReader.{frame_from, header_from}
 pub use Rattle.layout.specs.Frames.{IsHeaderAt, IsObject, IsRefused}
 pub use Rattle.layout.specs.Header.{IsHeader}
-pub use Rattle.layout.specs.Homes.{home_place, place_length, range_with, rank_in, shape_of}
+pub use Rattle.layout.specs.Homes.{home_place, place_length, shape_of}
 pub use Rattle.layout.specs.Image.{Encodes, HasDirectory, HasHeader, HasPlan, IsTooSmall, SavedState, bytes_at, directory_in, directory_length}
-pub use Rattle.layout.specs.Image.{directory_sector, frame_in, frame_sector, frame_slot_in, half_sector, sector_or, shaped_at, slot_beside, slot_in}
-pub use Rattle.layout.specs.Image.{slot_sector, total_in}
+pub use Rattle.layout.specs.Image.{directory_sector, frame_in, frame_slot_in, half_sector, sector_or, shaped_at, slot_beside, slot_in, slot_sector, total_in}
 unfoldable pub use Rattle.layout.specs.Image.{sectors_from}
-pub use Rattle.layout.specs.Shape.{IsShapeFor, node_shape, shape_bytes, shape_length}
+pub use Rattle.layout.specs.Shape.{IsShapeFor, shape_bytes, shape_length}
 pub use Rattle.layout.specs.Spelt.{AreSpelt, IsSpelt, count_of, frame_read, state_in}
 unfoldable pub use Rattle.layout.specs.Spelt.{frames_read}
 pub use Rattle.layout.specs.Superblock.{IsApart, IsInside, IsPlan, Plan, half_extent, half_start}
@@ -58,7 +57,7 @@ pub use Rattle.layout.specs.declared.header.CheckpointHeader.{CheckpointHeader}
 pub use Rattle.layout.specs.declared.open_fault.OpenFault.{OpenFault}
 pub use Rattle.layout.specs.declared.shape.Shape.{Shape}
 pub use Rattle.layout.specs.declared.shape.Shape.TheVariants.{Node, Packed, Page}
-pub use Rattle.model.specs.Frame.{blank_frame, content_behind, frame_at}
+pub use Rattle.model.specs.Frame.{content_behind, frame_at}
 pub use Rattle.model.specs.Keepable.{AreKeepable, AreKeptWords, IsKeepable}
 pub use Rattle.model.specs.declared.frame.Frame.{Frame}
 pub use Rattle.model.specs.declared.frame.ObjectHeader.{ObjectHeader}
@@ -72,7 +71,7 @@ pub use Rattle.std.proofs.lemmas.List.{drop_all, drop_at, get_or-replicate, get_
 pub use Rattle.std.proofs.lemmas.List.{length-replicate, length-set, map-set, nil_from_length, same_lists, take_all}
 pub use Rattle.std.proofs.lemmas.List.FromFn.{get_or-map-range_with_len, length-map-range_with_len, map-range_with_len_more}
 pub use Rattle.std.proofs.lemmas.Option.{same_Some}
-pub use Rattle.std.proofs.lemmas.Result.{IfErr-weaker, IfOk-weaker, err_from_is_err_and, on_err_weaker, on_ok_weaker}
+pub use Rattle.std.proofs.lemmas.Result.{IfErr-weaker, IfOk-from_err, IfOk-weaker, err_from_is_err_and, on_err_weaker, on_ok_weaker}
 pub use Rattle.std.specs.List.{range_with_len}
 pub use Rattle.std.specs.Prelude.{IfErr, IsErr, OnErr, OnOk, is_err, option_map, replicate, slice_set}
 pub use Rattle.std.specs.Vec.{vec_capacity}
@@ -81,7 +80,7 @@ pub use Rattle.migrator.specs.Durable.{DurableState, FrozenPuts, GoesOnDisk, Has
 pub use Rattle.migrator.specs.Durable.{IsSoundOn, LeavesState, MayHaveUnwritten, MayJournal, MayPut, Migrates, MovedBy, Publishes, PutsFrame, ReadsStore, Stays}
 pub use Rattle.migrator.specs.Durable.{Stored, Stores, below_at, first_bytes, first_frame, freezing_puts, frozen_generation, frozen_of, frozen_put}
 pub use Rattle.migrator.specs.Durable.{generation_after, home_header, is_sound, left_of, newest, next_header, on_snapshots, puts, replaced_header, saved_state}
-pub use Rattle.migrator.specs.Durable.{seen_by, stored_in, stored_of, stored_on, with_frozen, with_put, with_working, working_generation}
+pub use Rattle.migrator.specs.Durable.{seen_by, stored_in, stored_of, stored_on, with_frozen, with_working, working_generation}
 pub use Rattle.migrator.specs.Gathered.{HasZerosAt, IsCopied, IsFirst, IsGathered}
 pub use Rattle.migrator.specs.Headers.{IsHeaderOf}
 pub use Rattle.migrator.specs.Mended.{IfUnwritten, IsSpeltIn, Unwritten, mended, unwritten_of}

@@ -8,17 +8,17 @@ use Rattle.migrator.proofs.Names.{DurableState, frozen_generation, working_gener
 use Rattle.migrator.proofs.Names.{saved_state, IsKept, ReadsStore, IsDurable, Bool, nat_lt, ObjectHeader, Shape, Node, Packed, Page, frame_length, frame_from}
 use Rattle.migrator.proofs.Names.{header_from, sectors_from, shaped_at, header_is, IsHeaderAt, lt_true, lt_false, IsHeaderOf, Result, append-nil, IfErr}
 use Rattle.migrator.proofs.Names.{BadImage, entry_at, AreRising, IsTooSmall, total_in, slot_in, IsPlan, superblock_bytes, own_slot, rising_to, no_slot}
-use Rattle.migrator.proofs.Names.{total_reported, HasNoPlan, IsUnplanned, take, replicate, length-replicate, length_read, Nowhere}
-use Rattle.migrator.proofs.Names.{Absent, IsSoundOn, IsRead, OpensDurable, OnlyReads, first_books}
+use Rattle.migrator.proofs.Names.{total_reported, HasNoPlan, IsUnplanned, take, replicate, length-replicate, length_read, Nowhere, Absent, IsSoundOn, IsRead}
+use Rattle.migrator.proofs.Names.{OpensDurable, OnlyReads, first_books}
 use Rattle.std.specs.Prelude.{map, if◌then◌else◌}
 use Rattle.std.proofs.Common.{◌≡◌, ◌+◌, ◌<◌, ◌∷◌, ◌++◌, ◌∙◌, ◌≤◌}
 use Rattle.layout.specs.Superblock.{IsRefused as IsPlanRefused}
 use Rattle.migrator.proofs.Putting.{put_is}
 use Rattle.migrator.proofs.Kept.{GoesOnSeen, goes_seen, holds}
-use Rattle.migrator.proofs.PlacesApart.{mended_disk, reads_mended}
+use Rattle.migrator.proofs.PlacesApart.{reads_mended}
 use Rattle.layout.specs.declared.open_fault.OpenFault.TheVariants as refusal
 use Rattle.migrator.proofs.Tables.{blank_at, blank_table, tally-blank}
-use Rattle.migrator.proofs.Freezing.{puts_blank}
+use Rattle.migrator.proofs.Putting.{puts_blank}
 
 -- one read after another
 pub reads_more : {a b c : Disk} → ReadsOnly a b → ReadsOnly b c → ReadsOnly a c
@@ -101,17 +101,11 @@ module _ (old new : Disk) (b : Books) (reads : ReadsOnly old new) where
 
 -- nothing changes in what is stored
 pub read_stays : {old new : Disk} {b : Books} → ReadsOnly old new → IsDurable old b → Stays old new b b
-read_stays {old} {new} {b} reads is =
-    let seen = reads_mended b.unwritten reads in
-    let before : Disk = mended_disk old b.unwritten in
-    let after : Disk = mended_disk new b.unwritten in
-    search (fetched_kept before after b seen is.kept, fetched_stored before after b seen, goes_seen (fetched_goes_on before after b seen))
+read_stays {old} {new} {b} reads is = search (arith, reads_mended b.unwritten reads, fetched_kept, fetched_stored, goes_seen, fetched_goes_on)
 
 pub reads_store : {D : Type 0} {disk : D → Disk} {old now : DurableState D} {back : D} → old ≡ now → IsDurable (disk old.beneath) old.books →
     ReadsOnly (disk old.beneath) (disk back) → ReadsStore disk now (record { beneath = back; books = old.books })
-reads_store {disk} {old} {back = back} same is reads =
-    let stays = read_stays reads is in
-    subst (λ t. ReadsStore disk t (record { beneath = back; books = old.books })) same (search stays)
+reads_store {D} {disk} {old} {now} {back} same is reads = search (arith, read_stays reads is, same)
 
 -- the slot of a whole place is one of the log
 pub whole_low : {image : Image} {p : Plan} {generation : ℕ} {ps : List Place} (n : ℕ) {s : ℕ} {place : Place} → ArePut image p generation ps →

@@ -1,15 +1,15 @@
 -- Frames that lie apart, and writes apart from them.
 use Rattle.migrator.proofs.Names.{ℕ, zero, suc, Bool, true, false, not, nat_eq, Option, Some, None, List, [], length, refl, sym, ap, subst, inl, inr, arith}
-use Rattle.migrator.proofs.Names.{cases_eq, cases_lt, eq-eqb, Entry, Packed, Page, IsDirectory, AreRising, entry_at, home_place, range_with, rank_in, shape_of}
-use Rattle.migrator.proofs.Names.{slot_in, slot_beside, frame_slot_in, count_of, node_shape, Plan, IsPlan, found_slot, own_slot, rising_to, IsOwn, alone}
-use Rattle.migrator.proofs.Names.{lt_false, beside_behind, beside_here, beside_frame_slot, own_frame_slot, same_Some, frame_slot_entry, begins, home_between}
-use Rattle.migrator.proofs.Names.{IsFirst, Image, Extent, CheckpointHeader, place_length, bytes_at, frame_in, slot_sector, half_sector, sector_or, IsApart}
-use Rattle.migrator.proofs.Names.{IsInside, half_extent, itself, apart_inside, apart_turned, within_inside, home_extent, places_within, places_apart}
-use Rattle.migrator.proofs.Names.{places_spare_log, place_extent, directory_extent, slots_inside, frames_in_slots, directories_inside, halves_within}
-use Rattle.migrator.proofs.Names.{halves_apart, HomesAreBehind, slot_bytes, frame_extent, Spares, ⊎_elim, Frame, Disk, Elsewhere, IsTorn, LeavesOnly}
-use Rattle.migrator.proofs.Names.{elsewhere_same, elsewhere_on, leaves_weaker, leaves_on, Encodes, state_in, same_shaped, read_same, ReadsOnly, WritesAt}
-use Rattle.migrator.proofs.Names.{SameFrom, SameWhereRead, same_saved, LeavesState, SparesFrames, Touches, nat_le, nat_lt, nat_tests, image_of, Elapses}
-use Rattle.migrator.proofs.Names.{agrees_is, Geometry, Shape, IsFrameOf, frame_from, shape_bytes, one_frame, most, Unwritten, mended, unwritten_of, IsSpeltIn}
+use Rattle.migrator.proofs.Names.{cases_eq, cases_lt, eq-eqb, Entry, Packed, IsDirectory, AreRising, entry_at, home_place, shape_of, slot_in, slot_beside}
+use Rattle.migrator.proofs.Names.{frame_slot_in, count_of, Plan, IsPlan, found_slot, own_slot, rising_to, IsOwn, alone, lt_false, beside_behind, beside_here}
+use Rattle.migrator.proofs.Names.{beside_frame_slot, own_frame_slot, same_Some, frame_slot_entry, begins, home_between, IsFirst, Image, Extent}
+use Rattle.migrator.proofs.Names.{CheckpointHeader, place_length, bytes_at, frame_in, slot_sector, half_sector, sector_or, IsApart, IsInside, half_extent}
+use Rattle.migrator.proofs.Names.{itself, apart_inside, apart_turned, within_inside, home_extent, places_within, places_apart, places_spare_log, place_extent}
+use Rattle.migrator.proofs.Names.{directory_extent, slots_inside, frames_in_slots, directories_inside, halves_within, halves_apart, HomesAreBehind, slot_bytes}
+use Rattle.migrator.proofs.Names.{frame_extent, Spares, ⊎_elim, Frame, Disk, Elsewhere, IsTorn, LeavesOnly, elsewhere_same, elsewhere_on, leaves_weaker}
+use Rattle.migrator.proofs.Names.{leaves_on, Encodes, state_in, same_shaped, read_same, ReadsOnly, WritesAt, SameFrom, SameWhereRead, same_saved, LeavesState}
+use Rattle.migrator.proofs.Names.{SparesFrames, Touches, nat_le, nat_lt, nat_tests, image_of, Elapses, agrees_is, Geometry, Shape, IsFrameOf, frame_from}
+use Rattle.migrator.proofs.Names.{shape_bytes, one_frame, most, Unwritten, mended, unwritten_of, IsSpeltIn}
 use Rattle.std.proofs.Common.{◌≡◌, ◌-◌, ◌<◌, ◌≤◌, ◌∷◌, ◌∙◌, ◌%◌, ◌+◌}
 use Rattle.std.specs.Prelude.{if◌then◌else◌, ◌&&◌}
 
@@ -74,16 +74,11 @@ some_beside p (e ∷ es) n (suc i) lt is none = elim (cases_eq (home_place p e.o
 -- an object whose frame isn't packed has no slot but its own
 pub alone_beside : {p : Plan} {es : List Entry} {n : ℕ} → IsPlan p → IsDirectory p.geometry es → n < count_of p → IsOwn (shape_of p n) → slot_in es n ≡ None →
     slot_beside p es n ≡ None
-alone_beside {p} {es} {n} fits is lt own none = none_beside p es n (λ i within same.
-    let object = (is.each i (record { object = 0; slot = 0 }) within).object in
-    let one : (entry_at es i).object ≡ n = alone p (entry_at es i).object n fits object lt own same in
-    let never : None ≡ Some (entry_at es i).slot = sym none ∙ ap (slot_in es) (sym one) ∙ own_slot es i is.rising within in
-    cc)
+alone_beside {p} {es} {n} fits is lt own none = search (arith, none_beside, alone, own_slot)
 
 -- as that of a page isn't
 pub page_own : (p : Plan) {n : ℕ} → p.geometry.nodes ≤ n → IsOwn (shape_of p n)
-page_own p {n} le = subst IsOwn
-    (sym (ap (λ (test : Bool). if test then node_shape p.version (rank_in (range_with p.ranges n) n) else Page) (lt_false n p.geometry.nodes le))) tt
+page_own p {n} le = search (arith, lt_false)
 
 -- where there are no entries there is none
 pub no_entries : (p : Plan) (es : List Entry) (n : ℕ) → length es ≡ 0 → frame_slot_in p es n ≡ None
@@ -103,17 +98,16 @@ frame_slots_differ p es n m {t} has none same =
 -- a frame slot is a slot of some entry
 pub frame_slot_fits : (p : Plan) {es : List Entry} (n : ℕ) {s : ℕ} → IsDirectory p.geometry es → frame_slot_in p es n ≡ Some s → s < p.geometry.log
 frame_slot_fits p {es} n {s} is frame_slot =
-    let entry = frame_slot_entry p es n s frame_slot in
-    let one = is.each entry.index (record { object = 0; slot = 0 }) entry.within in
-    omega (arith, one.slot, entry.slot_is)
+    omega (
+      arith,
+      (is.each (frame_slot_entry p es n s frame_slot).index (record { object = 0; slot = 0 }) (frame_slot_entry p es n s frame_slot).within).slot,
+      (frame_slot_entry p es n s frame_slot).slot_is,
+    )
 
 -- ---- the first entry of a home
 
 not_above : (es : List Entry) {a b : ℕ} → AreRising es → a ≤ b → b < length es → (entry_at es a).object ≤ (entry_at es b).object
-not_above es {a} {b} rising le within = elim (cases_lt a b) [
-  | inl less ↦ let one = rising_to es a b rising less within in omega (arith, one)
-  | inr ge ↦ let one : a ≡ b = omega (arith, le, ge) in subst (λ (k : ℕ). (entry_at es a).object ≤ (entry_at es k).object) one (omega arith)
-]
+not_above es {a} {b} rising le within = search (arith, cases_lt, rising_to)
 
 pub not_same : {a b : ℕ} → not (nat_eq a b) ≡ true → a ≡ b → ⊥
 not_same {a} {b} differs same = let never : false ≡ true = ap not (sym (eq-eqb a b same)) ∙ differs in cc
@@ -138,10 +132,7 @@ module _ (p : Plan) (es : List Entry) (n rank at : ℕ) (fits : IsPlan p) (is : 
   object i within = (is.each i (record { object = 0; slot = 0 }) within).object
 
   none_below : (i : ℕ) → i < length es → i < at → home_place p (entry_at es i).object ≡ home_place p n → ⊥
-  none_below i within less same =
-      let least = (begins p n rank fits lt shape).least (entry_at es i).object (object i within) same in
-      let under = below i less in
-      omega (arith, least, under)
+  none_below i within less same = omega (arith, ((begins p n rank fits lt shape).least (entry_at es i).object (object i within) same), (below i less))
 
   -- the entry there has the home, or none has
   pub found_there : at < length es → home_place p (entry_at es at).object ≡ home_place p n → slot_beside p es n ≡ Some (entry_at es at).slot
@@ -173,9 +164,6 @@ pub at_home : (image : Image) (p : Plan) (generation : ℕ) (es : List Entry) (n
     frame_in image p generation es n ≡ bytes_at image (home_place p n) p n
 at_home image p generation es n is = rw is
 
-abbrev extent_of : ℕ → ℕ → Extent
-extent_of sector length = record { sector = sector; length = length }
-
 apart_by : (o : Option ℕ) (p : Plan) (generation : ℕ) (es : List Entry) (n : ℕ) (e : Extent) → frame_slot_in p es n ≡ o →
     ((s : ℕ) → frame_slot_in p es n ≡ Some s → IsApart (place_extent p generation s n) e)
     → (frame_slot_in p es n ≡ None → IsApart (home_extent p n) e) → IsApart (frame_extent p generation es n) e
@@ -191,23 +179,16 @@ frame_apart p generation es n e slot home = apart_by (frame_slot_in p es n) p ge
 
 pub place_inside : (p : Plan) (generation : ℕ) {s : ℕ} (n : ℕ) → s < p.geometry.log →
     IsInside (place_extent p generation s n) (half_extent p.geometry (half_sector p generation))
-place_inside p generation {s} n lt =
-    let inner = frames_in_slots p generation s n in
-    let outer = slots_inside p generation s lt in
-    record { starts = omega (arith, inner.starts, outer.starts); ends = omega (arith, inner.ends, outer.ends) }
+place_inside p generation {s} n lt = search (arith, frames_in_slots, slots_inside)
 
 -- a place in one half, and sectors of the other
 pub other_half : {p : Plan} (a b : ℕ) {s : ℕ} (n : ℕ) {e : Extent} → IsPlan p → (a % 2 ≡ b % 2 → ⊥) → s < p.geometry.log →
     IsInside e (half_extent p.geometry (half_sector p b)) → IsApart (place_extent p a s n) e
-other_half {p} a b {s} n {e} fits differ lt inside =
-    apart_inside (place_extent p a s n) e (half_extent p.geometry (half_sector p a)) (half_extent p.geometry (half_sector p b)) (place_inside p a n lt) inside
-    (halves_apart p a b fits differ)
+other_half {p} a b {s} n {e} fits differ lt inside = search (arith, apart_inside, place_inside, halves_apart)
 
 pub home_apart : {p : Plan} (generation : ℕ) {n : ℕ} {e : Extent} → IsPlan p → n < count_of p → IsInside e (half_extent p.geometry (half_sector p generation)) →
     IsApart (home_extent p n) e
-home_apart {p} generation {n} {e} fits lt inside =
-    apart_inside (home_extent p n) e (home_extent p n) (half_extent p.geometry (half_sector p generation)) (itself (home_extent p n)) inside
-    (places_spare_log p n generation fits lt)
+home_apart {p} generation {n} {e} fits lt inside = search (arith, apart_inside, home_extent, itself, places_spare_log)
 
 -- what is saved lies apart from the other half
 pub spares_other : {p : Plan} (h : CheckpointHeader) {es : List Entry} (generation : ℕ) {e : Extent} → IsPlan p → IsDirectory p.geometry es →
@@ -234,18 +215,23 @@ spares_log {p} h es generation {e} fits count none inside = record {
 -- and from the home of an object that lies in the log
 pub spares_home : {p : Plan} {h : CheckpointHeader} {es : List Entry} {m t : ℕ} → IsPlan p → IsDirectory p.geometry es → h.entries ≤ p.geometry.log →
     m < count_of p → slot_in es m ≡ Some t → Spares p h es (home_extent p m)
-spares_home {p} {h} {es} {m} {t} fits is few within has = record {
-  headers = (places_within p m fits within).0;
-  directory = inr (apart_inside (directory_extent p h.generation h.entries) (home_extent p m) (half_extent p.geometry (half_sector p h.generation))
-      (home_extent p m)
-      (directories_inside p h.generation h.entries few) (itself (home_extent p m))
-      (apart_turned (home_extent p m) (half_extent p.geometry (half_sector p h.generation)) (places_spare_log p m h.generation fits within)));
-  frames = λ n lt. frame_apart p h.generation es n (home_extent p m) (λ s slot. place_home p h.generation s n m fits (frame_slot_fits p n is slot) within)
-      (λ none. places_apart p n m fits lt within (λ same. frame_slots_differ p es n m has none same));
-} where
-  place_home : (p : Plan) (generation s n m : ℕ) → IsPlan p → s < p.geometry.log → m < count_of p → IsApart (place_extent p generation s n) (home_extent p m)
-  place_home p generation s n m fits lt within = apart_turned (home_extent p m) (place_extent p generation s n)
-      (home_apart generation fits within (place_inside p generation n lt))
+spares_home {p} {h} {es} {m} {t} fits is few within has =
+    search (
+      arith,
+      places_within,
+      apart_inside,
+      home_extent,
+      directories_inside,
+      itself,
+      apart_turned,
+      places_spare_log,
+      frame_apart,
+      frame_slot_fits,
+      places_apart,
+      frame_slots_differ,
+      home_apart,
+      place_inside,
+    )
 
 -- home frames lie behind the headers
 pub homes_behind : {p : Plan} → IsPlan p → HomesAreBehind p
@@ -268,17 +254,11 @@ frame_stays p generation es e {old} {new} spares change n lt = bytes_stay p n (s
 
 pub state_stays : {p : Plan} {h : CheckpointHeader} {es : List Entry} {e : Extent} {old new : Image} → SparesFrames p h.generation es e →
     Elsewhere e.sector e.length old new → state_in new p h es ≡ state_in old p h es
-state_stays {p} {h} {es} {e} {old} {new} spares change =
-    ap (λ (fs : List Frame). record { plan = p; header = h; directory = es; frames = fs })
-    (read_same new old p h.generation h.generation es es (frame_stays p h.generation es e spares change))
+state_stays {p} {h} {es} {e} {old} {new} spares change = search (arith, read_same, frame_stays)
 
 spares_same : {p : Plan} {h : CheckpointHeader} {es : List Entry} {e : Extent} {old new : Image} → Spares p h es e → Elsewhere e.sector e.length old new →
     SameWhereRead p h es old new
-spares_same {p} {h} {es} {e} {old} {new} spares change = record {
-  headers = λ i lt. change.before (1 + i) (omega (arith, lt, spares.headers));
-  directory = ⊎_elim (λ none i lt. absurd (omega (arith, none, lt))) (λ apart. stays apart change) spares.directory;
-  frames = λ n lt. stays (spares.frames n lt) change;
-}
+spares_same {p} {h} {es} {e} {old} {new} spares change = search (arith, stays)
 
 -- such a change leaves the saved state
 pub denotes_on : {p : Plan} {h : CheckpointHeader} {es : List Entry} {fs : List Frame} {e : Extent} {size : ℕ} {old new : Image} → Spares p h es e →
@@ -299,12 +279,7 @@ whole at n disk c left = (c, left, elsewhere_same at n c c (λ i. refl))
 
 -- a read touches none
 pub reads_touch : {at n : ℕ} {old new : Disk} → ReadsOnly old new → Touches at n old new
-reads_touch {at} {n} {old} {new} reads = record {
-  size = reads.size;
-  elsewhere = elsewhere_same at n old.seen new.seen reads.seen;
-  crash = λ c left. whole at n old c (reads.crash c left);
-  any_moment = leaves_weaker {old = old} {new = new} {P = old.may_leave} (λ c. IsTorn at n old c) (whole at n old) reads.any_moment;
-}
+reads_touch {at} {n} {old} {new} reads = search (arith, elsewhere_same, whole, leaves_weaker)
 
 module _ {old new : Disk} {p : Plan} {h : CheckpointHeader} {es : List Entry} {e : Extent} (spares : Spares p h es e)
     (writes : Touches e.sector e.length old new) where
@@ -320,8 +295,7 @@ module _ {old new : Disk} {p : Plan} {h : CheckpointHeader} {es : List Entry} {e
 
   -- also at each moment of the write
   pub moments_spared : LeavesState old (state_in old.seen p h es) → LeavesOnly old new (λ c. Encodes c old.sectors (state_in old.seen p h es))
-  moments_spared sound = leaves_weaker {old = old} {new = new} {P = IsTorn e.sector e.length old} (λ c. Encodes c old.sectors (state_in old.seen p h es))
-      (left_spared sound) writes.any_moment
+  moments_spared sound = search (arith, leaves_weaker, left_spared)
 
 -- ---- its sectors and the others
 
@@ -373,28 +347,14 @@ torn_within at n {e} disk c inside torn = (torn.0, torn.1, elsewhere_within insi
 -- are among more
 pub touches_within : {at n : ℕ} {e : Extent} {old new : Disk} → IsInside (record { sector = at; length = n }) e → Touches at n old new →
     Touches e.sector e.length old new
-touches_within {at} {n} {e} {old} {new} inside touches = record {
-  size = touches.size;
-  elsewhere = elsewhere_within inside touches.elsewhere;
-  crash = λ c left. torn_within at n old c inside (touches.crash c left);
-  any_moment = leaves_weaker {old = old} {new = new} {P = IsTorn at n old} (IsTorn e.sector e.length old) (λ c. torn_within at n old c inside)
-      touches.any_moment;
-}
+touches_within {at} {n} {e} {old} {new} inside touches = search (arith, touches, elsewhere_within, torn_within, leaves_weaker)
 
 torn_twice : {at n : ℕ} {old mid : Disk} → Touches at n old mid → (c : Image) → IsTorn at n mid c → IsTorn at n old c
-torn_twice {at} {n} touches c torn =
-    let first = touches.crash torn.0 torn.1 in
-    (first.0, first.1, elsewhere_on at n first.0 torn.0 c first.2 torn.2)
+torn_twice {at} {n} {old} {mid} touches c torn = search (arith, touches, elsewhere_on)
 
 -- and twice
 pub touches_on : {at n : ℕ} {old mid new : Disk} → Touches at n old mid → Touches at n mid new → Touches at n old new
-touches_on {at} {n} {old} {mid} {new} first second = record {
-  size = second.size ∙ first.size;
-  elsewhere = elsewhere_on at n old.seen mid.seen new.seen first.elsewhere second.elsewhere;
-  crash = λ c left. torn_twice first c (second.crash c left);
-  any_moment = leaves_on {old = old} {mid = mid} {new = new} {P = IsTorn at n old} first.any_moment
-      (leaves_weaker {old = mid} {new = new} {P = IsTorn at n mid} (IsTorn at n old) (torn_twice first) second.any_moment);
-}
+touches_on {at} {n} {old} {mid} {new} first second = search (arith, elsewhere_on, torn_twice, leaves_on, leaves_weaker)
 
 -- ---- a device as it gives what was written and what wasn't
 
@@ -424,18 +384,10 @@ pub touches_mended : {at n : ℕ} {old new : Disk} (o : Option Unwritten) → To
 touches_mended {at} {n} {old} {new} o touches = search (elsewhere_mended o touches.elsewhere, leaves_mended o o (IsTorn at n old) touches.any_moment)
 
 pub writes_mended : {at n : ℕ} {old new : Disk} (o : Option Unwritten) → WritesAt at n old new → WritesAt at n (mended_disk old o) (mended_disk new o)
-writes_mended {at} {n} {old} {new} o writes =
-    search (elsewhere_mended o writes.elsewhere, leaves_mended o o (IsTorn at n old) writes.any_moment, elapses_mended o writes.time)
+writes_mended {at} {n} {old} {new} o writes = search (arith, elsewhere_mended, leaves_mended, elapses_mended)
 
 pub reads_mended : {old new : Disk} (o : Option Unwritten) → ReadsOnly old new → ReadsOnly (mended_disk old o) (mended_disk new o)
-reads_mended {old} {new} o reads = record {
-  size = reads.size;
-  seen = λ i. ap (λ (image : Image). mended image o i) (agrees_is new.seen old.seen reads.seen);
-  crash = reads.crash;
-  nothing_durable = reads.nothing_durable;
-  any_moment = leaves_mended o o old.may_leave reads.any_moment;
-  time = elapses_mended o reads.time;
-}
+reads_mended {old} {new} o reads = search (arith, agrees_is, leaves_mended, elapses_mended)
 
 -- ---- what lies apart from the slot
 

@@ -1,6 +1,6 @@
 -- A directory is written, and a header is published over it.
-use Rattle.migrator.proofs.Names.{nat_tests, Snapshots, generation_after, working_generation, IsDirectory, IsHeader, AreSpelt, IsInside, half_extent}
-use Rattle.migrator.proofs.Names.{half_sector, half_start, directories_inside, First, Second, ArePut, slot_bytes, bytes_at, ap, IsDurable, IsKept}
+use Rattle.migrator.proofs.Names.{IfOk-from_err, nat_tests, Snapshots, generation_after, working_generation, IsDirectory, IsHeader, AreSpelt, IsInside}
+use Rattle.migrator.proofs.Names.{half_extent, half_sector, half_start, directories_inside, First, Second, ArePut, slot_bytes, bytes_at, ap, IsDurable, IsKept}
 use Rattle.migrator.proofs.Names.{Books, MayAdopt, Option, Unwritten, mended, saved_state, stored_in, stored_on, ℕ, Result, Ok, Err, List, refl, sym, subst}
 use Rattle.migrator.proofs.Names.{inl, inr, ⊎_elim, OnOk, OnErr, Image, Disk, Elsewhere, Only, LeavesOnly, agrees_is, leaves_weaker, leaves_on, Entry}
 use Rattle.migrator.proofs.Names.{CheckpointHeader, directory_bytes, IsFrameOf, Encodes, SavedState, frame_in, directory_in, directory_sector, directory_length}
@@ -122,9 +122,6 @@ on_err {T} {E} {P} r p = grind (arith, nat_tests)
 pub on_ok : {T E P : Type 0} (r : Result T E) → P → OnOk r P
 on_ok {T} {E} {P} r p = grind (arith, nat_tests)
 
-pub no_ok : {T E : Type 0} (r : Result T E) → IsErr r → (P : Type 0) → OnOk r P
-no_ok {T} {E} r failed P = grind (arith, nat_tests)
-
 -- ---- the slots of a checkpoint were completed, and its header is adopted
 
 module _ {old mid : Disk} {b : Books} {o : Option Unwritten} {k age : ℕ} (may : MayCommitAt old b k age)
@@ -233,7 +230,7 @@ module _ {disk : Disk} {b : Books} {next : CheckpointHeader} {es : List Entry} (
   left_publishes {r} failed counts =
       search (
         kept_then refl (kept_saves raw_kept only may.spares),
-        no_ok,
+        IfOk-from_err,
         on_err r (stored_raw new b may.written b refl ∙ stored_saves raw_kept only may.spares ∙ sym (stored_raw disk b may.written b refl)),
         moments,
         err_counts failed counts,

@@ -1,10 +1,11 @@
 -- A frame is put into its slot: what then holds of a device and its books.
-use Rattle.migrator.proofs.Names.{nat_tests, on_ok_weaker, MayPut, PutsFrame, Stores, ℕ, Bool, true, false, Option, Some, None, Result, List, length, set, refl}
-use Rattle.migrator.proofs.Names.{sym, ap, subst, arith, OnOk, OnErr, Frame, IsKeepable, Image, Disk, Failed, Extent, IsFrameOf, frame_bytes, half_sector}
-use Rattle.migrator.proofs.Names.{place_length, slot_sector, count_of, IsInside, half_extent, bytes_spelt, WritesAt, place_extent, most, Keeps, Books, Place}
-use Rattle.migrator.proofs.Names.{Torn, Whole, slot_of, IsDurable, IsRunning, Stored, frozen_generation, seen_by, stored_in, stored_on, with_frozen}
-use Rattle.migrator.proofs.Names.{with_working, working_generation, Unwritten, mended, Put, Broken, Kept, HasFreeSlot, ArePut, puts_in, slot_bytes, slot_frame}
-use Rattle.migrator.proofs.Names.{Touches, entries_of, slot_for, Counts, IsKept, Spares, SparesKept}
+use Rattle.migrator.proofs.Names.{IfOk-from_err, nat_tests, on_ok_weaker, MayPut, PutsFrame, Stores, ℕ, Bool, true, false, Option, Some, None, Result, List}
+use Rattle.migrator.proofs.Names.{length, set, refl, sym, ap, subst, arith, OnOk, OnErr, Frame, IsKeepable, Image, Disk, Failed, Extent, IsFrameOf, frame_bytes}
+use Rattle.migrator.proofs.Names.{half_sector, place_length, slot_sector, count_of, IsInside, half_extent, bytes_spelt, WritesAt, place_extent, most, Keeps}
+use Rattle.migrator.proofs.Names.{Books, Place, Torn, Whole, slot_of, IsDurable, IsRunning, Stored, frozen_generation, seen_by, stored_in, stored_on}
+use Rattle.migrator.proofs.Names.{with_frozen, with_working, working_generation, Unwritten, mended, Put, Broken, Kept, HasFreeSlot, ArePut, puts_in, slot_bytes}
+use Rattle.migrator.proofs.Names.{slot_frame, Touches, entries_of, slot_for, Counts, IsKept, Spares, SparesKept, on_err_weaker, get_or-set_same, same_Some, Err}
+use Rattle.migrator.proofs.Names.{IsErr, counts_on}
 use Rattle.std.proofs.Common.{◌≡◌, ◌⊎◌, ◌∙◌, ◌+◌, ◌<◌, ◌≤◌}
 use Rattle.std.specs.Prelude.{if◌then◌else◌}
 use Rattle.migrator.proofs.Completing.{entry_of, held_after, without, working_again, goes_after, kept_with, mid_kept, stored_after, keeps_written}
@@ -14,6 +15,9 @@ use Rattle.migrator.proofs.Kept.{GoesOnSeen, goes_seen, goes_spared, stored_stay
 use Rattle.migrator.proofs.PlacesApart.{unmended, writes_mended, place_inside, spares_other, touches}
 use Rattle.migrator.proofs.Putting.{frozen_working, half_spares, homes_spare, later_half, mended as mended_put, other_parity, puts_mended, puts_set}
 use Rattle.migrator.proofs.Putting.{saved_working, set_twice, slot_room, slots_spare, taken_set, torn_put}
+use Rattle.migrator.proofs.Publishing.{err_counts, on_err}
+use Rattle.migrator.proofs.Putting.{length_puts}
+use Rattle.migrator.proofs.Moving.{goes_trans}
 
 -- ---- among the frames put since, or for the checkpoint on its way
 
@@ -230,5 +234,33 @@ frozen_puts {old = old} {new = new} {b = b} {n = n} {k = k} {f = f} {r = r} may 
 -- the cluster lies on the device
 pub unwritten_low : {disk : Disk} {b : Books} → IsDurable disk b → (u : Unwritten) → b.unwritten ≡ Some u → u.sector + 8 ≤ disk.sectors
 unwritten_low {disk} {b} is u some =
-    let inside = unwritten_inside (frozen_generation b) is.kept.plan (frozen_fits is.kept) (entry_of b b.unwritten is.unwritten) some in
-    omega (arith, inside, is.kept.inside)
+    omega (arith, (unwritten_inside (frozen_generation b) is.kept.plan (frozen_fits is.kept) (entry_of b b.unwritten is.unwritten) some), is.kept.inside)
+
+-- ---- what was put of an object is given up: its slot stays
+
+torn_room : (old mid : Disk) (b c : Books) {size n : ℕ} → b.size ≡ Some size → c.size ≡ Some size →
+    stored_on mid c ≡ with_frozen n Broken (stored_on old b) → n < count_of b.plan
+    → HasFreeSlot size (puts_in (seen_by mid.seen c) c.plan (frozen_generation c) c.frozen) n
+torn_room old mid b c {size} {n} running still torn known = grind (arith, nat_tests, length_puts, same_Some, get_or-set_same)
+
+-- it may then be put
+pub may_put_torn : {old mid : Disk} {a b : Books} {k n : ℕ} {f : Frame} → MayPut old a k n f → Stores old mid a b (with_frozen n Broken (stored_on old a)) →
+    b.size ≡ Some k → MayPut mid b k n f
+may_put_torn {old} {mid} {a} {b} {k} {n} {f} may torn still = grind (arith, nat_tests, torn_room)
+
+-- the device failed before
+pub puts_none : {T E U F : Type 0} {old mid : Disk} {a b : Books} (n : ℕ) {f : Frame} {e : E} {r : Result U F} →
+    Stores old mid a b (with_frozen n Broken (stored_on old a)) → IsErr r → Counts {T = T} old mid (Err e)
+    → PutsFrame old mid a b f (λ put. with_frozen n put (stored_on old a)) r
+puts_none n {r} torn failed counts = search (IfOk-from_err, on_err r torn.stored, err_counts failed counts)
+
+pub puts_after : {T E : Type 0} {old mid new : Disk} {a b c : Books} (n : ℕ) {f : Frame} {r : Result T E} →
+    Stores old mid a b (with_frozen n Broken (stored_on old a)) → mid.failures ≡ old.failures
+    → PutsFrame mid new b c f (λ put. with_frozen n put (stored_on mid b)) r → PutsFrame old new a c f (λ put. with_frozen n put (stored_on old a)) r
+puts_after {old = old} {mid = mid} {new = new} {a = a} {b = b} {c = c} n {f} {r} torn none is = record {
+  stands = is.stands;
+  put = on_ok_weaker r (λ e. e ∙ ap (with_frozen n (Kept f)) torn.stored ∙ put_twice false (stored_on old a) n Broken (Kept f)) is.put;
+  broken = on_err_weaker r (λ e. e ∙ ap (with_frozen n Broken) torn.stored ∙ put_twice false (stored_on old a) n Broken Broken) is.broken;
+  goes_on = goes_trans old mid new a b c (ap (λ (s : Stored). s.saved) torn.stored) torn.goes_on is.goes_on;
+  cause = counts_on none is.cause;
+}

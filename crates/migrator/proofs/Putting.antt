@@ -1,14 +1,14 @@
 -- A frame is put into a slot.
-use Rattle.migrator.proofs.Names.{nat_tests, ℕ, zero, suc, Option, Some, None, List, [], length, get_or, set, refl, sym, ap, subst, inl, inr, arith}
-use Rattle.migrator.proofs.Names.{cases_eq, same_lists, length-set, length-map-range_with_len, get_or-map-range_with_len, Frame, Image, Extent}
-use Rattle.migrator.proofs.Names.{IsFrameOf, half_sector, count_of, entry_at, Plan, IsPlan, IsApart, IsInside, half_extent, apart_inside, home_extent}
-use Rattle.migrator.proofs.Names.{slot_extent, place_extent, frames_in_slots, slots_apart, Place, Nowhere, Torn, Whole, place_at, slot_of, has_slot, has_frame}
-use Rattle.migrator.proofs.Names.{tally, taken_count, whole_count, slot_or, slot_for, IsTable, Put, Absent, Kept, put_at, kept_frame, held_slot, sum_of}
-use Rattle.migrator.proofs.Names.{kept_count, HasFreeSlot, slot_bytes, slot_frame, put_of, puts_in, ArePut, most, Books, frozen_generation, generation_after}
-use Rattle.migrator.proofs.Names.{IsRunning, IsKept, Spares, SparesPuts, working_generation}
+use Rattle.migrator.proofs.Names.{nat_tests, ℕ, zero, suc, Option, Some, None, List, [], length, get_or, set, refl, sym, ap, subst, inl, inr, arith, cases_eq}
+use Rattle.migrator.proofs.Names.{same_lists, length-set, length-map-range_with_len, get_or-map-range_with_len, Frame, Image, Extent, IsFrameOf, half_sector}
+use Rattle.migrator.proofs.Names.{count_of, entry_at, Plan, IsPlan, IsApart, IsInside, half_extent, apart_inside, home_extent, slot_extent, place_extent}
+use Rattle.migrator.proofs.Names.{frames_in_slots, slots_apart, Place, Nowhere, Torn, Whole, place_at, slot_of, has_slot, has_frame, tally, taken_count}
+use Rattle.migrator.proofs.Names.{whole_count, slot_or, slot_for, IsTable, Put, Absent, Kept, put_at, kept_frame, held_slot, sum_of, kept_count, HasFreeSlot}
+use Rattle.migrator.proofs.Names.{slot_bytes, slot_frame, put_of, puts_in, ArePut, most, Books, frozen_generation, generation_after, IsRunning, IsKept, Spares}
+use Rattle.migrator.proofs.Names.{SparesPuts, working_generation, replicate, length-replicate, get_or-replicate, stored_in, freezing_puts}
 use Rattle.std.proofs.Common.{◌≡◌, ◌⊎◌, ◌+◌, ◌%◌, ◌<◌, ◌≤◌, ◌∷◌, ◌∙◌}
 use Rattle.migrator.proofs.Tables.{some_has, tally-set, table_set, set_here, set_there}
-use Rattle.migrator.proofs.Kept.{map_set}
+use Rattle.migrator.proofs.Kept.{map_set, nowhere_frozen}
 use Rattle.migrator.proofs.PlacesApart.{other_half, home_apart, spares_other, spares_log}
 
 -- ---- counts of what was put
@@ -25,9 +25,7 @@ from_at : (image : Image) (p : Plan) (generation n i : ℕ) (ps : List Place) (d
     get_or (puts_from image p generation n ps) i d ≡ put_of image p generation (n + i) (place_at ps i)
 from_at image p generation n i [] d lt = absurd (omega (arith, lt))
 from_at image p generation n zero (q ∷ ps) d lt = let same : n + 0 ≡ n = omega arith in ap (λ (k : ℕ). put_of image p generation k q) (sym same)
-from_at image p generation n (suc i) (q ∷ ps) d lt =
-    let next : n + 1 + i ≡ n + suc i = omega arith in
-    from_at image p generation (n + 1) i ps d (omega (arith, lt)) ∙ ap (λ (k : ℕ). put_of image p generation k (place_at ps i)) next
+from_at image p generation n (suc i) (q ∷ ps) d lt = grind (arith, nat_tests, generation, from_at image p generation (n + 1) i ps d (omega (arith, lt)))
 
 puts_are : (image : Image) (p : Plan) (generation : ℕ) (ps : List Place) → length ps ≡ count_of p →
     puts_in image p generation ps ≡ puts_from image p generation 0 ps
@@ -202,3 +200,33 @@ module _ {image : Image} {p : Plan} {generation : ℕ} (ps : List Place) (n s : 
     pub puts_mended : {f : Frame} → slot_frame image p generation s n ≡ f →
         puts_in image p generation (set ps n (Whole s)) ≡ set (puts_in image p generation (set ps n (Torn s))) n (Kept f)
     puts_mended {f} is = grind (arith, nat_tests, set_twice, puts_set, slot_low)
+
+-- ---- what was put is frozen
+
+pub length_puts : (image : Image) (p : Plan) (generation : ℕ) (ps : List Place) → length (puts_in image p generation ps) ≡ count_of p
+unfolding puts_in
+length_puts image p generation ps = length-map-range_with_len (λ n. put_of image p generation n (place_at ps n)) 0 (count_of p)
+
+-- where nothing has a place nothing was put
+pub puts_blank : (image : Image) (p : Plan) (generation : ℕ) {m : ℕ} (ps : List Place) → ((n : ℕ) → place_at ps n ≡ Nowhere) → m ≡ count_of p →
+    puts_in image p generation ps ≡ replicate m Absent
+unfolding puts_in
+puts_blank image p generation {m} ps none size =
+    grind (arith, nat_tests, same_lists, length-map-range_with_len, length-replicate, get_or-map-range_with_len, get_or-replicate)
+
+pub blank_put : {image : Image} {p : Plan} {a b : ℕ} {ps : List Place} → ArePut image p a ps → ((n : ℕ) → place_at ps n ≡ Nowhere) → ArePut image p b ps
+blank_put {image} {p} {a} {b} {ps} are none = grind (arith, nat_tests)
+
+abbrev pub frozen_books : Books → ℕ → Books
+frozen_books b k = record b { frozen = b.working; size = Some k; working = b.frozen }
+
+module _ (size : ℕ) (image : Image) (b : Books) (k : ℕ) (none : b.size ≡ None) (kept : IsKept size image b) where
+  generation : working_generation b ≡ frozen_generation b
+  generation = ap (generation_after b.header.generation) none
+
+  pub freeze_kept : b.header.entries ≡ 0 → sum_of held_slot (puts_in image b.plan (working_generation b) b.working) ≤ k → k ≤ b.plan.geometry.log →
+      IsKept size image (frozen_books b k)
+  freeze_kept home enough few = grind (arith, nat_tests, held_taken, generation, blank_put, nowhere_frozen)
+
+  pub freeze_stored : stored_in image (frozen_books b k) ≡ freezing_puts k (stored_in image b)
+  freeze_stored = grind (arith, nat_tests, puts_blank, generation, nowhere_frozen, length_puts)

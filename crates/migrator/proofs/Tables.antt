@@ -156,9 +156,7 @@ entries_left ps xs rest are = let all = ap length are in omega (arith, all, leng
 
 -- so all are listed in the end
 pub entries_done : (ps : List Place) {xs : List Entry} (rest : List Entry) → entries_of ps ≡ xs ++ rest → length xs ≡ taken_count ps → xs ≡ entries_of ps
-entries_done ps {xs} rest are done =
-    let none : rest ≡ [] = nil_from_length rest (omega (arith, entries_left ps xs rest are, done)) in
-    sym (append-nil xs) ∙ ap (λ (es : List Entry). xs ++ es) (sym none) ∙ sym are
+entries_done ps {xs} rest are done = search (arith, nil_from_length rest (omega (arith, entries_left ps xs rest are, done)), entries_left, append-nil)
 
 -- ---- all slots are taken away
 
@@ -194,12 +192,8 @@ slot_later o {n} {m} es lt = grind (arith, nat_tests)
 
 slot_from : (n k : ℕ) (ps : List Place) → slot_in (entries_from n ps) (n + k) ≡ slot_of (place_at ps k)
 slot_from n k [] = refl
-slot_from n zero (p ∷ ps) =
-    let none : n + 0 ≡ n = omega arith in
-    ap (slot_in (entries_from n (p ∷ ps))) none ∙ slot_first (slot_of p) n (entries_from (n + 1) ps) (below (n + 1) ps (omega arith))
-slot_from n (suc k) (p ∷ ps) =
-    let next : n + suc k ≡ n + 1 + k = omega arith in
-    slot_later (slot_of p) (entries_from (n + 1) ps) (omega arith) ∙ ap (slot_in (entries_from (n + 1) ps)) next ∙ slot_from (n + 1) k ps
+slot_from n zero (p ∷ ps) = grind (arith, nat_tests, slot_first, below)
+slot_from n (suc k) (p ∷ ps) = grind (arith, nat_tests, slot_later, slot_from (n + 1) k ps)
 
 pub slot_entries : (ps : List Place) (n : ℕ) → slot_in (entries_of ps) n ≡ slot_of (place_at ps n)
 unfolding entries_of
@@ -217,9 +211,7 @@ from_by o {n} {high} {es} lt are = grind (arith, nat_tests)
 
 from_of : (n : ℕ) (ps : List Place) → AreFrom n (n + length ps) (entries_from n ps)
 from_of n [] = record { each = λ i lt. absurd (omega (arith, lt)); rising = λ i lt. absurd (omega (arith, lt)) }
-from_of n (p ∷ ps) =
-    let end : n + 1 + length ps ≡ n + suc (length ps) = omega arith in
-    from_by (slot_of p) (omega arith) (subst (λ (k : ℕ). AreFrom (n + 1) k (entries_from (n + 1) ps)) end (from_of (n + 1) ps))
+from_of n (p ∷ ps) = grind (arith, nat_tests, from_by, from_of (n + 1) ps)
 
 entries_are : (ps : List Place) → AreFrom 0 (0 + length ps) (entries_of ps)
 unfolding entries_of

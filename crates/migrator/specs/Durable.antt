@@ -188,6 +188,10 @@ module _ {D : Type 0} (disk : D → Disk) where
   abbrev pub stored_of : DurableState D → Stored
   stored_of s = stored_in (seen_by (disk s.beneath).seen s.books) s.books
 
+  -- the checkpoint that is saved
+  abbrev pub saved_by : DurableState D → SavedState
+  saved_by s = saved_state (seen_of s) s.books
+
   abbrev pub is_sound : DurableState D → Type 0
   is_sound s = IsSoundOn (disk s.beneath) s.books
 

@@ -1,7 +1,9 @@
 -- The names of other crates that the definitions here cite.
+pub use Rattle.capability.specs.Parts.{Parts}
 pub use Rattle.checkpoint.specs.Opened.{OnlyReads}
 pub use Rattle.checkpoint.specs.Saved.{Holds, LeavesEither, LeavesSaved, SavedFrames, kept_of, most}
 pub use Rattle.checkpoint.specs.Snapshots.{FrozenView, Snapshots, freezing, moved, moved_saved, next_saved}
+pub use Rattle.checkpoint.specs.Store.{View}
 pub use Rattle.ckpt_log.specs.Commit.{header_sector}
 pub use Rattle.ckpt_log.specs.Places.{directory_extent, place_extent}
 pub use Rattle.device.specs.Calls.{Agrees, Counts, Elsewhere, IsTorn, Narrows, Only, Tears, image_of}

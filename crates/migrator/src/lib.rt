@@ -13,8 +13,10 @@ mod intake;
 mod read;
 mod table;
 mod turn;
+mod whole_store;
 
 pub use checkpoint::{Checkpoint, OpenFault, OpenRefused};
 pub use durable::{Durable, Opened};
 pub use intake::Intake;
 pub use read::superblock_of;
+pub use whole_store::{AllObjects, WholeStore};

@@ -1,11 +1,11 @@
 -- A number gets an entry, or has one no more: no object and no frozen frame is another.
-use Rattle.object_cache.proofs.Names.{inl, inr, ℕ, Bool, true, false, true≢false, List, length, set, Option, Some, None, option_map, refl, sym, ap, arith}
-use Rattle.object_cache.proofs.Names.{length-set, ne_eqb, get_or-set_same, get_or-set_other, map-set, get_or-map-range_with_len, none-some, same_Some, Cap}
-use Rattle.object_cache.proofs.Names.{Content, Role, header_at, held_at, Disk, put_at, DurableState, Stored, below_at, stored_of, maps_same, map_set, Entry}
-use Rattle.object_cache.proofs.Names.{Held, entry_at, new_entry, is_some, Memory, FrozenState, Nothing, mark_at, masked, in_staging, put_body, present_body}
-use Rattle.object_cache.proofs.Names.{content_at, newest_body, below_body, apart_body, frozen_body, frozen_frame, frozen_at, frozen_state_of, frozen_state_body}
-use Rattle.object_cache.proofs.Names.{frozen_state_in_memory, frozen_states_in, StoreState, IsCache, IsFetchedIn, cache_of, is_kept, frozen_state_by}
-use Rattle.object_cache.proofs.Names.{frozen_state_at, cached_at, cached_in, with_cached, without, with_entry, Shared, Apart}
+use Rattle.object_cache.proofs.Names.{ℕ, Bool, true, false, List, length, set, Option, Some, None, option_map, refl, sym, ap, arith, length-set, ne_eqb}
+use Rattle.object_cache.proofs.Names.{get_or-set_same, get_or-set_other, map-set, get_or-map-range_with_len, none-some, same_Some, Cap, Content, Role}
+use Rattle.object_cache.proofs.Names.{header_at, held_at, Disk, put_at, DurableState, Stored, below_at, stored_of, maps_same, map_set, Entry, entry_at}
+use Rattle.object_cache.proofs.Names.{new_entry, is_some, Memory, FrozenState, Nothing, mark_at, masked, in_staging, content_at, newest_body, below_body}
+use Rattle.object_cache.proofs.Names.{apart_body, frozen_body, frozen_frame, frozen_at, frozen_state_of, frozen_state_in_memory, frozen_states_in, StoreState}
+use Rattle.object_cache.proofs.Names.{IsCache, IsFetchedIn, cache_of, is_kept, frozen_state_by, frozen_state_at, cached_at, cached_in, with_cached, without}
+use Rattle.object_cache.proofs.Names.{with_entry, Shared, Apart}
 use Rattle.std.proofs.Common.{◌≡◌, ◌≢◌, ◌⊎◌, ◌<◌, ◌∷◌, ◌∙◌}
 use Rattle.object_cache.proofs.Objects.{Alike, cached_entry, cached_stay, clean_alike, content_in, contents_alike, entry_found, fetched_known, frozen_alike}
 use Rattle.object_cache.proofs.Objects.{of_each, keepable_alike, unwritten_alike, with_objects}
@@ -38,14 +38,11 @@ module _ {s : Stored} {m : Memory} {es : List (Option Entry)} {n : ℕ} (change 
   pub frozen_state_changed : (x : FrozenState) → n < length m.headers → frozen_state_in_memory cached n ≡ x →
       frozen_states_in cached ≡ set (frozen_states_in m) n x
   unfolding frozen_states_in
-  frozen_state_changed x within here =
-      map_set (frozen_state_in_memory m) (frozen_state_in_memory cached) (length m.headers) n x within here
-      (λ k below other. ap (λ o. frozen_state_of o (mark_at m.pending k) (mark_at m.touched k)) (change.entries k other))
+  frozen_state_changed x within here = search (arith, map_set)
 
   pub frozen_state_stay : frozen_state_in_memory cached n ≡ frozen_state_in_memory m n → frozen_states_in cached ≡ frozen_states_in m
   unfolding frozen_states_in
-  frozen_state_stay here = maps_same (frozen_state_in_memory cached) (frozen_state_in_memory m) (length m.headers)
-      (λ k below. of_each {P = λ j. frozen_state_in_memory cached j ≡ frozen_state_in_memory m j} n here (λ j other. rw (change.entries j other)) k)
+  frozen_state_stay here = search (arith, maps_same, of_each)
 
   pub cached_cache : {left count : ℕ} → IsCache s m left count → IsCache s cached left count
   cached_cache {left} is =
@@ -61,22 +58,12 @@ module _ {s : Stored} {m : Memory} {es : List (Option Entry)} {n : ℕ} (change 
 -- an entry without an unwritten frozen body
 pub nothing_frozen_state : (e : Entry) (pending touched : Bool) → frozen_state_of (Some e) pending touched ≡ Nothing →
     (pending ≡ false) ⊎ ((pending ≡ true) × (touched ≡ true) × (e.kept ≡ None))
-nothing_frozen_state e false touched is = inl refl
-nothing_frozen_state e true touched is = let p = go e.kept touched is in inr (refl, p.0, p.1)
-  where
-    go : (o : Option (Content Cap)) (t : Bool) → frozen_state_body (is_some o) t ≡ Nothing → (t ≡ true) × (o ≡ None)
-    go (Some c) t same = cc
-    go None true same = (refl, refl)
-    go None false same = cc
+nothing_frozen_state e pending touched is = search arith
 
 -- only a pending number's body is in the staging buffer
 pub no_staging : {s : Stored} {m : Memory} {left count : ℕ} → IsCache s m left count → (n : ℕ) (c : Content Cap) → mark_at m.pending n ≡ false →
     in_staging m.staging n c ≡ c
-no_staging {m = m} is n c not_pending = go m.staging is.held
-  where
-    go : (o : Option Held) → ((h : Held) → o ≡ Some h → mark_at m.pending h.number ≡ true) → in_staging o n c ≡ c
-    go None held = refl
-    go (Some h) held = rw (ne_eqb h.number n (λ same. true≢false (sym (held h refl) ∙ ap (mark_at m.pending) same ∙ not_pending)))
+no_staging {s} {m} {left} {count} is n c not_pending = search (arith, ne_eqb)
 
 module _ {s : Stored} {m : Memory} {left count : ℕ} (is : IsCache s m left count) (n : ℕ) (within : n < length m.headers) (e : Entry)
     (at : entry_at m.entries n ≡ Some e)
@@ -96,42 +83,13 @@ module _ {s : Stored} {m : Memory} {left count : ℕ} (is : IsCache s m left cou
 
   -- the newest body without the entry is the one in it
   newest_is : (t : Bool) → mark_at m.touched n ≡ t → newest_body s m n ≡ content_at s m n
-  newest_is true touched = ap (λ p. put_body p (below_body s m n)) (is.clean n clean touched)
-  newest_is false untouched =
-      let not_pending : mark_at m.pending n ≡ false = (elim (nothing_frozen_state e (mark_at m.pending n) (mark_at m.touched n) frozen_state_here) [
-        | inl none ↦ none
-        | inr wanted ↦ absurd (true≢false (sym wanted.1 ∙ untouched))
-      ]) in
-      ap (λ p. put_body p (below_body s m n)) (is.unput n untouched)
-      ∙ no_staging is n (below_at s n).content not_pending
-      ∙ sym (ap (λ f. f.content) (is.unwritten n within untouched
-      ∙ ap (λ p. frozen_frame p (header_at m.frozen_headers n) (frozen_body (entry_at m.entries n) (mark_at m.touched n) (below_body s m n))
-      (below_at s n)) not_pending))
+  newest_is t touched = search (arith, nothing_frozen_state, frozen_state_here, no_staging)
 
   frozen_is : frozen_at s (with_objects m m.headers dropped) n ≡ frozen_at s m n
-  frozen_is =
-      ap (λ o. frozen_frame (mark_at m.pending n) (header_at m.frozen_headers n) (frozen_body o (mark_at m.touched n) (below_body s m n))
-      (below_at s n)) none_now
-      ∙ (elim (nothing_frozen_state e (mark_at m.pending n) (mark_at m.touched n) frozen_state_here) [
-        | inl not_pending ↦ rw not_pending
-        | inr wanted ↦ rw (ap (λ o. frozen_body o (mark_at m.touched n) (below_body s m n)) at
-            ∙ ap (λ t. apart_body e.kept t e.present (below_body s m n)) wanted.1 ∙ ap (λ k. apart_body k true e.present (below_body s m n)) wanted.2)
-      ])
+  frozen_is = search (arith, none_now, nothing_frozen_state, frozen_state_here)
 
   pub drops : Recaches s m dropped n
-  drops = record {
-    count = length-set m.entries n None;
-    entries = λ k other. get_or-set_other m.entries n k None None other;
-    content =
-        ap (λ o. present_body o (header_at m.headers n).role (newest_body s m n)) none_now
-        ∙ ap (masked (header_at m.headers n).role) (newest_is (mark_at m.touched n) refl) ∙ masks;
-    frozen = frozen_is;
-    apart = λ f here. absurd (none-some f (sym none_now ∙ here));
-    freed = λ none pending free. elim (nothing_frozen_state e (mark_at m.pending n) (mark_at m.touched n) frozen_state_here) [
-      | inl not_pending ↦ absurd (true≢false (sym pending ∙ not_pending))
-      | inr wanted ↦ inl (ap is_kept (is.clean n clean wanted.1))
-    ];
-  }
+  drops = search (arith, length-set, get_or-set_other, none_now, newest_is, frozen_is, none-some, nothing_frozen_state, frozen_state_here)
 
   pub frozen_state_dropped : frozen_state_in_memory (with_objects m m.headers dropped) n ≡ frozen_state_in_memory m n
   frozen_state_dropped = ap (λ o. frozen_state_of o (mark_at m.pending n) (mark_at m.touched n)) none_now ∙ sym frozen_state
@@ -196,8 +154,7 @@ module _ {D : Type 0} (disk : D → Disk) {d : DurableState D} {m : Memory} {lef
 -- ---- a number gets an entry
 
 masked_twice : (r : Role) (c : Content Cap) → masked r (masked r c) ≡ masked r c
-masked_twice role.Free c = refl
-masked_twice other c = refl
+masked_twice other c = search arith
 
 module _ {s : Stored} {m : Memory} {left count : ℕ} (is : IsCache s m left count) (number : ℕ) (c : Content Cap) (within : number < length m.headers)
     (none : entry_at m.entries number ≡ None)
@@ -213,43 +170,23 @@ module _ {s : Stored} {m : Memory} {left count : ℕ} (is : IsCache s m left cou
 
   -- what wasn't written since is as it was frozen, if it is to be written
   as_frozen : mark_at m.pending number ≡ true → mark_at m.touched number ≡ false → c ≡ masked (header_at m.frozen_headers number).role (below_body s m number)
-  as_frozen pending untouched =
-      present
-      ∙ ap (λ f. f.content) (is.unwritten number within untouched)
-      ∙ ap (λ f. f.content)
-      (ap (λ p. frozen_frame p (header_at m.frozen_headers number)
-      (frozen_body (entry_at m.entries number) (mark_at m.touched number) (below_body s m number)) (below_at s number)) pending
-      ∙ ap (λ o. frozen_frame true (header_at m.frozen_headers number) (frozen_body o (mark_at m.touched number) (below_body s m number))
-      (below_at s number)) none)
+  as_frozen pending untouched = search arith
 
   -- the frozen frame by the new entry
   frozen_by : (p t : Bool) → mark_at m.pending number ≡ p → mark_at m.touched number ≡ t →
       frozen_frame p (header_at m.frozen_headers number) (apart_body None t c (below_body s m number)) (below_at s number)
       ≡ frozen_frame p (header_at m.frozen_headers number) (below_body s m number) (below_at s number)
-  frozen_by false t pending touched = refl
-  frozen_by true true pending touched = refl
-  frozen_by true false pending touched =
-      let h = header_at m.frozen_headers number in
-      ap (λ c. record { header = h; content = c })
-      (ap (masked h.role) (as_frozen pending touched) ∙ masked_twice h.role (below_body s m number))
+  frozen_by p t pending touched = search (arith, as_frozen, masked_twice)
 
   pub cached_new : Recaches s m more number
-  cached_new = record {
-    count = length-set m.entries number (Some e);
-    entries = λ k other. get_or-set_other m.entries number k (Some e) None other;
-    content = ap (λ o. present_body o (header_at m.headers number).role (newest_body s m number)) some_now ∙ present;
-    frozen = rw (some_now, none) (frozen_by (mark_at m.pending number) (mark_at m.touched number) refl refl);
-    apart = λ f here. inl (ap (λ g. g.kept) (same_Some f e (sym here ∙ some_now)));
-    freed = λ gone pending free. absurd (none-some e (sym gone ∙ some_now));
-  }
+  cached_new = search (arith, length-set, get_or-set_other, some_now, frozen_by, same_Some, none-some)
 
   pub frozen_state_new : frozen_state_in_memory (with_objects m m.headers more) number ≡ frozen_state_by (mark_at m.pending number) false
       (mark_at m.touched number)
   frozen_state_new = ap (λ o. frozen_state_of o (mark_at m.pending number) (mark_at m.touched number)) some_now
 
 no_entry_by : (o : Option Entry) → is_some o ≡ false → o ≡ None
-no_entry_by None is = refl
-no_entry_by (Some e) is = absurd (true≢false is)
+no_entry_by o is = search arith
 
 -- the same by what is seen
 module _ {D : Type 0} (disk : D → Disk) {d : DurableState D} {m : Memory} {left count : ℕ} {order : List ℕ} {most_entries : ℕ} {s : StoreState D}
@@ -281,13 +218,7 @@ module _ {D : Type 0} (disk : D → Disk) {d : DurableState D} {m : Memory} {lef
 -- a body that is both is of an object that is pending and wasn't written since it was frozen
 shared_frozen_state : (e : Entry) (pending touched : Bool) → frozen_state_of (Some e) pending touched ≡ Shared →
     (pending ≡ true) × (touched ≡ false) × (e.kept ≡ None)
-shared_frozen_state e false touched is = cc
-shared_frozen_state e true touched is = let p = go e.kept touched is in (refl, p.0, p.1)
-  where
-    go : (o : Option (Content Cap)) (t : Bool) → frozen_state_body (is_some o) t ≡ Shared → (t ≡ false) × (o ≡ None)
-    go (Some c) t same = cc
-    go None true same = cc
-    go None false same = (refl, refl)
+shared_frozen_state e pending touched is = search arith
 
 abbrev pub keeping : Entry → Entry
 keeping e = record e { kept = Some e.present }
@@ -298,26 +229,17 @@ module _ (s : Stored) (m : Memory) (n : ℕ) (within : n < length m.entries) (e 
   apart_entries = with_entry (keeping) n m.entries
 
   facts : (mark_at m.pending n ≡ true) × (mark_at m.touched n ≡ false) × (e.kept ≡ None)
-  facts = shared_frozen_state e (mark_at m.pending n) (mark_at m.touched n)
-      (ap (λ o. frozen_state_of o (mark_at m.pending n) (mark_at m.touched n)) (sym at) ∙ shared)
+  facts = search (arith, shared_frozen_state)
 
   now : entry_at apart_entries n ≡ Some (keeping e)
   now = get_or-set_same m.entries n (option_map (keeping) (entry_at m.entries n)) None within ∙ ap (option_map (keeping)) at
 
   frozen_same : frozen_body (entry_at apart_entries n) (mark_at m.touched n) (below_body s m n) ≡ frozen_body (entry_at m.entries n) (mark_at m.touched n)
       (below_body s m n)
-  frozen_same = rw now (sym (ap (λ o. frozen_body o (mark_at m.touched n) (below_body s m n)) at
-      ∙ ap (λ t. apart_body e.kept t e.present (below_body s m n)) facts.1 ∙ ap (λ k. apart_body k false e.present (below_body s m n)) facts.2))
+  frozen_same = search (arith, now, facts)
 
   pub keeps_apart : Recaches s m apart_entries n
-  keeps_apart = record {
-    count = length-set m.entries n (option_map (keeping) (entry_at m.entries n));
-    entries = λ k other. get_or-set_other m.entries n k (option_map (keeping) (entry_at m.entries n)) None other;
-    content = rw (now, at);
-    frozen = ap (λ c. frozen_frame (mark_at m.pending n) (header_at m.frozen_headers n) c (below_at s n)) frozen_same;
-    apart = λ f here. inr facts.0;
-    freed = λ none pending free. absurd (none-some (keeping e) (sym none ∙ now));
-  }
+  keeps_apart = search (arith, length-set, get_or-set_other, now, frozen_same, facts, none-some)
 
   pub frozen_state_apart : frozen_state_in_memory (with_objects m m.headers apart_entries) n ≡ Apart
   frozen_state_apart = rw (now, facts.0)

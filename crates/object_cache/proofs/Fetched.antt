@@ -1,13 +1,12 @@
 -- Objects are brought into memory: those used last stay there.
-use Rattle.object_cache.proofs.Names.{inl, inr, ℕ, zero, suc, true, false, true≢false, List, [], length, take, Result, Ok, Err, refl, sym, ap, subst, arith}
-use Rattle.object_cache.proofs.Names.{OnOk, OnErr, slice_index_or, cases_eq, cases_lt, eq-eqb, is_member, Disk, DurableState, stored_of, Memory, without}
-use Rattle.object_cache.proofs.Names.{StoreState, IsCache, IsFetchedIn, cond, ne_eqb, cache_of, cached_at, with_cached, on_device, on_device_with, take-take}
-use Rattle.object_cache.proofs.Names.{used_in_turn, IsBounded, UsesSome, take_all, length_without, in_either, in_front, one_more, used_anew, used_front}
-use Rattle.object_cache.proofs.Names.{without_absent, without_here, without_tail, length-take, Held, None, header_at, held_at, put_at, ReadsStore, below_at}
-use Rattle.object_cache.proofs.Names.{newest, masked, in_staging, put_body, present_body, newest_body, contents_in, GoesOnIn, frozen_seen, set, Some, Cap}
-use Rattle.object_cache.proofs.Names.{Content, new_entry, option_map, same_Some, Stored, entry_at, mark_at, below_body, content_at, frozen_at, frozen_states_in}
-use Rattle.object_cache.proofs.Names.{either_of, member_head, member_tail, in_tail, list_any-from_Contains, nat_eq_equiv, All, All-contains, Contains, Frame}
-use Rattle.object_cache.proofs.Names.{ObjectHeader}
+use Rattle.object_cache.proofs.Names.{inl, inr, ℕ, zero, suc, true, false, true≢false, List, [], length, take, Result, refl, sym, ap, subst, arith, OnOk, OnErr}
+use Rattle.object_cache.proofs.Names.{slice_index_or, cases_eq, cases_lt, eq-eqb, is_member, Disk, DurableState, stored_of, Memory, without, StoreState}
+use Rattle.object_cache.proofs.Names.{IsCache, IsFetchedIn, ne_eqb, cache_of, cached_at, with_cached, on_device, on_device_with, take-take, used_in_turn}
+use Rattle.object_cache.proofs.Names.{IsBounded, UsesSome, take_all, length_without, in_either, in_front, one_more, used_anew, used_front, without_absent}
+use Rattle.object_cache.proofs.Names.{without_here, without_tail, length-take, Held, None, header_at, held_at, put_at, ReadsStore, below_at, newest, masked}
+use Rattle.object_cache.proofs.Names.{in_staging, put_body, present_body, newest_body, contents_in, GoesOnIn, frozen_seen, set, Some, Cap, Content, new_entry}
+use Rattle.object_cache.proofs.Names.{option_map, same_Some, Stored, entry_at, mark_at, below_body, content_at, frozen_at, frozen_states_in, either_of}
+use Rattle.object_cache.proofs.Names.{member_head, member_tail, in_tail, list_any-from_Contains, nat_eq_equiv, All, All-contains, Contains, Frame, ObjectHeader}
 use Rattle.std.proofs.Common.{◌≡◌, ◌≢◌, ◌+◌, ◌<◌, ◌≤◌, ◌∷◌, ◌∙◌, ◌-◌, ◌++◌}
 use Rattle.object_cache.proofs.Marking.{marked_within}
 use Rattle.object_cache.proofs.Objects.{Alike, clean_alike, content_in, contents_alike, frozen_alike, keepable_alike, stored_next, unwritten_alike}
@@ -78,13 +77,11 @@ module _ {D : Type 0} where
 
   pub read_rest : {T E : Type 0} (r : Result T E) (s t : StoreState D) (n : ℕ) → OnOk r (t ≡ with_cached n (read_on s t)) → OnErr r (t ≡ read_on s t) →
       t ≡ on_device_with s t
-  read_rest (Ok x) s t n ok err = ok ∙ ap (on_device_with s) (sym ok)
-  read_rest (Err e) s t n ok err = err ∙ ap (on_device_with s) (sym err)
+  read_rest {T} {E} r s t n ok err = search arith
 
   pub read_staging : {T E : Type 0} (r : Result T E) (s t : StoreState D) (n : ℕ) → OnOk r (t ≡ with_cached n (read_on s t)) → OnErr r (t ≡ read_on s t) →
       t.staging ≡ s.staging
-  read_staging (Ok x) s t n ok err = ap (λ x. x.staging) ok
-  read_staging (Err e) s t n ok err = ap (λ x. x.staging) err
+  read_staging {T} {E} r s t n ok err = search arith
 
 -- ---- which entries go: a cache keeps the numbers used last, as many as its capacity
 
@@ -102,12 +99,10 @@ front_less (suc k) n (m ∷ ms) = elim (cases_eq n m) [
 
 -- a use keeps the front, whether or not what lies behind it went before
 use_keeps_front : (most n : ℕ) (xs : List ℕ) → take most (n ∷ without n (take most xs)) ≡ take most (n ∷ without n xs)
-use_keeps_front zero n xs = refl
-use_keeps_front (suc k) n xs = ap (λ ys. n ∷ ys) (front_less k n xs)
+use_keeps_front most n xs = search (arith, front_less)
 
 pub pushed_to_front : (most n : ℕ) (xs : List ℕ) → 0 < most → n ∷ take (most - 1) xs ≡ take most (n ∷ xs)
-pushed_to_front zero n xs some = absurd (omega (arith, some))
-pushed_to_front (suc k) n xs some = ap (λ j. n ∷ take j xs) (let one : suc k - 1 ≡ k = omega arith in one)
+pushed_to_front most n xs some = search arith
 
 pub same_front : (j : ℕ) (xs ys : List ℕ) → ys ≡ xs → length xs ≤ j → ys ≡ take j xs
 same_front j xs ys same few = same ∙ sym (take_all j xs few)
@@ -117,8 +112,7 @@ same_front j xs ys same few = same ∙ sym (take_all j xs few)
 -- one that has an entry
 pub used_order : {D : Type 0} (s : StoreState D) (n : ℕ) → IsBounded s → IsFetchedIn s n →
     n ∷ without n s.order ≡ take s.capacity (n ∷ without n s.order)
-used_order s n bounded there = same_front s.capacity (n ∷ without n s.order) (n ∷ without n s.order) refl
-    (omega (arith, length_without n s.order (bounded.listed n ∙ there.cached), bounded.few))
+used_order {D} s n bounded there = search (arith, same_front, length_without)
 
 -- one that has none
 pub brought_order : {D : Type 0} (s : StoreState D) (n : ℕ) (os : List ℕ) → IsBounded s → cached_at s.cached n ≡ false → os ≡ take s.capacity (n ∷ s.order) →
@@ -129,27 +123,10 @@ brought_order s n os bounded none is = is ∙ ap (λ ns. take s.capacity (n ∷ 
 
 pub used_more : (most i : ℕ) (ns s t u : List ℕ) → i < length ns → t ≡ take most (used_in_turn (take i ns) s) →
     u ≡ take most (slice_index_or ns i 0 ∷ without (slice_index_or ns i 0) t) → u ≡ take most (used_in_turn (take (i + 1) ns) s)
-used_more most i ns s t u below before is =
-    is ∙ ap (λ ks. take most (slice_index_or ns i 0 ∷ without (slice_index_or ns i 0) ks)) before
-    ∙ use_keeps_front most (slice_index_or ns i 0) (used_in_turn (take i ns) s) ∙ ap (take most) (one_more s (used_in_turn (take i ns) s) ns i below refl)
+used_more most i ns s t u below before is = search (arith, use_keeps_front, one_more)
 
 pub stopped_at : (most i j : ℕ) (ns s t u : List ℕ) → t ≡ take most (used_in_turn (take i ns) s) → most ≤ j + 1 → u ≡ take j t → UsesSome most ns s u
-stopped_at most i j ns s t u before enough is = elim (cases_lt j most) [
-  | inl less ↦ record {
-    used = take i ns;
-    listed = in_front i ns;
-    count = j;
-    enough = enough;
-    order = is ∙ ap (take j) before ∙ take-take j most (used_in_turn (take i ns) s) (omega (arith, less));
-  }
-  | inr more ↦ record {
-    used = take i ns;
-    listed = in_front i ns;
-    count = most;
-    enough = omega arith;
-    order = is ∙ ap (take j) before ∙ front_least j most (used_in_turn (take i ns) s) more;
-  }
-]
+stopped_at most i j ns s t u before enough is = search (arith, cases_lt, in_front, take-take, front_least)
 
 -- none was used, and none went
 pub uses_none : (most : ℕ) (ns s u : List ℕ) → u ≡ s → UsesSome most ns s u
@@ -186,9 +163,7 @@ module _ {D : Type 0} (disk : D → Disk) {d : DurableState D} {m : Memory} {lef
     known_here = omega (arith, known, ap (λ t. length t.headers) view)
 
     newest_is : newest_body (stored_of disk d) m n ≡ (newest (stored_of disk d) n).content
-    newest_is =
-        ap (λ h. put_body (put_at (stored_of disk d).working n) (in_staging h n (below_at (stored_of disk d) n).content)) (ap (λ t. t.staging) view ∙ empty)
-        ∙ sym (put_or_body (put_at (stored_of disk d).working n) (below_at (stored_of disk d) n))
+    newest_is = search (arith, put_or_body)
 
     -- what is read is what it holds, or it is free
     pub read_holds : masked (header_at m.headers n).role (newest (stored_of disk d) n).content ≡ held_at s.contents n
@@ -199,18 +174,7 @@ module _ {D : Type 0} (disk : D → Disk) {d : DurableState D} {m : Memory} {lef
 
   pub read_next : {new : DurableState D} → ReadsStore disk d new → (disk d.beneath).failures ≤ (disk new.beneath).failures →
       IsNext disk s new m left count order most_entries (record s { durable = new })
-  read_next {new = new} reads later = record {
-    is = (stored_next disk {new = new} view reads.stored is refl refl).is;
-    view = (stored_next disk {new = new} view reads.stored is refl refl).view;
-    continues = subst (λ t. GoesOnIn disk t (cache_of disk new m left order most_entries)) view (record {
-      goes_on = reads.goes_on;
-      snapshots = ap (λ t. record { frozen = frozen_seen t m left; saved = t.saved; to_move = t.to_move }) reads.stored;
-      later = later;
-      grows = omega arith;
-      capacity = refl;
-      only_reads = λ none idle. reads.any_moment;
-    });
-  }
+  read_next {new} reads later = search (arith, stored_next)
 
   -- and it is made an entry
   pub kept_next : (n : ℕ) → n < length s.headers → cached_at s.cached n ≡ false → s.staging ≡ None → {new : DurableState D} → ReadsStore disk d new →
@@ -241,11 +205,7 @@ module _ {s : Stored} {m : Memory} {left count : ℕ} (is : IsCache s m left cou
   then = holding_up n c m
 
   in_staging_same : (k : ℕ) → in_staging (Some (record { number = n; content = c })) k (below_at s k).content ≡ (below_at s k).content
-  in_staging_same k = elim (cases_eq n k) [
-    | inl same ↦
-        ap (λ b. cond b c (below_at s k).content) (eq-eqb n k same) ∙ read ∙ ap (λ i. (below_at s i).content) same
-    | inr other ↦ ap (λ b. cond b c (below_at s k).content) (ne_eqb n k other)
-  ]
+  in_staging_same k = search (arith, cases_eq, eq-eqb, ne_eqb)
 
   below_same : (k : ℕ) → below_body s then k ≡ below_body s m k
   below_same k = in_staging_same k ∙ sym (ap (λ o. in_staging o k (below_at s k).content) empty)

@@ -1,13 +1,12 @@
 -- A checkpoint begins: all objects are frozen as they are.
-use Rattle.object_cache.proofs.Names.{inl, inr, ℕ, zero, suc, Bool, true, false, true≢false, cond, List, [], length, map, replicate, Option, Some, None}
-use Rattle.object_cache.proofs.Names.{option_map, refl, sym, ap, subst, arith, count_by, range_with_len, length-replicate, same_lists, ext_get_or}
-use Rattle.object_cache.proofs.Names.{length-map-range_with_len, get_or-map-range_with_len, sum_by-cons, none-some, same_Some, Cap, Frame, ObjectHeader}
-use Rattle.object_cache.proofs.Names.{Content, Role, blank_frame, frame_at, frames_in, header_at, AreKeepable, touched_count, untouched, object_count, Disk}
-use Rattle.object_cache.proofs.Names.{role_of, Put, Absent, Broken, freezing, all_frozen, freezing_puts, Kept, put_at, put_or, held_slot, sum_of, most}
-use Rattle.object_cache.proofs.Names.{DurableState, Stored, below_at, frozen_put, stored_of, maps_same, frame_in, length_in, Entry, entry_at, Memory, mark_at}
-use Rattle.object_cache.proofs.Names.{masked, put_body, present_body, content_at, present_at, newest_body, below_body, apart_body, frozen_body, frozen_frame}
-use Rattle.object_cache.proofs.Names.{frozen_at, contents_in, frozen_in, StoreState, IsCache, AreFrozen, snapshots_of, cache_of, frozen_seen, is_kept, left_of}
-use Rattle.object_cache.proofs.Names.{sum_by-replicate, get_or_default}
+use Rattle.object_cache.proofs.Names.{ℕ, zero, suc, Bool, true, false, true≢false, cond, List, [], length, map, replicate, Option, Some, None, option_map, refl}
+use Rattle.object_cache.proofs.Names.{sym, ap, subst, arith, count_by, range_with_len, length-replicate, same_lists, ext_get_or, length-map-range_with_len}
+use Rattle.object_cache.proofs.Names.{get_or-map-range_with_len, sum_by-cons, none-some, same_Some, Cap, Frame, ObjectHeader, Content, Role, blank_frame}
+use Rattle.object_cache.proofs.Names.{frame_at, frames_in, header_at, AreKeepable, touched_count, untouched, object_count, Disk, role_of, Put, Absent, Broken}
+use Rattle.object_cache.proofs.Names.{freezing, all_frozen, freezing_puts, put_at, put_or, held_slot, sum_of, most, DurableState, Stored, below_at, frozen_put}
+use Rattle.object_cache.proofs.Names.{stored_of, maps_same, frame_in, length_in, Entry, entry_at, Memory, mark_at, masked, put_body, content_at, present_at}
+use Rattle.object_cache.proofs.Names.{newest_body, below_body, frozen_body, frozen_frame, frozen_at, contents_in, frozen_in, StoreState, IsCache, AreFrozen}
+use Rattle.object_cache.proofs.Names.{snapshots_of, cache_of, frozen_seen, is_kept, left_of, sum_by-replicate, get_or_default}
 use Rattle.std.proofs.Common.{◌≡◌, ◌<◌, ◌≤◌, ◌||◌, ◌∷◌, ◌∙◌}
 use Rattle.model.specs.declared.object.Content.TheVariants as content
 use Rattle.object_cache.proofs.Marking.{alike}
@@ -18,12 +17,7 @@ use Rattle.object_cache.proofs.Outcomes.{none_of}
 
 -- what has the role of its header is what the mask leaves of it
 pub masked_same : (r : Role) (c : Content Cap) → r ≡ role_of c → masked r c ≡ c
-masked_same r content.Free is = ap (λ x. masked x content.Free) is
-masked_same r (content.Page words) is = ap (λ x. masked x (content.Page words)) is
-masked_same r (content.Node slots) is = ap (λ x. masked x (content.Node slots)) is
-masked_same r (content.Root root) is = ap (λ x. masked x (content.Root root)) is
-masked_same r (content.Annex registers) is = ap (λ x. masked x (content.Annex registers)) is
-masked_same r (content.Bank limit) is = ap (λ x. masked x (content.Bank limit)) is
+masked_same r c is = search arith
 
 pub none_counted : (n : ℕ) → touched_count (replicate n false) ≡ 0
 none_counted n = omega (arith, sum_by-replicate (λ b. cond b 1 0) n false)
@@ -49,8 +43,7 @@ fewer_of (true ∷ ds) (true ∷ ts) each =
 fewer_of (true ∷ ds) (false ∷ ts) each = absurd (true≢false (sym (each zero refl)))
 
 pub put_or_body : (p : Put) (f : Frame) → (put_or p f).content ≡ put_body p f.content
-put_or_body Absent f = refl
-put_or_body other f = refl
+put_or_body other f = search arith
 
 abbrev pub frozen_memory : List ObjectHeader → Memory → Memory
 frozen_memory fh m = record
@@ -71,9 +64,7 @@ module _ {s : Stored} {m : Memory} {left count : ℕ} (is : IsCache s m left cou
 
   -- what lies below now is the newest there was
   below_now : (n : ℕ) → below_body begun now n ≡ newest_body s m n
-  below_now n = rw (no_staging is n (below_at s n).content (is.idle none n), below_was n)
-      (no_staging is n (put_or (put_at s.working n) (frame_at s.saved.frames n)).content (is.idle none n)
-      ∙ put_or_body (put_at s.working n) (frame_at s.saved.frames n))
+  below_now n = search (arith, no_staging, none, below_was, put_or_body)
 
   content_same : (n : ℕ) → content_at begun now n ≡ content_at s m n
   content_same n = rw (alike (length s.working) n Absent, below_now n)
@@ -86,37 +77,16 @@ module _ {s : Stored} {m : Memory} {left count : ℕ} (is : IsCache s m left cou
   begun_contents = maps_same (content_at begun now) (content_at s m) (length m.headers) (λ n below. content_same n)
 
   masked_here : (n : ℕ) → n < length m.headers → masked (header_at m.headers n).role (content_at s m n) ≡ content_at s m n
-  masked_here n within =
-      let kept = keepable.each n (omega (arith, within, is.headers)) in
-      let at = frame_in m.headers (contents_in s m) n within in
-      masked_same (header_at m.headers n).role (content_at s m n)
-      (ap (λ f. f.header.role) (sym at) ∙ kept.kept.role ∙ ap (λ f. role_of f.content) at ∙ ap role_of (content_in s m n within))
+  masked_here n within = search (arith, frame_in m.headers (contents_in s m) n within, masked_same, content_in)
 
   -- the frozen body of an object that wasn't put since it was written
   body_now : (n : ℕ) → n < length m.headers → (o : Option Entry) → entry_at m.entries n ≡ o →
       masked (header_at m.headers n).role (frozen_body o false (below_body begun now n)) ≡ content_at s m n
-  body_now n within None at =
-      ap (masked (header_at m.headers n).role) (below_now n) ∙ sym (ap (λ o. present_body o (header_at m.headers n).role (newest_body s m n)) at)
-  body_now n within (Some e) at =
-      let held : content_at s m n ≡ e.present = ap (λ o. present_body o (header_at m.headers n).role (newest_body s m n)) at in
-      elim (is.apart n e at) [
-        | inl alone ↦
-            ap (λ k. masked (header_at m.headers n).role (apart_body k false e.present (below_body begun now n))) alone
-            ∙ ap (masked (header_at m.headers n).role) (sym held) ∙ masked_here n within
-        | inr pending ↦ absurd (true≢false (sym pending ∙ is.idle none n))
-      ]
+  body_now n within o at = search (arith, below_now, masked_here, none)
 
   frozen_by : (n : ℕ) → n < length m.headers → (b t : Bool) → mark_at m.dirty n ≡ b → mark_at m.touched n ≡ t →
       frozen_frame b (header_at fh n) (frozen_body (entry_at m.entries n) false (below_body begun now n)) (below_at begun n) ≡ present_at s m n
-  frozen_by n within true t dirty touched =
-      ap (λ h. record { header = h; content = masked h.role (frozen_body (entry_at m.entries n) false (below_body begun now n)) })
-      (same_headers n dirty) ∙ ap (λ c. record { header = header_at m.headers n; content = c }) (body_now n within (entry_at m.entries n) refl)
-  frozen_by n within false true clean touched = ap (λ p. put_or p (frame_at s.saved.frames n)) (is.clean n clean touched)
-  frozen_by n within false false clean untouched =
-      ap (λ p. put_or p (frame_at s.saved.frames n)) (is.unput n untouched)
-      ∙ sym (is.unwritten n within untouched
-      ∙ ap (λ p. frozen_frame p (header_at m.frozen_headers n) (frozen_body (entry_at m.entries n) (mark_at m.touched n) (below_body s m n))
-      (below_at s n)) (is.idle none n) ∙ below_was n)
+  frozen_by n within b t dirty touched = search (arith, body_now, none, below_was)
 
   frozen_now : (n : ℕ) → n < length m.headers → frozen_at begun now n ≡ present_at s m n
   frozen_now n within = rw (alike (length m.touched) n false) (frozen_by n within (mark_at m.dirty n) (mark_at m.touched n) refl refl)
@@ -136,15 +106,10 @@ module _ {s : Stored} {m : Memory} {left count : ℕ} (is : IsCache s m left cou
 
   -- a number is touched if it is dirty or has a working slot
   written_by : (n : ℕ) (b t : Bool) → mark_at m.dirty n ≡ b → mark_at m.touched n ≡ t → (b || is_kept (put_at s.working n)) ≡ t
-  written_by n true true dirty touched = refl
-  written_by n true false dirty untouched = absurd (true≢false (sym (is.marked n dirty) ∙ untouched))
-  written_by n false true clean touched = ap is_kept (is.clean n clean touched)
-  written_by n false false clean untouched = ap is_kept (is.unput n untouched)
+  written_by n b t dirty touched = search arith
 
   torn_by : (n : ℕ) (b t : Bool) → mark_at m.dirty n ≡ b → mark_at m.touched n ≡ t → put_at s.working n ≡ Broken → b ≡ true
-  torn_by n true t dirty touched broken = refl
-  torn_by n false true clean touched broken = let never : Kept (present_at s m n) ≡ Broken = sym (is.clean n clean touched) ∙ broken in absurd cc
-  torn_by n false false clean untouched broken = let never : Absent ≡ Broken = sym (is.unput n untouched) ∙ broken in absurd cc
+  torn_by n b t dirty touched broken = search arith
 
   begun_are : AreFrozen (record { put = s.working; size = count }) m.dirty count
   begun_are = record {
@@ -164,31 +129,7 @@ module _ {s : Stored} {m : Memory} {left count : ℕ} (is : IsCache s m left cou
   }
 
   pub begun_cache : IsCache begun now count 0
-  begun_cache = record {
-    headers = is.headers;
-    frozen_headers = fh_count ∙ is.frozen_headers;
-    marks = length-replicate {A = Bool} (length m.touched) false ∙ is.marks;
-    dirty_marks = length-replicate {A = Bool} (length m.pending) false ∙ is.pending_marks;
-    pending_marks = is.dirty_marks;
-    entries = is.entries;
-    frames = is.frames;
-    puts = length-replicate {A = Put} (length s.working) Absent ∙ is.puts;
-    counted = sym (none_counted (length m.touched));
-    within = omega arith;
-    marked = λ n dirty. absurd (true≢false (sym dirty ∙ alike (length m.pending) n false));
-    clean = λ n clean touched. absurd (true≢false (sym touched ∙ alike (length m.touched) n false));
-    unput = λ n untouched. alike (length s.working) n Absent;
-    unwritten = λ n within untouched. present_same n ∙ sym (frozen_now n within);
-    idle = λ gone. absurd (none-some (record { put = s.working; size = count }) (sym gone));
-    running = λ f f_is. subst (λ g. AreFrozen g m.dirty count) (same_Some (record { put = s.working; size = count }) f f_is) begun_are;
-    keepable = λ f f_is. subst (AreKeepable s.saved.geometry most) (sym begun_frozen) keepable;
-    held = λ h h_is. absurd (true≢false (sym (is.held h h_is) ∙ is.idle none h.number));
-    apart = λ n e at. elim (is.apart n e at) [
-      | inl alone ↦ inl alone
-      | inr pending ↦ absurd (true≢false (sym pending ∙ is.idle none n))
-    ];
-    freed = λ n gone dirty free. inr (ap (λ h. h.role) (sym (same_headers n dirty)) ∙ free);
-  }
+  begun_cache = search (arith, length-replicate, none_counted, alike, present_same, frozen_now, none-some, same_Some, begun_are, begun_frozen, none)
 
 -- the same by what is seen
 module _ {D : Type 0} (disk : D → Disk) {d : DurableState D} {m : Memory} {left count : ℕ} {order : List ℕ} {most_entries : ℕ} {s : StoreState D}

@@ -1,19 +1,16 @@
 -- What entries have of unwritten frozen frames, and which numbers have one, by the state.
-use Rattle.object_cache.proofs.Names.{inl, inr, ℕ, zero, suc, Bool, true, false, true≢false, List, [], length, set, take, Option, Some, None, IsSome, is_some}
-use Rattle.object_cache.proofs.Names.{option_map, refl, sym, ap, arith, slice_get, get_or-set_other, cases_eq, none-some, same_Some, Cap, Content, is_member}
-use Rattle.object_cache.proofs.Names.{Disk, DurableState, stored_of, Entry, entry_at, kept_of, frozen_state_by, Memory, Nothing, mark_at, frozen_state_of}
-use Rattle.object_cache.proofs.Names.{AreOrdered, used_longest_ago, without, StoreState, IsCache, IsFetchedIn, cache_of, frozen_state_at, cached_at, take_all}
-use Rattle.object_cache.proofs.Names.{length_without, front_stays, listed_member, on_device, without_cached, Result, Ok, Err, OnOk, OnErr, subst, some_within}
-use Rattle.std.proofs.Common.{◌≡◌, ◌≢◌, ◌+◌, ◌-◌, ◌<◌, ◌≤◌, ◌∷◌, ◌∙◌}
+use Rattle.object_cache.proofs.Names.{ℕ, zero, suc, Bool, true, false, List, [], length, set, take, Option, Some, None, IsSome, is_some, option_map, sym, ap}
+use Rattle.object_cache.proofs.Names.{arith, slice_get, get_or-set_other, cases_eq, none-some, same_Some, Cap, Content, is_member, Disk, DurableState}
+use Rattle.object_cache.proofs.Names.{stored_of, entry_at, kept_of, frozen_state_by, Memory, Nothing, mark_at, frozen_state_of, AreOrdered, used_longest_ago}
+use Rattle.object_cache.proofs.Names.{without, StoreState, IsCache, IsFetchedIn, cache_of, frozen_state_at, cached_at, take_all, length_without, front_stays}
+use Rattle.object_cache.proofs.Names.{listed_member, on_device, without_cached, Result, OnOk, OnErr, some_within}
+use Rattle.std.proofs.Common.{◌≡◌, ◌+◌, ◌-◌, ◌<◌, ◌≤◌, ◌∷◌, ◌∙◌}
 use Rattle.object_cache.proofs.Marking.{set_there}
 use Rattle.object_cache.proofs.Objects.{cached_entry, contents_count}
 use Rattle.object_cache.proofs.Caching.{frozen_state_entry}
 
 pub still_uncached : (ss : List Bool) (n k : ℕ) → cached_at ss k ≡ false → cached_at (set ss n false) k ≡ false
-still_uncached ss n k none = elim (cases_eq k n) [
-  | inl same ↦ ap (cached_at (set ss n false)) same ∙ set_there ss n false
-  | inr other ↦ get_or-set_other ss n k false false other ∙ none
-]
+still_uncached ss n k none = search (arith, cases_eq, set_there, get_or-set_other)
 
 module _ {D : Type 0} (disk : D → Disk) {d : DurableState D} {m : Memory} {left count : ℕ} {order : List ℕ} {most_entries : ℕ} {s : StoreState D}
     (view : cache_of disk d m left order most_entries ≡ s) (is : IsCache (stored_of disk d) m left count) (n : ℕ) where
@@ -29,29 +26,13 @@ module _ {D : Type 0} (disk : D → Disk) {d : DurableState D} {m : Memory} {lef
         b ≡ is_some k →
         t ≡ mark_at m.touched n →
         frozen_state_by p b t ≡ frozen_state_at s.frozen_state n
-    frozen_state_with k kept p b t p_is b_is t_is =
-        ap (λ x. frozen_state_by x b t) p_is
-        ∙ ap (λ x. frozen_state_by (mark_at m.pending n) x t) b_is
-        ∙ ap (λ x. frozen_state_by (mark_at m.pending n) (is_some k) x) t_is ∙ go (entry_at m.entries n) kept ∙ frozen_state_is
-      where
-        go : (o : Option Entry) → option_map kept_of o ≡ Some k → frozen_state_by (mark_at m.pending n) (is_some k) (mark_at m.touched n) ≡ frozen_state_of o
-            (mark_at m.pending n) (mark_at m.touched n)
-        go None is = absurd (none-some k is)
-        go (Some e) is = ap (λ x. frozen_state_by (mark_at m.pending n) (is_some x) (mark_at m.touched n)) (sym (same_Some e.kept k is))
+    frozen_state_with k kept p b t p_is b_is t_is = search (arith, frozen_state_is, none-some, same_Some)
 
     pub frozen_state_without : is_some (entry_at m.entries n) ≡ false → frozen_state_at s.frozen_state n ≡ Nothing
-    frozen_state_without none = sym frozen_state_is ∙ go (entry_at m.entries n) none
-      where
-        go : (o : Option Entry) → is_some o ≡ false → frozen_state_of o (mark_at m.pending n) (mark_at m.touched n) ≡ Nothing
-        go None is = refl
-        go (Some e) is = absurd (true≢false is)
+    frozen_state_without none = search (arith, frozen_state_is)
 
     pub fetched_by : IsSome (entry_at m.entries n) → IsFetchedIn s n
-    fetched_by some = record {
-      header = known;
-      content = omega (arith, known_there, contents_count (stored_of disk d) m, ap (λ t. length t.contents) view);
-      cached = ap (λ t. cached_at t.cached n) (sym view) ∙ cached_entry m.entries n ∙ some;
-    }
+    fetched_by some = search (arith, known, known_there, contents_count, cached_entry)
 
   pub uncached_by : is_some (entry_at m.entries n) ≡ false → cached_at s.cached n ≡ false
   uncached_by none = ap (λ t. cached_at t.cached n) (sym view) ∙ cached_entry m.entries n ∙ none
@@ -116,15 +97,4 @@ pub evicted : {D T E : Type 0} (r : Result T E) (s u : StoreState D) (n : ℕ) �
     OnErr r (u ≡ on_device s u) →
     OnOk r (length u.order < u.capacity) × ((k : ℕ) → cached_at s.cached k ≡ false → cached_at u.cached k ≡ false) ×
     OnOk r (u.order ≡ take (s.capacity - 1) s.order) × OnErr r (u.order ≡ s.order)
-evicted {D} (Ok x) s u n least away stays = (
-  subst (λ t. length t.order < t.capacity) (sym away) least.room,
-  λ k none. ap (λ t. cached_at t.cached k) away ∙ still_uncached s.cached n k none,
-  ap (λ t. t.order) away ∙ least.rest,
-  tt,
-)
-evicted {D} (Err e) s u n least away stays = (
-  tt,
-  λ k none. ap (λ t. cached_at t.cached k) stays ∙ none,
-  tt,
-  ap (λ t. t.order) stays,
-)
+evicted {D} {T} {E} r s u n least away stays = search (arith, still_uncached)

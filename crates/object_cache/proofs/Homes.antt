@@ -1,13 +1,12 @@
 -- What is saved goes home, or what is frozen is saved: no object changes.
-use Rattle.object_cache.proofs.Names.{AreFrozen, most, inl, inr, ℕ, Bool, true, false, cond, List, [], length, map, Option, Some, None, option_map, Result, Ok}
-use Rattle.object_cache.proofs.Names.{Err, refl, sym, ap, subst, arith, count_by, range_with_len, cases_lt, length-map, same_lists, get_or_past}
-use Rattle.object_cache.proofs.Names.{length-map-range_with_len, get_or-map-range_with_len, sum_by-cons, none-some, same_Some, blank_frame, frame_at, header_at}
-use Rattle.object_cache.proofs.Names.{AreKeepable, Disk, Put, Absent, Broken, Kept, put_at, put_or, overlaid, kept_count, sum_of, SavedFrames, LeavesEither}
-use Rattle.object_cache.proofs.Names.{LeavesOneOf, home_saved, DurableState, MayCommit, committed, moved, next_saved, whole, on_snapshots, puts, FrozenPuts}
-use Rattle.object_cache.proofs.Names.{Stored, below_at, frozen_put, left_of, stored_of, maps_same, FrozenFrames, entry_at, Memory, mark_at, in_staging}
-use Rattle.object_cache.proofs.Names.{content_at, frozen_body, frozen_frame, frozen_at, get_or-map, get_or_default, contents_in, frozen_in, StoreState, IsCache}
+use Rattle.object_cache.proofs.Names.{ℕ, Bool, true, false, cond, List, [], length, map, Option, Some, None, option_map, Result, Ok, Err, refl, sym, ap, subst}
+use Rattle.object_cache.proofs.Names.{arith, count_by, range_with_len, cases_lt, length-map, same_lists, get_or_past, length-map-range_with_len}
+use Rattle.object_cache.proofs.Names.{get_or-map-range_with_len, sum_by-cons, none-some, same_Some, frame_at, Disk, Put, Absent, Broken, Kept, put_at, put_or}
+use Rattle.object_cache.proofs.Names.{overlaid, kept_count, sum_of, SavedFrames, LeavesEither, LeavesOneOf, home_saved, DurableState, MayCommit, committed}
+use Rattle.object_cache.proofs.Names.{moved, next_saved, whole, on_snapshots, puts, FrozenPuts, Stored, below_at, left_of, stored_of, maps_same, FrozenFrames}
+use Rattle.object_cache.proofs.Names.{Memory, mark_at, content_at, frozen_at, get_or-map, get_or_default, contents_in, frozen_in, StoreState, IsCache}
 use Rattle.object_cache.proofs.Names.{snapshots_of, cache_of, frozen_seen, is_kept}
-use Rattle.std.proofs.Common.{◌≡◌, ◌+◌, ◌-◌, ◌≤◌, ◌<◌, ◌||◌, ◌∷◌, ◌∙◌, OnOk, OnErr}
+use Rattle.std.proofs.Common.{◌≡◌, ◌-◌, ◌≤◌, ◌<◌, ◌||◌, ◌∷◌, ◌∙◌, OnOk, OnErr}
 use Rattle.std.specs.Prelude.{◌==◌}
 use Rattle.object_cache.proofs.Outcomes.{IsSeenAs}
 use Rattle.object_cache.proofs.Marking.{one_fewer}
@@ -25,13 +24,11 @@ stored_with s b k = record { working = s.working; frozen = s.frozen; saved = sav
 module _ (s : Stored) (m : Memory) where
   pub contents_home : (b : Bool) (k : ℕ) → contents_in (stored_with s b k) m ≡ contents_in s m
   unfolding contents_in
-  contents_home true k = refl
-  contents_home false k = refl
+  contents_home b k = search arith
 
   pub frozen_home : (b : Bool) (k : ℕ) → frozen_in (stored_with s b k) m ≡ frozen_in s m
   unfolding frozen_in
-  frozen_home true k = refl
-  frozen_home false k = refl
+  frozen_home b k = search arith
 
   -- the numbers of the checkpoint are no matter
   numbered_stands : (left count generation entries age k : ℕ) → IsCache s m left count →
@@ -54,9 +51,7 @@ module _ {D : Type 0} (disk : D → Disk) {d : DurableState D} {m : Memory} {lef
     (view : cache_of disk d m left order most_entries ≡ s) (is : IsCache (stored_of disk d) m left count) (new : DurableState D) (amount : ℕ) where
   home_next : (b : Bool) (k : ℕ) → stored_of disk new ≡ stored_with (stored_of disk d) b k →
       IsSeenAs disk new m left count order most_entries (record s { durable = new })
-  home_next b k put =
-      stored_next disk view put (home_stands (stored_of disk d) m left count b k is) (contents_home (stored_of disk d) m b k)
-      (λ i. option_map (λ f. record { frames = frozen_home (stored_of disk d) m b k i; size = f.size; left = left }) (stored_of disk d).frozen)
+  home_next b k put = search (arith, stored_next, home_stands, contents_home, frozen_home)
 
   pub moved_next : {T E : Type 0} (r : Result T E) → OnOk r (stored_of disk new ≡ on_snapshots (moved amount) (stored_of disk d)) →
       OnErr r ((k : ℕ) × (k ≤ (stored_of disk d).to_move) × (stored_of disk new ≡ record (stored_of disk d) { to_move = k })) →
@@ -111,10 +106,7 @@ module _ {s : Stored} {m : Memory} {count : ℕ} (is : IsCache s m 0 count) (f :
   -- what is frozen is what was put, over what is saved
   pub frozen_overlaid : frozen_in s m ≡ overlaid f.put s.saved.frames
   unfolding frozen_in overlaid
-  frozen_overlaid = rw (is.headers, ← is.frames) (maps_same (frozen_at s m) (λ n. put_or (put_at f.put n) (frame_at s.saved.frames n)) (length s.saved.frames)
-      (λ n below. ap (λ p. frozen_frame p (header_at m.frozen_headers n)
-      (frozen_body (entry_at m.entries n) (mark_at m.touched n) (in_staging m.staging n (below_at s n).content)) (below_at s n)) (none_pending n)
-      ∙ ap (λ o. put_or (frozen_put o n) (frame_at s.saved.frames n)) f_is))
+  frozen_overlaid = search (arith, maps_same, none_pending)
 
   module _ (age : ℕ) where
     abbrev after : Stored
@@ -126,16 +118,7 @@ module _ {s : Stored} {m : Memory} {count : ℕ} (is : IsCache s m 0 count) (f :
 
     below_stays : (n : ℕ) → below_at after n ≡ below_at s n
     unfolding overlaid
-    below_stays n = elim (cases_lt n (length s.saved.frames)) [
-      | inl lt ↦ rw f_is (get_or-map-range_with_len (λ i. put_or (put_at f.put i) (frame_at s.saved.frames i)) 0 (length s.saved.frames) n n blank_frame lt
-          (omega arith))
-      | inr past ↦
-          get_or_past (overlaid f.put s.saved.frames) n blank_frame (omega (arith, past, length_over))
-          ∙ sym (ap (λ o. put_or (frozen_put o n) (frame_at s.saved.frames n)) f_is
-          ∙ ap (λ p. put_or p (frame_at s.saved.frames n))
-          (get_or_past f.put n Absent (omega (arith, past, is.frames, is.pending_marks, (is.running f f_is).each)))
-          ∙ get_or_past s.saved.frames n blank_frame past)
-    ]
+    below_stays n = search (arith, cases_lt, get_or-map-range_with_len, get_or_past, length_over)
 
     content_stays : (n : ℕ) → content_at after m n ≡ content_at s m n
     content_stays n = rw (below_stays n)
@@ -147,10 +130,7 @@ module _ {s : Stored} {m : Memory} {count : ℕ} (is : IsCache s m 0 count) (f :
     saved_alike = record { headers = refl; content = content_stays; frozen = frozen_stays }
 
     pub saved_stands : IsCache after m 0 count
-    saved_stands =
-        let running : (g : FrozenPuts) → None ≡ Some g → AreFrozen g m.pending 0 = λ g g_is. absurd (none-some g g_is) in
-        let keepable : (g : FrozenPuts) → None ≡ Some g → AreKeepable s.saved.geometry most (frozen_in after m) = λ g g_is. absurd (none-some g g_is) in
-        search (clean_alike saved_alike is, unwritten_alike saved_alike is, length_over ∙ is.frames, none_pending)
+    saved_stands = search (arith, none-some, clean_alike, saved_alike, unwritten_alike, length_over, none_pending)
 
 -- the same by what is seen
 module _ {D : Type 0} (disk : D → Disk) {d : DurableState D} {m : Memory} {left count : ℕ} {order : List ℕ} {most_entries : ℕ} {s : StoreState D}
@@ -180,34 +160,17 @@ module _ {D : Type 0} (disk : D → Disk) {d : DurableState D} {m : Memory} {lef
   module _ (age : ℕ) where
     pub save_ready : MayCommit whole age f (stored_of disk s.durable).saved → (h : FrozenPuts) → (stored_of disk d).frozen ≡ Some h →
         MayCommit puts age h (stored_of disk d).saved
-    save_ready may h at =
-        let here : MayCommit whole age f (stored_of disk d).saved = subst (MayCommit whole age f) (sym saved_here) may in
-        record {
-          later = here.later;
-          most = here.most;
-          keepable = λ none. subst (AreKeepable (stored_of disk d).saved.geometry age) (sym (overlaid_are h at)) (here.keepable stable);
-        }
+    save_ready may h at = search (arith, saved_here, overlaid_are)
 
     next_are : (h : FrozenPuts) → (stored_of disk d).frozen ≡ Some h → next_saved puts age h (stored_of disk d).saved ≡ next_saved whole age f
         (stored_of disk s.durable).saved
-    next_are h at =
-        let size = ap (λ g. g.size) (sym (same_Some found.0 h (sym found.1 ∙ at))) ∙ ap (λ g. g.size) found.2 in
-        (λ k. record {
-          geometry = (stored_of disk d).saved.geometry;
-          frames = overlaid_are h at k;
-          generation = (stored_of disk d).saved.generation + 1;
-          entries = size k;
-          age = age;
-        }) ∙ ap (next_saved whole age f) saved_here
+    next_are h at = search (arith, same_Some, found, overlaid_are, saved_here)
 
     pub save_moments : (old new : Disk) →
         LeavesOneOf old new (stored_of disk d).saved (option_map (λ h. next_saved puts age h (stored_of disk d).saved) (stored_of disk d).frozen)
         →
         LeavesEither old new (stored_of disk s.durable).saved (next_saved whole age f (stored_of disk s.durable).saved)
-    save_moments old new moments =
-        subst (λ next. LeavesEither old new (stored_of disk s.durable).saved next) (next_are found.0 found.1)
-        (subst (λ saved. LeavesEither old new saved (next_saved puts age found.0 (stored_of disk d).saved)) saved_here
-        (subst (λ o. LeavesOneOf old new (stored_of disk d).saved (option_map (λ h. next_saved puts age h (stored_of disk d).saved) o)) found.1 moments))
+    save_moments old new moments = search (arith, next_are, found, saved_here)
 
     pub save_next : (new : DurableState D) {T E : Type 0} (r : Result T E) →
         ((h : FrozenPuts) → (stored_of disk d).frozen ≡ Some h → OnOk r (stored_of disk new ≡ on_snapshots (committed puts age h) (stored_of disk d))) →

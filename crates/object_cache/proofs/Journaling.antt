@@ -1,18 +1,15 @@
 -- A page is journaled: no object changes, and what is saved of the page has the words that it has now.
-use Rattle.object_cache.proofs.Names.{AreFrozen, inl, inr, ℕ, Bool, true, false, List, length, set, length-set, Option, Some, None, option_map, Result, Ok, Err}
-use Rattle.object_cache.proofs.Names.{refl, sym, ap, subst, arith, cases_eq, get_or-set_same, get_or-set_other, none-some, Cap, Frame, ObjectHeader, Content}
-use Rattle.object_cache.proofs.Names.{blank_frame, frame_at, frames_in, header_at, held_at, AreKeepable, is_page, role_of, words_in, object_count, Image, Disk}
-use Rattle.object_cache.proofs.Names.{LeavesOnly, leaves_on, leaves_weaker, Body, Scratch, content_of, frame_of, Put, Absent, Broken, Kept, put_at, put_or}
-use Rattle.object_cache.proofs.Names.{most, SavedFrames, Holds, LeavesEither, LeavesOneOf, journaled_saved, with_words, Snapshots, journaled, on_snapshots}
-use Rattle.object_cache.proofs.Names.{DurableState, FrozenPuts, Stored, below_at, ReadsStore, frozen_put, is_sound, left_of, stored_of, maps_same, frame_in}
-use Rattle.object_cache.proofs.Names.{is_page_role, next_journaled, FrozenFrames, page_is, role_is_page, content_is_page, known_page, next_same, Entry}
-use Rattle.object_cache.proofs.Names.{entry_at, entry_body, held_now, Memory, mark_at, masked, put_body, newest_body, below_body, present_body, content_at}
-use Rattle.object_cache.proofs.Names.{present_at, frozen_at, contents_in, frozen_in, StoreState, IsCache, snapshots_of, cache_of, frozen_seen, nat_lt, Refusal}
-use Rattle.object_cache.proofs.Names.{NotPage, Renewed, IsJournalAnswer, is_some, present_of, same_Some, true≢false, newest}
-use Rattle.std.proofs.Common.{◌≡◌, ◌≢◌, ◌⊎◌, ◌<◌, ◌∙◌, OnOk, OnErr}
+use Rattle.object_cache.proofs.Names.{inl, inr, ℕ, Bool, true, false, List, length, set, length-set, Option, Some, None, option_map, Result, Ok, Err, refl, sym}
+use Rattle.object_cache.proofs.Names.{ap, subst, arith, cases_eq, get_or-set_same, get_or-set_other, none-some, Cap, Frame, ObjectHeader, Content, blank_frame}
+use Rattle.object_cache.proofs.Names.{frame_at, frames_in, header_at, held_at, AreKeepable, is_page, words_in, object_count, Disk, leaves_on, leaves_weaker}
+use Rattle.object_cache.proofs.Names.{Body, Scratch, content_of, frame_of, Put, Absent, Broken, Kept, put_at, put_or, most, SavedFrames, LeavesEither}
+use Rattle.object_cache.proofs.Names.{LeavesOneOf, journaled_saved, with_words, Snapshots, journaled, on_snapshots, DurableState, FrozenPuts, Stored, below_at}
+use Rattle.object_cache.proofs.Names.{ReadsStore, frozen_put, is_sound, left_of, stored_of, maps_same, frame_in, is_page_role, next_journaled, FrozenFrames}
+use Rattle.object_cache.proofs.Names.{page_is, role_is_page, content_is_page, known_page, next_same, Entry, entry_at, entry_body, held_now, Memory, mark_at}
+use Rattle.object_cache.proofs.Names.{masked, put_body, present_body, content_at, present_at, frozen_at, contents_in, frozen_in, StoreState, IsCache}
+use Rattle.object_cache.proofs.Names.{snapshots_of, cache_of, frozen_seen, nat_lt, Refusal, IsJournalAnswer, is_some, present_of, same_Some, newest}
+use Rattle.std.proofs.Common.{◌≡◌, ◌≢◌, ◌<◌, ◌∙◌, OnOk, OnErr}
 use Rattle.model.specs.declared.object.Role.TheVariants as role
-use Rattle.layout.specs.declared.body.Body.TheVariants as body
-use Rattle.model.specs.declared.answer.Refusal.TheVariants as refusal
 use Rattle.checkpoint.specs.Journal as journal
 use Rattle.object_cache.proofs.Freezing.{put_or_body}
 use Rattle.object_cache.proofs.Outcomes.{IsSeenAs, none_of}
@@ -20,18 +17,13 @@ use Rattle.object_cache.proofs.Objects.{content_in, stored_next}
 use Rattle.object_cache.proofs.Caching.{no_staging}
 
 as_page : (o : Option Entry) (c : Content Cap) → present_body o role.Page c ≡ entry_body o c
-as_page None c = refl
-as_page (Some e) c = refl
+as_page o c = search arith
 
 module _ {s : Stored} {m : Memory} {left count : ℕ} (is : IsCache s m left count) (none : s.frozen ≡ None) (n : ℕ)
     (role_is : (header_at m.headers n).role ≡ role.Page) where
   -- what it holds now
   pub page_held : content_at s m n ≡ held_now m.entries s n
-  page_held =
-      ap (λ r. present_body (entry_at m.entries n) r (newest_body s m n)) role_is
-      ∙ as_page (entry_at m.entries n) (newest_body s m n)
-      ∙ ap (λ c. entry_body (entry_at m.entries n) (put_body (put_at s.working n) c)) (no_staging is n (below_at s n).content (is.idle none n))
-      ∙ ap (entry_body (entry_at m.entries n)) (sym (put_or_body (put_at s.working n) (below_at s n)))
+  page_held = search (arith, as_page, no_staging, put_or_body)
 
   module _ (age : ℕ) (holds : is_page (content_at s m n) ≡ true) where
     abbrev words : List ℕ
@@ -62,11 +54,7 @@ module _ {s : Stored} {m : Memory} {left count : ℕ} (is : IsCache s m left cou
     masked_here = ap (λ r. masked r (content_at s m n)) role_is
 
     fresh : (p : Put) → entry_at m.entries n ≡ None → put_at s.working n ≡ p → ((c : Content Cap) → put_body p c ≡ c) → content_at after m n ≡ content_at s m n
-    fresh p at put bare =
-        ap (λ o. present_body o (header_at m.headers n).role (newest_body after m n)) at
-        ∙ ap (λ q. masked (header_at m.headers n).role (put_body q (below_body after m n))) put
-        ∙ ap (masked (header_at m.headers n).role) (bare (below_body after m n)
-        ∙ (no_staging is n (below_at after n).content (is.idle none n) ∙ ap (λ f. f.content) below_here ∙ sym (page_is (content_at s m n) holds))) ∙ masked_here
+    fresh p at put bare = search (arith, no_staging, below_here, page_is, masked_here)
 
     here_by : (o : Option Entry) (p : Put) → entry_at m.entries n ≡ o → put_at s.working n ≡ p → content_at after m n ≡ content_at s m n
     here_by (Some e) p at put = rw at
@@ -96,52 +84,24 @@ module _ {s : Stored} {m : Memory} {left count : ℕ} (is : IsCache s m left cou
 
     -- of a page that wasn't written since, the frame that is saved was that of the page now
     unwritten_here : n < length m.headers → mark_at m.touched n ≡ false → below_at s n ≡ below_at after n
-    unwritten_here inside untouched =
-        let was : content_at s m n ≡ (frame_at s.saved.frames n).content = ap (λ f. f.content) (is.unwritten n inside untouched ∙ frozen_was n ∙ below_was n) in
-        below_was n
-        ∙ ap (λ c. let f : Frame = record { header = (frame_at s.saved.frames n).header; content = c } in f)
-        (sym was ∙ page_is (content_at s m n) holds) ∙ sym below_here
+    unwritten_here inside untouched = search (arith, frozen_was, below_was, page_is, below_here)
 
     pub journal_stands : IsCache (on_snapshots (journaled age n (words_in (content_at s m n))) s) m left count
-    journal_stands =
-        let clean : (k : ℕ) → mark_at m.dirty k ≡ false → mark_at m.touched k ≡ true → put_at s.working k ≡ Kept (present_at after m k) =
-        λ k clean touched. is.clean k clean touched ∙ ap Kept (sym (present_same k)) in
-        let unwritten : (k : ℕ) → k < length m.headers → mark_at m.touched k ≡ false → present_at after m k ≡ frozen_at after m k =
-        λ k inside untouched. present_same k ∙ is.unwritten k inside untouched ∙ frozen_was k
-        ∙ elim (cases_eq k n) [
-          | inl same ↦ rw same (unwritten_here (subst (λ i. i < length m.headers) same inside) (subst (λ i. mark_at m.touched i ≡ false) same untouched))
-          | inr other ↦ sym (below_other k other)
-        ] ∙ sym (frozen_now k) in
-        let running : (f : FrozenPuts) → s.frozen ≡ Some f → AreFrozen f m.pending left = λ f some. absurd (none-some f (sym none ∙ some)) in
-        let keepable : (f : FrozenPuts) → s.frozen ≡ Some f → AreKeepable s.saved.geometry most (frozen_in after m) =
-        λ f some. absurd (none-some f (sym none ∙ some)) in
-        search (length-set s.saved.frames n page ∙ is.frames)
+    journal_stands = search (arith, present_same, frozen_was, cases_eq, unwritten_here, below_other, frozen_now, none-some, length-set)
 
     -- none is seen before and after
     pub journal_frozen : frozen_seen (on_snapshots (journaled age n (words_in (content_at s m n))) s) m left ≡ frozen_seen s m left
-    journal_frozen =
-        ap (option_map (λ f. record { frames = frozen_in after m; size = f.size; left = left })) none
-        ∙ sym (ap (option_map (λ f. record { frames = frozen_in s m; size = f.size; left = left })) none)
+    journal_frozen = search arith
 
 -- an answer depends on whether a checkpoint is on its way, and on nothing else of it
 pub answer_same : {F : Type 0} (f g : F → ℕ) (o : Option F) (old new : Disk) (saved : SavedFrames) (is_known is_page is_saved : Bool) (r : Result ℕ Refusal) →
     IsJournalAnswer old new (option_map f o) saved is_known is_page is_saved r → IsJournalAnswer old new (option_map g o) saved is_known is_page is_saved r
-answer_same f g None old new saved is_known is_page is_saved r reported = reported
-answer_same f g (Some x) old new saved is_known is_page is_saved (Err refusal.CheckpointRunning) reported = (reported.0, λ e. none-some (g x) (sym e))
-answer_same f g (Some x) old new saved is_known is_page is_saved (Ok generation) reported = absurd (none-some (f x) (sym reported.1))
-answer_same f g (Some x) old new saved is_known is_page is_saved (Err refusal.MigrationPending) reported = absurd (none-some (f x) (sym reported.1))
-answer_same f g (Some x) old new saved is_known is_page is_saved (Err refusal.BadNumber) reported = absurd (none-some (f x) (sym reported.1))
-answer_same f g (Some x) old new saved is_known is_page is_saved (Err (refusal.NotJournaled NotPage)) reported = absurd (none-some (f x) (sym reported.1))
-answer_same f g (Some x) old new saved is_known is_page is_saved (Err (refusal.NotJournaled Renewed)) reported = absurd (none-some (f x) (sym reported.1))
-answer_same f g (Some x) old new saved is_known is_page is_saved (Err refusal.Fault) reported = absurd (none-some (f x) (sym reported.1))
-answer_same f g (Some x) old new saved is_known is_page is_saved (Err why) reported = absurd reported
+answer_same {F} f g o old new saved is_known is_page is_saved r reported = search (arith, none-some)
 
 -- its words matter only if it is a page
 next_words : {F : Type 0} (age n : ℕ) (ws vs : List ℕ) (o : Option F) (saved : SavedFrames) (is_page is_saved : Bool) → (o ≡ None → is_page ≡ true → ws ≡ vs) →
     next_journaled {F = F} age n ws o saved is_page is_saved ≡ next_journaled {F = F} age n vs o saved is_page is_saved
-next_words age n ws vs None saved true is_saved same = ap (λ xs. journal.saved_next age n xs saved true is_saved) (same refl refl)
-next_words age n ws vs None saved false is_saved same = refl
-next_words age n ws vs (Some f) saved is_page is_saved same = refl
+next_words {F} age n ws vs o saved is_page is_saved same = search arith
 
 -- the same by what is seen
 module _ {D : Type 0} (disk : D → Disk) {d : DurableState D} {m : Memory} {left count : ℕ} {order : List ℕ} {most_entries : ℕ} {s : StoreState D}
@@ -163,15 +123,7 @@ module _ {D : Type 0} (disk : D → Disk) {d : DurableState D} {m : Memory} {lef
   journal_object page = let within = known page in omega (arith, within, is.headers)
 
   content_page : is_page_role header.role ≡ true → is_page (content_at st m n) ≡ true
-  content_page page =
-      let within = known page in
-      let own : AreKeepable st.saved.geometry most (frames_in m.headers (contents_in st m)) =
-      subst (λ t. AreKeepable (stored_of disk t.durable).saved.geometry most (frames_in t.headers t.contents)) (sym view) keepable in
-      let at = frame_in m.headers (contents_in st m) n within in
-      let kept = (own.each n (omega (arith, within, is.headers))).kept.role in
-      content_is_page (content_at st m n)
-      (sym (ap (λ f. role_of f.content) at ∙ ap role_of (content_in st m n within)) ∙ sym kept ∙ ap (λ f. f.header.role) at ∙
-      role_is_page header.role page)
+  content_page page = search (arith, known page, frame_in m.headers (contents_in st m) n (known page), content_is_page, content_in, role_is_page)
 
   pub journal_page : (stored_of disk d).frozen ≡ None → is_page_role (header_at m.headers n).role ≡ true →
       is_page (held_now m.entries (stored_of disk d) n) ≡ true
@@ -216,18 +168,11 @@ module _ {D : Type 0} (disk : D → Disk) {d : DurableState D} {m : Memory} {lef
           ∙ ap (λ t. snapshots_of disk t) view,
     )
 
-    abbrev answer_of : StoreState D → Result ℕ Refusal → Type 0
-    answer_of t r = IsJournalAnswer (disk t.durable.beneath) (disk new.beneath) (option_map (λ f. f.left) t.frozen)
-        (stored_of disk t.durable).saved
-        (nat_lt n (length t.headers)) (is_page_role (header_at t.headers n).role)
-        (journal.is_same_page (header_at t.headers n).allocations (frame_at (stored_of disk t.durable).saved.frames n)) r
-
     -- how many are left of a checkpoint on its way
     left_seen : (o : Option FrozenPuts) →
         option_map (λ (f : FrozenFrames). f.left) (option_map (λ (f : FrozenPuts). record { frames = frozen_in st m; size = f.size; left = left }) o) ≡
         option_map (λ f. left) o
-    left_seen None = refl
-    left_seen (Some f) = refl
+    left_seen o = search arith
 
     pub answer_seen : (r : Result ℕ Refusal) → IsJournalAnswer (disk d.beneath) (disk new.beneath) (option_map left_of (stored_of disk d).frozen)
         (stored_of disk d).saved
@@ -236,19 +181,7 @@ module _ {D : Type 0} (disk : D → Disk) {d : DurableState D} {m : Memory} {lef
         IsJournalAnswer (disk s.durable.beneath) (disk new.beneath) (option_map (λ f. f.left) s.frozen) (stored_of disk s.durable).saved
         (nat_lt n (length s.headers)) (is_page_role (header_at s.headers n).role)
         (journal.is_same_page (header_at s.headers n).allocations (frame_at (stored_of disk s.durable).saved.frames n)) r
-    answer_seen r reported =
-        let is_known = nat_lt n (length m.headers) in
-        let is_page = is_page_role header.role in
-        let is_saved = journal.is_same_page header.allocations (frame_at st.saved.frames n) in
-        subst (λ t. answer_of t r) view
-        (subst (λ o. IsJournalAnswer (disk d.beneath) (disk new.beneath) o st.saved is_known is_page is_saved r) (sym (left_seen st.frozen))
-        (answer_same left_of (λ f. left) st.frozen (disk d.beneath) (disk new.beneath) st.saved is_known is_page is_saved r reported))
-
-    abbrev moments_of : StoreState D → List ℕ → Type 0
-    moments_of t ws = LeavesOneOf (disk t.durable.beneath) (disk new.beneath) (stored_of disk t.durable).saved
-        (next_journaled age n ws t.frozen (stored_of disk t.durable).saved
-        (is_page_role (header_at t.headers n).role)
-        (journal.is_same_page (header_at t.headers n).allocations (frame_at (stored_of disk t.durable).saved.frames n)))
+    answer_seen r reported = search (arith, left_seen, answer_same)
 
     pub moments_seen : LeavesOneOf (disk d.beneath) (disk new.beneath) (stored_of disk d).saved
         (next_journaled age n (words_in (held_now m.entries (stored_of disk d) n)) (stored_of disk d).frozen (stored_of disk d).saved
@@ -257,54 +190,26 @@ module _ {D : Type 0} (disk : D → Disk) {d : DurableState D} {m : Memory} {lef
         (next_journaled age n (words_in (held_at s.contents n)) s.frozen (stored_of disk s.durable).saved
         (is_page_role (header_at s.headers n).role)
         (journal.is_same_page (header_at s.headers n).allocations (frame_at (stored_of disk s.durable).saved.frames n)))
-    moments_seen moments =
-        let is_page = is_page_role header.role in
-        let is_saved = journal.is_same_page header.allocations (frame_at st.saved.frames n) in
-        let seen : FrozenPuts → FrozenFrames = λ (f : FrozenPuts). record { frames = frozen_in st m; size = f.size; left = left } in
-        subst (λ t. moments_of t (words_in (held_at s.contents n))) view
-        (subst (λ o. LeavesOneOf (disk d.beneath) (disk new.beneath) st.saved o)
-        (next_words age n (words_in (held_now m.entries st n)) (words_in (held_at s.contents n)) st.frozen st.saved is_page is_saved words_seen
-        ∙ sym (next_same age n seen (words_in (held_at s.contents n)) st.frozen st.saved is_page is_saved)) moments)
+    moments_seen moments = search (arith, next_words, words_seen, next_same)
 
 -- ---- a page that is read first
 
 words_read : (b : Body) (slots : List Cap) (ws : List ℕ) → is_page (content_of b slots ws) ≡ true → ws ≡ words_in (content_of b slots ws)
-words_read body.Page slots ws page = refl
-words_read other slots ws page = absurd cc
+words_read other slots ws page = search arith
 
 pub read_words : (read : ObjectHeader × Body) (room : Scratch) (f : Frame) → frame_of read room ≡ f → is_page f.content ≡ true → room.words ≡ words_in f.content
-read_words read room f found page =
-    let same : content_of read.1 room.slots room.words ≡ f.content = ap (λ g. g.content) found in
-    words_read read.1 room.slots room.words (subst (λ c. is_page c ≡ true) (sym same) page) ∙ ap words_in same
+read_words read room f found page = search (arith, words_read)
 
 -- what a crash leaves while it is read, and then is saved
 pub read_first : {D : Type 0} (disk : D → Disk) (a b : DurableState D) (new : Disk) (age n : ℕ) (vs ws : List ℕ) → ReadsStore disk a b → is_sound disk a →
     vs ≡ ws →
     LeavesEither (disk b.beneath) new (stored_of disk b).saved (journaled_saved age n vs (stored_of disk b).saved) →
     LeavesEither (disk a.beneath) new (stored_of disk a).saved (journaled_saved age n ws (stored_of disk a).saved)
-read_first disk a b new age n vs ws reads sound same moments =
-    let size = (disk a.beneath).sectors in
-    let saved = (stored_of disk a).saved in
-    let next = journaled_saved age n ws saved in
-    let after : LeavesEither (disk b.beneath) new saved next =
-    subst (λ t. LeavesEither (disk b.beneath) new t.saved (journaled_saved age n ws t.saved)) reads.stored
-    (subst (λ xs. LeavesEither (disk b.beneath) new (stored_of disk b).saved (journaled_saved age n xs (stored_of disk b).saved)) same moments) in
-    leaves_on {old = disk a.beneath} {mid = disk b.beneath} {new = new} {P = λ (c : Image). Holds size c saved ⊎ Holds size c next}
-    (leaves_weaker {old = disk a.beneath} {new = disk b.beneath} {P = λ (c : Image). Holds size c saved} (λ c. Holds size c saved ⊎ Holds size c next)
-    (λ c holds. inl holds) (reads.goes_on.any_moment sound))
-    (subst (λ k. LeavesOnly (disk b.beneath) new (λ c. Holds k c saved ⊎ Holds k c next)) reads.goes_on.size after)
+read_first {D} disk a b new age n vs ws reads sound same moments = search (arith, leaves_on, leaves_weaker)
 
 -- what a page holds now, by whether it has an entry
 pub held_is : (es : List (Option Entry)) (s : Stored) (n : ℕ) (c : Content Cap) → option_map present_of (entry_at es n) ≡ Some c → held_now es s n ≡ c
-held_is es s n c is = go (entry_at es n) is
-  where
-    go : (o : Option Entry) → option_map present_of o ≡ Some c → entry_body o (newest s n).content ≡ c
-    go None gone = absurd (none-some c gone)
-    go (Some e) some = same_Some e.present c some
+held_is es s n c is = search (arith, none-some, same_Some)
 
 pub held_newest : (es : List (Option Entry)) (s : Stored) (n : ℕ) → is_some (entry_at es n) ≡ false → held_now es s n ≡ (newest s n).content
-held_newest es s n is = go (entry_at es n) is
-  where
-    go : (o : Option Entry) → is_some o ≡ false → entry_body o (newest s n).content ≡ (newest s n).content
-    go None gone = refl
-    go (Some e) some = absurd (true≢false some)
+held_newest es s n is = search arith

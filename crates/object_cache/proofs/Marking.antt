@@ -1,7 +1,7 @@
 -- What marking a list of numbers does to the marks and to their count.
-use Rattle.object_cache.proofs.Names.{inl, inr, ℕ, Bool, true, false, cond, List, [], length, set, take, refl, ap, sym, arith, set-get_or, touching}
-use Rattle.object_cache.proofs.Names.{touched_count, eqb, get_or, eqb-true, eqb-false, take_more, sum_by-set, list_any, length-set, cases_eq, cases_lt}
-use Rattle.object_cache.proofs.Names.{count_by, get_or-replicate, get_or_past, length-replicate, replicate, true≢false}
+use Rattle.object_cache.proofs.Names.{ℕ, Bool, true, false, List, [], length, set, take, refl, ap, sym, arith, set-get_or, touching, touched_count, eqb, get_or}
+use Rattle.object_cache.proofs.Names.{eqb-true, eqb-false, take_more, sum_by-set, list_any, length-set, cases_eq, cases_lt, count_by, get_or-replicate}
+use Rattle.object_cache.proofs.Names.{get_or_past, length-replicate, replicate}
 use Rattle.std.proofs.Common.{◌≡◌, ◌+◌, ◌<◌, ◌||◌, ◌∷◌, ◌++◌, ◌∙◌, get_or-set_same, get_or-set_other}
 
 pub length-touching : (t : List Bool) (ns : List ℕ) → length (touching t ns) ≡ length t
@@ -14,36 +14,21 @@ touching-append t (m ∷ ms) ns = touching-append (set t m true) ms ns
 
 -- an item that is set to its default, or never was another
 pub set_there : {X : Type 0} (xs : List X) (n : ℕ) (d : X) → get_or (set xs n d) n d ≡ d
-set_there xs n d = elim (cases_lt n (length xs)) [
-  | inl within ↦ get_or-set_same xs n d d within
-  | inr past ↦ get_or_past (set xs n d) n d (omega (arith, past, length-set xs n d))
-]
+set_there {X} xs n d = search (arith, cases_lt, get_or-set_same, get_or_past, length-set)
 
 pub alike : {X : Type 0} (n k : ℕ) (d : X) → get_or (replicate n d) k d ≡ d
-alike {X} n k d = elim (cases_lt k n) [
-  | inl within ↦ get_or-replicate n k d d within
-  | inr past ↦ get_or_past (replicate n d) k d (omega (arith, past, length-replicate {A = X} n d))
-]
+alike {X} n k d = search (arith, cases_lt, get_or-replicate, get_or_past, length-replicate)
 
 pub marked_within : (t : List Bool) (n : ℕ) → get_or t n false ≡ true → n < length t
-marked_within t n marked = elim (cases_lt n (length t)) [
-  | inl within ↦ within
-  | inr past ↦ absurd (true≢false (sym marked ∙ get_or_past t n false past))
-]
+marked_within t n marked = search (arith, cases_lt, get_or_past)
 
 -- one mark less
 pub one_fewer : (t : List Bool) (n : ℕ) → get_or t n false ≡ true → count_by (λ b. b) (set t n false) < count_by (λ b. b) t
-one_fewer t n marked =
-    let h = sum_by-set (λ b. cond b 1 0) t n false false (marked_within t n marked) in
-    let k = rw marked at h in
-    omega (arith, k)
+one_fewer t n marked = search (arith, sum_by-set, marked_within)
 
 -- a mark that is set for the first time is one more
 touched_count-set : (t : List Bool) (n : ℕ) → n < length t → get_or t n false ≡ false → touched_count (set t n true) ≡ touched_count t + 1
-touched_count-set t n inside unmarked =
-    let h = sum_by-set (λ b. cond b 1 0) t n true false inside in
-    let k = rw unmarked at h in
-    omega (arith, k)
+touched_count-set t n inside unmarked = search (arith, sum_by-set)
 
 -- a mark that is there stays
 pub set-marked : (t : List Bool) (n : ℕ) → get_or t n false ≡ true → set t n true ≡ t
@@ -51,10 +36,7 @@ set-marked t n marked = ap (λ b. set t n b) (sym marked) ∙ set-get_or t n fal
 
 -- what is marked stays marked
 pub still_set : (t : List Bool) (m n : ℕ) → get_or t n false ≡ true → get_or (set t m true) n false ≡ true
-still_set t m n marked = elim (cases_eq n m) [
-  | inl same ↦ ap (λ k. get_or (set t k true) n false) (sym same) ∙ get_or-set_same t n true false (marked_within t n marked)
-  | inr other ↦ get_or-set_other t m n true false other ∙ marked
-]
+still_set t m n marked = search (arith, cases_eq, get_or-set_same, marked_within, get_or-set_other)
 
 pub still_marked : (t : List Bool) (ns : List ℕ) (n : ℕ) → get_or t n false ≡ true → get_or (touching t ns) n false ≡ true
 still_marked t [] n marked = marked
@@ -64,8 +46,7 @@ still_marked t (m ∷ ns) n marked = still_marked (set t m true) ns n (still_set
 first_listed : (t : List Bool) (m : ℕ) (ns : List ℕ) (n : ℕ) (b : Bool) → eqb m n ≡ b → n < length t →
     (list_any (λ y. eqb y n) ns ≡ true → get_or (touching (set t m true) ns) n false ≡ true) →
     (b || list_any (λ y. eqb y n) ns) ≡ true → get_or (touching (set t m true) ns) n false ≡ true
-first_listed t m ns n true same inside later listed = still_marked (set t m true) ns n (rw (eqb-true m n same) (get_or-set_same t n true false inside))
-first_listed t m ns n false other inside later listed = later listed
+first_listed t m ns n b same inside later listed = search (arith, still_marked, eqb-true, get_or-set_same)
 
 listed_marked : (t : List Bool) (ns : List ℕ) (n : ℕ) → n < length t → list_any (λ y. eqb y n) ns ≡ true → get_or (touching t ns) n false ≡ true
 listed_marked t [] n inside listed = cc
@@ -75,8 +56,7 @@ listed_marked t (m ∷ ns) n inside listed = first_listed t m ns n (eqb m n) ref
 first_unlisted : (t : List Bool) (m : ℕ) (ns : List ℕ) (n : ℕ) (b : Bool) → eqb m n ≡ b → get_or t n false ≡ false →
     (get_or (set t m true) n false ≡ false → list_any (λ y. eqb y n) ns ≡ false → get_or (touching (set t m true) ns) n false ≡ false) →
     (b || list_any (λ y. eqb y n) ns) ≡ false → get_or (touching (set t m true) ns) n false ≡ false
-first_unlisted t m ns n true same unmarked later unlisted = cc
-first_unlisted t m ns n false other unmarked later unlisted = later (get_or-set_other t m n true false (λ e. eqb-false m n other (sym e)) ∙ unmarked) unlisted
+first_unlisted t m ns n b same unmarked later unlisted = search (arith, get_or-set_other, eqb-false)
 
 unlisted_unmarked : (t : List Bool) (ns : List ℕ) (n : ℕ) → get_or t n false ≡ false → list_any (λ y. eqb y n) ns ≡ false →
     get_or (touching t ns) n false ≡ false

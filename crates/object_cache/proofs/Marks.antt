@@ -1,10 +1,10 @@
 -- Numbers are marked that are to be written: no object and no frozen frame is another.
 use Rattle.object_cache.proofs.Names.{put_at, Kept, Absent, present_at, inl, inr, ℕ, zero, suc, Bool, true, false, true≢false, List, [], length, set, Option}
-use Rattle.object_cache.proofs.Names.{Some, None, option_map, refl, sym, ap, subst, arith, length-set, slice_index_or, Contains, cases_eq, get_or-set_other}
-use Rattle.object_cache.proofs.Names.{get_or-set_same, Cap, Frame, ObjectHeader, Content, header_at, touched_count, touching, Disk, DurableState, Stored}
-use Rattle.object_cache.proofs.Names.{below_at, stored_of, maps_same, Entry, entry_at, Memory, Shared, mark_at, apart_body, below_body, frozen_body}
-use Rattle.object_cache.proofs.Names.{frozen_frame, frozen_at, frozen_state_of, frozen_state_body, frozen_state_in_memory, contents_in, frozen_states_in}
-use Rattle.object_cache.proofs.Names.{StoreState, IsCache, cache_of, frozen_state_at, is_some, Image, peeks_started, goes_none, IsAnnouncedIn, GoesOnIn}
+use Rattle.object_cache.proofs.Names.{option_map, refl, sym, ap, subst, arith, length-set, slice_index_or, Contains, cases_eq, get_or-set_other}
+use Rattle.object_cache.proofs.Names.{get_or-set_same, Cap, Frame, ObjectHeader, Content, touched_count, touching, Disk, DurableState, Stored, stored_of}
+use Rattle.object_cache.proofs.Names.{maps_same, Entry, Memory, Shared, mark_at, frozen_body, frozen_frame, frozen_at, frozen_state_of, frozen_state_in_memory}
+use Rattle.object_cache.proofs.Names.{contents_in, frozen_states_in, StoreState, IsCache, cache_of, frozen_state_at, Image, peeks_started, goes_none}
+use Rattle.object_cache.proofs.Names.{IsAnnouncedIn, GoesOnIn}
 use Rattle.std.proofs.Common.{◌≡◌, ◌≢◌, ◌⊎◌, ◌<◌, ◌≤◌, ◌∷◌, ◌∙◌}
 use Rattle.object_cache.proofs.Marking.{length-touching, set-marked, still_marked}
 use Rattle.object_cache.proofs.Caching.{frozen_state_entry}
@@ -42,26 +42,11 @@ all_marked ts (n ∷ ns) marked =
 frozen_marked : (o : Option Entry) (pending touched : Bool) (h : ObjectHeader) (below : Content Cap) (under : Frame) →
     frozen_state_of o pending touched ≢ Shared →
     frozen_frame pending h (frozen_body o true below) under ≡ frozen_frame pending h (frozen_body o touched below) under
-frozen_marked None pending touched h below under frozen_state = refl
-frozen_marked (Some e) false touched h below under frozen_state = refl
-frozen_marked (Some e) true true h below under frozen_state = refl
-frozen_marked (Some e) true false h below under frozen_state = go e.kept frozen_state
-  where
-    go : (o : Option (Content Cap)) → frozen_state_body (is_some o) false ≢ Shared →
-        frozen_frame true h (apart_body o true e.present below) under ≡ frozen_frame true h (apart_body o false e.present below) under
-    go (Some c) frozen_state = refl
-    go None frozen_state = absurd (frozen_state refl)
+frozen_marked o pending touched h below under frozen_state = search arith
 
 frozen_state_marked : (o : Option Entry) (pending touched : Bool) → frozen_state_of o pending touched ≢ Shared →
     frozen_state_of o pending true ≡ frozen_state_of o pending touched
-frozen_state_marked None pending touched frozen_state = refl
-frozen_state_marked (Some e) false touched frozen_state = refl
-frozen_state_marked (Some e) true true frozen_state = refl
-frozen_state_marked (Some e) true false frozen_state = go e.kept frozen_state
-  where
-    go : (o : Option (Content Cap)) → frozen_state_body (is_some o) false ≢ Shared → frozen_state_body (is_some o) true ≡ frozen_state_body (is_some o) false
-    go (Some c) frozen_state = refl
-    go None frozen_state = absurd (frozen_state refl)
+frozen_state_marked o pending touched frozen_state = search arith
 
 abbrev pub marking : List ℕ → Memory → Memory
 marking ns m = record m { touched = touching m.touched ns; dirty = touching m.dirty ns }
@@ -75,30 +60,18 @@ module _ {s : Stored} {m : Memory} {left count : ℕ} (is : IsCache s m left cou
   dirty_here k has = listed_is_marked m.dirty ns k has (let there = known k has in omega (arith, there, is.headers, is.dirty_marks))
 
   frozen_stays : (k : ℕ) → frozen_at s (marking ns m) k ≡ frozen_at s m k
-  frozen_stays k = elim (marked_or m.touched ns k) [
-    | inl as_it_was ↦ rw as_it_was
-    | inr has ↦ rw (touched_here k has) (frozen_marked (entry_at m.entries k) (mark_at m.pending k) (mark_at m.touched k) (header_at m.frozen_headers k)
-        (below_body s m k) (below_at s k) (apart k has))
-  ]
+  frozen_stays k = search (arith, marked_or, touched_here, frozen_marked)
 
   pub marked_alike : Alike s m s (marking ns m)
   marked_alike = record { headers = refl; content = λ k. refl; frozen = frozen_stays }
 
   pub marked_frozen_state : frozen_states_in (marking ns m) ≡ frozen_states_in m
   unfolding frozen_states_in
-  marked_frozen_state = maps_same (frozen_state_in_memory (marking ns m)) (frozen_state_in_memory m) (length m.headers)
-      (λ k below. elim (marked_or m.touched ns k) [
-        | inl as_it_was ↦ ap (frozen_state_of (entry_at m.entries k) (mark_at m.pending k)) as_it_was
-        | inr has ↦ rw (touched_here k has) (frozen_state_marked (entry_at m.entries k) (mark_at m.pending k) (mark_at m.touched k) (apart k has))
-      ])
+  marked_frozen_state = search (arith, maps_same, marked_or, touched_here, frozen_state_marked)
 
   -- what isn't marked wasn't
   unmarked : (ts : List Bool) (k : ℕ) → mark_at (touching ts ns) k ≡ false → mark_at ts k ≡ false
-  unmarked ts k none = go (mark_at ts k) refl
-    where
-      go : (b : Bool) → mark_at ts k ≡ b → b ≡ false
-      go true marked = absurd (true≢false (sym (still_marked ts ns k marked) ∙ none))
-      go false marked = refl
+  unmarked ts k none = search (arith, still_marked)
 
   pub marked_cache : (total : ℕ) → total ≡ touched_count (touching m.touched ns) → total ≤ s.saved.geometry.log → IsCache s (marking ns m) left total
   marked_cache total counted few =
@@ -150,26 +123,14 @@ module _ {D : Type 0} (disk : D → Disk) where
   module _ (only_now : (d : D) (c : Image) → (disk d).left_since (disk d).moment c → (disk d).may_leave c) where
     pub mark_continues : (s : StoreState D) (ts ds : List Bool) → touched_count s.touched ≤ touched_count ts →
         GoesOnIn disk s (record s { touched = ts; dirty = ds })
-    mark_continues s ts ds grows = record {
-      goes_on = goes_none (disk s.durable.beneath) s.durable.books (only_now s.durable.beneath);
-      snapshots = refl;
-      later = omega arith;
-      grows = grows;
-      capacity = refl;
-      only_reads = λ none idle. peeks_started (disk s.durable.beneath) (only_now s.durable.beneath);
-    }
+    mark_continues s ts ds grows = search (arith, goes_none, peeks_started)
 
 module _ {D : Type 0} (disk : D → Disk) {d : DurableState D} {m : Memory} {left count : ℕ} {order : List ℕ} {most_entries : ℕ} {s : StoreState D}
     (view : cache_of disk d m left order most_entries ≡ s) (is : IsCache (stored_of disk d) m left count) where
   -- what is marked may be written
   pub marked_announced : (ns : List ℕ) (n : ℕ) → n < length s.headers → Contains ns n →
       IsAnnouncedIn (record s { touched = touching s.touched ns; dirty = touching s.dirty ns }) n
-  marked_announced ns n known has = record {
-    header = known;
-    content = omega (arith, known, contents_count (stored_of disk d) m, ap (λ t. length t.headers) view, ap (λ t. length t.contents) view);
-    dirty = listed_is_marked s.dirty ns n has
-        (omega (arith, known, is.headers, is.dirty_marks, ap (λ t. length t.headers) view, ap (λ t. length t.dirty) view));
-  }
+  marked_announced ns n known has = search (arith, contents_count, listed_is_marked)
 
   -- what is to be put already may be written
   module _ (ns : List ℕ) (known : (n : ℕ) → Contains ns n → n < length s.headers) (same : touching m.dirty ns ≡ m.dirty) where
@@ -182,9 +143,4 @@ module _ {D : Type 0} (disk : D → Disk) {d : DurableState D} {m : Memory} {lef
     ready_touched = subst (λ t. touching t.touched ns ≡ t.touched) view (all_marked m.touched ns (λ n has. is.marked n (dirty_already n has)))
 
     pub ready_announced : (n : ℕ) → Contains ns n → IsAnnouncedIn s n
-    ready_announced n has = record {
-      header = known n has;
-      content = let there = known n has in omega
-          (arith, there, contents_count (stored_of disk d) m, ap (λ t. length t.headers) view, ap (λ t. length t.contents) view);
-      dirty = ap (λ t. mark_at t.dirty n) (sym view) ∙ dirty_already n has;
-    }
+    ready_announced n has = search (arith, known n has, ap (λ t. mark_at t.dirty n) (sym view) ∙ dirty_already n has, contents_count)

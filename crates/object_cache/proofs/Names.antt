@@ -13,16 +13,14 @@ pub use Rattle.capability.specs.Parts.{Becomes, HaveTheirRoles, fresh_content}
 pub use Rattle.checkpoint.proofs.Journaling.{content_is_page, journal_there, known_page, next_same, page_is, role_is_page}
 pub use Rattle.checkpoint.proofs.Lists.{maps_same}
 pub use Rattle.checkpoint.specs.Journal.{is_page_role, next_journaled}
-pub use Rattle.checkpoint.specs.Opened.{OnlyReads}
 pub use Rattle.checkpoint.specs.Refused.{IsCommitAnswer, IsJournalAnswer}
 pub use Rattle.checkpoint.specs.Saved.{Holds, LeavesEither, LeavesOneOf, SavedFrames, home_saved, journaled_saved, most, with_words}
 pub use Rattle.checkpoint.specs.Snapshots.{MayCommit, Snapshots, committed, freezing, journaled, moved, next_saved}
 pub use Rattle.checkpoint.specs.Store.{FrozenFrames, OpensStore, all_frozen, stabilized, whole}
 pub use Rattle.collections.specs.Marks.{HasNoneMarked}
 pub use Rattle.device.proofs.Moments.{counted_ok, counts_on, leaves_on, leaves_weaker, peeks_started}
-pub use Rattle.device.specs.Calls.{Counts, Only}
+pub use Rattle.device.specs.Calls.{Counts}
 pub use Rattle.device.specs.Disk.{Disk, Image}
-pub use Rattle.device.specs.Moments.{LeavesOnly}
 pub use Rattle.layout.specs.Frame.{content_of, frame_of}
 pub use Rattle.layout.specs.declared.body.Body.{Body}
 pub use Rattle.layout.specs.declared.body.Scratch.{Scratch}
@@ -34,6 +32,8 @@ pub use Rattle.migrator.specs.Durable.{on_snapshots, puts, stored_of, with_froze
 pub use Rattle.migrator.specs.Opened.{OpensDurable}
 pub use Rattle.migrator.specs.Put.{Absent, Broken, HasFreeSlot, Kept, Put, held_slot, kept_count, put_at, put_or}
 unfoldable pub use Rattle.migrator.specs.Put.{overlaid, sum_of}
+pub use Rattle.migrator.specs.WholeStore.{AreObjectsOf}
+pub use Rattle.migrator.specs.declared.whole_store.AllObjects.{AllObjects}
 pub use Rattle.model.specs.Frame.{blank_frame, blank_header, called, claimed, content_behind, frame_at, given_up, header_at, headers, held_at, owned_by}
 pub use Rattle.model.specs.Frame.{void_held}
 unfoldable pub use Rattle.model.specs.Frame.{frames_in}
@@ -44,7 +44,6 @@ pub use Rattle.model.specs.Object.{is_page, role_of, with_slot_in, with_word_in,
 pub use Rattle.model.specs.Revoke.{is_member}
 pub use Rattle.model.specs.Sound.{object_count}
 pub use Rattle.model.specs.declared.answer.Refusal.{Refusal}
-pub use Rattle.model.specs.declared.answer.Unjournaled.TheVariants.{NotPage, Renewed}
 pub use Rattle.model.specs.declared.capability.Cap.{Cap}
 pub use Rattle.model.specs.declared.frame.Frame.{Frame}
 pub use Rattle.model.specs.declared.frame.ObjectHeader.{ObjectHeader}
@@ -52,7 +51,6 @@ pub use Rattle.model.specs.declared.object.Content.{Content}
 pub use Rattle.model.specs.declared.object.Role.{Role}
 pub use Rattle.std.proofs.Common.{Bool, Err, IfOk, IsSome, List, None, Ok, Option, Result, Some, [], ap, arith, cond, eqb, false, get_or, inl, inr, is_some}
 pub use Rattle.std.proofs.Common.{length, length-set, map, nat_lt, option_map, refl, replicate, rules, set, subst, suc, sym, take, true, true≢false, zero, ℕ}
-pub use Rattle.std.proofs.Common.{⊎_elim}
 pub use Rattle.std.proofs.Math.ListN.{get_or-map}
 pub use Rattle.std.proofs.Math.Seq.{map-set_same}
 pub use Rattle.std.proofs.lemmas.Bool.{cases_eq, cases_lt, eq-eqb, eqb-false, eqb-true, ne_eqb}
@@ -71,16 +69,13 @@ pub use Rattle.std.specs.List.{All, Contains, list_any, range_with_len, slice_ge
 pub use Rattle.std.specs.Prelude.{OnErr, OnOk, count_by, slice_index_or}
 pub use Rattle.object_cache.specs.Journaled.{SavesPage, entry_body, held_now}
 pub use Rattle.object_cache.specs.Memory.{Apart, FrozenState, Held, Memory, Nothing, Shared, apart_body, below_body, content_at, frozen_at, frozen_body}
-pub use Rattle.object_cache.specs.Memory.{frozen_frame, frozen_state_body, frozen_state_by, frozen_state_in_memory, frozen_state_of, held_behind, in_staging}
-pub use Rattle.object_cache.specs.Memory.{mark_at, masked, memory_of, newest_body, own_body, own_body_of, own_frame, present_at, present_body, put_body}
-pub use Rattle.object_cache.specs.Memory.{released}
+pub use Rattle.object_cache.specs.Memory.{frozen_frame, frozen_state_by, frozen_state_in_memory, frozen_state_of, held_behind, in_staging, mark_at, masked}
+pub use Rattle.object_cache.specs.Memory.{memory_of, newest_body, own_body, own_body_of, own_frame, present_at, present_body, put_body, released}
 unfoldable pub use Rattle.object_cache.specs.Memory.{contents_in, frozen_in, frozen_states_in}
 pub use Rattle.object_cache.specs.Prepared.{UsesSome, on_device_with}
 pub use Rattle.object_cache.specs.PresentLaws.{continues_same, goes_on_same, goes_on_twice}
-pub use Rattle.object_cache.specs.StoreState.{AreAll, AreFrozen, AreInserted, AreObjectsOf, AreTaken, ContinuesIn, GoesOnIn, HaveRoom, HoldBodies}
-pub use Rattle.object_cache.specs.StoreState.{IsAnnouncedIn, IsBounded, IsCache, IsFetchedIn, IsJustOpened, IsOpenOver, IsUnkept, IsWhole, MayPutFrozen, PutsBy}
-pub use Rattle.object_cache.specs.StoreState.{StoreState, TakenState, all_of, bodies_of, cache_of, cached_at, frozen_seen, frozen_state_at, is_kept, on_device}
-pub use Rattle.object_cache.specs.StoreState.{on_device_frozen, parts_of, pending_count, snapshots_of, view_of, with_body, with_cached, with_content_in}
-pub use Rattle.object_cache.specs.StoreState.{without_cached}
+pub use Rattle.object_cache.specs.StoreState.{AreAll, AreFrozen, AreInserted, AreTaken, ContinuesIn, GoesOnIn, HaveRoom, HoldBodies, IsAnnouncedIn, IsBounded}
+pub use Rattle.object_cache.specs.StoreState.{IsCache, IsFetchedIn, IsJustOpened, IsOpenOver, IsUnkept, IsWhole, MayPutFrozen, PutsBy, StoreState, TakenState}
+pub use Rattle.object_cache.specs.StoreState.{all_of, bodies_of, cache_of, cached_at, frozen_seen, frozen_state_at, is_kept, on_device, on_device_frozen}
+pub use Rattle.object_cache.specs.StoreState.{parts_of, pending_count, snapshots_of, view_of, with_body, with_cached, with_content_in, without_cached}
 unfoldable pub use Rattle.object_cache.specs.StoreState.{cached_in}
-pub use Rattle.object_cache.specs.declared.all_objects.AllObjects.{AllObjects}

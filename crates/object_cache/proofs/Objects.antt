@@ -1,14 +1,13 @@
 -- One object is changed that is to be put: no frozen frame is another, and what always holds still does.
-use Rattle.object_cache.proofs.Names.{put_at, FrozenPuts, is_kept, inl, inr, ℕ, Bool, true, false, true≢false, List, length, map, set, Option, Some, None}
-use Rattle.object_cache.proofs.Names.{is_some, option_map, refl, sym, ap, subst, arith, range_with_len, cases_eq, none-some, same_Some, Cap, ObjectHeader}
-use Rattle.object_cache.proofs.Names.{Content, header_at, AreKeepable, Kept, most, Stored, below_at, maps_same, map_set, Entry, entry_at, kept_of, Memory}
-use Rattle.object_cache.proofs.Names.{mark_at, present_body, content_at, present_at, newest_body, below_body, apart_body, frozen_body, frozen_frame, frozen_at}
-use Rattle.object_cache.proofs.Names.{frozen_state_of, frozen_state_body, frozen_state_in_memory, contents_in, frozen_in, frozen_states_in, IsCache, IsSome}
-use Rattle.object_cache.proofs.Names.{length-set, get_or-map-range_with_len, length-map-range_with_len, get_or-map, get_or-set_same, get_or-set_other, Role}
-use Rattle.object_cache.proofs.Names.{blank_header, held_at, Disk, DurableState, stored_of, with_entry, changing, present_of, masked, AreOrdered, StoreState}
+use Rattle.object_cache.proofs.Names.{put_at, FrozenPuts, ℕ, Bool, true, false, true≢false, List, length, set, Option, Some, None, is_some, option_map, refl}
+use Rattle.object_cache.proofs.Names.{sym, ap, subst, arith, cases_eq, none-some, same_Some, Cap, ObjectHeader, Content, header_at, AreKeepable, Kept, most}
+use Rattle.object_cache.proofs.Names.{Stored, maps_same, map_set, Entry, entry_at, kept_of, Memory, mark_at, present_body, content_at, present_at, newest_body}
+use Rattle.object_cache.proofs.Names.{frozen_body, frozen_at, frozen_state_of, frozen_state_in_memory, contents_in, frozen_in, frozen_states_in, IsCache}
+use Rattle.object_cache.proofs.Names.{IsSome, length-set, get_or-map-range_with_len, length-map-range_with_len, get_or-map, get_or-set_same, get_or-set_other}
+use Rattle.object_cache.proofs.Names.{Role, blank_header, held_at, Disk, DurableState, stored_of, with_entry, changing, present_of, AreOrdered, StoreState}
 use Rattle.object_cache.proofs.Names.{IsBounded, IsAnnouncedIn, IsFetchedIn, cache_of, cached_in, cached_at, with_content_in, map-set_same, [], cases_lt}
-use Rattle.object_cache.proofs.Names.{ext_get_or, get_or_append_left, get_or_at, IsWhole, frozen_seen, ⊎_elim, some_map, newest, Ok, Err, Result, AreObjectsOf}
-use Rattle.object_cache.proofs.Names.{AllObjects, IfOk}
+use Rattle.object_cache.proofs.Names.{ext_get_or, get_or_append_left, get_or_at, IsWhole, frozen_seen, some_map, newest, Ok, Err, Result, AreObjectsOf}
+use Rattle.object_cache.proofs.Names.{AllObjects, IfOk, parts_of}
 use Rattle.std.proofs.Common.{◌≡◌, ◌≢◌, ◌⊎◌, ◌<◌, ◌∙◌, ◌+◌, ◌∷◌, ◌++◌}
 use Rattle.object_cache.proofs.Outcomes.{IsSeenAs, none_of}
 use Rattle.model.specs.declared.object.Role.TheVariants as role
@@ -16,10 +15,7 @@ use Rattle.model.specs.declared.object.Content.TheVariants as content
 
 -- what holds of one number, and of each other one, holds of all
 pub of_each : {P : ℕ → Type 0} (n : ℕ) → P n → ((k : ℕ) → k ≢ n → P k) → (k : ℕ) → P k
-of_each {P} n here other k = elim (cases_eq k n) [
-  | inl same ↦ subst P (sym same) here
-  | inr differs ↦ other k differs
-]
+of_each {P} n here other k = search (arith, cases_eq)
 
 -- ---- the same objects and frozen frames, in another memory over another durable store
 
@@ -34,9 +30,7 @@ module _ {s t : Stored} {m u : Memory} (same : Alike s m t u) where
 
   pub contents_alike : contents_in t u ≡ contents_in s m
   unfolding contents_in
-  contents_alike =
-      ap (λ hs. map (content_at t u) (range_with_len 0 (length hs))) same.headers
-      ∙ maps_same (content_at t u) (content_at s m) (length m.headers) (λ k below. same.content k)
+  contents_alike = search (arith, maps_same)
 
   pub frozen_alike : frozen_in t u ≡ frozen_in s m
   unfolding frozen_in
@@ -68,25 +62,11 @@ pub record Changes (m : Memory) (hs : List ObjectHeader) (es : List (Option Entr
 
 -- of an object written since it was frozen the frozen body isn't the present one
 by_kept : (o p : Option Entry) (below : Content Cap) → option_map kept_of o ≡ option_map kept_of p → frozen_body o true below ≡ frozen_body p true below
-by_kept None None below same = refl
-by_kept None (Some f) below same = absurd (none-some f.kept same)
-by_kept (Some e) None below same = absurd (none-some e.kept (sym same))
-by_kept (Some e) (Some f) below same = kept_alone e.kept f.kept (same_Some e.kept f.kept same)
-  where
-    kept_alone : (a b : Option (Content Cap)) → a ≡ b → apart_body a true e.present below ≡ apart_body b true f.present below
-    kept_alone a b is = ap (λ o. apart_body o true e.present below) is ∙ touched_body b
-      where
-        touched_body : (o : Option (Content Cap)) → apart_body o true e.present below ≡ apart_body o true f.present below
-        touched_body None = refl
-        touched_body (Some c) = refl
+by_kept o p below same = search (arith, none-some, same_Some)
 
 frozen_state_by_kept : (o p : Option Entry) (pending : Bool) → option_map kept_of o ≡ option_map kept_of p →
     frozen_state_of o pending true ≡ frozen_state_of p pending true
-frozen_state_by_kept None None pending same = refl
-frozen_state_by_kept None (Some f) pending same = absurd (none-some f.kept same)
-frozen_state_by_kept (Some e) None pending same = absurd (none-some e.kept (sym same))
-frozen_state_by_kept (Some e) (Some f) false same = refl
-frozen_state_by_kept (Some e) (Some f) true same = ap (λ o. frozen_state_body (is_some o) true) (same_Some e.kept f.kept same)
+frozen_state_by_kept o p pending same = search (arith, none-some, same_Some)
 
 module _ (s : Stored) {m : Memory} {hs : List ObjectHeader} {es : List (Option Entry)} {n : ℕ} (change : Changes m hs es n) where
   abbrev changed : Memory
@@ -96,15 +76,12 @@ module _ (s : Stored) {m : Memory} {hs : List ObjectHeader} {es : List (Option E
   content_elsewhere k other = rw (change.entries k other, change.headers k other)
 
   present_elsewhere : (k : ℕ) → k ≢ n → present_at s changed k ≡ present_at s m k
-  present_elsewhere k other =
-      ap (λ h. record { header = h; content = content_at s changed k }) (change.headers k other)
-      ∙ ap (λ c. record { header = header_at m.headers k; content = c }) (content_elsewhere k other)
+  present_elsewhere k other = search (arith, content_elsewhere)
 
   -- what all objects hold, by what the changed one does
   pub contents_changed : (c : Content Cap) → n < length m.headers → content_at s changed n ≡ c → contents_in s changed ≡ set (contents_in s m) n c
   unfolding contents_in
-  contents_changed c within here = rw change.header_count
-      (map_set (content_at s m) (content_at s changed) (length m.headers) n c within here (λ k below other. content_elsewhere k other))
+  contents_changed c within here = search (arith, map_set, content_elsewhere)
 
   pub contents_same : content_at s changed n ≡ content_at s m n → contents_in s changed ≡ contents_in s m
   unfolding contents_in
@@ -113,23 +90,18 @@ module _ (s : Stored) {m : Memory} {hs : List ObjectHeader} {es : List (Option E
 
   module _ (touched : mark_at m.touched n ≡ true) where
     frozen_stays : (k : ℕ) → frozen_at s changed k ≡ frozen_at s m k
-    frozen_stays = of_each n
-        (ap (λ c. frozen_frame (mark_at m.pending n) (header_at m.frozen_headers n) c (below_at s n))
-        (rw touched (by_kept (entry_at es n) (entry_at m.entries n) (below_body s m n) change.kept)))
-        (λ k other. rw (change.entries k other))
+    frozen_stays = search (arith, of_each, by_kept)
 
     pub frozen_same : frozen_in s changed ≡ frozen_in s m
     unfolding frozen_in
     frozen_same = rw change.header_count (maps_same (frozen_at s changed) (frozen_at s m) (length m.headers) (λ k below. frozen_stays k))
 
     frozen_state_stays : (k : ℕ) → frozen_state_in_memory changed k ≡ frozen_state_in_memory m k
-    frozen_state_stays = of_each n (rw touched (frozen_state_by_kept (entry_at es n) (entry_at m.entries n) (mark_at m.pending n) change.kept))
-        (λ k other. rw (change.entries k other))
+    frozen_state_stays = search (arith, of_each, frozen_state_by_kept)
 
     pub frozen_state_same : frozen_states_in changed ≡ frozen_states_in m
     unfolding frozen_states_in
-    frozen_state_same = rw change.header_count (maps_same (frozen_state_in_memory changed) (frozen_state_in_memory m) (length m.headers)
-        (λ k below. frozen_state_stays k))
+    frozen_state_same = search (arith, maps_same, frozen_state_stays)
 
   module _ {left count : ℕ} (is : IsCache s m left count) (dirty : mark_at m.dirty n ≡ true) where
     touched_here : mark_at m.touched n ≡ true
@@ -140,55 +112,24 @@ module _ (s : Stored) {m : Memory} {hs : List ObjectHeader} {es : List (Option E
     unmarked marks here k not_here same = true≢false (sym here ∙ ap (mark_at marks) (sym same) ∙ not_here)
 
     apart_here : (e : Entry) → entry_at es n ≡ Some e → (e.kept ≡ None) ⊎ (mark_at m.pending n ≡ true)
-    apart_here e at = go (entry_at m.entries n) refl (sym (ap (option_map kept_of) at) ∙ change.kept)
-      where
-        go : (o : Option Entry) → entry_at m.entries n ≡ o → Some e.kept ≡ option_map kept_of o → (e.kept ≡ None) ⊎ (mark_at m.pending n ≡ true)
-        go None was same = absurd (none-some e.kept (sym same))
-        go (Some f) was same = elim (is.apart n f was) [
-          | inl none ↦ inl (same_Some e.kept f.kept same ∙ none)
-          | inr pending ↦ inr pending
-        ]
+    apart_here e at = search (arith, none-some, same_Some)
 
     none_here : entry_at es n ≡ None → entry_at m.entries n ≡ None
     none_here at = none_of kept_of (entry_at m.entries n) (sym change.kept ∙ ap (option_map kept_of) at)
 
     pub still_cache : IsCache s changed left count
-    still_cache =
-        let clean : (k : ℕ) → mark_at m.dirty k ≡ false → mark_at m.touched k ≡ true → put_at s.working k ≡ Kept (present_at s changed k) =
-        λ k clean touched. is.clean k clean touched ∙ ap Kept (sym (present_elsewhere k (unmarked m.dirty dirty k clean))) in
-        let unwritten : (k : ℕ) → k < length hs → mark_at m.touched k ≡ false → present_at s changed k ≡ frozen_at s changed k =
-        λ k below untouched. present_elsewhere k (unmarked m.touched touched_here k untouched)
-        ∙ is.unwritten k (omega (arith, below, change.header_count)) untouched ∙ sym (frozen_stays touched_here k) in
-        let keepable : (f : FrozenPuts) → s.frozen ≡ Some f → AreKeepable s.saved.geometry most (frozen_in s changed) =
-        λ f running. subst (AreKeepable s.saved.geometry most) (sym (frozen_same touched_here)) (is.keepable f running) in
-        let apart : (k : ℕ) (e : Entry) → entry_at es k ≡ Some e → (e.kept ≡ None) ⊎ (mark_at m.pending k ≡ true) =
-        of_each n apart_here (λ k other. rw (change.entries k other) (is.apart k)) in
-        let freed : (k : ℕ) → entry_at es k ≡ None → mark_at m.pending k ≡ true → (header_at m.frozen_headers k).role ≡ role.Free →
-        (is_kept (put_at s.working k) ≡ true) ⊎ ((header_at hs k).role ≡ role.Free) = of_each n
-        (λ none pending free. elim (is.freed n (none_here none) pending free) [
-          | inl put ↦ inl put
-          | inr was_free ↦ inr (⊎_elim (λ same. same ∙ was_free) (λ free_now. free_now) (change.role none))
-        ]) (λ k other. rw (change.entries k other, change.headers k other) (is.freed k)) in
-        search (is, change.header_count ∙ is.headers, change.entry_count ∙ is.entries)
+    still_cache = search (arith, present_elsewhere, unmarked, touched_here, frozen_stays, frozen_same, of_each, apart_here, none_here)
 
 -- ---- what is seen of a cache after one object was changed
 
 -- another header in its place, of the same role
 pub header_changes : (m : Memory) (n : ℕ) (h : ObjectHeader) → n < length m.headers → h.role ≡ (header_at m.headers n).role →
     Changes m (set m.headers n h) m.entries n
-header_changes m n h within same = record {
-  header_count = length-set m.headers n h;
-  entry_count = refl;
-  headers = λ k other. get_or-set_other m.headers n k h blank_header other;
-  entries = λ k other. refl;
-  kept = refl;
-  role = λ none. inl (ap (λ i. i.role) (get_or-set_same m.headers n h blank_header within) ∙ same);
-}
+header_changes m n h within same = search (arith, length-set, get_or-set_other, get_or-set_same)
 
 -- another present body in its entry
 kept_stays : (f : Content Cap → Content Cap) (o : Option Entry) → option_map kept_of (option_map (changing f) o) ≡ option_map kept_of o
-kept_stays f None = refl
-kept_stays f (Some e) = refl
+kept_stays f o = search arith
 
 present_kept : (f : Content Cap → Content Cap) (n : ℕ) (es : List (Option Entry)) → n < length es →
     option_map kept_of (entry_at (with_entry (changing f) n es) n) ≡ option_map kept_of (entry_at es n)
@@ -202,49 +143,28 @@ cached_stay change n es = map-set_same is_some es n (option_map change (entry_at
 -- another header, and another present body if there is an entry
 edit_changes : (m : Memory) (n : ℕ) (h : ObjectHeader) (f : Content Cap → Content Cap) → n < length m.headers → n < length m.entries →
     (entry_at m.entries n ≡ None → h.role ≡ role.Free) → Changes m (set m.headers n h) (with_entry (changing f) n m.entries) n
-edit_changes m n h f within entry_within free = record {
-  header_count = length-set m.headers n h;
-  entry_count = length-set m.entries n (option_map (changing f) (entry_at m.entries n));
-  headers = λ k other. get_or-set_other m.headers n k h blank_header other;
-  entries = λ k other. get_or-set_other m.entries n k (option_map (changing f) (entry_at m.entries n)) None other;
-  kept = present_kept f n m.entries entry_within;
-  role = λ none. inr (ap (λ i. i.role) (get_or-set_same m.headers n h blank_header within)
-      ∙ free (none_of (changing f) (entry_at m.entries n)
-      (sym (get_or-set_same m.entries n (option_map (changing f) (entry_at m.entries n)) None entry_within) ∙ none)));
-}
+edit_changes m n h f within entry_within free = search (arith, length-set, get_or-set_other, present_kept, get_or-set_same, none_of)
 
 body_changes : (m : Memory) (n : ℕ) (f : Content Cap → Content Cap) → n < length m.entries → Changes m m.headers (with_entry (changing f) n m.entries) n
-body_changes m n f within = record {
-  header_count = refl;
-  entry_count = length-set m.entries n (option_map (changing f) (entry_at m.entries n));
-  headers = λ k other. refl;
-  entries = λ k other. get_or-set_other m.entries n k (option_map (changing f) (entry_at m.entries n)) None other;
-  kept = present_kept f n m.entries within;
-  role = λ none. inl refl;
-}
+body_changes m n f within = search (arith, length-set, get_or-set_other, present_kept)
 
 -- what it holds then: where it is free without an entry, nothing
 edited_body : (c : Content Cap) (o : Option Entry) (r : Role) (newest : Content Cap) → (o ≡ None → (r ≡ role.Free) × (c ≡ content.Free)) →
     present_body (option_map (changing (λ x. c)) o) r newest ≡ c
-edited_body c None r newest free = let p = free refl in ap (λ q. masked q newest) p.0 ∙ sym p.1
-edited_body c (Some e) r newest free = refl
+edited_body c o r newest free = search arith
 
 edited_content : (s : Stored) (m : Memory) (n : ℕ) (h : ObjectHeader) (c : Content Cap) → n < length m.headers → n < length m.entries →
     (entry_at m.entries n ≡ None → (h.role ≡ role.Free) × (c ≡ content.Free)) →
     content_at s (with_objects m (set m.headers n h) (with_entry (changing (λ x. c)) n m.entries)) n ≡ c
-edited_content s m n h c within entry_within free = rw
-    (get_or-set_same m.entries n (option_map (changing (λ x. c)) (entry_at m.entries n)) None entry_within, get_or-set_same m.headers n h blank_header within)
-    (edited_body c (entry_at m.entries n) h.role (newest_body s m n) free)
+edited_content s m n h c within entry_within free = search (arith, get_or-set_same, edited_body)
 
 body_of : (f : Content Cap → Content Cap) (o : Option Entry) (r : Role) (newest : Content Cap) → IsSome o →
     present_body (option_map (changing f) o) r newest ≡ f (present_body o r newest)
-body_of f None r newest some = absurd (true≢false (sym some))
-body_of f (Some e) r newest some = refl
+body_of f o r newest some = search arith
 
 body_content : (s : Stored) (m : Memory) (n : ℕ) (f : Content Cap → Content Cap) → n < length m.entries → IsSome (entry_at m.entries n) →
     content_at s (with_objects m m.headers (with_entry (changing f) n m.entries)) n ≡ f (content_at s m n)
-body_content s m n f within some = rw (get_or-set_same m.entries n (option_map (changing f) (entry_at m.entries n)) None within)
-    (body_of f (entry_at m.entries n) (header_at m.headers n).role (newest_body s m n) some)
+body_content s m n f within some = search (arith, get_or-set_same, body_of)
 
 pub content_in : (s : Stored) (m : Memory) (n : ℕ) → n < length m.headers → held_at (contents_in s m) n ≡ content_at s m n
 unfolding contents_in
@@ -257,22 +177,16 @@ unfolding cached_in
 cached_entry es n = get_or-map is_some es n None
 
 pub some_of : (o : Option Entry) → IsSome o → (e : Entry) × (o ≡ Some e)
-some_of None is = absurd (true≢false (sym is))
-some_of (Some e) is = (e, refl)
+some_of o is = search arith
 
 -- the entries of a cache are no more than its capacity
 pub bounded_seen : {D : Type 0} (disk : D → Disk) {d : DurableState D} {m : Memory} {left count : ℕ} {order : List ℕ} {most_entries : ℕ} {s : StoreState D} →
     cache_of disk d m left order most_entries ≡ s → IsCache (stored_of disk d) m left count →
     AreOrdered (record { at = m.entries; order = order; most = most_entries }) → IsBounded s
-bounded_seen {D} disk {m = m} view is are = subst (λ t. IsBounded t) view (record {
-  listed = λ n. are.listed n ∙ sym (cached_entry m.entries n);
-  once = are.once;
-  few = are.few;
-})
+bounded_seen {D} disk {d} {m} {left} {count} {order} {most_entries} {s} view is are = search (arith, cached_entry)
 
 pub present_is : (o : Option Entry) (c : Content Cap) (r : Role) (newest : Content Cap) → option_map present_of o ≡ Some c → present_body o r newest ≡ c
-present_is None c r newest is = absurd (none-some c is)
-present_is (Some e) c r newest is = same_Some e.present c is
+present_is o c r newest is = search (arith, none-some, same_Some)
 
 pub contents_count : (s : Stored) (m : Memory) → length (contents_in s m) ≡ length m.headers
 unfolding contents_in
@@ -291,9 +205,7 @@ module _ {D : Type 0} (disk : D → Disk) {d : DurableState D} {m : Memory} {lef
 
   -- its entry has what it holds
   pub entry_holds : (c : Content Cap) → option_map present_of (entry_at m.entries n) ≡ Some c → c ≡ held_at s.contents n
-  entry_holds c found =
-      sym (present_is (entry_at m.entries n) c (header_at m.headers n).role (newest_body (stored_of disk d) m n) found)
-      ∙ sym (content_in (stored_of disk d) m n fetched_known) ∙ ap (λ t. held_at t.contents n) view
+  entry_holds c found = search (arith, present_is, content_in, fetched_known)
 
 -- ---- another durable store below the same memory
 
@@ -301,13 +213,7 @@ pub stored_next : {D : Type 0} (disk : D → Disk) {d new : DurableState D} {m :
     cache_of disk d m left order most_entries ≡ s → {t : Stored} → stored_of disk new ≡ t → IsCache t m left count →
     contents_in t m ≡ contents_in (stored_of disk d) m → frozen_seen t m left ≡ frozen_seen (stored_of disk d) m left →
     IsSeenAs disk new m left count order most_entries (record s { durable = new })
-stored_next {D} disk {d} {new} {m} {left} {count} {order} {most_entries} view put is contents frozen = record {
-  is = subst (λ u. IsCache u m left count) (sym put) is;
-  view =
-      ap (λ u. record (cache_of disk d m left order most_entries) { durable = new; contents = contents_in u m; frozen = frozen_seen u m left }) put
-      ∙ (λ k. record (cache_of disk d m left order most_entries) { durable = new; contents = contents k; frozen = frozen k })
-      ∙ ap (λ (x : StoreState D). record x { durable = new }) view;
-}
+stored_next {D} disk {d} {new} {m} {left} {count} {order} {most_entries} {s} view {t} put is contents frozen = search arith
 
 -- ---- an object that may be written
 
@@ -323,10 +229,7 @@ module _ {D : Type 0} (disk : D → Disk) {d : DurableState D} {m : Memory} {lef
   IsNow then t = IsSeenAs disk d then left count order most_entries t
 
   pub known : IsKnown m n
-  known =
-      let header : n < length m.headers = omega (arith, announced.header, ap (λ t. length t.headers) view) in
-      let dirty : mark_at m.dirty n ≡ true = ap (λ t. mark_at t.dirty n) view ∙ announced.dirty in
-      search (arith, header, dirty, is.headers, is.entries, is.marked n dirty)
+  known = search arith
 
   pub announced_known : n < length m.headers
   announced_known = known.header
@@ -337,14 +240,7 @@ module _ {D : Type 0} (disk : D → Disk) {d : DurableState D} {m : Memory} {lef
   module _ {hs : List ObjectHeader} {es : List (Option Entry)} (change : Changes m hs es n) where
     edit_seen : {cs : List (Content Cap)} → cached_in es ≡ cached_in m.entries → contents_in (stored_of disk d) (with_objects m hs es) ≡ cs →
         cache_of disk d (with_objects m hs es) left order most_entries ≡ record (cache_of disk d m left order most_entries) { headers = hs; contents = cs }
-    edit_seen cached contents = λ k. record (cache_of disk d m left order most_entries) {
-      headers = hs;
-      contents = contents k;
-      cached = cached k;
-      frozen_state = frozen_state_same (stored_of disk d) change known.touched k;
-      frozen = option_map (λ f. record { frames = frozen_same (stored_of disk d) change known.touched k; size = f.size; left = left })
-          (stored_of disk d).frozen;
-    }
+    edit_seen {cs} cached contents = search (arith, frozen_state_same, known, frozen_same)
 
   -- another header of the same role
   pub header_becomes : (h : ObjectHeader → ObjectHeader) → ((x : ObjectHeader) → (h x).role ≡ x.role) →
@@ -396,12 +292,7 @@ module _ {D : Type 0} (disk : D → Disk) {d : DurableState D} {m : Memory} {lef
 pub one_copied : (es : List (Option Entry)) (bodies : List (Content Cap)) (k : ℕ) (c : Content Cap) → length bodies ≡ k
     → ((n : ℕ) → n < k → option_map present_of (entry_at es n) ≡ Some (held_at bodies n)) → option_map present_of (entry_at es k) ≡ Some c
     → (n : ℕ) → n < k + 1 → option_map present_of (entry_at es n) ≡ Some (held_at (bodies ++ c ∷ []) n)
-one_copied es bodies k c many copied here n below = elim (cases_lt n k) [
-  | inl earlier ↦ copied n earlier ∙ ap (λ x. Some x) (sym (get_or_append_left bodies (c ∷ []) content.Free n (omega (arith, earlier, many))))
-  | inr now_here ↦
-      subst (λ i. option_map present_of (entry_at es i) ≡ Some (held_at (bodies ++ c ∷ []) i)) (omega (arith, now_here, below))
-      (here ∙ ap (λ x. Some x) (sym (get_or_at bodies c [] content.Free k many)))
-]
+one_copied es bodies k c many copied here n below = search (arith, cases_lt, get_or_append_left, get_or_at)
 
 -- all were copied out of a store in which each object has an entry
 module _ {D : Type 0} (disk : D → Disk) {d : DurableState D} {m : Memory} {left count : ℕ} {order : List ℕ} {most_entries : ℕ} {s : StoreState D}
@@ -421,7 +312,7 @@ module _ {D : Type 0} (disk : D → Disk) {d : DurableState D} {m : Memory} {lef
   pub all_copied : {E : Type 0} → IsWhole s → (headers : List ObjectHeader) → headers ≡ m.headers → (r : Result AllObjects E)
       → IfOk r (λ o. o.headers.items ≡ headers) → IfOk r (λ o. length o.contents.items ≡ length headers)
       → IfOk r (λ o. (n : ℕ) → n < length headers → option_map present_of (entry_at m.entries n) ≡ Some (held_at o.contents.items n))
-      → IfOk r (λ o. AreObjectsOf s o)
+      → IfOk r (λ o. AreObjectsOf (parts_of disk s) o)
   all_copied whole headers made (Ok o) same count copied = record {
     headers_are = same ∙ made ∙ ap (λ t. t.headers) view;
     contents = copied_are whole o.contents.items (count ∙ ap length made) (λ n within. copied n (omega (arith, within, ap length made)));

@@ -1,13 +1,12 @@
 -- A store is made over a device that was opened: all objects are as they are saved.
 use Rattle.object_cache.proofs.Names.{inl, inr, ℕ, Bool, false, true≢false, List, [], length, replicate, Option, None, option_map, refl, sym, ap, subst, arith}
 use Rattle.object_cache.proofs.Names.{get_or-map, cases_lt, ext_get_or, get_or_past, length-map, length-replicate, none-some, Frame, ObjectHeader, blank_frame}
-use Rattle.object_cache.proofs.Names.{frame_at, frames_in, header_at, headers, untouched, role_of, object_count, Image, Disk, Only, OnlyReads, Put, Absent}
-use Rattle.object_cache.proofs.Names.{put_at, put_or, SavedFrames, Holds, OpensDurable, DurableState, Stored, below_at, frozen_put, is_sound, stored_of}
-use Rattle.object_cache.proofs.Names.{HaveTheirRoles, OpensStore, Entry, entry_at, Memory, memory_of, newest_body, present_body, content_at, present_at}
-use Rattle.object_cache.proofs.Names.{frozen_at, contents_in, frozen_in, StoreState, IsCache, IsJustOpened, IsOpenOver, AreAll, HoldBodies, EntriesState}
-use Rattle.object_cache.proofs.Names.{bodies_of, cache_of, frozen_seen, parts_of, view_of, Some, length-set, length-append, get_or-set_same, get_or-set_other}
-use Rattle.object_cache.proofs.Names.{get_or_append_left, get_or_at, same_Some, Content, Cap, new_entry, with_new, AreTaken, AreInserted, HaveRoom, IsUnkept}
-use Rattle.object_cache.proofs.Names.{TakenState, true, changing, with_body, with_entry, is_some, all_of}
+use Rattle.object_cache.proofs.Names.{frame_at, frames_in, header_at, headers, untouched, object_count, Image, Disk, Absent, put_at, put_or, SavedFrames, Holds}
+use Rattle.object_cache.proofs.Names.{OpensDurable, DurableState, Stored, below_at, frozen_put, stored_of, HaveTheirRoles, OpensStore, Entry, entry_at, Memory}
+use Rattle.object_cache.proofs.Names.{memory_of, content_at, present_at, frozen_at, contents_in, StoreState, IsCache, IsJustOpened, IsOpenOver, AreAll}
+use Rattle.object_cache.proofs.Names.{HoldBodies, EntriesState, bodies_of, cache_of, parts_of, view_of, Some, length-set, length-append, get_or-set_same}
+use Rattle.object_cache.proofs.Names.{get_or-set_other, get_or_append_left, get_or_at, same_Some, Content, Cap, new_entry, with_new, AreTaken, AreInserted}
+use Rattle.object_cache.proofs.Names.{HaveRoom, IsUnkept, TakenState, true, changing, with_body, with_entry, is_some, all_of}
 use Rattle.std.proofs.Common.{◌≡◌, ◌∷◌, ◌∙◌, ◌<◌, ◌≤◌, ◌+◌, ◌++◌}
 use Rattle.object_cache.proofs.Freezing.{masked_same, none_counted}
 use Rattle.object_cache.proofs.Marking.{alike}
@@ -17,12 +16,7 @@ use Rattle.object_cache.proofs.PutsOut.{dropping}
 
 -- what is held on sectors: each frame has its role, and there is one for each object
 pub held_roles : (size : ℕ) (c : Image) (saved : SavedFrames) → Holds size c saved → HaveTheirRoles saved.frames
-held_roles size c saved holds =
-    subst (λ t. HaveTheirRoles t.frames) holds.2 (λ n.
-    elim (cases_lt n (length holds.0.frames)) [
-      | inl lt ↦ (holds.1.each n (omega (arith, lt, holds.1.count))).0.kept.role
-      | inr past ↦ subst (λ f. f.header.role ≡ role_of f.content) (sym (get_or_past holds.0.frames n blank_frame past)) refl
-    ])
+held_roles size c saved holds = search (arith, cases_lt, get_or_past)
 
 again : (fs : List Frame) → frames_in (headers fs) (bodies_of fs) ≡ fs
 unfolding frames_in
@@ -51,18 +45,10 @@ module _ (s : Stored) (hs fh : List ObjectHeader) (fh_count : length fh ≡ leng
   header_is n = ap (λ xs. header_at xs n) is.headers_are ∙ get_or-map (λ f. f.header) s.saved.frames n blank_frame
 
   content_is : (n : ℕ) → content_at s m n ≡ (frame_at s.saved.frames n).content
-  content_is n = go (entry_at e.at n) refl
-    where
-      go : (o : Option Entry) → entry_at e.at n ≡ o → content_at s m n ≡ (frame_at s.saved.frames n).content
-      go None none = rw (none, unput_here n, below_is n, header_is n)
-          (masked_same (frame_at s.saved.frames n).header.role (frame_at s.saved.frames n).content (is.roles n))
-      go (Some x) some = ap (λ o. present_body o (header_at hs n).role (newest_body s m n)) some ∙ ap (λ y. y.present) (hold.bodies n x some)
+  content_is n = search (arith, unput_here, below_is, header_is, masked_same)
 
   present_is : (n : ℕ) → present_at s m n ≡ frame_at s.saved.frames n
-  present_is n =
-      let was = header_is n in
-      let body = content_is n in
-      λ k. record { header = was k; content = body k }
+  present_is n = search (arith, header_is, content_is)
 
   frozen_is : (n : ℕ) → frozen_at s m n ≡ frame_at s.saved.frames n
   frozen_is n = rw (alike (length hs) n false) (below_is n)
@@ -77,45 +63,12 @@ module _ (s : Stored) (hs fh : List ObjectHeader) (fh_count : length fh ≡ leng
   marks_are = length-replicate {A = Bool} (length hs) false ∙ each ∙ is.frames
 
   pub open_cache : IsCache s (open_memory hs fh e) 0 0
-  open_cache = record {
-    headers = each ∙ is.frames;
-    frozen_headers = fh_count ∙ each ∙ is.frames;
-    marks = marks_are;
-    dirty_marks = marks_are;
-    pending_marks = marks_are;
-    entries = hold.each ∙ is.frames;
-    frames = is.frames;
-    puts = ap length is.working ∙ length-replicate {A = Put} (length s.saved.frames) Absent ∙ is.frames;
-    counted = sym (none_counted (length hs));
-    within = omega arith;
-    marked = λ n dirty. absurd (true≢false (sym dirty ∙ alike (length hs) n false));
-    clean = λ n clean touched. absurd (true≢false (sym touched ∙ alike (length hs) n false));
-    unput = λ n untouched. unput_here n;
-    unwritten = λ n inside untouched. present_is n ∙ sym (frozen_is n);
-    idle = λ gone n. alike (length hs) n false;
-    running = λ f some. absurd (none-some f (sym is.idle ∙ some));
-    keepable = λ f some. absurd (none-some f (sym is.idle ∙ some));
-    held = λ h some. absurd (none-some h some);
-    apart = λ n x some. inl (ap (λ y. y.kept) (hold.bodies n x some));
-    freed = λ n gone pending free. absurd (true≢false (sym pending ∙ alike (length hs) n false));
-  }
+  open_cache = search (arith, each, marks_are, length-replicate, none_counted, alike, unput_here, present_is, frozen_is, none-some)
 
   pub open_over : {D : Type 0} (disk : D → Disk) (d : DurableState D) → stored_of disk d ≡ s →
       IsOpenOver (AreAll e) disk d e.most (cache_of disk d (open_memory hs fh e) 0 e.order e.most)
   unfolding untouched
-  open_over disk d same = record {
-    durable = refl;
-    headers_are = is.headers_are ∙ ap (λ t. headers t.saved.frames) (sym same);
-    contents = ap (λ t. contents_in t m) same ∙ open_contents ∙ ap (λ t. bodies_of t.saved.frames) (sym same);
-    touched = ap (λ k. replicate k false) (each ∙ is.frames) ∙ ap (λ t. untouched t.saved.geometry) (sym same);
-    idle = ap (λ t. frozen_seen t m 0) same ∙ ap (option_map (λ f. record { frames = frozen_in s m; size = f.size; left = 0 })) is.idle;
-    whole = λ all n within. record {
-      header = within;
-      content = omega (arith, within, contents_count (stored_of disk d) m);
-      cached = cached_entry e.at n ∙ all n (omega (arith, within, each, hold.each));
-    };
-    same_most = refl;
-  }
+  open_over {D} disk d same = search (arith, open_contents, each, contents_count, cached_entry)
 
 -- what is in a durable store that was opened
 module _ {D : Type 0} (disk : D → Disk) (device : D) (d : DurableState D) (hs : List ObjectHeader) (opened : OpensDurable disk device d)
@@ -131,34 +84,14 @@ module _ {D : Type 0} (disk : D → Disk) (device : D) (d : DurableState D) (hs 
 
   -- and in a store that was made over it
   pub opens_store : (all : Type 0) (most : ℕ) (s : StoreState D) → IsOpenOver all disk d most s → OpensStore disk device (parts_of disk s) (view_of disk s)
-  opens_store all most s over =
-      let same : stored_of disk s.durable ≡ stored_of disk d = ap (stored_of disk) over.durable in record {
-        sound = subst (λ x. is_sound disk x) (sym over.durable) opened.sound;
-        holds = subst (λ x. Holds (disk device).sectors (disk device).seen x.saved) (sym same) opened.holds;
-        frames = frames_are;
-        touched = over.touched ∙ ap (λ x. untouched x.saved.geometry) (sym same);
-        frozen = over.idle;
-        to_move = subst (λ x. x.to_move ≡ x.saved.entries) (sym same) opened.to_move;
-        durable = subst (λ x. Only (disk x.beneath).seen (disk x.beneath)) (sym over.durable) opened.durable;
-        only_reads = subst (λ x. OnlyReads (disk device) (disk x.beneath)) (sym over.durable) opened.only_reads;
-        failures = ap (λ x. (disk x.beneath).failures) over.durable ∙ opened.failures;
-      } where
-        frames_are : frames_in s.headers s.contents ≡ (stored_of disk s.durable).saved.frames
-        frames_are = rw (over.headers_are, over.contents, over.durable) (again (stored_of disk d).saved.frames)
+  opens_store all most s over = search (arith, again)
 
 -- ---- what is taken of the saved objects when a device is opened, frame by frame
 
 -- no entries
 pub none_inserted : (count : ℕ) (e : EntriesState) → e ≡ record { at = replicate count None; order = []; most = all_of count } →
     count ≤ all_of count → AreInserted e 0 count
-none_inserted count e is whole = subst (λ x. AreInserted x 0 count) (sym is) (record {
-  each = length-replicate {A = Option Entry} count None;
-  used = refl;
-  most = refl;
-  whole = whole;
-  earlier = λ n less. absurd (omega (arith, less));
-  later = λ n past. alike count n None;
-})
+none_inserted count e is whole = search (arith, each, length-replicate, alike)
 
 -- one more
 pub one_inserted : (e : EntriesState) (k count : ℕ) → AreInserted e k count → k < count → (c : Content Cap) →
@@ -196,10 +129,7 @@ dropped_one e k some within before n less = elim (cases_lt n k) [
   go (Some x) at is = (x.present, get_or-set_same e.at k (option_map dropping (entry_at e.at k)) None within ∙ ap (option_map dropping) at)
 
 pub blank_hold : (fs : List Frame) (most : ℕ) → HoldBodies (record { at = replicate (length fs) None; order = []; most = most }) fs
-blank_hold fs most = record {
-  each = length-replicate {A = Option Entry} (length fs) None;
-  bodies = λ n x some. absurd (none-some x (sym (alike (length fs) n None) ∙ some));
-}
+blank_hold fs most = search (arith, each, length-replicate, none-some, alike)
 
 -- one more
 module _ (e : EntriesState) (taken count : ℕ) (room : HaveRoom e taken count) (below : taken < count) (c : Content Cap) where
@@ -220,15 +150,7 @@ module _ (e : EntriesState) (taken count : ℕ) (room : HaveRoom e taken count) 
   pub one_body : (fs : List Frame) (f : Frame) → length fs ≡ taken → f.content ≡ c →
       ((n : ℕ) → n < length fs → entry_at e.at n ≡ Some (new_entry (frame_at fs n).content)) →
       (n : ℕ) → n < length (fs ++ f ∷ []) → entry_at (with_body taken c e).at n ≡ Some (new_entry (frame_at (fs ++ f ∷ []) n).content)
-  one_body fs f many is before n within = elim (cases_lt n (length fs)) [
-    | inl earlier ↦ rw (get_or_append_left fs (f ∷ []) blank_frame n earlier)
-        (get_or-set_other e.at taken n body None (λ same. omega (arith, earlier, many, same)) ∙ before n earlier)
-    | inr last ↦
-        let same : taken ≡ n = omega (arith, last, within, many, length-append fs (f ∷ [])) in
-        subst (λ i. entry_at (with_body taken c e).at i ≡ Some (new_entry (frame_at (fs ++ f ∷ []) i).content)) same
-        (get_or-set_same e.at taken body None (omega (arith, below, room.each)) ∙ body_is
-        ∙ ap (λ x. Some (new_entry x)) (sym is) ∙ ap (λ g. Some (new_entry g.content)) (sym (get_or_at fs f [] blank_frame taken many)))
-  ]
+  one_body fs f many is before n within = search (arith, cases_lt, get_or_append_left, get_or-set_other, length-append, get_or-set_same, body_is, get_or_at)
 
 module _ (o : Option EntriesState) (taken count : ℕ) (below : taken < count) (rooms : (e : EntriesState) → o ≡ Some e → HaveRoom e taken count) where
   pub held_in : (e : EntriesState) → o ≡ Some e → is_some (entry_at e.at taken) ≡ true
@@ -271,18 +193,11 @@ module _ (s : TakenState) (fs : List Frame) (took : AreTaken s fs) (e : EntriesS
   frames_count = omega (arith, ap length took.headers_are, length-map fs (λ f. f.header), room.each, all)
 
   pub taken_hold : HoldBodies e fs
-  taken_hold = record {
-    each = sym frames_count;
-    bodies = λ n x some. elim (cases_lt n (length fs)) [
-      | inl within ↦ sym (same_Some (new_entry (frame_at fs n).content) x (sym (took.bodies e at n within) ∙ some))
-      | inr past ↦ absurd (none-some x (sym (get_or_past e.at n None (omega (arith, past, frames_count))) ∙ some))
-    ];
-  }
+  taken_hold = search (arith, each, frames_count, cases_lt, same_Some, none-some, get_or_past)
 
   pub taken_all : AreAll e
   taken_all n within = ap is_some (took.bodies e at n (omega (arith, within, frames_count)))
 
 -- there is memory for one more of the frames
 pub taken_below : {s t : TakenState} → s ≡ t → (fs : List Frame) → AreTaken t fs → length fs < t.count → length s.headers < s.count
-taken_below view fs took few = omega
-    (arith, ap (λ x. x.count) view, ap (λ x. length x.headers) view, ap length took.headers_are, length-map fs (λ f. f.header), few)
+taken_below {s} {t} view fs took few = search (arith, length-map)

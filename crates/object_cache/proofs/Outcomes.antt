@@ -1,7 +1,7 @@
 -- Why one value of a cache continues as another.
-use Rattle.object_cache.proofs.Names.{ℕ, Bool, List, Option, sym, ap, Disk, stored_of, Held, FrozenState, StoreState, GoesOnIn, on_device, DurableState}
-use Rattle.object_cache.proofs.Names.{IsCache, Memory, cache_of, true, false, Result, Ok, Err, refl, subst, OnOk, OnErr, None, set, without, Nothing, released}
-use Rattle.object_cache.proofs.Names.{mark_at, frozen_state_at, without_cached, option_map, Some, none-some}
+use Rattle.object_cache.proofs.Names.{arith, ℕ, Bool, List, Option, sym, ap, Disk, stored_of, Held, FrozenState, StoreState, GoesOnIn, on_device, DurableState}
+use Rattle.object_cache.proofs.Names.{IsCache, Memory, cache_of, true, false, Result, OnOk, OnErr, None, set, without, Nothing, released, mark_at}
+use Rattle.object_cache.proofs.Names.{frozen_state_at, without_cached, option_map, none-some}
 use Rattle.std.proofs.Common.{◌≡◌, ◌∙◌}
 use Rattle.object_cache.proofs.Marking.{set_there}
 
@@ -41,17 +41,11 @@ module _ {D : Type 0} (disk : D → Disk) where
 -- ---- what calls that may fail leave, by their outcome
 
 pub none_of : {A B : Type 0} (f : A → B) (o : Option A) → option_map f o ≡ None → o ≡ None
-none_of f None is = refl
-none_of f (Some x) is = absurd (none-some (f x) (sym is))
-
-pub ok_both : {T E P Q R : Type 0} (r : Result T E) → OnOk r P → OnOk r Q → (P → Q → R) → OnOk r R
-ok_both (Ok t) first second next = next first second
-ok_both (Err e) first second next = first
+none_of {A} {B} f o is = search (arith, none-some)
 
 -- the same by an answer
 pub whichever : {X : Type 0} (b : Bool) (P : X → Type 0) (x y z : X) → (b ≡ true → x ≡ y) → (b ≡ false → x ≡ z) → P y → P z → P x
-whichever true P x y z if_true if_false on_true on_false = subst P (sym (if_true refl)) on_true
-whichever false P x y z if_true if_false on_true on_false = subst P (sym (if_false refl)) on_false
+whichever {X} b P x y z if_true if_false on_true on_false = search arith
 
 -- ---- an entry's frozen and present frames are written, and it is dropped: the outcome, call by call
 
@@ -65,35 +59,21 @@ module _ {D : Type 0} {T E : Type 0} where
         staging = released n s.staging;
       }) → OnErr r (t ≡ record s { durable = t.durable }) →
       OnOk r (frozen_state_at t.frozen_state n ≡ Nothing) × (t ≡ on_device s t) × (s.staging ≡ None → t.staging ≡ None)
-  frozen_written (Ok x) s t n is none = (
-    ap (λ c. frozen_state_at c.frozen_state n) is ∙ set_there s.frozen_state n Nothing,
-    on_device_as s is refl,
-    λ empty. ap (λ c. c.staging) is ∙ ap (released n) empty,
-  )
-  frozen_written (Err e) s t n none is = (tt, on_device_as s is refl, λ empty. ap (λ c. c.staging) is ∙ empty)
+  frozen_written r s t n is none = search (arith, set_there, on_device_as)
 
   -- the body that it has
   pub written_back : (r : Result T E) (s t : StoreState D) (n : ℕ) → OnOk r (t ≡ record s { durable = t.durable; dirty = set s.dirty n false }) →
       OnErr r (t ≡ record s { durable = t.durable }) →
       OnOk r (mark_at t.dirty n ≡ false) × (t.frozen_state ≡ s.frozen_state) × (t ≡ on_device s t) × (t.staging ≡ s.staging)
-  written_back (Ok x) s t n is none = (
-    ap (λ c. mark_at c.dirty n) is ∙ set_there s.dirty n false,
-    ap (λ c. c.frozen_state) is,
-    on_device_as s is refl,
-    ap (λ c. c.staging) is,
-  )
-  written_back (Err e) s t n none is = (tt, ap (λ c. c.frozen_state) is, on_device_as s is refl, ap (λ c. c.staging) is)
+  written_back r s t n is none = search (arith, set_there, on_device_as)
 
 module _ {D : Type 0} where
   -- and once it is dropped
   pub away_on : (s t u : StoreState D) (n : ℕ) → t ≡ on_device s t → u ≡ record t { cached = set t.cached n false; order = without n t.order } →
       u ≡ without_cached n (on_device s u)
-  away_on s t u n put is =
-      is ∙ ap (λ (c : StoreState D). record c { cached = set c.cached n false; order = without n c.order }) put
-      ∙ ap (λ c. without_cached n (on_device s c)) (sym is)
+  away_on s t u n put is = search arith
 
   -- of what else is in memory entries and their order alone are others
   pub away_rest : {T E : Type 0} (r : Result T E) (s u : StoreState D) (n : ℕ) → OnOk r (u ≡ without_cached n (on_device s u)) → OnErr r (u ≡ on_device s u) →
       u ≡ record (on_device s u) { cached = u.cached; order = u.order }
-  away_rest (Ok x) s u n away stays = away ∙ ap (λ c. record (on_device s u) { cached = c.cached; order = c.order }) (sym away)
-  away_rest (Err e) s u n away stays = stays ∙ ap (λ c. record (on_device s u) { cached = c.cached; order = c.order }) (sym stays)
+  away_rest {T} {E} r s u n away stays = search arith

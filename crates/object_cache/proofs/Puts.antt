@@ -1,12 +1,10 @@
 -- The present body of an object in an entry is put, or was to be.
-use Rattle.object_cache.proofs.Names.{None, inl, inr, ℕ, zero, suc, Bool, true, false, true≢false, cond, List, [], length, set, Some, option_map, refl, sym, ap}
-use Rattle.object_cache.proofs.Names.{subst, arith, length-set, get_or-set_same, get_or-set_other, sum_by-cons, none-some, Cap, ObjectHeader, Content}
-use Rattle.object_cache.proofs.Names.{header_at, held_at, IsKeepable, touched_count, Disk, Put, Absent, Broken, Kept, put_at, held_slot, sum_of, HasFreeSlot}
-use Rattle.object_cache.proofs.Names.{most, DurableState, Stored, GoesOn, stored_of, with_working, Entry, entry_at, present_of, Memory, mark_at, content_at}
-use Rattle.object_cache.proofs.Names.{present_at, newest_body, contents_in, frozen_in, frozen_states_in, StoreState, IsCache, IsFetchedIn, GoesOnIn, cache_of}
-use Rattle.object_cache.proofs.Names.{is_kept, frozen_seen, ⊎_elim}
+use Rattle.object_cache.proofs.Names.{inl, inr, ℕ, zero, suc, Bool, true, false, cond, List, [], length, set, Some, option_map, refl, sym, ap, subst, arith}
+use Rattle.object_cache.proofs.Names.{length-set, get_or-set_same, get_or-set_other, sum_by-cons, none-some, Cap, ObjectHeader, Content, header_at, held_at}
+use Rattle.object_cache.proofs.Names.{IsKeepable, touched_count, Disk, Put, Absent, Broken, Kept, put_at, held_slot, sum_of, HasFreeSlot, most, DurableState}
+use Rattle.object_cache.proofs.Names.{Stored, GoesOn, stored_of, with_working, Entry, entry_at, present_of, Memory, mark_at, content_at, present_at}
+use Rattle.object_cache.proofs.Names.{contents_in, frozen_in, frozen_states_in, StoreState, IsCache, IsFetchedIn, GoesOnIn, cache_of, frozen_seen}
 use Rattle.std.proofs.Common.{◌≡◌, ◌≢◌, ◌⊎◌, ◌<◌, ◌≤◌, ◌∷◌, ◌∙◌}
-use Rattle.model.specs.declared.object.Role.TheVariants as role
 use Rattle.object_cache.proofs.Outcomes.{IsNext, next_as}
 use Rattle.object_cache.proofs.Marking.{one_fewer}
 use Rattle.object_cache.proofs.Objects.{of_each, Alike, content_in, contents_alike, entry_found, fetched_known, present_alike, present_is, unwritten_alike}
@@ -44,12 +42,7 @@ held_short ps ts n count each marked none =
 
 pub has_free_slot : (room : ℕ) (ps : List Put) (ts : List Bool) (n : ℕ) → length ps ≡ length ts → ((k : ℕ) → mark_at ts k ≡ false → put_at ps k ≡ Absent) →
     mark_at ts n ≡ true → touched_count ts ≤ room → HasFreeSlot room ps n
-has_free_slot room ps ts n count each marked within = go (put_at ps n) refl
-  where
-    go : (p : Put) → put_at ps n ≡ p → HasFreeSlot room ps n
-    go Absent is = let short = held_short ps ts n count each marked is in inr (omega (arith, short, within))
-    go Broken is = inl (λ none. cc)
-    go (Kept f) is = inl (λ none. cc)
+has_free_slot room ps ts n count each marked within = search (arith, held_short)
 
 -- ---- a working frame
 
@@ -78,21 +71,7 @@ module _ {s : Stored} {m : Memory} {left count : ℕ} (is : IsCache s m left cou
 
   pub put_cache : IsCache after (with_dirty m ds) left count
   unfolding frozen_in
-  put_cache =
-      let marked : (k : ℕ) → mark_at ds k ≡ true → mark_at m.touched k ≡ true =
-      of_each n (λ marked. is.marked n dirty) (λ k other. rw (others k other) (is.marked k)) in
-      let clean : (k : ℕ) → mark_at ds k ≡ false → mark_at m.touched k ≡ true → put_at after.working k ≡ Kept (present_at after (with_dirty m ds) k) =
-      of_each n (λ clean touched. ⊎_elim (λ still. absurd (true≢false (sym still ∙ clean)))
-      (λ kept. get_or-set_same s.working n p Absent (omega (arith, within, is.headers, is.puts)) ∙ kept ∙ ap Kept (sym (present_stays n))) here)
-      (λ k other clean touched. put_elsewhere k other ∙ is.clean k (sym (others k other) ∙ clean) touched ∙ ap Kept (sym (present_stays k))) in
-      let unput : (k : ℕ) → mark_at m.touched k ≡ false → put_at after.working k ≡ Absent = λ k untouched.
-      put_elsewhere k (λ same. true≢false (sym (is.marked n dirty) ∙ ap (mark_at m.touched) (sym same) ∙ untouched)) ∙ is.unput k untouched in
-      let freed : (k : ℕ) → entry_at m.entries k ≡ None → mark_at m.pending k ≡ true → (header_at m.frozen_headers k).role ≡ role.Free →
-      (is_kept (put_at after.working k) ≡ true) ⊎ ((header_at m.headers k).role ≡ role.Free) = λ k none pending free. elim (is.freed k none pending free) [
-        | inl put ↦ inl (ap is_kept (put_elsewhere k (λ same. none-some e (sym none ∙ ap (entry_at m.entries) same ∙ at))) ∙ put)
-        | inr was_free ↦ inr was_free
-      ] in
-      search (is, unwritten_alike put_alike is, size ∙ is.dirty_marks, length-set s.working n p ∙ is.puts)
+  put_cache = search (arith, of_each, get_or-set_same, present_stays, put_elsewhere, none-some, unwritten_alike, put_alike, length-set)
 
 -- ---- the same by what is seen
 
@@ -161,19 +140,12 @@ module _ {D : Type 0} (disk : D → Disk) {d : DurableState D} {m : Memory} {lef
   module _ {header : ObjectHeader} {x : Content Cap} (header_is : header ≡ header_at m.headers n)
       (x_is : option_map present_of (entry_at m.entries n) ≡ Some x) where
     frame_is : record { header = header; content = x } ≡ present_at (stored_of disk d) m n
-    frame_is = λ k. record {
-      header = header_is k;
-      content = sym (present_is (entry_at m.entries n) x (header_at m.headers n).role (newest_body (stored_of disk d) m n) x_is) k;
-    }
+    frame_is = search (arith, present_is)
 
     pub keepable_here : IsKeepable (stored_of disk s.durable).saved.geometry most n
         (record { header = header_at s.headers n; content = held_at s.contents n })
         → IsKeepable (stored_of disk d).saved.geometry most n (record { header = header; content = x })
-    keepable_here keepable =
-        subst (IsKeepable (stored_of disk d).saved.geometry most n)
-        (ap (λ c. record { header = header_at m.headers n; content = c }) (content_in (stored_of disk d) m n known_here) ∙ sym frame_is)
-        (subst (λ t. IsKeepable (stored_of disk t.durable).saved.geometry most n
-        (record { header = header_at t.headers n; content = held_at t.contents n })) (sym view) keepable)
+    keepable_here keepable = search (arith, content_in, known_here, frame_is)
 
     -- it is put
     pub kept_next : {new : DurableState D} → stored_of disk new ≡ with_working n (Kept (record { header = header; content = x })) (stored_of disk d) →

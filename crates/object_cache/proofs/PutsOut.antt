@@ -1,14 +1,13 @@
 -- The frozen frame of an object is put, or was to be.
-use Rattle.object_cache.proofs.Names.{inl, inr, ℕ, Bool, true, false, true≢false, List, length, map, set, Option, Some, None, option_map, refl, sym, ap, subst}
-use Rattle.object_cache.proofs.Names.{arith, length-set, count_by, range_with_len, cases_eq, get_or-set_same, get_or-set_other, none-some, same_Some, Cap}
-use Rattle.object_cache.proofs.Names.{Frame, Content, header_at, Put, Absent, Broken, Kept, put_at, most, FrozenPuts, Stored, below_at, with_frozen, with_put}
+use Rattle.object_cache.proofs.Names.{inl, inr, ℕ, Bool, true, false, List, length, map, set, Option, Some, None, option_map, refl, sym, ap, subst, arith}
+use Rattle.object_cache.proofs.Names.{length-set, count_by, range_with_len, cases_eq, get_or-set_same, get_or-set_other, none-some, same_Some, Cap, Frame}
+use Rattle.object_cache.proofs.Names.{Content, header_at, Put, Absent, Broken, Kept, put_at, most, FrozenPuts, Stored, below_at, with_frozen, with_put}
 use Rattle.object_cache.proofs.Names.{maps_same, map_set, Entry, Held, entry_at, Memory, Nothing, frozen_state_of, frozen_state_in_memory, frozen_states_in}
-use Rattle.object_cache.proofs.Names.{mark_at, in_staging, put_body, present_body, content_at, below_body, frozen_body, frozen_frame, frozen_at, contents_in}
-use Rattle.object_cache.proofs.Names.{frozen_in, IsCache, AreFrozen, is_kept, frozen_seen, object_count, cond, cases_lt, eq-eqb, ne_eqb, get_or_past}
+use Rattle.object_cache.proofs.Names.{mark_at, in_staging, put_body, present_body, content_at, below_body, frozen_body, frozen_at, contents_in, frozen_in}
+use Rattle.object_cache.proofs.Names.{IsCache, AreFrozen, is_kept, frozen_seen, object_count, cond, cases_lt, eq-eqb, ne_eqb, get_or_past}
 use Rattle.object_cache.proofs.Names.{length-map-range_with_len, get_or-map-range_with_len, ObjectHeader, Role, blank_frame, IsKeepable, Disk, HasFreeSlot}
-use Rattle.object_cache.proofs.Names.{DurableState, GoesOn, stored_of, with_entry, is_some, own_body_of, FrozenState, masked, released, own_body, own_frame}
-use Rattle.object_cache.proofs.Names.{newest_body, apart_body, frozen_state_body, StoreState, IsFetchedIn, GoesOnIn, cache_of, frozen_state_at, cached_in}
-use Rattle.object_cache.proofs.Names.{MayPutFrozen}
+use Rattle.object_cache.proofs.Names.{DurableState, GoesOn, stored_of, with_entry, own_body_of, FrozenState, masked, released, own_body, own_frame, newest_body}
+use Rattle.object_cache.proofs.Names.{apart_body, StoreState, IsFetchedIn, GoesOnIn, cache_of, frozen_state_at, cached_in, MayPutFrozen}
 use Rattle.std.proofs.Common.{◌≡◌, ◌≢◌, ◌⊎◌, ◌<◌, ◌≤◌, ◌||◌, ◌∙◌}
 use Rattle.object_cache.proofs.Marking.{one_fewer, marked_within}
 use Rattle.object_cache.proofs.Outcomes.{IsNext, next_as}
@@ -20,8 +19,7 @@ use Rattle.model.specs.declared.object.Role.TheVariants as role
 use Rattle.model.specs.declared.object.Content.TheVariants as content
 
 none_frozen_state : (o : Option Entry) (touched : Bool) → frozen_state_of o false touched ≡ Nothing
-none_frozen_state None touched = refl
-none_frozen_state (Some e) touched = refl
+none_frozen_state o touched = search arith
 
 -- memory with other pending marks, entries and another staging buffer
 abbrev pub with_pending : Memory → List Bool → List (Option Entry) → Option Held → Memory
@@ -49,11 +47,7 @@ module _ {s : Stored} {m : Memory} {left count : ℕ} (is : IsCache s m left cou
   pending_within within = omega (arith, within, is.headers, is.pending_marks)
 
   pub frozen_below : {f : FrozenPuts} → s.frozen ≡ Some f → n < length m.headers → (g : Frame) → below_at (with_frozen n (Kept g) s) n ≡ g
-  frozen_below {f = f} f_is within g = rw (
-    f_is,
-    get_or-set_same f.put n (Kept g) Absent
-        (omega (arith, within, is.headers, is.pending_marks, (is.running f f_is).each)),
-  )
+  frozen_below {f} f_is within g = search (arith, get_or-set_same)
 
   -- its slot is torn: all is in memory
   pub torn_releases : content_at (with_frozen n Broken s) m n ≡ content_at s m n → frozen_at (with_frozen n Broken s) m n ≡ frozen_at s m n →
@@ -67,30 +61,8 @@ module _ {s : Stored} {m : Memory} {left count : ℕ} (is : IsCache s m left cou
       ((h : Held) → staging ≡ Some h → (h.number ≢ n) × (mark_at m.pending h.number ≡ true)) →
       content_at (with_frozen n (Kept g) s) (with_pending m (set m.pending n false) es staging) n ≡ content_at s m n →
       Releases s m n (Kept g) (set m.pending n false) es staging
-  put_releases {f = f} f_is within g g_is es es_count entries kept staging others released content = record {
-    mark_count = length-set m.pending n false;
-    entry_count = es_count;
-    marks = λ k other. get_or-set_other m.pending n k false false other;
-    entries = entries;
-    others = others;
-    content = content;
-    frozen =
-        let t = with_frozen n (Kept g) s in
-        ap (λ b. frozen_frame b (header_at m.frozen_headers n)
-        (frozen_body (entry_at es n) (mark_at m.touched n) (in_staging staging n (below_at t n).content)) (below_at t n)) here
-        ∙ frozen_below f_is within g ∙ g_is;
-    written = ap (λ b. b || true) here;
-    torn = λ broken. absurd (kept_broken broken);
-    few = omega (arith, one_fewer m.pending n pending);
-    held = λ h h_is. get_or-set_other m.pending n h.number false false (released h h_is).0 ∙ (released h h_is).1;
-    apart = λ e e_is. inl (kept e e_is);
-    freed = λ none now free. absurd (true≢false (sym now ∙ here));
-  } where
-    here : mark_at (set m.pending n false) n ≡ false
-    here = get_or-set_same m.pending n false false (pending_within within)
-
-    kept_broken : Kept g ≡ Broken → ⊥
-    kept_broken x = cc
+  put_releases {f} f_is within g g_is es es_count entries kept staging others released content =
+      search (arith, length-set, get_or-set_other, frozen_below, one_fewer, get_or-set_same, pending_within)
 
 module _ {s : Stored} {m : Memory} {left count : ℕ} (is : IsCache s m left count) {n : ℕ} (within : n < length m.headers) {f : FrozenPuts}
     (f_is : s.frozen ≡ Some f) (pending : mark_at m.pending n ≡ true) {p : Put} {ps : List Bool} {es : List (Option Entry)} {staging : Option Held}
@@ -115,17 +87,13 @@ module _ {s : Stored} {m : Memory} {left count : ℕ} (is : IsCache s m left cou
       (λ k other i. present_body (rest.entries k other i) (header_at m.headers k).role (put_body (put_at s.working k) (body_elsewhere k other i)))
 
   frozen_stays : (k : ℕ) → frozen_at after memory k ≡ frozen_at s m k
-  frozen_stays = of_each n rest.frozen (λ k other i. frozen_frame (rest.marks k other i) (header_at m.frozen_headers k)
-      (frozen_body (rest.entries k other i) (mark_at m.touched k) (body_elsewhere k other i)) (below_elsewhere k other i))
+  frozen_stays = search (arith, of_each, body_elsewhere, below_elsewhere)
 
   pub released_alike : Alike s m (with_frozen n p s) (with_pending m ps es staging)
   released_alike = record { headers = refl; content = content_stays; frozen = frozen_stays }
 
   pub frozen_seen_same : frozen_seen after memory left ≡ frozen_seen s m left
-  frozen_seen_same =
-      ap (option_map (λ g. record { frames = frozen_in after memory; size = g.size; left = left })) frozen_now
-      ∙ ap (λ fs. Some (record { frames = fs; size = f.size; left = left })) (frozen_alike released_alike)
-      ∙ sym (ap (option_map (λ g. record { frames = frozen_in s m; size = g.size; left = left })) f_is)
+  frozen_seen_same = search (arith, frozen_now, frozen_alike, released_alike)
 
   -- each number that the checkpoint writes is pending or was put, as before
   written_stays : (k : ℕ) → (mark_at ps k || is_kept (put_at (set f.put n p) k)) ≡ (mark_at m.pending k || is_kept (put_at f.put k))
@@ -136,21 +104,7 @@ module _ {s : Stored} {m : Memory} {left count : ℕ} (is : IsCache s m left cou
       (λ k other i. rest.marks k other i || is_kept (get_or-set_other f.put n k p Absent other i))
 
   still_frozen : AreFrozen (with_put n p f) ps left
-  still_frozen =
-      let was = is.running f f_is in
-      record {
-        each = length-set f.put n p ∙ was.each ∙ sym rest.mark_count;
-        size = rw (
-          rest.mark_count,
-          maps_same (λ k. mark_at ps k || is_kept (put_at (set f.put n p) k)) (λ k. mark_at m.pending k || is_kept (put_at f.put k))
-              (length m.pending) (λ k below. written_stays k),
-        ) was.size;
-        torn = of_each n
-            (rw (get_or-set_same f.put n p Absent (omega (arith, within, is.headers, is.pending_marks, was.each))) rest.torn)
-            (λ k other. rw (get_or-set_other f.put n k p Absent other, rest.marks k other) (was.torn k));
-        few = omega (arith, was.few, rest.few);
-        within = was.within;
-      }
+  still_frozen = search (arith, length-set, maps_same, written_stays, of_each, get_or-set_same, get_or-set_other)
 
   pub released_cache : IsCache after memory left count
   released_cache =
@@ -177,31 +131,17 @@ pub state_put : (m : Memory) (n : ℕ) (es : List (Option Entry)) (staging : Opt
     ((k : ℕ) → k ≢ n → entry_at es k ≡ entry_at m.entries k) →
     frozen_states_in (with_pending m (set m.pending n false) es staging) ≡ set (frozen_states_in m) n Nothing
 unfolding frozen_states_in
-state_put m n es staging within pending_within entries =
-    map_set (frozen_state_in_memory m) (frozen_state_in_memory (with_pending m (set m.pending n false) es staging)) (length m.headers) n Nothing within
-    (ap (λ p. frozen_state_of (entry_at es n) p (mark_at m.touched n)) (get_or-set_same m.pending n false false pending_within)
-    ∙ none_frozen_state (entry_at es n) (mark_at m.touched n))
-    (λ k below other i. frozen_state_of (entries k other i) (get_or-set_other m.pending n k false false other i) (mark_at m.touched k))
+state_put m n es staging within pending_within entries = search (arith, map_set, get_or-set_same, pending_within, none_frozen_state, get_or-set_other)
 
 -- ---- the frozen frame of an object is put, or was to be, from its entry or from the staging buffer
 
 -- ---- what is in the staging buffer, once it has released a number's body
 
 pub released_others : (staging : Option Held) (n k : ℕ) (c : Content Cap) → k ≢ n → in_staging (released n staging) k c ≡ in_staging staging k c
-released_others None n k c other = refl
-released_others (Some h) n k c other = elim (cases_eq h.number n) [
-  | inl same ↦ rw (eq-eqb h.number n same, ne_eqb h.number k (λ is. other (sym is ∙ same)))
-  | inr differs ↦ ap (λ b. in_staging (cond b None (Some h)) k c) (ne_eqb h.number n differs)
-]
+released_others staging n k c other = search (arith, cases_eq, eq-eqb, ne_eqb)
 
 pub released_of : (staging : Option Held) (n : ℕ) (h : Held) → released n staging ≡ Some h → (h.number ≢ n) × (staging ≡ Some h)
-released_of None n h is = absurd (none-some h is)
-released_of (Some g) n h is = elim (cases_eq g.number n) [
-  | inl same ↦ absurd (none-some h (sym (ap (λ b. cond b None (Some g)) (eq-eqb g.number n same)) ∙ is))
-  | inr differs ↦
-      let one : Some g ≡ Some h = sym (ap (λ b. cond b None (Some g)) (ne_eqb g.number n differs)) ∙ is in
-      ((λ there. differs (ap (λ x. x.number) (same_Some g h one) ∙ there)), one)
-]
+released_of staging n h is = search (arith, none-some, cases_eq, eq-eqb, ne_eqb, same_Some)
 
 -- nothing is kept apart any more
 abbrev pub dropping : Entry → Entry
@@ -210,21 +150,13 @@ dropping e = record e { kept = None }
 -- ---- a number that is pending
 
 no_put : (pending : Bool) (p : Put) → (pending || is_kept p) ≡ false → (p ≡ Broken → pending ≡ true) → p ≡ Absent
-no_put pending Absent none torn = refl
-no_put true Broken none torn = absurd (true≢false none)
-no_put false Broken none torn = absurd (true≢false (sym (torn refl)))
-no_put true (Kept f) none torn = absurd (true≢false none)
-no_put false (Kept f) none torn = absurd (true≢false none)
+no_put pending p none torn = search arith
 
 module _ {D : Type 0} (disk : D → Disk) {d : DurableState D} {m : Memory} {left count : ℕ} {order : List ℕ} {most_entries : ℕ} {s : StoreState D}
     (view : cache_of disk d m left order most_entries ≡ s) (is : IsCache (stored_of disk d) m left count) {n : ℕ} (known : n < length m.headers)
     (pending : mark_at m.pending n ≡ true) where
   pub running_here : (f : FrozenPuts) × ((stored_of disk d).frozen ≡ Some f)
-  running_here = go (stored_of disk d).frozen refl
-    where
-      go : (o : Option FrozenPuts) → (stored_of disk d).frozen ≡ o → (f : FrozenPuts) × ((stored_of disk d).frozen ≡ Some f)
-      go None none = absurd (true≢false (sym pending ∙ is.idle none n))
-      go (Some f) some = (f, some)
+  running_here = search arith
 
   frozen_room : (f : FrozenPuts) → (stored_of disk d).frozen ≡ Some f → HasFreeSlot f.size f.put n
   frozen_room f f_is =
@@ -256,18 +188,7 @@ module _ {D : Type 0} (disk : D → Disk) {d : DurableState D} {m : Memory} {lef
       (disk d.beneath).failures ≤ (disk new.beneath).failures →
       (ps : List Bool) (os : List FrozenState) (staging : Option Held) → GoesOnIn disk s
       (record s { durable = new; pending = ps; frozen_state = os; staging = staging })
-  put_continues new p put goes later ps os staging = record {
-    goes_on = subst (λ t. GoesOn disk t.durable new) view goes;
-    snapshots =
-        ap (λ u. record { frozen = s.frozen; saved = u.saved; to_move = u.to_move }) put
-        ∙ ap (λ t. record { frozen = s.frozen; saved = (stored_of disk t.durable).saved; to_move = (stored_of disk t.durable).to_move }) view;
-    later = subst (λ t. (disk t.durable.beneath).failures ≤ (disk new.beneath).failures) view later;
-    grows = omega arith;
-    capacity = refl;
-    only_reads = λ none idle. absurd (none-some (record { frames = frozen_in (stored_of disk d) m; size = running_here.0.size; left = left })
-        (sym (sym (ap (option_map (λ f. record { frames = frozen_in (stored_of disk d) m; size = f.size; left = left })) running_here.1) ∙
-        ap (λ t. t.frozen) view ∙ idle)));
-  }
+  put_continues new p put goes later ps os staging = search (arith, none-some, running_here)
 
   pub fewer_here : count_by (λ b. b) (set m.pending n false) < count_by (λ b. b) s.pending
   fewer_here = omega (arith, one_fewer m.pending n pending, ap (λ t. count_by (λ b. b) t.pending) view)
@@ -307,10 +228,7 @@ module _ {D : Type 0} (disk : D → Disk) {d : DurableState D} {m : Memory} {lef
     pub put_next : ps ≡ set m.pending n false → os ≡ set (frozen_states_in m) n Nothing →
         IsNext disk s new (with_pending m ps es staging) left count order most_entries
         (record s { durable = new; pending = set s.pending n false; frozen_state = set s.frozen_state n Nothing; staging = staging })
-    put_next ps_is os_is = next_as released_next
-        ((λ k. record s { durable = new; pending = ps_is k; frozen_state = os_is k; staging = staging })
-        ∙ ap (λ t. record s { durable = new; pending = set t.pending n false; frozen_state = set t.frozen_state n Nothing; staging = staging })
-        view)
+    put_next ps_is os_is = search (arith, next_as, released_next)
 
   -- it was torn
   pub torn_next : {new : DurableState D} → stored_of disk new ≡ with_frozen n Broken (stored_of disk d) → GoesOn disk d new →
@@ -327,21 +245,13 @@ module _ {D : Type 0} (disk : D → Disk) {d : DurableState D} {m : Memory} {lef
 -- what is frozen_state is what the entry has
 has_frozen_body : (e : Entry) (pending touched : Bool) → frozen_state_of (Some e) pending touched ≢ Nothing →
     (pending ≡ true) × ((below : Content Cap) → apart_body e.kept touched e.present below ≡ own_body e.kept e.present)
-has_frozen_body e false touched frozen_state = absurd (frozen_state refl)
-has_frozen_body e true touched frozen_state = (refl, go e.kept touched frozen_state)
-  where
-    go : (o : Option (Content Cap)) (t : Bool) → frozen_state_body (is_some o) t ≢ Nothing → (below : Content Cap) →
-        apart_body o t e.present below ≡ own_body o e.present
-    go (Some c) t frozen_state below = refl
-    go None true frozen_state below = absurd (frozen_state refl)
-    go None false frozen_state below = refl
+has_frozen_body e pending touched frozen_state = search arith
 
 module _ {s : Stored} {m : Memory} {left count : ℕ} (is : IsCache s m left count) (n : ℕ) (within : n < length m.headers) (e : Entry)
     (at : entry_at m.entries n ≡ Some e) (frozen_state : frozen_state_in_memory m n ≢ Nothing) where
   pub frozen_state_pending : (mark_at m.pending n ≡ true) ×
       ((below : Content Cap) → apart_body e.kept (mark_at m.touched n) e.present below ≡ own_body e.kept e.present)
-  frozen_state_pending = has_frozen_body e (mark_at m.pending n) (mark_at m.touched n)
-      (λ none. frozen_state (ap (λ o. frozen_state_of o (mark_at m.pending n) (mark_at m.touched n)) at ∙ none))
+  frozen_state_pending = search (arith, has_frozen_body)
 
   -- the frozen frame, whatever lies below
   pub frozen_is_own : (t : Stored) → frozen_at t m n ≡ own_frame (header_at m.frozen_headers n) e
@@ -425,14 +335,11 @@ module _ {D : Type 0} (disk : D → Disk) {d : DurableState D} {m : Memory} {lef
 
 -- a body that was frozen as free doesn't matter, or the object is free
 mask_under : (fr r : Role) (c : Content Cap) → (fr ≡ role.Free → r ≡ role.Free) → masked r (masked fr c) ≡ masked r c
-mask_under role.Free r c free = ap (λ x. masked x content.Free) (free refl) ∙ sym (ap (λ x. masked x c) (free refl))
-mask_under other r c free = refl
+mask_under other r c free = search arith
 
 put_under : (p : Put) (fr r : Role) (c : Content Cap) → (fr ≡ role.Free → (is_kept p ≡ true) ⊎ (r ≡ role.Free)) →
     masked r (put_body p (masked fr c)) ≡ masked r (put_body p c)
-put_under Absent fr r c freed = mask_under fr r c (λ free. elim (freed free) [ inl kept ↦ absurd (true≢false (sym kept)) | inr now ↦ now ])
-put_under Broken fr r c freed = mask_under fr r c (λ free. elim (freed free) [ inl kept ↦ absurd (true≢false (sym kept)) | inr now ↦ now ])
-put_under (Kept f) fr r c freed = refl
+put_under p fr r c freed = search (arith, mask_under)
 
 module _ {s : Stored} {m : Memory} {left count : ℕ} (is : IsCache s m left count) (h : Held) (staging : m.staging ≡ Some h) where
   pub held_pending : mark_at m.pending h.number ≡ true
@@ -447,21 +354,15 @@ module _ {s : Stored} {m : Memory} {left count : ℕ} (is : IsCache s m left cou
 
     -- an entry has nothing of it
     bare : (e : Entry) → entry_at m.entries h.number ≡ Some e → (mark_at m.touched h.number ≡ true) × (e.kept ≡ None)
-    bare e at = elim (nothing_frozen_state e (mark_at m.pending h.number) (mark_at m.touched h.number)
-        (ap (λ o. frozen_state_of o (mark_at m.pending h.number) (mark_at m.touched h.number)) (sym at) ∙ frozen_state)) [
-          | inl done ↦ absurd (true≢false (sym held_pending ∙ done))
-          | inr wanted ↦ (wanted.1, wanted.2)
-        ]
+    bare e at = search (arith, nothing_frozen_state, held_pending)
 
     body_is : (t : Stored) (o : Option Entry) → entry_at m.entries h.number ≡ o →
         frozen_body o (mark_at m.touched h.number) (below_body t m h.number) ≡ h.content
-    body_is t None at = below_is t
-    body_is t (Some e) at = rw ((bare e at).0, (bare e at).1) (below_is t)
+    body_is t o at = search (arith, below_is, bare)
 
     frozen_is_held : (t : Stored) → frozen_at t m h.number ≡ record
         { header = header_at m.frozen_headers h.number; content = masked (header_at m.frozen_headers h.number).role h.content }
-    frozen_is_held t = λ k. frozen_frame (held_pending k) (header_at m.frozen_headers h.number) (body_is t (entry_at m.entries h.number) refl k)
-        (below_at t h.number)
+    frozen_is_held t = search (arith, held_pending, body_is)
 
     content_put : {f : FrozenPuts} → s.frozen ≡ Some f → (g : Frame) → g ≡ frozen_at s m h.number → (o : Option Entry) → entry_at m.entries h.number ≡ o →
         present_body o (header_at m.headers h.number).role
@@ -499,14 +400,11 @@ module _ {D : Type 0} (disk : D → Disk) {d : DurableState D} {m : Memory} {lef
 
   module _ (bare : (g : Held) × (s.staging ≡ Some g) × (frozen_state_at s.frozen_state g.number ≡ Nothing)) where
     state_there : frozen_state_in_memory m h.number ≡ Nothing
-    state_there =
-        sym (frozen_state_entry m h.number held_known) ∙ ap (λ t. frozen_state_at t.frozen_state h.number) view
-        ∙ subst (λ x. frozen_state_at s.frozen_state x.number ≡ Nothing) (same_Some bare.0 h (sym bare.1 ∙ ap (λ t. t.staging) (sym view) ∙ staging)) bare.2
+    state_there = search (arith, frozen_state_entry, held_known, same_Some, bare)
 
     held_frame_is : {header : ObjectHeader} → header ≡ header_at m.frozen_headers h.number →
         record { header = header; content = masked header.role h.content } ≡ frozen_at (stored_of disk d) m h.number
-    held_frame_is header_is = (λ k. record { header = header_is k; content = masked (header_is k).role h.content })
-        ∙ sym (frozen_is_held is h staging state_there (stored_of disk d))
+    held_frame_is {header} header_is = search (arith, frozen_is_held, state_there)
 
     pub held_ready : {header : ObjectHeader} → header ≡ header_at m.frozen_headers h.number →
         MayPutFrozen disk d h.number (record { header = header; content = masked header.role h.content })

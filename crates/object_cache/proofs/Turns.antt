@@ -1,7 +1,7 @@
 -- Frozen frames are put in turn, and as many fewer are said to be left.
-use Rattle.object_cache.proofs.Names.{ℕ, Bool, true≢false, List, [], Option, Some, None, option_map, is_some, refl, sym, ap, arith, count_by, none-some}
-use Rattle.object_cache.proofs.Names.{same_Some, HasNoneMarked, Frame, Disk, DurableState, FrozenPuts, stored_of, goes_trans, FrozenFrames, stabilized, Memory}
-use Rattle.object_cache.proofs.Names.{frozen_in, StoreState, IsCache, AreFrozen, PutsBy, snapshots_of, cache_of, on_device_frozen, pending_count}
+use Rattle.object_cache.proofs.Names.{ℕ, Bool, true≢false, List, [], Option, Some, option_map, is_some, sym, ap, arith, count_by, none-some, same_Some}
+use Rattle.object_cache.proofs.Names.{HasNoneMarked, Frame, Disk, DurableState, FrozenPuts, stored_of, goes_trans, FrozenFrames, stabilized, Memory, frozen_in}
+use Rattle.object_cache.proofs.Names.{StoreState, IsCache, AreFrozen, PutsBy, snapshots_of, cache_of, on_device_frozen, pending_count}
 use Rattle.std.proofs.Common.{◌≡◌, ◌+◌, ◌-◌, ◌<◌, ◌≤◌, ◌∙◌}
 use Rattle.object_cache.proofs.Freezing.{fewer_of}
 
@@ -11,8 +11,7 @@ none_marked ts none = fewer_of ts [] (λ k marked. absurd (true≢false (sym mar
 pub running_in : (fs : List Frame) (left : ℕ) (o : Option FrozenPuts) (f : FrozenFrames) →
     option_map (λ h. record { frames = fs; size = h.size; left = left }) o ≡ Some f →
     (h : FrozenPuts) × (o ≡ Some h) × (record { frames = fs; size = h.size; left = left } ≡ f)
-running_in fs left None f is = absurd (none-some f is)
-running_in fs left (Some h) f is = (h, refl, same_Some (record { frames = fs; size = h.size; left = left }) f is)
+running_in fs left o f is = search (arith, none-some, same_Some)
 
 module _ {D : Type 0} (disk : D → Disk) where
   module _ {d : DurableState D} {m : Memory} {left count : ℕ} {order : List ℕ} {most_entries : ℕ} {s : StoreState D}
@@ -30,14 +29,7 @@ module _ {D : Type 0} (disk : D → Disk) where
       fewer_frozen : (h : FrozenPuts) → (stored_of disk d).frozen ≡ Some h → AreFrozen h m.pending (left - 1)
       fewer_frozen h h_is =
           let was = is.running h h_is in
-          record {
-            each = was.each;
-            size = was.size;
-            torn = was.torn;
-            few = omega
-                (arith, fewer, left_is, ap (λ t. count_by (λ b. b) t.pending) view);
-            within = omega (arith, was.within);
-          }
+          search (arith, was.each, was.size, was.torn, left_is)
 
       pub turned_stands : IsCache (stored_of disk d) m (left - 1) count
       turned_stands = search fewer_frozen
@@ -64,8 +56,4 @@ module _ {D : Type 0} (disk : D → Disk) where
   -- the next one may be put
   pub next_requested : (a b : StoreState D) (count i : ℕ) → ((f : FrozenFrames) × (a.frozen ≡ Some f) × (count ≤ f.left)) → PutsBy disk a b i → i < count →
       (f : FrozenFrames) × (b.frozen ≡ Some f) × (0 < f.left)
-  next_requested a b count i requested so_far lt = (
-    record { frames = requested.0.frames; size = requested.0.size; left = requested.0.left - i },
-    ap (λ x. x.frozen) (so_far.snapshots requested.0 requested.1),
-    omega (arith, requested.2, lt),
-  )
+  next_requested a b count i requested so_far lt = search (arith, ap (λ x. x.frozen) (so_far.snapshots requested.0 requested.1))

@@ -10,7 +10,6 @@ use Rattle.object_cache.specs.Names.{AllDiffer, changing, with_entry_of, without
 use Rattle.object_cache.specs.Names.{held_at, frames_of}
 use Rattle.std.specs.Prelude.{◌≡◌, ◌⊎◌, ◌<◌, ◌∷◌, ◌||◌, ◌≤◌, if◌then◌else◌}
 use Rattle.model.specs.declared.object.Role.TheVariants as role
-use Rattle.object_cache.specs.declared.all_objects.AllObjects.{AllObjects}
 use Rattle.object_cache.specs.Memory.{Held, Memory, FrozenState, Nothing, frozen_state_by, mark_at, present_at}
 use Rattle.object_cache.specs.Memory.{frozen_at, contents_in, frozen_in, frozen_states_in}
 
@@ -65,10 +64,6 @@ module _ {D : Type 0} (disk : D → Disk) where
     touched = s.touched;
     failures = (disk s.durable.beneath).failures;
   }
-
-  -- the checkpoint that is saved
-  abbrev pub saved_by : StoreState D → SavedState
-  saved_by s = saved_state (seen_of disk s.durable) s.durable.books
 
   abbrev pub snapshots_of : StoreState D → Snapshots FrozenFrames
   snapshots_of s = record {
@@ -249,12 +244,6 @@ pub record IsOpenOver {D : Type 0} (all : Type 0) (disk : D → Disk) (d : Durab
   pub idle : s.frozen ≡ None
   pub whole : all → IsWhole s
   pub same_most : s.capacity ≡ most
-
--- all present objects of a store, as many bodies as headers
-pub record AreObjectsOf {D : Type 0} (s : StoreState D) (os : AllObjects) : Type 0 where
-  pub headers_are : os.headers.items ≡ s.headers
-  pub contents : os.contents.items ≡ s.contents
-  pub each : length s.contents ≡ length s.headers
 
 -- ---- what always holds
 

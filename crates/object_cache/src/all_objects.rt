@@ -4,15 +4,9 @@ ghost use Rattle.cache_entries.specs.Entries.{entry_at, present_of};
 ghost use Rattle.model.specs.Frame.{held_at};
 
 use cache_entries::Entries;
+use migrator::AllObjects;
 use model::{Cap, Content, ObjectHeader};
 use std::alloc::{AllocError, Global};
-
-/// The headers and bodies of all objects, by number.
-#[derive(Drop)]
-pub struct AllObjects {
-    pub headers: Vec<ObjectHeader>,
-    pub contents: Vec<Content<Cap>>,
-}
 
 // Copies of all bodies, by number. Each object must have an entry.
 fn copy_bodies(
@@ -33,20 +27,18 @@ fn copy_bodies(
     Ok(bodies)
 }
 
-impl AllObjects {
-    // The objects with these headers and copies of their bodies. Each must have an entry.
-    pub(crate) fn copied(
-        alloc: Global,
-        headers: Vec<ObjectHeader>,
-        entries: &Entries,
-    ) -> Result<AllObjects, AllocError>
-        requires { (n : ℕ) → n < length headers.items → IsSome (entry_at entries.now.at n) }
-        ensures headers { IfOk result (λ objects. objects.headers.items ≡ headers.items) }
-        ensures count { IfOk result (λ objects. length objects.contents.items ≡ length headers.items) }
-        ensures bodies { IfOk result (λ objects. (n : ℕ) → n < length headers.items
-            → option_map present_of (entry_at entries.now.at n) ≡ Some (held_at objects.contents.items n)) }
-    {
-        let contents = copy_bodies(alloc, entries, headers.len())?;
-        Ok(AllObjects { headers, contents })
-    }
+/// The objects with these headers and copies of their bodies. Each must have an entry.
+pub(crate) fn copy_objects(
+    alloc: Global,
+    headers: Vec<ObjectHeader>,
+    entries: &Entries,
+) -> Result<AllObjects, AllocError>
+    requires { (n : ℕ) → n < length headers.items → IsSome (entry_at entries.now.at n) }
+    ensures headers { IfOk result (λ objects. objects.headers.items ≡ headers.items) }
+    ensures count { IfOk result (λ objects. length objects.contents.items ≡ length headers.items) }
+    ensures bodies { IfOk result (λ objects. (n : ℕ) → n < length headers.items
+        → option_map present_of (entry_at entries.now.at n) ≡ Some (held_at objects.contents.items n)) }
+{
+    let contents = copy_bodies(alloc, entries, headers.len())?;
+    Ok(AllObjects { headers, contents })
 }

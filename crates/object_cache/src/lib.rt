@@ -13,7 +13,6 @@ mod staging;
 mod store;
 mod touched;
 
-pub use all_objects::AllObjects;
 pub use cache_entries::Capacity;
 pub use policy::{KeepAll, KeepRecent, Policy};
 pub use store::{BoundedCache, PlainStore, Store};

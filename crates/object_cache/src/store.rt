@@ -1,16 +1,15 @@
 // The store of objects over a device.
 ghost use Rattle.std.specs.Prelude.{◌≡◌, ◌≤◌, true, length, IfOk, IfErr};
 ghost use Rattle.migrator.specs.Durable.{stored_of};
-ghost use Rattle.object_cache.specs.StoreState.{AreObjectsOf, AreTaken, IsBounded, IsJustOpened, IsOpenOver};
+ghost use Rattle.object_cache.specs.StoreState.{AreTaken, IsBounded, IsJustOpened, IsOpenOver};
 
-use crate::all_objects::AllObjects;
 use crate::cache::Cache;
 use crate::policy::{KeepAll, KeepRecent, Policy};
 use crate::saved_objects::SavedObjects;
 use cache_entries::Entries;
 use device::Device;
 use layout::Superblock;
-use migrator::Durable;
+use migrator::{AllObjects, Durable, WholeStore};
 use std::alloc::{AllocError, Global};
 use std::marker::{Model, PhantomData};
 
@@ -66,23 +65,6 @@ fn cache_over<D: Device, P: Policy>(
 }
 
 impl<D: Device, P: Policy> Store<D, P> {
-    /// The superblock of the device.
-    pub fn superblock(&self) -> &Superblock
-        ensures { result.now ≡ self.now.durable.books.plan }
-    {
-        self.cache.superblock()
-    }
-
-    /// The durable store, which has the saved frames, and all present objects. It makes no call of the device. It fails
-    /// to return the objects only if memory runs out.
-    pub fn into_parts(self, alloc: Global) -> (Durable<D>, Result<AllObjects, AllocError>)
-        requires { P.KEEPS_ALL ≡ true }
-        ensures durable { result.0 ≡ self.durable }
-        ensures objects { IfOk result.1 (λ objects. AreObjectsOf self objects) }
-    {
-        self.cache.into_parts(alloc)
-    }
-
     /// The number of objects in memory: never more than the capacity that the store was opened with.
     pub fn len(&self) -> usize
         ensures count { result ≡ length self.now.order }
@@ -90,4 +72,22 @@ impl<D: Device, P: Policy> Store<D, P> {
     {
         self.cache.len()
     }
+}
+
+impl<D: Device> WholeStore<D> for PlainStore<D> {
+    ghost use Rattle.std.proofs.Common.{refl};
+
+    ghost durable = { λ s. s.durable };
+
+    fn superblock(&self) -> &Superblock {
+        self.cache.superblock()
+    }
+
+    fn into_parts(self, alloc: Global) -> (Durable<D>, Result<AllObjects, AllocError>) {
+        self.cache.into_parts(alloc)
+    }
+
+    ghost is_over = { λ s. record { beneath = refl; saved = refl; sound = λ sound. sound } };
+
+    ghost still = { λ s t there. there.still refl };
 }

@@ -31,6 +31,9 @@ type StandardOutput = BufferedOutput<Stdout, Global>;
 // Standard error.
 type StandardError = CountedWriter<Stderr>;
 
+// The store of an image that is only read.
+type Plain = PlainStore<FileDevice>;
+
 // The fault where the system refused something: that memory ran out, or something else.
 fn of_io(error: &io::Error, otherwise: Fault) -> Fault {
     if error.kind() == ErrorKind::OutOfMemory {
@@ -295,7 +298,11 @@ fn check(
     errors: &mut StandardError,
 ) -> Result<u8, Fault> {
     let device = open_to_read(rt, image)?;
-    let done = check_image(rt.alloc(), device, writer, errors);
+    // A check fetches one object at a time.
+    let Some(least) = Capacity::new(8) else {
+        unreachable!()
+    };
+    let done = check_image::<_, BoundedCache<_>, _, _>(rt.alloc(), device, least, writer, errors);
     Ok(done.status)
 }
 
@@ -309,7 +316,7 @@ fn upgrade(
     errors: &mut StandardError,
 ) -> Result<u8, Fault> {
     let device = open_to_read(rt, old)?;
-    let image = match OldImage::open(rt.alloc(), device) {
+    let image = match OldImage::<_, Plain>::open(rt.alloc(), device, ()) {
         Ok(image) => image,
         Err(fault) => return Err(Fault::Upgrade(fault)),
     };
@@ -326,7 +333,7 @@ fn describe(
     errors: &mut StandardError,
 ) -> Result<u8, Fault> {
     let device = open_to_read(rt, image)?;
-    let done = describe_image(rt.alloc(), device, sizes, writer, errors);
+    let done = describe_image::<_, Plain, _, _>(rt.alloc(), device, (), sizes, writer, errors);
     Ok(done.status)
 }
 
@@ -339,7 +346,7 @@ fn draw(
     errors: &mut StandardError,
 ) -> Result<u8, Fault> {
     let device = open_to_read(rt, image)?;
-    let done = draw_image(rt.alloc(), device, focus, writer, errors);
+    let done = draw_image::<_, Plain, _, _>(rt.alloc(), device, (), focus, writer, errors);
     Ok(done.status)
 }
 
@@ -351,7 +358,7 @@ fn info(
     errors: &mut StandardError,
 ) -> Result<u8, Fault> {
     let device = open_to_read(rt, image)?;
-    let done = info_image(rt.alloc(), device, writer, errors);
+    let done = info_image::<_, Plain, _, _>(rt.alloc(), device, (), writer, errors);
     Ok(done.status)
 }
 
@@ -365,7 +372,8 @@ fn reach(
     errors: &mut StandardError,
 ) -> Result<u8, Fault> {
     let device = open_to_read(rt, image)?;
-    let done = reach_image(rt.alloc(), device, processes, shows, writer, errors);
+    let alloc = rt.alloc();
+    let done = reach_image::<_, Plain, _, _>(alloc, device, (), processes, shows, writer, errors);
     Ok(done.status)
 }
 
@@ -403,7 +411,10 @@ fn explain_file(
     errors: &mut StandardError,
 ) -> Result<u8, Fault> {
     match FileDevice::open_to_read(rt, image) {
-        Ok(device) => Ok(explain_image(rt.alloc(), device, writer, errors).status),
+        Ok(device) => {
+            let done = explain_image::<_, Plain, _, _>(rt.alloc(), device, (), writer, errors);
+            Ok(done.status)
+        }
         Err(FileFault::NoMemory) => Err(Fault::NoMemory),
         Err(fault) => Ok(refuse_file(rt, image, fault)),
     }

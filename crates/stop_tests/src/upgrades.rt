@@ -2,6 +2,7 @@
 use crate::task::Task;
 use device::Device;
 use image_builder::{UpgradeFault, upgrade};
+use object_cache::PlainStore;
 use script::RunFault;
 use std::io::Write;
 
@@ -23,7 +24,7 @@ impl Task<'_> {
         reported: &mut Vec<u8>,
     ) -> Result<bool, RunFault> {
         let mut new = new;
-        let outcome = upgrade(self.alloc, old, &mut new);
+        let outcome = upgrade::<_, _, PlainStore<_>>(self.alloc, old, (), &mut new);
         tell_outcome(outcome, reported)?;
         self.tell_left(new, reported)?;
         Ok(outcome.is_err())

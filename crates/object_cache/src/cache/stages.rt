@@ -8,15 +8,16 @@ ghost use Rattle.migrator.specs.Durable.{stored_of, is_sound};
 ghost use Rattle.checkpoint.specs.Refused.{IsCommitAnswer, IsFreezeAnswer, IsRefused};
 ghost use Rattle.checkpoint.specs.Snapshots.{MayCommit, committed, freezing, left_in, moved, moved_saved, next_saved};
 ghost use Rattle.checkpoint.specs.Store.{all_frozen, whole, FrozenFrames};
-ghost use Rattle.object_cache.specs.StoreState.{AreKeepableIn, AreObjectsOf, IsWhole, parts_of, view_of};
+ghost use Rattle.migrator.specs.WholeStore.{AreObjectsOf};
+ghost use Rattle.object_cache.specs.StoreState.{AreKeepableIn, IsWhole, parts_of, view_of};
 
-use crate::all_objects::AllObjects;
+use crate::all_objects::copy_objects;
 use crate::cache::Cache;
 use cache_entries::Entries;
 use checkpoint::Checkpoint;
 use device::{Device, Failed};
 use layout::Superblock;
-use migrator::Durable;
+use migrator::{AllObjects, Durable};
 use model::Refusal;
 use std::alloc::{AllocError, Global};
 use std::mem;
@@ -33,7 +34,7 @@ impl<D: Device> Cache<D> {
     pub(crate) fn into_parts(self, alloc: Global) -> (Durable<D>, Result<AllObjects, AllocError>)
         requires { IsWhole self }
         ensures durable { result.0 ≡ self.durable }
-        ensures objects { IfOk result.1 (λ objects. AreObjectsOf self objects) }
+        ensures objects { IfOk result.1 (λ objects. AreObjectsOf (parts_of D.disk self) objects) }
     {
         let Cache {
             durable,
@@ -41,7 +42,7 @@ impl<D: Device> Cache<D> {
             entries,
             ..
         } = self;
-        let objects = AllObjects::copied(alloc, table.into_headers(), &entries);
+        let objects = copy_objects(alloc, table.into_headers(), &entries);
         (durable, objects)
     }
 

@@ -1,12 +1,12 @@
 use Rattle.image_builder.proofs.Names.{rules, List, length, ap, subst, sym, Geometry, frames_in, LeavesOnly, Entry, Two, IsDirectory, Encodes, SavedState, Plan}
-use Rattle.image_builder.proofs.Names.{SavedFrames, kept_of, laid_again, IsLeftWriting, saved_state, seen_of, numbered}
+use Rattle.image_builder.proofs.Names.{SavedFrames, kept_of, laid_again, IsLeftWriting, saved_by, numbered}
 use Rattle.std.proofs.Common.{◌≡◌, ◌∙◌}
 use Rattle.image_builder.proofs.Upgrades.{directory_count, directory_fits, same_state}
 use Rattle.image_builder.proofs.upgrading.write_over.Goals as goal
 
 pub write_saved-requires-clause-directory : goal.write_saved-requires-clause-directory
 write_saved-requires-clause-directory g c =
-    let s = saved_state (seen_of g.D.Device.disk c.args.saved.now) c.args.saved.now.books in
+    let s = saved_by g.D.Device.disk c.args.saved.now in
     let laid : c.lay_out_again-superblock.result ≡ laid_again Two s.plan = search rules in
     let entries : c.args.entries.now ≡ numbered 0 s.directory = c.requires.entries in
     subst (λ (geometry : Geometry). IsDirectory geometry c.args.entries.now) (sym (ap (λ (p : Plan). p.geometry) laid))
@@ -15,14 +15,14 @@ write_saved-requires-clause-directory g c =
 
 pub write_saved-requires-clause-count : goal.write_saved-requires-clause-count
 write_saved-requires-clause-count g c =
-    let s = saved_state (seen_of g.D.Device.disk c.args.saved.now) c.args.saved.now.books in
+    let s = saved_by g.D.Device.disk c.args.saved.now in
     let entries : c.args.entries.now ≡ numbered 0 s.directory = c.requires.entries in
     let count : c.saved-checkpoint.result.entries ≡ s.header.entries = search rules in
     ap length entries ∙ directory_count c.requires.encoded.0 c.requires.encoded.1 s c.requires.encoded.2 ∙ sym count
 
 pub returns-in-Ok : goal.returns-in-Ok
 returns-in-Ok g c =
-    let s = saved_state (seen_of g.D.Device.disk c.args.saved.now) c.args.saved.now.books in
+    let s = saved_by g.D.Device.disk c.args.saved.now in
     let laid : c.lay_out_again-superblock.result ≡ laid_again Two s.plan = search rules in
     let entries : c.args.entries.now ≡ numbered 0 s.directory = c.requires.entries in
     let generation : c.saved-checkpoint.result.generation ≡ s.header.generation = search rules in
@@ -47,7 +47,7 @@ returns-in-Ok g c =
 
 pub returns-in-Err : goal.returns-in-Err
 returns-in-Err g c =
-    let s = saved_state (seen_of g.D.Device.disk c.args.saved.now) c.args.saved.now.books in
+    let s = saved_by g.D.Device.disk c.args.saved.now in
     let laid : c.lay_out_again-superblock.result ≡ laid_again Two s.plan = search rules in
     let entries : c.args.entries.now ≡ numbered 0 s.directory = c.requires.entries in
     let generation : c.saved-checkpoint.result.generation ≡ s.header.generation = search rules in

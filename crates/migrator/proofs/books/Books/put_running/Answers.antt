@@ -1,5 +1,5 @@
 use Rattle.migrator.proofs.Names.{counted_ok}
-use Rattle.migrator.proofs.Tearing.{may_put_torn, puts_after, puts_none}
+use Rattle.migrator.proofs.PutFrames.{may_put_torn, puts_after, puts_none}
 use Rattle.migrator.proofs.books.Books.put_running.Goals as goal
 
 pub returns-in_err-tear : goal.returns-in_err-tear

@@ -1,7 +1,7 @@
 use Rattle.migrator.proofs.Names.{None, rules, sym, subst, seen_by, stored_of, stored_on, held_slot, sum_of, freezing_puts}
 use Rattle.std.proofs.Common.{◌≡◌, ◌≤◌}
 use Rattle.migrator.proofs.Completing.{none_idle, without}
-use Rattle.migrator.proofs.Freezing.{freeze_kept, freeze_stored, frozen_books}
+use Rattle.migrator.proofs.Putting.{freeze_kept, freeze_stored, frozen_books}
 use Rattle.migrator.proofs.durable.Durable.freeze.Goals as goal
 
 pub invariant_of-self : goal.invariant_of-self

@@ -1,0 +1,41 @@
+// Stores that keep all objects in memory, over a durable store.
+ghost use Rattle.std.specs.Prelude.{◌≡◌, IfOk};
+ghost use Rattle.migrator.specs.Durable.{DurableState};
+ghost use Rattle.migrator.specs.WholeStore.{AreObjectsOf, IsOver};
+
+use crate::durable::Durable;
+use checkpoint::ObjectStore;
+use device::Device;
+use layout::Superblock;
+use model::{Cap, Content, ObjectHeader};
+use std::alloc::{AllocError, Global};
+
+/// The headers and bodies of all objects, by number.
+#[derive(Drop)]
+pub struct AllObjects {
+    pub headers: Vec<ObjectHeader>,
+    pub contents: Vec<Content<Cap>>,
+}
+
+/// A store over a durable store that has all objects in memory from its opening on: to read them it makes no call of
+/// the device.
+pub trait WholeStore<D: Device>: ObjectStore<D> {
+    /// The durable store beneath.
+    ghost durable: { Self → DurableState D };
+
+    /// The superblock of the device.
+    fn superblock(&self) -> &Superblock
+        ensures { result.now ≡ (durable self.now).books.plan };
+
+    /// The durable store, which has the saved frames, and all present objects. It makes no call of the device. It fails
+    /// to return the objects only if memory runs out.
+    fn into_parts(self, alloc: Global) -> (Durable<D>, Result<AllObjects, AllocError>)
+        ensures durable { result.0 ≡ durable self }
+        ensures objects { IfOk result.1 (λ objects. AreObjectsOf (Self.parts self) objects) };
+
+    /// The store saves what the durable store does.
+    ghost is_over: { (s : Self) → IsOver D.disk (Self.view s) (durable s) };
+
+    /// What happens to the present objects leaves the durable store as it is.
+    ghost still: { (s t : Self) → Self.ContinuesTo s t → durable t ≡ durable s };
+}
