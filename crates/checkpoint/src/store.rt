@@ -214,7 +214,7 @@ pub trait ObjectStore<D: Device>: PresentFrames + Sized {
             (view self.old).snapshots.saved (is_page_now (Self.parts self.old) number)
             (is_still_saved (Self.parts self.old) (view self.old).snapshots.saved number)) };
 
-    /// What happens to the present objects leaves the rest alone.
+    /// Writing and bringing in present objects changes nothing else.
     ghost continues: { (s t : Self) → Self.ContinuesTo s t → Continues D.disk (view s) (view t) };
 
     /// Where nothing was written since and no checkpoint is on its way, the device was only read.

@@ -63,7 +63,7 @@ impl Worlds {
         self.prime_world(self.i0_contents()?)
     }
 
-    // Objects of the prime bank that were never given up or written.
+    // A world whose objects the prime bank owns, each with its first header.
     fn prime_world(&self, contents: Vec<Content<Cap>>) -> Result<Plain, AllocError>
         requires { length contents.items ≡ 24 }
         ensures { IfOk result (λ p. p ≡ record {
@@ -76,7 +76,7 @@ impl Worlds {
         Ok(Plain::new(SMALL, headers, contents))
     }
 
-    // The headers of objects of the prime bank, and of free numbers.
+    // First headers: of objects that the prime bank owns, and of free numbers.
     fn prime_headers(&self, contents: &[Content<Cap>]) -> Result<Vec<ObjectHeader>, AllocError>
         ensures { IfOk result (λ headers. headers.items ≡ map prime_header contents.now) }
     {

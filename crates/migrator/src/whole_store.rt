@@ -36,6 +36,6 @@ pub trait WholeStore<D: Device>: ObjectStore<D> {
     /// The store saves what the durable store does.
     ghost is_over: { (s : Self) → IsOver D.disk (Self.view s) (durable s) };
 
-    /// What happens to the present objects leaves the durable store as it is.
+    /// Writing and bringing in present objects never changes the durable store.
     ghost still: { (s t : Self) → Self.ContinuesTo s t → durable t ≡ durable s };
 }
