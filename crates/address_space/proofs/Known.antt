@@ -1,6 +1,6 @@
 -- What stands where a capability says so has a header. Sound frames with another word in a page. A descent through a tree.
-use Rattle.address_space.proofs.Names.{ℕ, List, length, sym, ap, subst, arith, IsTrue, Access, Capability, Space, Frame, ObjectHeader, Geometry, frames_in}
-use Rattle.address_space.proofs.Names.{objects_of, AreKeepable, IsSoundFrames, is_page, MayBeHeld, content_at, root_at, Parts, frames_of, objects_in}
+use Rattle.address_space.proofs.Names.{nat_tests, ℕ, List, length, sym, ap, subst, arith, IsTrue, Access, Capability, Space, Frame, ObjectHeader, Geometry}
+use Rattle.address_space.proofs.Names.{frames_in, objects_of, AreKeepable, IsSoundFrames, is_page, MayBeHeld, content_at, root_at, Parts, frames_of, objects_in}
 use Rattle.address_space.proofs.Names.{known_used, node_used, page_used, keepable_later, Object, AreCurrent, world_at, is_waiting, IsSound, World, with_word}
 use Rattle.address_space.proofs.Names.{edited_word, Waits, nearly_from, nearly_to, nearly_weaken, slot_at, Ok, inl, inr, cases_lt, IsErr, path, walk_along}
 use Rattle.address_space.proofs.Names.{AreSound, FetchesOrFails, Failed, OnlyFetches, Tree}
@@ -75,30 +75,12 @@ module _ {S : Type 0} {parts : S → Parts} {Continues : S → S → Type 0} {in
   read_there s i is = is ∙ ap (λ (us : List Object). slot_at us at.node i) same_objects
 
   pub still_sound : AreSound (parts old) → AreSound (parts now)
-  still_sound sound = (
-    sound.0,
-    subst (λ (X : Type 0). X)
-        (λ i. IsSoundFrames (sym so_far.snapshots.geometry i) sound.0
-        (sym (frames_same (parts old) (parts now) so_far.snapshots.headers so_far.snapshots.contents) i)) sound.1,
-  )
+  still_sound sound = grind (arith, nat_tests, frames_same)
 
   pub still_held : MayBeHeld (objects_in (parts now)) (Space at.node at.height at.access)
   still_held = subst (λ (us : List Object). MayBeHeld us (Space at.node at.height at.access)) (sym same_objects) so_far.held
 
   module _ (twice : (s t u : S) → Continues s t → Continues t u → Continues s u) {new : S} where
-    looked_on : OnlyFetches parts Continues now new → OnlyFetches parts Continues old new
-    looked_on then = record {
-      headers = then.headers ∙ so_far.snapshots.headers;
-      contents = then.contents ∙ so_far.snapshots.contents;
-      touched = then.touched ∙ so_far.snapshots.touched;
-      geometry = then.geometry ∙ so_far.snapshots.geometry;
-      continues = twice old now new so_far.snapshots.continues then.continues;
-    }
-
     pub fetches_on : {T U : Type 0} (x : T) (y : U) → FetchesOrFails {T = T} parts Continues now new (Ok x) →
         FetchesOrFails {T = U} parts Continues old new (Ok y)
-    fetches_on x y then = record {
-      snapshots = looked_on then.snapshots;
-      later = rw (← so_far.failures) then.later;
-      cause = rw (← so_far.failures) then.cause;
-    }
+    fetches_on x y then = grind (arith, nat_tests)

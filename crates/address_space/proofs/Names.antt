@@ -22,8 +22,8 @@ pub use Rattle.model.specs.declared.geometry.Geometry.{Geometry}
 pub use Rattle.model.specs.declared.object.Object.{Object}
 pub use Rattle.model_laws.proofs.SoundEdits.{edited_word}
 pub use Rattle.model_laws.proofs.SoundParts.{Waits, nearly_from, nearly_to, nearly_weaken}
-pub use Rattle.std.proofs.Common.{Bool, Err, IfOk, IsErr, List, Ok, Result, [], ap, arith, bit_or, false, inl, inr, length, refl, rules, subst, suc, sym, true}
-pub use Rattle.std.proofs.Common.{zero, ℕ}
+pub use Rattle.std.proofs.Common.{Bool, Err, IfOk, IsErr, List, Ok, Result, [], ap, arith, bit_or, inl, inr, length, refl, rules, subst, suc, sym, zero, ℕ}
 pub use Rattle.std.proofs.lemmas.Bool.{cases_lt, eq-eqb, ne_eqb}
+pub use Rattle.std.proofs.lemmas.Bool.Decides.{nat_tests}
 pub use Rattle.std.specs.Prelude.{IsTrue}
 pub use Rattle.address_space.specs.declared.walking.Tree.{Tree}

@@ -19,6 +19,7 @@ use model::{MemoryFault, Refusal, WORDS};
 /// the first place where the way to it stops, as `walk` does.
 ///
 /// Nothing is changed. Fails exactly if the device fails.
+#[tactic(auto, using(crate::proofs::Known::page_still_known))]
 pub fn load<F: Frames>(
     frames: &mut F,
     process: u64,

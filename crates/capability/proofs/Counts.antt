@@ -1,12 +1,11 @@
 -- What frames stand for once counts have risen: the capabilities that they were compared with are void. Frames stay sound then.
-use Rattle.capability.proofs.Names.{ℕ, nat_lt, Bool, List, [], map, length, slice_index_or, slice_set, refl, sym, ap, subst, arith, zero-add, All}
-use Rattle.capability.proofs.Names.{enumerate_from, nat_tests, get_or-set_other, get_or-set_same, length-map, length-set, get_or-enumerate_from}
-use Rattle.capability.proofs.Names.{length-enumerate_from, Cap, Capability, Void, Number, Page, Node, Space, Process, Start, Resume, Bank, Discrim}
-use Rattle.capability.proofs.Names.{ObjectHeader, Geometry, Content, Object, called, conveyed, current_count, frames_in, given_up, header_at, held_at}
-use Rattle.capability.proofs.Names.{objects_of, AreCurrent, AreKeepable, IsCurrent, IsKeepable, caps_in, free, map_content, consume, is_member, names_member}
-use Rattle.capability.proofs.Names.{rescind, resumes, void_where, without, object_at, AreGivenUp, Parts, frames_of, with_header, objects_in, IsSound}
-use Rattle.capability.proofs.Names.{ConsumeKeepsSoundFrames, RescindKeepsSoundFrames}
-use Rattle.std.proofs.Common.{◌≡◌, ◌+◌, ◌^◌, ◌<◌, ◌≤◌, ◌==◌, if◌then◌else◌, ◌∷◌, ◌∙◌}
+use Rattle.capability.proofs.Names.{ℕ, Bool, List, [], map, length, slice_set, refl, sym, ap, subst, arith, zero-add, All, enumerate_from, nat_tests}
+use Rattle.capability.proofs.Names.{get_or-set_other, get_or-set_same, length-map, length-set, get_or-enumerate_from, length-enumerate_from, Cap, Capability}
+use Rattle.capability.proofs.Names.{Void, Number, Page, Node, Space, Process, Start, Resume, Bank, Discrim, ObjectHeader, Geometry, Content, Object, called}
+use Rattle.capability.proofs.Names.{conveyed, current_count, frames_in, given_up, header_at, held_at, objects_of, AreCurrent, AreKeepable, IsCurrent}
+use Rattle.capability.proofs.Names.{IsKeepable, caps_in, free, map_content, consume, is_member, names_member, rescind, resumes, void_where, without, object_at}
+use Rattle.capability.proofs.Names.{AreGivenUp, Parts, frames_of, with_header, objects_in, IsSound, ConsumeKeepsSoundFrames, RescindKeepsSoundFrames}
+use Rattle.std.proofs.Common.{◌≡◌, ◌+◌, ◌^◌, ◌<◌, ◌≤◌, if◌then◌else◌, ◌∷◌, ◌∙◌}
 use Rattle.std.proofs.lemmas.List.{get_or-map}
 use Rattle.model.specs.declared.object.Content.TheVariants as content
 use Rattle.capability.proofs.Edits.{content_agree, current_from, current_held, field_same}
@@ -20,24 +19,16 @@ raised b n = if b then n + 1 else n
 void_either : (b : Bool) → Void ≡ (if b then Void else Void)
 void_either b = grind (arith, nat_tests)
 
--- A capability w held with count n, whose object's count was m: it goes exactly where that is raised.
-stale_cases : (goes : Capability → Bool) (w : Capability) (n m : ℕ) (b stale : Bool) → goes w ≡ b → nat_lt n m ≡ stale → n ≤ m →
-    (if nat_lt n (raised b m) then Void else w) ≡ void_where goes (if nat_lt n m then Void else w)
-stale_cases goes w n m b stale g s le = grind (arith, nat_tests, void_either)
-
 -- two tables: the later one counts one more for the capabilities that go
 module _ (goes : Capability → Bool) (hs ks : List ObjectHeader) (raises : (w : Capability) → current_count ks w ≡ raised (goes w) (current_count hs w)) where
   stale : (c : Cap) → IsCurrent hs c → conveyed ks c ≡ void_where goes (conveyed hs c)
-  stale c current = grind (arith, nat_tests, stale_cases)
+  stale c current = grind (arith, nat_tests, void_either)
 
   grown : (b : Bool) (n m k : ℕ) → n ≤ m → k ≡ raised b m → n ≤ k
   grown b n m k le is = grind (arith, nat_tests)
 
-  stays_current : (c : Cap) → IsCurrent hs c → IsCurrent ks c
-  stays_current c current = grown (goes c.what) c.count (current_count hs c.what) (current_count ks c.what) current (raises c.what)
-
   all_current : (cs : List Cap) → All (IsCurrent hs) cs → All (IsCurrent ks) cs
-  all_current cs all = λ k d inside. stays_current (slice_index_or cs k d) (all k d inside)
+  all_current cs all = grind (arith, nat_tests, grown)
 
   twice : (xs : List Cap) → map (void_where goes) (map (conveyed hs) xs) ≡ map (λ c. void_where goes (conveyed hs c)) xs
   twice [] = refl
@@ -69,9 +60,6 @@ given_kept : (g : Geometry) (age n : ℕ) → age + 1 < 2 ^ 64 → (b : Bool) (h
     k ≡ (if b then given_up h else h) → d ≡ (if b then content.Free else c) →
     IsKeepable g age n (record { header = h; content = c }) → IsKeepable g (age + 1) n (record { header = k; content = d })
 given_kept g age n few b h k c d is are old = grind (arith, nat_tests, frame_later)
-
-given_current : (b : Bool) (P : Cap → Type 0) (c d : Content Cap) → d ≡ (if b then content.Free else c) → All P (caps_in c) → All P (caps_in d)
-given_current b P c d are all = grind (arith, nat_tests)
 
 module _ (set : List ℕ) (p q : Parts) (given : AreGivenUp set p q) where
   given_raises : (w : Capability) → current_count q.headers w ≡ raised (names_member set w) (current_count p.headers w)
@@ -115,7 +103,7 @@ module _ (set : List ℕ) (p q : Parts) (given : AreGivenUp set p q) where
       ∙ ap (λ (o : Object). if is_member set n then free else without (names_member set) o) (object_in p.headers p.contents n old)))
 
   pub current_given_up : AreCurrent (frames_of p) → AreCurrent (frames_of q)
-  current_given_up current = grind (arith, nat_tests, current_from, given_current, all_current, given_raises, current_held)
+  current_given_up current = grind (arith, nat_tests, current_from, all_current, given_raises, current_held)
 
   pub keepable_given_up : (g : Geometry) (age : ℕ) → age + 1 < 2 ^ 64 → AreKeepable g age (frames_of p) → AreKeepable g (age + 1) (frames_of q)
   keepable_given_up g age few k = keepable_from g (age + 1) q (given.header_count ∙ keepable_count g age p k) (λ n known.
@@ -128,14 +116,8 @@ module _ (r : ℕ) (p q : Parts) (known : r < length p.headers) (is : q ≡ with
   abbrev next : List ObjectHeader
   next = slice_set p.headers r (called (header_at p.headers r))
 
-  called_raises_calls : (m : ℕ) → (header_at next m).calls ≡ raised (m == r) (header_at p.headers m).calls
-  called_raises_calls m = grind (arith, nat_tests, get_or-set_same, get_or-set_other)
-
-  called_allocations : (m : ℕ) → (header_at next m).allocations ≡ (header_at p.headers m).allocations
-  called_allocations = field_same (λ (k : ObjectHeader). k.allocations) p.headers r (called (header_at p.headers r)) refl
-
   called_raises : (w : Capability) → current_count next w ≡ raised (resumes r w) (current_count p.headers w)
-  called_raises w = grind (arith, nat_tests, called_allocations, called_raises_calls)
+  called_raises w = grind (arith, nat_tests, field_same, get_or-set_same, get_or-set_other)
 
   consumed_objects : AreCurrent (frames_of p) → objects_of (frames_in next p.contents) ≡ consume r (objects_in p)
   unfolding consume

@@ -10,7 +10,6 @@ use Rattle.capability.proofs.Names.{AreKeepable, is_annex, is_process, with_slot
 use Rattle.capability.proofs.Names.{get_or-set_same}
 use Rattle.std.proofs.Common.{◌≡◌, ◌<◌, if◌then◌else◌, ◌∷◌, ◌∙◌, ◌^◌, ◌+◌}
 use Rattle.model.specs.declared.object.Content.TheVariants as content
-use Rattle.capability.specs.declared.present.Fresh.TheVariants as fresh
 use Rattle.capability.proofs.FrameLists.{at_set, content_there, frame_in, frame_past, headers_in, owner_in, set_in}
 use Rattle.capability.proofs.Keeping.{refilled, keepable_at, one_keepable, with_slot_keeps, with_word_keeps}
 
@@ -20,14 +19,7 @@ map_agree f g [] each = refl
 map_agree f g (x ∷ xs) each = cc (each 0 x (omega arith), map_agree f g xs (λ k d inside. each (suc k) d (omega arith)))
 
 pub content_agree : (f g : Cap → Capability) (c : Content Cap) → All (λ x. f x ≡ g x) (caps_in c) → map_content f c ≡ map_content g c
-content_agree f g content.Free each = refl
-content_agree f g (content.Page words) each = refl
-content_agree f g (content.Node slots) each = ap content.Node (map_agree f g slots each)
-content_agree f g (content.Root r) each =
-    ap (λ (space : Capability). content.Root (record { state = r.state; words = r.words; key = r.key; annex = r.annex; space = space }))
-    (each 0 r.space (omega arith))
-content_agree f g (content.Annex registers) each = ap content.Annex (map_agree f g registers each)
-content_agree f g (content.Bank limit) each = refl
+content_agree f g x2 each = grind (arith, nat_tests, map_agree)
 
 -- the same counts in another header
 abbrev pub HasCounts : ObjectHeader → ObjectHeader → Type 0
@@ -149,25 +141,18 @@ module _ (p q : Parts) (n : ℕ) (known : n < length p.headers) (inside : n < le
   pub owner_stays_current : (bank : ℕ) → q ≡ with_header p n (owned_by bank (header_at p.headers n)) → AreCurrent (frames_of p) → AreCurrent (frames_of q)
   owner_stays_current bank is current = grind (arith, nat_tests, content_kept, current_set, current_held)
 
--- A new object.
-fresh_conveyed : (hs : List ObjectHeader) (f : Fresh) → map_content (conveyed hs) (fresh_content void_held f) ≡ fresh_content Void f
-unfolding all_slots
-fresh_conveyed hs f = grind (arith, nat_tests)
-
 slots_current : (hs : List ObjectHeader) → All (IsCurrent hs) (all_slots void_held)
 unfolding all_slots
 slots_current hs = All-replicate (IsCurrent hs) 32 void_held (omega arith)
 
-fresh_current : (hs : List ObjectHeader) (f : Fresh) → All (IsCurrent hs) (caps_in (fresh_content void_held f))
-fresh_current hs f = grind (arith, nat_tests, slots_current)
-
 module _ (p q : Parts) (n : ℕ) (inside : n < length p.contents) (f : Fresh) (owner : ℕ)
     (is : q ≡ with_both p n (claimed (role_of (fresh_content void_held f)) owner (header_at p.headers n)) (fresh_content void_held f)) where
   pub claim_objects : objects_in q ≡ slice_set (objects_in p) n (record { owner = owner; content = fresh_content Void f })
-  claim_objects = grind (arith, nat_tests, objects_set, fresh_conveyed)
+  unfolding all_slots
+  claim_objects = grind (arith, nat_tests, objects_set)
 
   pub claim_stays_current : AreCurrent (frames_of p) → AreCurrent (frames_of q)
-  claim_stays_current current = grind (arith, nat_tests, current_set, fresh_current)
+  claim_stays_current current = grind (arith, nat_tests, current_set, slots_current)
 
 -- a change that goes through the map of capabilities
 abbrev pub GoesThrough : (Root Cap → Root Cap) → (Root Capability → Root Capability) → (Cap → Capability) → Type 0

@@ -1,9 +1,9 @@
 -- Frames are headers with contents beside them: what stands at a number.
-use Rattle.capability.proofs.Names.{nat_tests, ℕ, zero, suc, true, false, List, [], map, length, slice_index, slice_index_or, slice_set, refl, sym, ap, subst}
-use Rattle.capability.proofs.Names.{arith, ⊎_elim, IsTrue, get_or-map, cases_lt, ext_get_or, get_or_past, get_or-set_same, get_or-set_other, set_past}
-use Rattle.capability.proofs.Names.{length-map, Cap, Capability, Void, Frame, ObjectHeader, Content, Object, Root, blank_frame, conveyed, frame_at, frames_in}
-use Rattle.capability.proofs.Names.{header_at, headers, held_at, object_of, objects_of, free, is_annex, is_bank, is_free, is_node, is_page, is_root}
-use Rattle.capability.proofs.Names.{map_content, root_in, slots_in, words_in, content_at, is_process, object_at, owner_at, slot_at, word_at, Parts, objects_in}
+use Rattle.capability.proofs.Names.{nat_tests, ℕ, zero, suc, true, false, List, [], length, slice_index, slice_index_or, slice_set, refl, sym, ap, subst, arith}
+use Rattle.capability.proofs.Names.{IsTrue, get_or-map, ext_get_or, get_or_past, get_or-set_same, get_or-set_other, set_past, length-map, Cap, Capability, Void}
+use Rattle.capability.proofs.Names.{Frame, ObjectHeader, Content, Object, Root, blank_frame, conveyed, frame_at, frames_in, header_at, headers, held_at}
+use Rattle.capability.proofs.Names.{object_of, objects_of, free, is_annex, is_bank, is_free, is_node, is_page, is_root, map_content, root_in, slots_in}
+use Rattle.capability.proofs.Names.{words_in, content_at, is_process, object_at, owner_at, slot_at, word_at, Parts, objects_in}
 use Rattle.std.proofs.Common.{◌≡◌, ◌<◌, ◌≤◌, ◌∷◌, ◌∙◌}
 use Rattle.model.specs.declared.object.Content.TheVariants as content
 use Rattle.std.proofs.lemmas.List.{get_or-map as read_through}
@@ -75,10 +75,6 @@ objects_by hs cs os count each =
 pub object_past : (hs : List ObjectHeader) (cs : List (Content Cap)) (n : ℕ) → length hs ≤ n → object_at (objects_of (frames_in hs cs)) n ≡ free
 object_past hs cs n past = get_or_past (objects_of (frames_in hs cs)) n free (rw length_objects past)
 
--- and so is each number from there on
-pub free_past : (p : Parts) (n : ℕ) → length p.headers ≤ n → is_free (content_at (objects_in p) n) ≡ true
-free_past p n past = ap (λ (o : Object). is_free o.content) (object_past p.headers p.contents n past)
-
 -- the owner of what stands at a number is its header's
 pub owner_in : (hs : List ObjectHeader) (cs : List (Content Cap)) (n : ℕ) → owner_at (objects_of (frames_in hs cs)) n ≡ (header_at hs n).owner
 owner_in hs cs n = grind (arith, nat_tests, object_in, object_past, get_or_past)
@@ -89,7 +85,7 @@ owner_read p hs h n table is = grind (arith, nat_tests, owner_in)
 
 -- what isn't free has a header
 pub known_used : (p : Parts) (n : ℕ) → is_free (content_at (objects_in p) n) ≡ false → n < length p.headers
-known_used p n used = ⊎_elim (λ (within : n < length p.headers). within) (λ past. let none = free_past p n past in cc) (cases_lt n (length p.headers))
+known_used p n used = grind (arith, nat_tests, object_past)
 
 -- a content of a kind isn't free
 pub root_used : {C : Type 0} (c : Content C) → is_root c ≡ true → is_free c ≡ false
@@ -111,19 +107,6 @@ bank_used c is = grind (arith, nat_tests)
 pub process_known : (p : Parts) (n : ℕ) → IsTrue (is_process (objects_in p) n) → n < length p.headers
 process_known p n is = known_used p n (root_used (content_at (objects_in p) n) is)
 
--- a content that is no page has no words
-no_words : {C : Type 0} (c : Content C) → ((x : List ℕ) → c ≡ content.Page x → ⊥) → words_in c ≡ []
-no_words c page = grind (arith, nat_tests)
-
-no_root : {C : Type 0} (c : Content C) → ((x : Root C) → c ≡ content.Root x → ⊥) → is_root c ≡ false
-no_root c root = grind (arith, nat_tests)
-
-no_annex : {C : Type 0} (c : Content C) → ((x : List C) → c ≡ content.Annex x → ⊥) → is_annex c ≡ false
-no_annex c annex = grind (arith, nat_tests)
-
-blank_annex : (f : Cap → Capability) (c : Content Cap) → ((x : Root Cap) → c ≡ content.Root x → ⊥) → (root_in (map_content f c)).annex ≡ 0
-blank_annex f c root = grind (arith, nat_tests)
-
 -- what stands at a number with that content
 module _ (p : Parts) (n : ℕ) (known : n < length p.headers) (c : Content Cap) (is : held_at p.contents n ≡ c) where
   pub content_there : content_at (objects_in p) n ≡ map_content (conveyed p.headers) c
@@ -131,13 +114,7 @@ module _ (p : Parts) (n : ℕ) (known : n < length p.headers) (c : Content Cap) 
 
   pub slot_there : (slots : List Cap) → slots ≡ slots_in c → (hs : List ObjectHeader) → hs ≡ p.headers → (i : ℕ) (default : Cap) (r : Capability) →
       r ≡ conveyed hs (slice_index_or slots i default) → i < length slots → r ≡ slot_at (objects_in p) n i
-  slot_there slots are hs same i default r reads within =
-      reads
-      ∙ ap (λ (ks : List ObjectHeader). conveyed ks (slice_index_or slots i default)) same
-      ∙ sym (read_through (conveyed p.headers) slots i default Void within)
-      ∙ ap (λ (cs : List Cap). slice_index_or (map (conveyed p.headers) cs) i Void) are
-      ∙ sym (ap (λ (cs : List Capability). slice_index_or cs i Void) ((mapped (conveyed p.headers) c).slots))
-      ∙ sym (ap (λ (d : Content Capability). slice_index_or (slots_in d) i Void) content_there)
+  slot_there slots are hs same i default r reads within = grind (arith, nat_tests, read_through, mapped, content_there)
 
   pub no_slot_there : (i : ℕ) → slots_in c ≡ [] → slot_at (objects_in p) n i ≡ Void
   no_slot_there i none = grind (arith, nat_tests, content_there, mapped)
@@ -146,16 +123,16 @@ module _ (p : Parts) (n : ℕ) (known : n < length p.headers) (c : Content Cap) 
   word_there i = grind (arith, nat_tests, content_there, mapped)
 
   pub no_word_there : (i : ℕ) → ((x : List ℕ) → c ≡ content.Page x → ⊥) → word_at (objects_in p) n i ≡ 0
-  no_word_there i page = word_there i ∙ ap (λ (ws : List ℕ). slice_index ws i) (no_words c page)
+  no_word_there i page = grind (arith, nat_tests, word_there)
 
   pub no_root_there : ((x : Root Cap) → c ≡ content.Root x → ⊥) → is_process (objects_in p) n ≡ false
-  no_root_there root = ap is_root content_there ∙ (mapped (conveyed p.headers) c).root ∙ no_root c root
+  no_root_there root = grind (arith, nat_tests, content_there, mapped)
 
   pub no_process_annex : ((x : Root Cap) → c ≡ content.Root x → ⊥) → (root_in (content_at (objects_in p) n)).annex ≡ 0
-  no_process_annex root = ap (λ (d : Content Capability). (root_in d).annex) content_there ∙ blank_annex (conveyed p.headers) c root
+  no_process_annex root = grind (arith, nat_tests, content_there)
 
   pub no_annex_there : ((x : List Cap) → c ≡ content.Annex x → ⊥) → is_annex (content_at (objects_in p) n) ≡ false
-  no_annex_there annex = ap is_annex content_there ∙ (mapped (conveyed p.headers) c).annex ∙ no_annex c annex
+  no_annex_there annex = grind (arith, nat_tests, content_there, mapped)
 
 -- the object that its header and what it holds make
 pub object_there : (p : Parts) (n : ℕ) → n < length p.headers → (hs ks : List ObjectHeader) (h : ObjectHeader) (now : Content Cap) (shown : Content Capability)

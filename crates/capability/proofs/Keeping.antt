@@ -1,10 +1,9 @@
 -- Frames that can be kept stay so through each change.
 use Rattle.capability.proofs.Names.{nat_tests, rules, ℕ, List, length, slice_index_or, slice_set, refl, sym, ap, subst, arith, IsTrue, get_or_past, length-set}
-use Rattle.capability.proofs.Names.{All-replicate, All-set, All-weaker, Cap, Capability, Page, Node, Bank, Frame, ObjectHeader, Geometry, Content, blank_frame}
-use Rattle.capability.proofs.Names.{blank_header, called, claimed, frame_at, header_at, held_at, owned_by, void_held, AreKeepable, AreKeptSlots, AreKeptWords}
-use Rattle.capability.proofs.Names.{Follows, IsCount, IsKeepable, IsKeptCap, MayBeKept, all_slots, is_annex, role_of, with_slot_in, with_word_in, zero_words}
-use Rattle.capability.proofs.Names.{IsOfKind, object_count, Fresh, FreshFits, HaveTheirRoles, IsFreshAt, Parts, frames_of, fresh_content, with_both}
-use Rattle.capability.proofs.Names.{with_header}
+use Rattle.capability.proofs.Names.{All-replicate, All-set, All-weaker, Cap, Capability, Frame, ObjectHeader, Geometry, Content, blank_frame, blank_header}
+use Rattle.capability.proofs.Names.{called, claimed, frame_at, header_at, held_at, owned_by, void_held, AreKeepable, AreKeptSlots, AreKeptWords, Follows}
+use Rattle.capability.proofs.Names.{IsCount, IsKeepable, IsKeptCap, MayBeKept, all_slots, is_annex, role_of, with_slot_in, with_word_in, zero_words, IsOfKind}
+use Rattle.capability.proofs.Names.{object_count, Fresh, FreshFits, HaveTheirRoles, IsFreshAt, Parts, frames_of, fresh_content, with_both, with_header}
 use Rattle.std.proofs.Common.{◌≡◌, ◌+◌, ◌^◌, ◌<◌, ◌≤◌, ◌∙◌}
 use Rattle.model.specs.declared.object.Content.TheVariants as content
 use Rattle.model.specs.declared.object.Role.TheVariants as role
@@ -21,11 +20,8 @@ follows_later g age later count le w f = grind (arith, nat_tests, count_later)
 slots_later : (g : Geometry) (age later : ℕ) → age ≤ later → (slots : List Cap) → AreKeptSlots g age slots → AreKeptSlots g later slots
 slots_later g age later le slots s = grind (arith, nat_tests, All-weaker, follows_later)
 
-content_later : (g : Geometry) (age later : ℕ) → age ≤ later → (c : Content Cap) → MayBeKept g age c → MayBeKept g later c
-content_later g age later le c k = grind (arith, nat_tests, slots_later, follows_later)
-
 pub frame_later : (g : Geometry) (age later n : ℕ) (f : Frame) → age ≤ later → IsKeepable g age n f → IsKeepable g later n f
-frame_later g age later n f le k = grind (arith, nat_tests, count_later, content_later)
+frame_later g age later n f le k = grind (arith, nat_tests, count_later, slots_later, follows_later)
 
 -- frames that can be kept at an age can be at a later one
 pub keepable_later : (g : Geometry) (age later : ℕ) (fs : List Frame) → age ≤ later → AreKeepable g age fs → AreKeepable g later fs

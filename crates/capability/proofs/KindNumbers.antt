@@ -2,7 +2,6 @@
 use Rattle.capability.proofs.Names.{arith, nat_tests, ℕ, true, Capability, Geometry, Content, is_annex, is_bank, is_node, is_page, is_root, IsOfKind}
 use Rattle.capability.proofs.Names.{object_count}
 use Rattle.std.proofs.Common.{◌≡◌, ◌<◌, ◌≤◌}
-use Rattle.model.specs.declared.object.Content.TheVariants as content
 
 pub node_number : (g : Geometry) (n : ℕ) (c : Content Capability) → IsOfKind g n c → is_node c ≡ true → n < g.nodes
 node_number g n c kind is = grind (arith, nat_tests)

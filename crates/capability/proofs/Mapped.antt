@@ -2,7 +2,6 @@
 use Rattle.capability.proofs.Names.{arith, nat_tests, ℕ, map, Geometry, Content, is_annex, is_bank, is_root, limit_in, map_content, role_of, slots_in, words_in}
 use Rattle.capability.proofs.Names.{IsOfKind}
 use Rattle.std.proofs.Common.{◌≡◌}
-use Rattle.model.specs.declared.object.Content.TheVariants as content
 
 pub record IsMapped {B C : Type 0} (f : B → C) (c : Content B) (d : Content C) : Type 0 where
   pub role : role_of d ≡ role_of c

@@ -4,7 +4,6 @@ use Rattle.capability.proofs.Names.{Capability, Frame, ObjectHeader, Content, Ob
 use Rattle.capability.proofs.Names.{held_at, object_of, objects_of, is_free, is_root, map_content, role_of, content_at, is_process, HaveTheirRoles, Parts}
 use Rattle.capability.proofs.Names.{frames_of, objects_in}
 use Rattle.std.proofs.Common.{◌≡◌, ◌<◌, ◌≤◌, ◌∙◌}
-use Rattle.model.specs.declared.object.Content.TheVariants as content
 use Rattle.model.specs.declared.object.Role.TheVariants as role
 use Rattle.capability.proofs.FrameLists.{frame_in, headers_in, object_in, object_past}
 use Rattle.capability.proofs.Mapped.{mapped}

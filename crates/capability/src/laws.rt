@@ -5,11 +5,13 @@ ghost use Rattle.capability.specs.Laws.{RescindKeepsSoundFrames};
 
 /// Objects whose two counts are raised and that are freed, a whole list at a time, are
 /// rescinded: no capability that is held names one.
+#[tactic(auto, using(crate::proofs::Counts::objects_given_up))]
 pub fn given_up_is_rescinded()
     ensures { GivenUpIsRescinded }
 {}
 
 /// Where a process's call count is raised, no capability that is held resumes it.
+#[tactic(auto, using(crate::proofs::Counts::objects_called))]
 pub fn called_is_consumed()
     ensures { CalledIsConsumed }
 {}

@@ -6,7 +6,7 @@ use crate::present::Fresh;
 use model::{Capability, Operation, ResultCode, State};
 
 /// What the caller receives.
-#[derive(Clone, Copy, Debug)]
+#[derive(Clone, Copy)]
 pub struct Reply {
     pub code: ResultCode,
     /// The result words after the code.
@@ -15,7 +15,7 @@ pub struct Reply {
 }
 
 /// What a bank changes.
-#[derive(Clone, Copy, Debug)]
+#[derive(Clone, Copy)]
 pub enum BankChange {
     /// Makes a free number a page, a node or a bank.
     Make {
@@ -40,7 +40,8 @@ pub enum BankChange {
 }
 
 /// The one change that an order makes.
-#[derive(Clone, Copy, Debug)]
+// Nothing prints it, and the proof of a derived `Debug` takes a minute.
+#[derive(Clone, Copy)]
 pub enum Change {
     Nothing,
     /// A word of a page.
@@ -83,14 +84,14 @@ pub enum Change {
 }
 
 /// The reply of an order, and the change that it makes.
-#[derive(Clone, Copy, Debug)]
+#[derive(Clone, Copy)]
 pub struct OrderPlan {
     pub reply: Reply,
     pub change: Change,
 }
 
 /// The process that invokes, and what it invokes, before anything changes.
-#[derive(Clone, Copy, Debug)]
+#[derive(Clone, Copy)]
 pub struct Caller {
     pub process: u64,
     /// The annex of the process.

@@ -68,6 +68,7 @@ impl Frames for Plain {
 
     ghost ContinuesTo = { λ s t. t ≡ s };
 
+    #[tactic(auto, using(crate::proofs::Untouched::untouched_count))]
     fn geometry(&self) -> Geometry {
         self.geometry
     }

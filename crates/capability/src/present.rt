@@ -18,7 +18,7 @@ use model::{Cap, ContentRef, Geometry, Refusal, Role, Root, State};
 pub const MAX_FETCHED: usize = 8;
 
 /// What a free number becomes.
-#[derive(Clone, Copy, PartialEq, Eq, Debug)]
+#[derive(Clone, Copy)]
 pub enum Fresh {
     /// A page of words of 0.
     Page,
@@ -37,7 +37,7 @@ pub enum Fresh {
 }
 
 /// A change of a process's root.
-#[derive(Clone, Copy, Debug)]
+#[derive(Clone, Copy)]
 pub enum RootChange {
     /// The state.
     State(State),

@@ -34,6 +34,7 @@ fn root<F: Frames>(store: &F, process: u64) -> &Root<Cap>
 }
 
 /// A word that a process was last delivered. Its root is fetched.
+#[tactic(auto, using(crate::proofs::FrameLists::content_there))]
 pub fn word<F: Frames>(store: &F, process: u64, index: usize) -> u64
     requires fetched { F.IsFetched store.now process }
     requires process { IsTrue (is_process (objects_in (F.parts store.now)) process) }
@@ -45,6 +46,7 @@ pub fn word<F: Frames>(store: &F, process: u64, index: usize) -> u64
 }
 
 /// The key that a process was last delivered. Its root is fetched.
+#[tactic(auto, using(crate::proofs::FrameLists::content_there))]
 pub fn key<F: Frames>(store: &F, process: u64) -> u16
     requires fetched { F.IsFetched store.now process }
     requires process { IsTrue (is_process (objects_in (F.parts store.now)) process) }
@@ -54,6 +56,7 @@ pub fn key<F: Frames>(store: &F, process: u64) -> u16
 }
 
 /// The state of a process. Its root is fetched.
+#[tactic(auto, using(crate::proofs::FrameLists::content_there))]
 pub fn state<F: Frames>(store: &F, process: u64) -> State
     requires fetched { F.IsFetched store.now process }
     requires process { IsTrue (is_process (objects_in (F.parts store.now)) process) }
@@ -75,6 +78,7 @@ pub fn is_running<F: Frames>(store: &F, process: u64) -> bool
 }
 
 /// The address space of a process: void where it is stale. Its root is fetched.
+#[tactic(auto, using(crate::proofs::FrameLists::content_there))]
 pub fn space<F: Frames>(store: &F, process: u64) -> Capability
     requires fetched { F.IsFetched store.now process }
     requires process { IsTrue (is_process (objects_in (F.parts store.now)) process) }

@@ -36,6 +36,13 @@ impl ObjectTable {
         self.headers
     }
 
+    /// The same, which the table keeps.
+    pub fn headers(&self) -> &[ObjectHeader]
+        ensures { result.now ≡ self.now }
+    {
+        self.headers.as_slice()
+    }
+
     /// How many numbers there are, free ones included.
     pub fn count(&self) -> u64
         ensures { result ≡ length self.now }

@@ -1,6 +1,6 @@
 -- What is committed while the gates of both headers are closed, the lesser header's first.
-use Rattle.ckpt_log.proofs.Names.{nat_tests, ℕ, false, refl, subst, inl, arith, IsLesser, HeaderSlot, other_slot, gate_at, is_open, HasNoHeader, Image, Disk}
-use Rattle.ckpt_log.proofs.Names.{LeavesOnly, Peeks, leaves_on, leaves_weaker, Agrees, Elsewhere, AreClosed, KeepsOrHasNone, WasKeptOrHasNone}
+use Rattle.ckpt_log.proofs.Names.{nat_tests, ℕ, false, refl, subst, sym, agrees_is, inl, arith, IsLesser, HeaderSlot, other_slot, gate_at, is_open, HasNoHeader}
+use Rattle.ckpt_log.proofs.Names.{Image, Disk, LeavesOnly, Peeks, leaves_on, leaves_weaker, Agrees, Elsewhere, AreClosed, KeepsOrHasNone, WasKeptOrHasNone}
 use Rattle.std.proofs.Common.{◌≡◌}
 use Rattle.ckpt_log.proofs.Runs.{IsClosing}
 
@@ -21,6 +21,9 @@ untouched = record { elsewhere = λ i _ _. refl; committed = inl refl }
 
 pub none_committed : (image : Image) → AreClosed image → HasNoHeader image
 none_committed image shut = grind (arith, nat_tests)
+
+pub keeps_same : {old new : Image} → Agrees new old → KeepsOrHasNone old new
+keeps_same {old} {new} same = subst (KeepsOrHasNone old) (sym (agrees_is new old same)) untouched
 
 -- ---- at each moment
 

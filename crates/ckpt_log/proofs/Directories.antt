@@ -34,6 +34,10 @@ pub zeros_behind : (image : Image) (at n : ℕ) {most : ℕ} {run zeros : List �
     drop (16 * n) (sectors_from image at (directory_length n)) ≡ replicate (512 * directory_length n - 16 * n) 0
 zeros_behind image at n {most} {run} {zeros} room blank written rest = grind (arith, nat_tests, take-replicate, drop-replicate)
 
+-- how many bytes a directory's sectors have
+pub few_bytes : {n most : ℕ} → n ≤ most → most ≤ 4096 → 512 * ((n + 32 - 1) / 32) ≤ 65536
+few_bytes few least = omega arith
+
 -- ---- what was written is read
 
 slot_not_refused : {g : Geometry} {age object : ℕ} {f : Frame} (e : OpenFault) → IsFrameOf g age object (frame_bytes g object f) f →

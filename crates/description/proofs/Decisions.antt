@@ -10,8 +10,7 @@ use Rattle.description.proofs.Parts.{in_table}
 use denote.RawPtr.{null_ptr}
 
 pub read_or_not : {A : Type 0} (P : A → Type 0) (r : Result A BuildFault) (out : Bool) → out ≡ is_ok r → Finds P r → IsTrue out ↔ ((x : A) × P x)
-read_or_not P (Ok x) out is reads = rw is (λ _. (x, reads), λ _. refl)
-read_or_not P (Err e) out is none = rw is (λ so. absurd (false≢true so), λ p. absurd (none.1 p.0 p.1))
+read_or_not P r out is reads = search arith
 
 -- a list of as many entries as memory may hold is that of a Vec
 vec_of : {A : Type 0} (xs : List A) → length xs < 2 ^ 63 → (v : Vec A Global) × (v.items ≡ xs)
@@ -92,5 +91,4 @@ with_default P None default small v is = vec_of default small
 with_default P (Some d) default small v is = (v, is)
 
 pub at_some : {A : Type 0} (P : Type 0) (Q : A → Type 0) (o : Option A) (x : A) → o ≡ Some x → MatchOption o P Q → Q x
-at_some P Q None x is known = absurd (none-some x is)
-at_some P Q (Some y) x is known = subst Q (same_Some y x is) known
+at_some P Q o x is known = search (arith, none-some, same_Some)

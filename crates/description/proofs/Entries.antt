@@ -32,22 +32,18 @@ abbrev pages_of : Description → List Entry
 pages_of d = map OfPage d.pages.items
 
 pub of_entries : (d : Description) (e : Entry) → IsOf d e → Contains (entries d) e
-of_entries d (OfBank b) h = Contains-append_left _ _ _ (Contains-append_left _ _ _ (Contains-append_left _ _ _
-    (Contains-append_left _ _ _ (contains_map OfBank b _ h))))
-of_entries d (OfRoot p) h =
-    Contains-append_left (banks_of d ++ roots_of d ++ annexes_of d ++ nodes_of d) (pages_of d) (OfRoot p)
+of_entries d (OfBank b) h =
+    Contains-append_left _ _ _ (Contains-append_left _ _ _ (Contains-append_left _ _ _ (Contains-append_left _ _ _ (contains_map _ _ _ h))))
+of_entries d (OfRoot p) h = Contains-append_left (banks_of d ++ roots_of d ++ annexes_of d ++ nodes_of d) (pages_of d) (OfRoot p)
     (Contains-append_left (banks_of d ++ roots_of d ++ annexes_of d) (nodes_of d) (OfRoot p)
     (Contains-append_left (banks_of d ++ roots_of d) (annexes_of d) (OfRoot p)
-    (Contains-append_right (banks_of d) (roots_of d) (OfRoot p) (contains_map OfRoot p d.processes.items h))))
-of_entries d (OfAnnex p) h =
-    Contains-append_left (banks_of d ++ roots_of d ++ annexes_of d ++ nodes_of d) (pages_of d) (OfAnnex p)
+    (Contains-append_right (banks_of d) (roots_of d) (OfRoot p) (contains_map _ _ _ h))))
+of_entries d (OfAnnex p) h = Contains-append_left (banks_of d ++ roots_of d ++ annexes_of d ++ nodes_of d) (pages_of d) (OfAnnex p)
     (Contains-append_left (banks_of d ++ roots_of d ++ annexes_of d) (nodes_of d) (OfAnnex p)
-    (Contains-append_right (banks_of d ++ roots_of d) (annexes_of d) (OfAnnex p) (contains_map OfAnnex p d.processes.items h)))
-of_entries d (OfNode n) h =
-    Contains-append_left (banks_of d ++ roots_of d ++ annexes_of d ++ nodes_of d) (pages_of d) (OfNode n)
-    (Contains-append_right (banks_of d ++ roots_of d ++ annexes_of d) (nodes_of d) (OfNode n) (contains_map OfNode n d.nodes.items h))
-of_entries d (OfPage p) h =
-    Contains-append_right (banks_of d ++ roots_of d ++ annexes_of d ++ nodes_of d) (pages_of d) (OfPage p) (contains_map OfPage p d.pages.items h)
+    (Contains-append_right (banks_of d ++ roots_of d) (annexes_of d) (OfAnnex p) (contains_map _ _ _ h)))
+of_entries d (OfNode n) h = Contains-append_left (banks_of d ++ roots_of d ++ annexes_of d ++ nodes_of d) (pages_of d) (OfNode n)
+    (Contains-append_right (banks_of d ++ roots_of d ++ annexes_of d) (nodes_of d) (OfNode n) (contains_map _ _ _ h))
+of_entries d (OfPage p) h = Contains-append_right (banks_of d ++ roots_of d ++ annexes_of d ++ nodes_of d) (pages_of d) (OfPage p) (contains_map _ _ _ h)
 
 from_map : {X : Type 0} → (d : Description) (f : X → Entry) (xs : List X) (e : Entry) → ((x : X) → Contains xs x → IsOf d (f x)) → Contains (map f xs) e →
     IsOf d e

@@ -107,8 +107,7 @@ pub item_found : {A : Type 0} (P : Data → A → Type 0) (text : List ℕ) (ms 
     → MatchOption found ((ds : Items) → get_member text ms ≡ Some (array ds) → ⊥) (λ p. HasBadItem P text p.0 (view p.1.now) ms)
     → MatchOption found Without
     (λ p. (ds : Items) × (get_member text ms ≡ Some (array ds)) × (get_item p.0 ds ≡ Some (view p.1.now)) × (Q (view p.1.now) → ⊥))
-item_found P text ms None Without Q part none found = none found
-item_found P text ms (Some p) Without Q part none found = (found.0, found.1, found.2, λ q. let x = part (view p.1.now) q in found.3 x.0 x.1)
+item_found P text ms o Without Q part none found = search arith
 
 has_item : (key : List ℕ) (i : ℕ) (ms : Members) (e : Data) (P : Data → Type 0) (ds : Items) → get_member key ms ≡ Some (array ds) →
     get_item i ds ≡ Some e → P e → HasItem key i P ms
@@ -118,8 +117,7 @@ has_item key i ms e P ds at there holds = (ds, at, subst (λ (o : Option Data). 
 pub bad_found : {A : Type 0} (P : Data → A → Type 0) (key : List ℕ) (ms : Members) (d : Data) (found : Option (ℕ × Bor Value)) → Some d ≡ get_member key ms
     → MatchOption found ((ds : Items) → d ≡ array ds → ⊥) (λ p. IsBadAt P p.0 (view p.1.now) d)
     → MatchOption found ((ds : Items) → get_member key ms ≡ Some (array ds) → ⊥) (λ p. HasBadItem P key p.0 (view p.1.now) ms)
-bad_found P key ms d None is found = unlisted_at key ms d is found
-bad_found P key ms d (Some p) is found = bad_at P key ms p.0 (view p.1.now) d is found
+bad_found P key ms d o is found = search (arith, unlisted_at, bad_at)
 
 pub flaw_found : (key : Key) (ms : Members) (i : ℕ) (e : Data) → IsPlain key → HasItemAs key i e ms → IsFlawAt key ms (Item key i)
 flaw_found key ms i e plain at = (refl, has_item _ i ms e (λ d. IsItem key d → ⊥) at.0 at.1 at.2 (λ item. at.3 (plain_item key 0 (plain 0) e item)))

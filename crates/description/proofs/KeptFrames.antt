@@ -70,13 +70,11 @@ follows g c is formed target = grind (arith, nat_tests, page_fits, no_count, nod
 
 slot_kept : (g : Geometry) (o : Option Capability) → IsGeometry g → IsSomeCapability o → IsTarget g (unwrap_or o Void) →
     IsKeptCap g 0 (fresh_cap (unwrap_or o Void))
-slot_kept g None is formed target = absurd formed
-slot_kept g (Some c) is formed target = follows g c is formed target
+slot_kept g o is formed target = search (arith, follows)
 
 space_kept : (g : Geometry) (o : Option Capability) → IsGeometry g → IsSpaceEntry o → IsTarget g (unwrap_or o Void) →
     IsKeptCap g 0 (fresh_cap (unwrap_or o Void)) × IsSpace (unwrap_or o Void)
-space_kept g None is formed target = absurd formed
-space_kept g (Some c) is formed target = (follows g c is formed.0 target, formed.1)
+space_kept g o is formed target = search (arith, follows)
 
 pub slots_kept : (g : Geometry) (first : ℕ) (es : List SlotEntry) → IsGeometry g → AreSlots first es → AreTargets g es → AreKeptSlots g 0 (slots_of es)
 unfolding slots_of
@@ -108,7 +106,7 @@ kept_entry d (OfRoot p) is numbers fields targets of fits =
       calls = no_count;
       owner = fits.0;
       unowned = λ free. absurd cc;
-      content = (fits.1, good.key, node_fits d.geometry p.annex is (in_range d (OfAnnex p) numbers of), space.0, space.1);
+      content = (fits.1, good.key, node_fits _ _ is (in_range d (OfAnnex p) numbers of), space.0, space.1);
     }
 kept_entry d (OfAnnex p) is numbers fields targets of fits =
     let good : IsProcessEntry p = All-contains IsProcessEntry d.processes.items p fields.processes of in
@@ -119,7 +117,7 @@ kept_entry d (OfAnnex p) is numbers fields targets of fits =
       calls = no_count;
       owner = fits;
       unowned = λ free. absurd cc;
-      content = (slots_kept d.geometry 1 p.registers.items is good.registers target.registers, first_void p.registers.items good.registers);
+      content = (slots_kept d.geometry 1 p.registers.items is good.registers target.registers, first_void _ good.registers);
     }
 kept_entry d (OfNode n) is numbers fields targets of fits = record {
   role = refl;
@@ -130,36 +128,27 @@ kept_entry d (OfNode n) is numbers fields targets of fits = record {
   content = slots_kept _ 0 _ is (All-contains (λ m. AreSlots 0 m.slots.items) _ n fields.nodes of)
       (All-contains (λ m. AreTargets d.geometry m.slots.items) _ n targets.nodes of);
 }
-kept_entry d (OfPage p) is numbers fields targets of fits =
-    record {
-      role = refl;
-      allocations = no_count;
-      calls = no_count;
-      owner = fits.0;
-      unowned = λ free. absurd cc;
-      content = record {
-        count_is = (holds_words p.words.items (All-contains (λ q. AreWords q.words.items) d.pages.items p fields.pages of)).count;
-        each = fits.1;
-      };
-    }
+kept_entry d (OfPage p) is numbers fields targets of fits = record {
+  role = refl;
+  allocations = no_count;
+  calls = no_count;
+  owner = fits.0;
+  unowned = λ free. absurd cc;
+  content = record { count_is = (holds_words _ (All-contains (λ q. AreWords q.words.items) d.pages.items p fields.pages of)).count; each = fits.1 };
+}
 
 kind_entry : (d : Description) (e : Entry) → HasNumbers d → IsOf d e → IsOfKind d.geometry (number_of e) (frame_of e).content
 kind_entry d e numbers of = grind (arith, nat_tests, in_range)
 
 -- what is there is what a default leaves
 there : {X : Type 0} → (o : Option X) (d : X) → o ≢ None → o ≡ Some (unwrap_or o d)
-there None d some = absurd (some refl)
-there (Some x) d some = refl
-
-space_there : (o : Option Capability) → IsSpaceEntry o → o ≡ Some (unwrap_or o Void)
-space_there None space = absurd space
-space_there (Some c) space = refl
+there o d some = search arith
 
 is_frame : (d : Description) (e : Entry) → HasFields d → IsOf d e → IsFrameOf e (frame_of e)
 is_frame d (OfBank b) fields of = refl
 is_frame d (OfRoot p) fields of =
     let good : IsProcessEntry p = All-contains IsProcessEntry _ p fields.processes of in
-    (unwrap_or p.state Available, unwrap_or p.space Void, there _ _ good.state, space_there _ good.space, refl)
+    (unwrap_or p.state Available, unwrap_or p.space Void, there _ _ good.state, search (arith, good.space), refl)
 is_frame d (OfAnnex p) fields of =
     let good : IsProcessEntry p = All-contains IsProcessEntry _ p fields.processes of in
     (slots_of p.registers.items, holds_named 1 _ good.registers, refl)

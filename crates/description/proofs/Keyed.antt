@@ -1,17 +1,15 @@
 -- What is at a key, and what isn't.
-use Rattle.description.proofs.Names.{ℕ, List, Option, Some, None, Result, Vec, Global, refl, sym, none-some, same_Some, Data, Members, get_member, AtOr}
+use Rattle.description.proofs.Names.{arith, ℕ, List, Option, Some, None, Result, Vec, Global, refl, sym, none-some, same_Some, Data, Members, get_member, AtOr}
 use Rattle.description.proofs.Names.{ReadsList, BuildFault}
 use Rattle.std.proofs.Common.{MatchOption, ◌≡◌}
 
 pub defaulted : {A : Type 0} (P : Data → A → Type 0) (o : Option Data) → None ≡ o → (x : A) → MatchOption o (x ≡ x) (λ d. P d x)
-defaulted P None is x = refl
-defaulted P (Some d) is x = absurd (none-some d is)
+defaulted P o is x = search (arith, none-some)
 
 -- a list at a key
 pub list_held : {A : Type 0} (P : Data → List A → Type 0) (default : List A) (o : Option Data) (d : Data) (r : Result (Vec A Global) BuildFault) →
     Some d ≡ o → ReadsList (P d) r → ReadsList (λ xs. MatchOption o (xs ≡ default) (λ d. P d xs)) r
-list_held P default None d r is reads = absurd (none-some d (sym is))
-list_held P default (Some e) d r is reads = rw (same_Some d e is) at reads
+list_held P default o d r is reads = search (arith, none-some, same_Some)
 
 -- where a key may be left out, what is said with one default is said with another
 other_default : {A : Type 0} (P : Data → A → Type 0) (o : Option Data) (x y a : A) → MatchOption o (a ≡ x) (λ d. P d a) →

@@ -1,7 +1,7 @@
 -- Frames that are laid one after the other.
-use Rattle.description.proofs.Names.{nat_tests, ℕ, List, drop, length, map, slice_index_or, refl, sym, ap, subst, arith, vec_len, All, drop_all, drop_more}
-use Rattle.description.proofs.Names.{All-append, All-cons, All-nil, Frame, Cap, Content, World, first_frame, Entry, IsLaid, IsPut, frame_of, frames_of, laid}
-use Rattle.description.proofs.Names.{number_of}
+use Rattle.description.proofs.Names.{common_steps, nat_tests, ℕ, List, drop, length, map, slice_index_or, refl, sym, ap, subst, arith, vec_len, All, drop_all}
+use Rattle.description.proofs.Names.{drop_more, All-append, All-cons, All-nil, Frame, Cap, Content, World, first_frame, Entry, IsLaid, IsPut, frame_of}
+use Rattle.description.proofs.Names.{frames_of, laid, number_of}
 use Rattle.description.specs.Laid.{Fits}
 use Rattle.std.proofs.Common.{◌≡◌, ◌+◌, ◌<◌, ◌≤◌, ◌∷◌, ◌++◌, ◌∙◌}
 use Rattle.description.proofs.Lists.{each_append}
@@ -12,12 +12,7 @@ laid_append es fs xs = each_append number_of frame_of es fs xs
 
 -- some objects, then others
 pub laid_both : (es fs : List Entry) (old mid new : World) → IsLaid es old mid → IsLaid fs mid new → IsLaid (es ++ fs) old new
-laid_both es fs old mid new first second = record {
-  frames = second.frames ∙ ap (laid fs) first.frames ∙ sym (laid_append es fs (frames_of old));
-  fits = All-append Fits es fs first.fits second.fits;
-  headers = second.headers ∙ first.headers;
-  contents = second.contents ∙ first.contents;
-}
+laid_both es fs old mid new first second = grind (arith, common_steps, laid_append)
 
 -- those before an index are laid
 pub record IsLaying {E : Type 0} (entry : E → Entry) (es : List E) (old now : World) (i : ℕ) : Type 0 where

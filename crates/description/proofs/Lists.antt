@@ -12,13 +12,8 @@ contains_here x xs = (0, omega arith, refl)
 pub contains_there : {X : Type 0} → (x y : X) (xs : List X) → Contains xs x → Contains (y ∷ xs) x
 contains_there x y xs h = (suc h.0, omega (arith, h.1), h.2)
 
--- what a list holds is its first or in the rest
-cons_at : {X : Type 0} → (x y : X) (xs : List X) (k : ℕ) → k < length (y ∷ xs) → slice_index_or (y ∷ xs) k x ≡ x → (y ≡ x) ⊎ Contains xs x
-cons_at x y xs zero lt e = inl e
-cons_at x y xs (suc k) lt e = inr (k, omega arith, e)
-
 pub contains_cases : {X : Type 0} → (x y : X) (xs : List X) → Contains (y ∷ xs) x → (y ≡ x) ⊎ Contains xs x
-contains_cases x y xs h = cons_at x y xs h.0 h.1 h.2
+contains_cases x y xs h = search (arith, h.0, h.1, h.2)
 
 pub contains_none : {X : Type 0} → (x : X) → Contains [] x → ⊥
 contains_none x h = omega (arith, h.1)
@@ -36,18 +31,12 @@ contains_either (m ∷ ns) n = elim (cases_eq m n) [
 
 -- and what a mapped list holds comes from something that the list holds
 pub contains_map : {X Y : Type 0} → (f : X → Y) (x : X) (xs : List X) → Contains xs x → Contains (map f xs) (f x)
-contains_map f x [] h = absurd (contains_none x h)
-contains_map f x (y ∷ xs) h = elim (contains_cases x y xs h) [
-  | inl e ↦ subst (λ z. Contains (map f (y ∷ xs)) (f z)) e (contains_here (f y) (map f xs))
-  | inr r ↦ contains_there (f x) (f y) (map f xs) (contains_map f x xs r)
-]
+contains_map f x [] h = search (arith, contains_none, contains_cases, contains_here, contains_there)
+contains_map f x (y ∷ xs) h = search (arith, contains_none, contains_cases, contains_here, contains_there, contains_map f x xs)
 
 pub map_contains : {X Y : Type 0} → (f : X → Y) (y : Y) (xs : List X) → Contains (map f xs) y → (x : X) × Contains xs x × (f x ≡ y)
-map_contains f y [] h = absurd (contains_none y h)
-map_contains f y (x ∷ xs) h = elim (contains_cases y (f x) (map f xs) h) [
-  | inl e ↦ (x, contains_here x xs, e)
-  | inr r ↦ let found = map_contains f y xs r in (found.0, contains_there found.0 x xs found.1, found.2)
-]
+map_contains f y [] h = search (arith, contains_none, contains_cases, contains_here, contains_there)
+map_contains f y (x ∷ xs) h = search (arith, contains_none, contains_cases, contains_here, contains_there, map_contains f y xs)
 
 module _ {E V : Type 0} (index : E → ℕ) (value : E → V) where
   pub first_there : (default : V) (e : E) (es : List E) (i : ℕ) → index e ≡ i → first_named index value default (e ∷ es) i ≡ value e
@@ -117,11 +106,6 @@ module _ {E V : Type 0} (index : E → ℕ) (value : E → V) where
   pub each_done : (es : List E) (now all : List V) (i : ℕ) → length es ≤ i → set_each index value (drop i es) now ≡ all → now ≡ all
   each_done es now all i done was = sym (ap (λ fs. set_each index value fs now) (drop_all i es done)) ∙ was
 
-  -- from a first element on, one more
-  pub each_next : (es : List E) (now all : List V) (i : ℕ) (d : E) → i < length es → set_each index value (drop i es) now ≡ all
-      → set_each index value (drop (i + 1) es) (slice_set now (index (slice_index_or es i d)) (value (slice_index_or es i d))) ≡ all
-  each_next es now all i d lt was = sym (ap (λ fs. set_each index value fs now) (drop_more es i d lt)) ∙ was
-
   -- what holds of all that was there and of all that is written holds of all
   pub each_holds : (P : V → Type 0) (es : List E) (xs : List V) → All P xs → All (λ e. P (value e)) es → All P (set_each index value es xs)
   each_holds P [] xs old new = old
@@ -147,9 +131,7 @@ all_new ns count = (λ d. record { distinct = d; unmarked = λ m h. none_marked 
 
 pub not_new : (ns : List ℕ) (marks : List Bool) (i : ℕ) → i < length ns → is_marked marks (slice_index_or ns i 0) ≡ true
     → (AreDistinct ns ↔ AreNew marks (drop i ns)) → AreDistinct ns → ⊥
-not_new ns marks i lt marked was distinct =
-    let new : AreNew marks (slice_index_or ns i 0 ∷ drop (i + 1) ns) = subst (AreNew marks) (drop_more ns i 0 lt) (was.0 distinct) in
-    absurd (true≢false (sym marked ∙ new.unmarked (slice_index_or ns i 0) (contains_here (slice_index_or ns i 0) (drop (i + 1) ns))))
+not_new ns marks i lt marked was distinct = search (arith, drop_more, contains_here)
 
 -- one number more is marked
 next_new : (n : ℕ) (ns : List ℕ) (marks : List Bool) → n < length marks → is_marked marks n ≡ false
@@ -174,11 +156,7 @@ next_new n ns marks lt unmarked = (
 pub still_new : (ns : List ℕ) (marks : List Bool) (i : ℕ) → i < length ns → slice_index_or ns i 0 < length marks
     → is_marked marks (slice_index_or ns i 0) ≡ false → (AreDistinct ns ↔ AreNew marks (drop i ns))
     → AreDistinct ns ↔ AreNew (slice_set marks (slice_index_or ns i 0) true) (drop (i + 1) ns)
-still_new ns marks i lt within unmarked was =
-    let more = drop_more ns i 0 lt in let next = next_new (slice_index_or ns i 0) (drop (i + 1) ns) marks within unmarked in (
-      λ distinct. next.0 (subst (AreNew marks) more (was.0 distinct)),
-      λ new. was.1 (subst (AreNew marks) (sym more) (next.1 new)),
-    )
+still_new ns marks i lt within unmarked was = search (arith, drop_more, next_new)
 
 pub ended_new : (ns : List ℕ) (marks : List Bool) (i : ℕ) → length ns ≤ i → (AreDistinct ns ↔ AreNew marks (drop i ns)) → AreDistinct ns
 ended_new ns marks i done was = was.1 (rw (drop_all i ns done) (record { distinct = tt; unmarked = λ m h. absurd (contains_none m h) }))
@@ -213,11 +191,8 @@ module _ {E : Type 0} (index : E → ℕ) where
       → (Any (λ e. index e ≡ index (slice_index_or es i d)) (take (length es - (i + 1)) (drop (i + 1) es)) → ⊥) →
       AreDistinct (map index es) ↔ AreDistinct (map index (drop (i + 1) es))
   index_apart es i d lt was apart = (
-    λ distinct. (subst (λ (t : List E). AreDistinct (map index t)) (drop_more es i d lt) (was.0 distinct)).1,
-    λ rest. was.1 (subst (λ (t : List E). AreDistinct (map index t)) (sym (drop_more es i d lt)) (
-      (λ h. apart (subst (Any (λ e. index e ≡ index (slice_index_or es i d))) (sym (rest_is es _)) (index_any _ _ h))),
-      rest,
-    )),
+    λ distinct. (rw (drop_more es i d lt) at (was.0 distinct)).1,
+    λ rest. was.1 (rw (drop_more es i d lt) ((λ h. apart (rw (rest_is es _) (index_any _ _ h))), rest)),
   )
 
   pub index_done : (es : List E) (i : ℕ) → length es ≤ i → (AreDistinct (map index es) ↔ AreDistinct (map index (drop i es))) → AreDistinct (map index es)
@@ -228,7 +203,7 @@ pub each_wrote : {E V : Type 0} → (index : E → ℕ) (value : E → V) (es : 
     → next ≡ slice_set now (index (slice_index_or es i d)) v → v ≡ value (slice_index_or es i d)
     → set_each index value (drop i es) now ≡ all → set_each index value (drop (i + 1) es) next ≡ all
 each_wrote index value es now next all i d v lt made is was =
-    ap (set_each index value (drop (i + 1) es)) (made ∙ ap (slice_set now (index (slice_index_or es i d))) is) ∙ each_next index value es now all i d lt was
+    ap (set_each index value (drop (i + 1) es)) (made ∙ ap (slice_set now (index (slice_index_or es i d))) is) ∙ (search (arith, drop_more))
 
 -- what an entry names is there in the end
 pub each_of : {E V : Type 0} → (index : E → ℕ) (value : E → V) (es : List E) (xs : List V) (e : E) (d : V) → AreDistinct (map index es)

@@ -15,15 +15,13 @@ use Rattle.description.proofs.Refuted.{all_refuted}
 
 -- a property of what is named, or of nothing
 or_void : (P : Capability → Type 0) (o : Option Capability) → P Void → IfNamed P o → P (unwrap_or o Void)
-or_void P None void is = void
-or_void P (Some c) void is = is
+or_void P o void is = search arith
+
+if_some : (P : Capability → Type 0) (o : Option Capability) → P (unwrap_or o Void) → IfNamed P o
+if_some P o is = search arith
 
 pub of_some : (P : Capability → Type 0) (o : Option Capability) (c : Capability) → o ≡ Some c → IfNamed P o → P c
 of_some P o c same is = subst (IfNamed P) same is
-
-if_some : (P : Capability → Type 0) (o : Option Capability) → P (unwrap_or o Void) → IfNamed P o
-if_some P None is = tt
-if_some P (Some c) is = is
 
 first_has : (P : Capability → Type 0) (es : List SlotEntry) (i : ℕ) → P Void → AllIn P es → P (named_at es i)
 first_has P [] i void all = void

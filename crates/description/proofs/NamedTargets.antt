@@ -47,55 +47,36 @@ never_raised d fs c numbers is = grind (arith, nat_tests, no_allocations, no_cal
 
 -- The numbers of a kind.
 
-of_page : (g : Geometry) (n : ℕ) (c : Content Cap) → IsOfKind g n c → role_of c ≡ role.Page → (g.nodes ≤ n) × (n < object_count g)
-of_page g n (content.Page words) kind is = kind
-of_page g n other kind is = absurd cc
-
 of_node : (g : Geometry) (n : ℕ) (c : Content Cap) → IsOfKind g n c → role_of c ≢ role.Free → role_of c ≢ role.Page → n < g.nodes
-of_node g n content.Free kind some other = absurd (some refl)
-of_node g n (content.Page words) kind some other = absurd (other refl)
-of_node g n one kind some other = kind
-
-of_waiting : (g : Geometry) (n : ℕ) (c : Content Cap) → IsOfKind g n c → IsTrue (is_waiting_root c) → n < g.nodes
-of_waiting g n (content.Root root) kind is = kind
-of_waiting g n other kind is = absurd cc
-
-not_free_node : role.Node ≢ role.Free
-not_free_node is = cc
+of_node g n c kind some other = search arith
 
 not_page_node : role.Node ≢ role.Page
 not_page_node is = cc
 
-not_free_root : role.Root ≢ role.Free
-not_free_root is = cc
-
 not_page_root : role.Root ≢ role.Page
 not_page_root is = cc
-
-not_free_bank : role.Bank ≢ role.Free
-not_free_bank is = cc
 
 not_page_bank : role.Bank ≢ role.Page
 not_page_bank is = cc
 
 module _ (d : Description) (fs : List Frame) (numbers : HasNumbers d) (is : IsDescribed d fs) where
   a_page : (o : ℕ) → (frame_at fs o).header.role ≡ role.Page → (d.geometry.nodes ≤ o) × (o < object_count d.geometry)
-  a_page o role = let first = first_at d fs o numbers is in of_page d.geometry o (frame_at fs o).content first.kind (sym first.role ∙ role)
+  a_page o role = let first = first_at d fs o numbers is in search (arith, first.kind, sym first.role ∙ role)
 
   a_node : (o : ℕ) → (frame_at fs o).header.role ≡ role.Node → o < d.geometry.nodes
   a_node o role = let first = first_at d fs o numbers is in
-      of_node d.geometry o (frame_at fs o).content first.kind (λ e. not_free_node (sym role ∙ first.role ∙ e)) (λ e. not_page_node (sym role ∙ first.role ∙ e))
+      of_node d.geometry o (frame_at fs o).content first.kind (λ e. cc) (λ e. not_page_node (sym role ∙ first.role ∙ e))
 
   a_root : (o : ℕ) → (frame_at fs o).header.role ≡ role.Root → o < d.geometry.nodes
   a_root o role = let first = first_at d fs o numbers is in
-      of_node d.geometry o (frame_at fs o).content first.kind (λ e. not_free_root (sym role ∙ first.role ∙ e)) (λ e. not_page_root (sym role ∙ first.role ∙ e))
+      of_node d.geometry o (frame_at fs o).content first.kind (λ e. cc) (λ e. not_page_root (sym role ∙ first.role ∙ e))
 
   a_bank : (o : ℕ) → (frame_at fs o).header.role ≡ role.Bank → o < d.geometry.nodes
   a_bank o role = let first = first_at d fs o numbers is in
-      of_node d.geometry o (frame_at fs o).content first.kind (λ e. not_free_bank (sym role ∙ first.role ∙ e)) (λ e. not_page_bank (sym role ∙ first.role ∙ e))
+      of_node d.geometry o (frame_at fs o).content first.kind (λ e. cc) (λ e. not_page_bank (sym role ∙ first.role ∙ e))
 
   pub role_target : (c : Capability) → NamesItsRole fs c → IsTarget d.geometry c
-  role_target c names = grind (arith, nat_tests, a_page, a_node, a_root, of_waiting, first_at, a_bank)
+  role_target c names = grind (arith, nat_tests, a_page, a_node, a_root, first_at, a_bank)
 
   held_target : (c : Capability) → IsNamed fs (fresh_cap c) → IsTarget d.geometry c
   held_target c named = role_target c (named.live (never_raised d fs c numbers is))

@@ -34,17 +34,10 @@ module _ (d : Description) where
       (more : p ≤ root)
       (is_annex : annex ≡ root - p) where
     front_length : length (banks ++ roots) ≡ b + p
-    front_length =
-        let all : length (banks ++ roots) ≡ length banks + length roots = length-append banks roots in
-        let of_banks : length banks ≡ length d.banks.items = length-map d.banks.items (λ x. x.number) in
-        let of_roots : length roots ≡ length d.processes.items = length-map d.processes.items (λ x. x.root) in
-        omega (arith, all, of_banks, of_roots, is_b, is_p)
+    front_length = search (arith, length-append, length-map)
 
     rest_length : length (banks ++ roots ++ annexes) ≡ b + p + p
-    rest_length =
-        let all : length (banks ++ roots ++ annexes) ≡ length (banks ++ roots) + length annexes = length-append (banks ++ roots) annexes in
-        let of_annexes : length annexes ≡ length d.processes.items = length-map d.processes.items (λ x. x.annex) in
-        omega (arith, all, front_length, of_annexes, is_p)
+    rest_length = search (arith, length-append, length-map, front_length)
 
     pub annex_number : annex < p → option_map (λ q. q.annex) (slice_get d.processes.items annex) ≡ slice_get (node_numbers d) place
     annex_number less =
@@ -66,8 +59,7 @@ module _ (d : Description) where
 
   -- an element that is there
   found_in : {P : ℕ → Type 0} (o : Option ℕ) → IsSomeAnd o P → (n : ℕ) × (o ≡ Some n) × P n
-  found_in None is = absurd is
-  found_in (Some n) is = (n, refl, is)
+  found_in o is = search arith
 
   pub node_outside : (ns : List ℕ) (i : ℕ) (who : Named) → ns ≡ node_numbers d → IsOutside 0 d.geometry.nodes ns i →
       number_at d who ≡ slice_get (node_numbers d) i

@@ -9,17 +9,11 @@ use Rattle.std.proofs.Common.{MatchOption, ◌≡◌, if◌then◌else◌, ◌�
 
 -- ---- values
 
-same_integer : (m n : ℕ) → integer (pos m) ≡ integer (pos n) → m ≡ n
-same_integer m n e = cc
-
 same_string : (s t : List ℕ) → string s ≡ string t → s ≡ t
 same_string s t e = cc
 
 same_array : (ds es : Items) → array ds ≡ array es → ds ≡ es
 same_array ds es e = cc
-
-same_table : (ms ns : Members) → table ms ≡ table ns → ms ≡ ns
-same_table ms ns e = cc
 
 same_first : (a b : Data) (ds es : Items) → item a ds ≡ item b es → a ≡ b
 same_first a b ds es e = cc
@@ -32,10 +26,7 @@ abbrev Once : {A B : Type 0} → (B → A → Type 0) → (A → A → Type 0) �
 Once {A = A} {B = B} P R = (d : B) (x y : A) → P d x → P d y → R x y
 
 pub capability_once : Once IsCapability ◌≡◌
-capability_once d None None one other = refl
-capability_once d (Some b) (Some c) one other =
-    ap Some (text_once b c (one.0, one.1) (other.0, other.1) (same_string (capability_text b) (capability_text c) (sym one.2 ∙ other.2)))
-capability_once d a b one other = absurd (grind (arith, nat_tests))
+capability_once d a b one other = search (arith, text_once, same_string)
 
 same_number : (m n : ℕ) → (let x : Option Capability = Some (Number m) in x) ≡ Some (Number n) → m ≡ n
 same_number m n e = cc
@@ -44,7 +35,7 @@ integer_or_text : (n : ℕ) (text : List ℕ) → integer (pos n) ≡ string tex
 integer_or_text n text e = cc
 
 number_once : Once IsNumber ◌≡◌
-number_once d m n one other = same_integer m n (sym one.1 ∙ other.1)
+number_once d m n one other = search (arith, sym one.1 ∙ other.1)
 
 wide_once : Once IsWideNumber ◌≡◌
 unfolding IsWideNumber
@@ -64,8 +55,7 @@ state_found text =
     then Some Waiting else None
 
 state_again : (s : State) → state_found (state_text s) ≡ Some s
-state_again Available = refl
-state_again other = refl
+state_again s = search arith
 
 state_once : Once IsState ◌≡◌
 state_once = grind (arith, nat_tests, same_string, same_Some, state_again)
@@ -75,19 +65,10 @@ module _ {A B : Type 0} (P : Data → A → Type 0) (Q : Data → B → Type 0) 
   pair_once d x u y v one other = grind (arith, nat_tests, same_array, same_rest, same_first)
 
 slot_once : Once IsSlot ◌≡◌
-slot_once d e f one other =
-    let same = pair_once IsNumber IsCapability number_once capability_once d e.index f.index e.capability f.capability one other in
-    ap (λ (i : ℕ). record { index = i; capability = e.capability }) same.0 ∙ ap (λ (c : Option Capability). record { index = f.index; capability = c }) same.1
+slot_once d e f one other = search (arith, pair_once, number_once, capability_once)
 
 word_once : Once IsWord ◌≡◌
-word_once d e f one other =
-    let same = pair_once IsNumber IsWideNumber number_once wide_once d e.index f.index e.word f.word one other in
-    ap (λ (i : ℕ). record { index = i; word = e.word }) same.0 ∙ ap (λ (w : ℕ). record { index = f.index; word = w }) same.1
-
-range_once : Once IsRange ◌≡◌
-range_once d q r one other =
-    let same = pair_once IsNumber IsNumber number_once number_once d q.first r.first q.count r.count one other in
-    ap (λ (n : ℕ). record { first = n; count = q.count }) same.0 ∙ ap (λ (n : ℕ). record { first = r.first; count = n }) same.1
+word_once d e f one other = search (arith, pair_once, number_once, wide_once)
 
 -- ---- lists
 
@@ -112,31 +93,20 @@ four_once : Once AreFour ◌≡◌
 four_once d xs ys one other = list_same IsWideNumber wide_once d xs ys one.1 other.1
 
 table_once : {A : Type 0} (P : Members → A → Type 0) (R : A → A → Type 0) → Once P R → Once (IsTable P) R
-table_once P R once d x y one other = once other.0 x y (subst (λ (ms : Members). P ms x) (same_table one.0 _ (sym one.1 ∙ other.1)) one.2) other.2
+table_once P R once d x y one other = once other.0 x y (subst (λ (ms : Members). P ms x) (cc) one.2) other.2
 
 -- ---- keys
 
 module _ {A : Type 0} (P : Data → A → Type 0) (R : A → A → Type 0) (once : Once P R) (ms : Members) where
-  some_once : (o : Option Data) (x y : A) → IsSomeAnd o (λ d. P d x) → IsSomeAnd o (λ d. P d y) → R x y
-  some_once None x y one other = absurd one
-  some_once (Some d) x y one other = once d x y one other
-
   at_once : (key : List ℕ) (x y : A) → At key P ms x → At key P ms y → R x y
-  at_once key x y one other = some_once (get_member key ms) x y one other
+  at_once key x y one other = search (arith, get_member key ms)
 
   module _ (default : A) (both : R default default) where
-    match_once : (o : Option Data) (x y : A) → MatchOption o (x ≡ default) (λ d. P d x) → MatchOption o (y ≡ default) (λ d. P d y) → R x y
-    match_once None x y one other = subst (λ u. R u y) (sym one) (subst (λ v. R default v) (sym other) both)
-    match_once (Some d) x y one other = once d x y one other
-
     or_once : (key : List ℕ) (x y : A) → AtOr default key P ms x → AtOr default key P ms y → R x y
-    or_once key x y one other = match_once (get_member key ms) x y one other
+    or_once key x y one other = search (arith, get_member key ms)
 
 number_at : (ms : Members) (key : List ℕ) (m n : ℕ) → At key IsNumber ms m → At key IsNumber ms n → m ≡ n
 number_at ms = at_once IsNumber ◌≡◌ number_once ms
-
-wide_at : (ms : Members) (key : List ℕ) (m n : ℕ) → At key IsWideNumber ms m → At key IsWideNumber ms n → m ≡ n
-wide_at ms = at_once IsWideNumber ◌≡◌ wide_once ms
 
 list_at : {A : Type 0} (P : Data → A → Type 0) → Once P ◌≡◌ → (ms : Members) (key : List ℕ) (xs ys : List A) → AtOr [] key (IsList P) ms xs →
     AtOr [] key (IsList P) ms ys → xs ≡ ys
@@ -149,7 +119,7 @@ tables_at P R once ms = or_once (IsList (IsTable P)) (Each R) (list_once (IsTabl
 -- ---- entries
 
 bank_once : Once IsBank ◌≡◌
-bank_once = grind (arith, nat_tests, number_at, wide_at)
+bank_once = grind (arith, nat_tests, number_at, at_once, wide_once)
 
 process_once : Once IsProcess IsSameProcess
 process_once ms p q one other = record {
@@ -187,8 +157,9 @@ description_once ms d e one other =
       geometry = same;
       layout = or_once IsNumber ◌≡◌ number_once ms 1 refl (codes "layout") d.layout e.layout one.layout other.layout;
       age = or_once IsNumber ◌≡◌ number_once ms 0 refl (codes "age") d.age e.age one.age other.age;
-      ranges = or_once (IsList IsRange) ◌≡◌ (list_same IsRange range_once) ms (whole_ranges e.geometry) refl (codes "ranges") d.ranges.items e.ranges.items
-          (subst (λ (g : Geometry). AtOr (whole_ranges g) (codes "ranges") (IsList IsRange) ms d.ranges.items) same one.ranges) other.ranges;
+      ranges = or_once (IsList IsRange) ◌≡◌ (list_same IsRange (search (arith, pair_once, number_once))) ms (whole_ranges e.geometry) refl (codes "ranges")
+          d.ranges.items e.ranges.items (subst (λ (g : Geometry). AtOr (whole_ranges g) (codes "ranges") (IsList IsRange) ms d.ranges.items) same one.ranges)
+          other.ranges;
       banks = or_once (IsList (IsTable IsBank)) ◌≡◌ (list_same (IsTable IsBank) (table_once IsBank ◌≡◌ bank_once)) ms [] refl (codes "bank") d.banks.items
           e.banks.items one.banks other.banks;
       processes = tables_at IsProcess IsSameProcess process_once ms (codes "process") d.processes.items e.processes.items one.processes other.processes;

@@ -1,43 +1,33 @@
 -- A whole is not there where a part isn't.
-use Rattle.description.proofs.Names.{List, Result, Ok, Err, IsErrAnd, Vec, Global, subst, sym, Data, Members, table, as_table, same_Some, ap, Finds, Fails}
-use Rattle.description.proofs.Names.{Reads, ReadsList, BuildFault, IsTable, IsTrue, false, false≢true, IsNode, IsPage, IsProcess, IsSlot, IsWord, HasList}
-use Rattle.description.proofs.Names.{NodeEntry, PageEntry, ProcessEntry, ℕ, codes, HasNumberAndOwner, HasProcessFields, ProcessFields}
+use Rattle.description.proofs.Names.{arith, List, Result, Ok, Err, IsErrAnd, Vec, Global, subst, sym, Data, Members, table, as_table, same_Some, ap, Finds}
+use Rattle.description.proofs.Names.{Fails, Reads, ReadsList, BuildFault, IsTable, IsTrue, false, false≢true, IsNode, IsPage, IsProcess, IsSlot, IsWord}
+use Rattle.description.proofs.Names.{HasList, NodeEntry, PageEntry, ProcessEntry, ℕ, codes, HasNumberAndOwner, HasProcessFields, ProcessFields}
 use Rattle.std.proofs.Common.{◌≡◌, ◌∙◌}
 use Rattle.std.specs.Prelude.{◌↔◌}
 use Rattle.image_writer.specs.declared.fault.BuildFault.TheVariants as fault
 
 passed_on : {A B : Type 0} (P : A → Type 0) (Q : B → Type 0) (e : BuildFault) → Fails P e → ((y : B) → Q y → (x : A) × P x) → Fails Q e
-passed_on P Q fault.Shape none part = λ y is. none (part y is).0 (part y is).1
-passed_on P Q fault.NoMemory none part = tt
-passed_on P Q other none part = none
+passed_on P Q e none part = search arith
 
 -- the same at an error that is passed on
 pub failed : {A B : Type 0} (P : A → Type 0) (Q : B → Type 0) (e : BuildFault) (r : Result B BuildFault) → IsErrAnd r (λ y. y ≡ e) → Fails P e →
     ((y : B) → Q y → (x : A) × P x) → Reads Q r
-failed P Q e (Ok y) same none part = absurd same
-failed P Q e (Err f) same none part = rw same (passed_on P Q e none part)
+failed P Q e r same none part = search (arith, passed_on)
 
 pub failed_list : {A B : Type 0} (P : A → Type 0) (Q : List B → Type 0) (e : BuildFault) (r : Result (Vec B Global) BuildFault) →
     IsErrAnd r (λ y. y ≡ e) → Fails P e → ((ys : List B) → Q ys → (x : A) × P x) → ReadsList Q r
-failed_list P Q e (Ok y) same none part = absurd same
-failed_list P Q e (Err f) same none part = rw same (passed_on P Q e none part)
+failed_list P Q e r same none part = search (arith, passed_on)
 
 -- and where no memory is taken
 pub missed : {A B : Type 0} (P : A → Type 0) (Q : B → Type 0) (e : BuildFault) (r : Result B BuildFault) → IsErrAnd r (λ y. y ≡ e) →
     (e ≡ fault.Shape) × ((x : A) → P x → ⊥) → ((y : B) → Q y → (x : A) × P x) → Finds Q r
-missed P Q e (Ok y) same none part = absurd same
-missed P Q e (Err f) same none part = (same ∙ none.0, λ y is. let x = part y is in none.1 x.0 x.1)
+missed P Q e r same none part = search arith
 
 pub as_read : {A : Type 0} (P : A → Type 0) (r : Result A BuildFault) → Finds P r → Reads P r
-as_read P (Ok x) is = is
-as_read P (Err e) none = rw none.0 none.1
-
--- what a table says
-pub same_members : (ms ns : Members) → table ms ≡ table ns → ms ≡ ns
-same_members ms ns same = same_Some ms ns (ap as_table same)
+as_read P r is = search arith
 
 pub in_table : {A : Type 0} (P : Members → A → Type 0) (d : Data) (ms : Members) (x : A) → d ≡ table ms → IsTable P d x → P ms x
-in_table P d ms x is said = subst (λ ns. P ns x) (same_members said.0 ms (sym said.1 ∙ is)) said.2
+in_table P d ms x is said = subst (λ ns. P ns x) (search (arith, same_Some, said.0, sym said.1 ∙ is)) said.2
 
 pub no_whole : {A B : Type 0} (P : A → Type 0) (Q : B → Type 0) → ((x : A) → P x → ⊥) → ((y : B) → Q y → (x : A) × P x) → IsTrue false ↔ ((y : B) × Q y)
 no_whole P Q none part = (λ so. absurd (false≢true so), λ y. let x = part y.0 y.1 in absurd (none x.0 x.1))

@@ -13,16 +13,13 @@ pub record GoneTo (g : Geometry) (rs : List NumberRange) (i next : ℕ) : Type 0
   pub within : next ≤ object_count g
   pub goes_on : Cover g next (map (placed 0) (drop i rs)) → Cover g 0 (map (placed 0) rs)
 
-pub gone_more : (g : Geometry) (rs : List NumberRange) (i next : ℕ) (r : NumberRange) → i < length rs → get_or rs i r ≡ r → GoneTo g rs i next →
-    GoesOn g r next →
-    GoneTo g rs (i + 1) (next + r.count)
-gone_more g rs i next r lt at gone on = record {
-  count = ap (λ n. n + r.count) gone.count ∙ sym (count_more (take i rs) r) ∙ ap count_in (sym (take_more rs i r lt ∙ ap (λ s. take i rs ++ s ∷ []) at));
-  within = on.1;
-  goes_on = λ covers. gone.goes_on (rw (drop_more rs i r lt ∙ ap (λ s. s ∷ drop (i + 1) rs) at) (on.0, covers));
-}
-
 -- the range of an index, whatever stands for those that aren't there
 pub gone_on : (g : Geometry) (rs : List NumberRange) (i next : ℕ) (d : NumberRange) → i < length rs → GoneTo g rs i next → GoesOn g (get_or rs i d) next →
     GoneTo g rs (i + 1) (next + (get_or rs i d).count)
-gone_on g rs i next d lt gone on = gone_more g rs i next (get_or rs i d) lt (get_or_default rs i (get_or rs i d) d lt) gone on
+gone_on g rs i next d lt gone on = record {
+  count = ap (λ n. n + (get_or rs i d).count) gone.count ∙ sym (count_more (take i rs) (get_or rs i d))
+      ∙ ap count_in (sym (take_more rs i (get_or rs i d) lt ∙ ap (λ s. take i rs ++ s ∷ []) (get_or_default rs i (get_or rs i d) d lt)));
+  within = on.1;
+  goes_on = λ covers. gone.goes_on (rw (drop_more rs i (get_or rs i d) lt ∙ ap (λ s. s ∷ drop (i + 1) rs) (get_or_default rs i (get_or rs i d) d lt))
+      (on.0, covers));
+}

@@ -25,8 +25,7 @@ rooted d (OfBank b) f p a of is frame root = let none : None ≡ Some a = sym (a
 rooted d (OfRoot q) f p a of is frame root =
     let same : Some q.annex ≡ Some a = sym (ap annex_of frame.4) ∙ root in
     (q, record { of = of; root = is; annex = cc })
-rooted d (OfAnnex q) f p a of is frame root = let none : None ≡ Some a = sym (ap annex_of frame.2) ∙ root in absurd cc
-rooted d other f p a of is frame root = let none : None ≡ Some a = sym (ap annex_of frame.2) ∙ root in absurd cc
+rooted d e f p a of is frame root = let none : None ≡ Some a = sym (ap annex_of frame.2) ∙ root in absurd cc
 
 pub root_is : (d : Description) (fs : List Frame) (p a : ℕ) → IsDescribed d fs → IsRootOf fs p a → (q : ProcessEntry) × IsProcess d q p a
 root_is d fs p a is root = elim (described_cases d fs p is) [

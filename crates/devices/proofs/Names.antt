@@ -27,8 +27,8 @@ pub use Rattle.devices.specs.FileDevice.{file_disk}
 pub use Rattle.devices.specs.Mirror.{disk_of_mirror, past_of, state_of}
 pub use Rattle.devices.specs.MirrorSound.{IsSoundMirror, now_of, state_with}
 pub use Rattle.devices.specs.MirrorSoundLaws.{durable_whole, present_whole, synced_same}
-pub use Rattle.devices.specs.OpeningCalls.{Answers, Gets, GetsFrom, IsMade, IsOpened, KeepsLength, LoadsLocked, MakesZeros, Mirrors, OpeningCall, got, listed}
-pub use Rattle.devices.specs.OpeningCalls.{locked, measured, opened, reads, resized, resizes}
+pub use Rattle.devices.specs.OpeningCalls.{Answers, Gets, GetsFrom, IsMade, IsOpened, KeepsLength, LoadsLocked, MakesZeros, Mirrors, OpeningCall, TakesLock}
+pub use Rattle.devices.specs.OpeningCalls.{got, listed, locked, measured, opened, reads, resized, resizes}
 pub use Rattle.devices.specs.Past.{EndsCut, Event, IsQuiet, MayLeave, State, after, at_first, cut, disk_of, left_by, replay, synced, writes_of, wrote}
 pub use Rattle.devices.specs.PastLaws.{image_whole}
 pub use Rattle.devices.specs.RawCalls.{Adds, Call, Deed, Takes, Tells, calls_of, events_by, taken, took, writes}
@@ -44,6 +44,7 @@ pub use Rattle.devices.specs.declared.mirror.Mirror.{Mirror}
 pub use Rattle.devices.specs.declared.openable.Access.{Access}
 pub use Rattle.devices.specs.declared.openable.Access.TheVariants.{Create}
 pub use Rattle.devices.specs.declared.openable.Lock.{Lock}
+pub use Rattle.devices.specs.declared.openable.Lock.TheVariants.{Exclusive}
 pub use Rattle.devices.specs.declared.record.Action.{Action}
 pub use Rattle.devices.specs.declared.record.Action.TheVariants.{Synced, Wrote}
 pub use Rattle.devices.specs.declared.record.Outcome.{Outcome}

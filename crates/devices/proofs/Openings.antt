@@ -2,7 +2,7 @@
 use Rattle.devices.proofs.Names.{nat_tests, ℕ, List, [], Option, option_map, IfSome, length, take, refl, sym, ap, subst, append-nil, arith, drop, length-append}
 use Rattle.devices.proofs.Names.{length-take-le, take-append-le, concat-append, concat, Disk, Agrees, image_of, sectors_of, Access, Create, Lock, OpeningCall}
 use Rattle.devices.proofs.Names.{opened, locked, measured, got, resized, listed, resizes, KeepsLength, reads, Gets, LoadsLocked, MakesZeros, IsOpened, IsMade}
-use Rattle.devices.proofs.Names.{GetsFrom, Adds, AreSectors, Elsewhere, min, take-append-add, take_all, take-put_mid_below}
+use Rattle.devices.proofs.Names.{GetsFrom, Adds, AreSectors, Elsewhere, min, take-append-add, take_all, take-put_mid_below, TakesLock, Exclusive}
 use Rattle.devices.specs.OpeningCalls.{synced}
 use Rattle.std.proofs.Common.{◌≡◌, ◌+◌, ◌*◌, ◌≤◌, ◌∷◌, ◌++◌, ◌∙◌, ◌%◌}
 use Rattle.devices.proofs.Deeds.{adds_none, adds_more}
@@ -86,6 +86,16 @@ sectors_on a b c old new part at byte next byte_is same whole inside end written
     let all : take byte old ++ part ≡ take (byte + length part) new = grind (arith, nat_tests, front_part) in
     let reaches : take (byte + length part) new ≡ take next new = grind (arith, nat_tests, take_all) in
     subst (Gets a c) (all ∙ reaches) (gets_join 0 byte a b c (take byte old) part (omega (arith, size)) gets more)
+
+-- a file that is locked, emptied, lengthened and synced, and then its folder
+pub fills : (path : List ℕ) (n : ℕ) (a b c d e f : Calls) → TakesLock Exclusive a b → Adds b c (resized 0 ∷ []) → Adds c d (resized n ∷ []) →
+    Adds d e (synced ∷ []) → Adds e f (listed path ∷ []) → MakesZeros path n a f
+fills path n a b c d e f took emptied extended kept seen =
+    let last : Adds d f (synced ∷ listed path ∷ []) = adds_more d e f (synced ∷ []) (listed path ∷ []) kept seen in
+    let more : Adds b f (resized 0 ∷ resized n ∷ synced ∷ listed path ∷ []) =
+    adds_more b c f (resized 0 ∷ []) (resized n ∷ synced ∷ listed path ∷ []) emptied
+    (adds_more c d f (resized n ∷ []) (synced ∷ listed path ∷ []) extended last) in
+    (took.0, took.1, adds_more a b f (locked Exclusive took.0 ∷ []) (resized 0 ∷ resized n ∷ synced ∷ listed path ∷ []) took.2 more)
 
 -- a file that was just opened, and then loaded
 pub opens : (path : List ℕ) (access : Access) (lock : Lock) (a b : Calls) (copy : List ℕ) (disk : Disk)

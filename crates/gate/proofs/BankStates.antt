@@ -29,8 +29,7 @@ module _ (old mid : Parts) (s : BanksState) (sound : AreSound old) (counted : Ar
     before_counted = subst (λ (g : Geometry). AreCounted g (objects_in mid) s) (sym geometry) (counted_on before_frame counted)
 
     sound_before : (k : Operation) → (let w : World = record { objects = state_before k (objects_in old) p; age = sound.0 } in IsSound old.geometry w)
-    sound_before Return = state_sound old.geometry (objects_in old) p sound.0 sound.1.sound (running_process (objects_in old) p runs)
-        (process_runs (objects_in old) p runs)
+    sound_before Return = search (arith, nat_tests, state_sound, running_process, process_runs)
     sound_before c = sound.1.sound
 
     pub before_sound : AreCurrent (frames_of mid) → AreKeepable old.geometry sound.0 (frames_of mid) → AreSound mid
@@ -45,9 +44,7 @@ module _ (old mid : Parts) (s : BanksState) (sound : AreSound old) (counted : Ar
 
     pub before_may : (i : Invocation) (caller : Caller) (plan : OrderPlan) (list : List ℕ) → IsPlanned old.geometry (objects_in old) i caller plan list →
         AreSound mid → MayChange mid.geometry (objects_in mid) (drop (writer_count caller.operation) list) plan.change
-    before_may i caller plan list planned there =
-        subst (λ (g : Geometry). MayChange g (objects_in mid) (drop (writer_count caller.operation) list) plan.change) (sym geometry)
-        (planned.plans.may (objects_in mid) before_frame (subst (λ (g : Geometry). IsNow g (objects_in mid)) geometry (now_sound mid there)))
+    before_may i caller plan list planned there = search (arith, nat_tests, before_frame, now_sound)
 
 -- a reply changes no frame
 pub answered_frame : (op : Operation) (us : List Object) (p : ℕ) (replying : Reply) → SameFrame us (answered op p us replying)
@@ -95,8 +92,7 @@ module _ (old mid new : Parts) (i : Invocation) (s : BanksState) (sound : AreSou
       (subst (λ (us : List Object). IsTrue (is_running_process us i.process)) (sym same) runs)
       (subst (λ (us : List Object). IsNoBankOrder (register_at us i.process i.register) (slice_index i.words 0)) (sym same) other) invokes.1 in
       subst (λ (X : Type 0). X) (λ k. AreCounted (sym geometry k) (sym invokes.2 k) s) (counted_on frame counted_mid)
-  counted_after (Err e) done unchanged =
-      subst (λ (X : Type 0). X) (λ k. AreCounted (sym geometry k) (objects_of (sym (same_frames mid new unchanged.headers unchanged.contents) k)) s) counted_mid
+  counted_after (Err e) done unchanged = search (arith, nat_tests, same_frames, counted_mid)
 
 -- an order of the bank that is invoked may be planned
 pub bank_may_ask : (p : Parts) (s : BanksState) (i : Invocation) (caller : Caller) (b : ℕ) (args : Arguments) → AreSound p →

@@ -88,12 +88,7 @@ module _ {g : Geometry} {os : List Object} {i : Invocation} {caller : Caller} {p
         objects = answered op caller.process (changed (state_before op os caller.process) rest plan.change) plan.reply;
         written = writers op caller.process caller.annex ++ rest;
       }
-  effect_planned Call = ap (effect_by Call caller.process caller.annex) planned.plans.here
-  effect_planned Return =
-      let us = with_state os caller.process Available in
-      let frame = state_frame os caller.process Available process in
-      λ k. record { objects = planned.plans.objects us frame k; written = writers Return caller.process caller.annex ++ planned.plans.written us frame k }
-  effect_planned Send = ap (effect_by Send caller.process caller.annex) planned.plans.here
+  effect_planned operation = search (arith, nat_tests, state_frame)
 
   pub order_objects : (on_kernel_object g os i).objects ≡ finished os caller rest plan
   order_objects = ap (λ (e : Effect). e.objects) (effect_requested ∙ effect_planned caller.operation)
@@ -202,9 +197,6 @@ contained (y ∷ ys) (suc i) x inside is =
     (suc rest.0, omega (arith, rest.1), rest.2)
 
 -- what is written through a gate
-abbrev asking : Operation → ℕ → List ℕ
-asking operation p = elim operation [ Send ↦ [] | _ ↦ p ∷ [] ]
-
 asking_in : (operation : Operation) (p q a : ℕ) → (operation ≡ Send → ⊥) → Contains (written_through operation p q a) p
 asking_in operation p q a other = grind (arith, nat_tests)
 

@@ -20,14 +20,15 @@ pub use Rattle.layout.specs.declared.half.Half.TheVariants.{First, Second}
 pub use Rattle.layout.specs.declared.shape.Shape.{Shape}
 pub use Rattle.layout.specs.declared.shape.Shape.TheVariants.{Node, Packed, Page}
 pub use Rattle.layout.specs.declared.version.Version.{Version}
-pub use Rattle.layout.specs.declared.version.Version.TheVariants.{One, Two}
+pub use Rattle.layout.specs.declared.version.Version.TheVariants.{Two}
 pub use Rattle.model.specs.declared.geometry.Geometry.{Geometry}
-pub use Rattle.std.proofs.Common.{Bool, List, None, Option, Result, Some, [], ap, arith, false, get_or, inl, inr, length, min, nat_lt, refl, subst, suc, sym}
-pub use Rattle.std.proofs.Common.{true, zero, ℕ, ⊎_elim}
+pub use Rattle.std.proofs.Common.{Bool, List, None, Option, Result, Some, [], ap, arith, false, get_or, inl, inr, length, min, nat_lt, refl, rules, subst, suc}
+pub use Rattle.std.proofs.Common.{sym, true, zero, ℕ}
 pub use Rattle.std.proofs.lemmas.Bool.{cases_eq, cases_lt, eq-eqb, ne_eqb}
 pub use Rattle.std.proofs.lemmas.Bool.Decides.{nat_tests}
 pub use Rattle.std.proofs.lemmas.List.{get_or-map, get_or_append_left, length-map}
 pub use Rattle.std.proofs.lemmas.Option.{same_Some}
+pub use Rattle.std.proofs.lemmas.Result.{on_ok_weaker}
 pub use Rattle.std.specs.Prelude.{OnOk, ⊤}
 pub use Rattle.home_ranges.specs.Home.{EndsInZeros, HaveHome, HoldsHome}
-pub use Rattle.home_ranges.specs.Laws.{FramesAreHome, FramesStay, NumbersAreApart, PlacesAreApart, PlacesAreWithin, PlacesSpareLog, home_extent}
+pub use Rattle.home_ranges.specs.Laws.{NumbersAreApart, PlacesAreApart, PlacesAreWithin, PlacesSpareLog, home_extent}

@@ -1,12 +1,12 @@
 -- Places of numbers in ranges that cover them.
-use Rattle.home_ranges.proofs.Names.{ℕ, zero, suc, refl, Option, Some, None, List, [], length, get_or, sym, ap, subst, inl, inr, arith, Result, true, false}
-use Rattle.home_ranges.proofs.Names.{nat_lt, min, OnOk, ⊤, cases_lt, length-map, get_or_append_left, get_or-map, nat_tests, Geometry, Image, Extent, HomeRange}
-use Rattle.home_ranges.proofs.Names.{Half, First, Second, Shape, Node, Packed, Page, Version, One, Two, half_of, range_with, place_in, place_by, home_place}
-use Rattle.home_ranges.proofs.Names.{rank_in, shape_of, place_length, sectors_from, node_shape, shape_bytes, shape_length, Plan, IsPlan, Cover, IsOfOneKind}
-use Rattle.home_ranges.proofs.Names.{IsWithin, IsApart, IsInside, extent_at, extents, range_extent, half_extent, half_start, itself, apart_inside, apart_turned}
-use Rattle.home_ranges.proofs.Names.{many, half_at, IsObject, EndsInZeros, HaveHome, HoldsHome, home_extent, PlacesAreWithin, PlacesAreApart, NumbersAreApart}
+use Rattle.home_ranges.proofs.Names.{ℕ, zero, suc, Option, Some, None, List, [], length, get_or, sym, ap, subst, inl, inr, arith, Result, true, false, nat_lt}
+use Rattle.home_ranges.proofs.Names.{min, OnOk, ⊤, cases_lt, length-map, get_or_append_left, get_or-map, nat_tests, Geometry, Image, Extent, HomeRange, Half}
+use Rattle.home_ranges.proofs.Names.{First, Second, Shape, Node, Packed, Page, Version, Two, half_of, range_with, place_in, place_by, home_place, rank_in}
+use Rattle.home_ranges.proofs.Names.{shape_of, place_length, sectors_from, node_shape, shape_bytes, shape_length, Plan, IsPlan, Cover, IsOfOneKind, IsWithin}
+use Rattle.home_ranges.proofs.Names.{IsApart, IsInside, extent_at, extents, range_extent, half_extent, half_start, itself, apart_inside, apart_turned, many}
+use Rattle.home_ranges.proofs.Names.{half_at, IsObject, EndsInZeros, HaveHome, HoldsHome, home_extent, PlacesAreWithin, PlacesAreApart, NumbersAreApart}
 use Rattle.home_ranges.proofs.Names.{PlacesSpareLog, same_Some}
-use Rattle.std.proofs.Common.{◌≡◌, ◌⊎◌, ◌+◌, ◌-◌, ◌*◌, ◌/◌, ◌%◌, ◌<◌, ◌≤◌, ◌∷◌, ◌∙◌}
+use Rattle.std.proofs.Common.{◌≡◌, ◌⊎◌, ◌+◌, ◌-◌, ◌/◌, ◌%◌, ◌<◌, ◌≤◌, ◌∷◌, ◌∙◌}
 use Rattle.std.specs.Prelude.{if◌then◌else◌}
 
 abbrev pub range_at : List HomeRange → ℕ → HomeRange
@@ -79,10 +79,6 @@ apart_in_one : (v : Version) {g : Geometry} {r : HomeRange} {a b : ℕ} → Has 
     IsApart (extent_in v g r a) (extent_in v g r b)
 apart_in_one v {g} {r} {a} {b} has_a has_b differ = grind (arith, nat_tests)
 
--- by version 1 two numbers of a range that have one place are one
-same_number : {v : Version} {g : Geometry} {r : HomeRange} {a b : ℕ} → v ≡ One → Has g r a → Has g r b → place_in v g r a ≡ place_in v g r b → a ≡ b
-same_number {v} {g} {r} {a} {b} first has_a has_b same = grind (arith, nat_tests)
-
 -- ---- ranges and log halves as extents
 
 ranges_extent : (p : Plan) {i : ℕ} → i < length p.ranges → extent_at (extents p) i ≡ range_extent p.version p.geometry (range_at p.ranges i)
@@ -96,8 +92,7 @@ ranges_apart : {p : Plan} {i j : ℕ} → IsPlan p → i < j → j < length p.ra
 ranges_apart {p} {i} {j} fits lt within =
     let apart = fits.apart i j lt (omega (arith, many p)) in
     let in_i : i < length p.ranges = omega arith in
-    subst (λ (e : Extent). IsApart e (range_extent p.version p.geometry (range_at p.ranges j))) (ranges_extent p in_i)
-    (subst (IsApart (extent_at (extents p) i)) (ranges_extent p within) apart)
+    grind (arith, nat_tests, ranges_extent)
 
 -- ---- the laws
 
@@ -119,7 +114,7 @@ places_within p a fits is =
     let at = found a fits is in
     let inside = home_inside p at.1 in
     let within = range_within fits at.1.within in
-    (omega (arith, inside.starts, within.0), omega (arith, inside.ends, within.1))
+    grind (arith, nat_tests)
 
 -- two homes are apart, or a range has both
 either_range : {p : Plan} {a b : ℕ} → IsPlan p → IsObject p.geometry a → IsObject p.geometry b →
@@ -152,7 +147,7 @@ pub places_apart : PlacesAreApart
 places_apart = grind (arith, nat_tests, apart_by, apart_in_one, place_is)
 
 pub numbers_apart : NumbersAreApart
-numbers_apart = grind (arith, nat_tests, apart_by, apart_in_one, same_number)
+numbers_apart = grind (arith, nat_tests, apart_by, apart_in_one)
 
 spares_at : {p : Plan} {a : ℕ} (k : ℕ) → IsPlan p → IsObject p.geometry a → k < 2 →
     IsApart (home_extent p a) (extent_at (half_extent p.geometry p.half_0 ∷ half_extent p.geometry p.half_1 ∷ []) k)
@@ -161,8 +156,7 @@ spares_at {p} {a} k fits is few =
     let range : Extent = range_extent p.version p.geometry (range_at p.ranges at.0) in
     let half : Extent = extent_at (half_extent p.geometry p.half_0 ∷ half_extent p.geometry p.half_1 ∷ []) k in
     let apart = fits.apart at.0 (length p.ranges + k) (omega (arith, at.1.within)) (omega (arith, many p)) in
-    apart_inside (home_extent p a) half range half (home_inside p at.1) (itself half)
-    (subst (IsApart range) (half_at p k) (subst (λ (e : Extent). IsApart e (extent_at (extents p) (length p.ranges + k))) (ranges_extent p at.1.within) apart))
+    grind (arith, nat_tests, apart_inside, home_inside, itself, half_at, ranges_extent)
 
 spares_half : {p : Plan} {a : ℕ} (h : Half) → IsPlan p → IsObject p.geometry a → IsApart (home_extent p a) (half_extent p.geometry (half_start p h))
 spares_half First fits is = spares_at 0 fits is (omega arith)
@@ -177,7 +171,8 @@ places_spare_log p a generation fits is = spares_half (half_of generation) fits 
 covered_from : (g : Geometry) (n i : ℕ) (rs : List HomeRange) → Cover g n rs → i < length rs → n ≤ (range_at rs i).first
 covered_from g n i [] c lt = absurd (omega (arith, lt))
 covered_from g n zero (r ∷ rs) c lt = omega (arith, c.0.0)
-covered_from g n (suc i) (r ∷ rs) c lt = let later = covered_from g (n + r.count) i rs c.1 (omega (arith, lt)) in omega (arith, later)
+covered_from g n (suc i) (r ∷ rs) c lt =
+    let later = covered_from g (n + r.count) i rs c.1 (omega (arith, lt)) in omega (arith, later)
 
 pub found_too : {g : Geometry} (n i : ℕ) {number : ℕ} (rs : List HomeRange) → Cover g n rs → i < length rs → Has g (range_at rs i) number →
     IsFound g rs number i
@@ -216,13 +211,10 @@ one_range {p} {a} {b} fits is_a is_b same = grind (arith, nat_tests, either_rang
 pub shape_is : (p : Plan) {number i : ℕ} → IsFound p.geometry p.ranges number i → shape_of p number ≡ shape_in p.version p.geometry (range_at p.ranges i) number
 shape_is p {number} at = ap (λ (r : Option HomeRange). if nat_lt number p.geometry.nodes then node_shape p.version (rank_in r number) else Page) at.found
 
-lengths_in : (v : Version) {g : Geometry} {r : HomeRange} {a b : ℕ} → Has g r a → Has g r b → shape_length (shape_in v g r a) ≡ shape_length (shape_in v g r b)
-lengths_in v {g} {r} {a} {b} has_a has_b = grind (arith, nat_tests)
-
 -- what has one home has as many sectors
 pub one_length : (p : Plan) (a b : ℕ) → IsPlan p → IsObject p.geometry a → IsObject p.geometry b → home_place p a ≡ home_place p b →
     place_length p a ≡ place_length p b
-one_length p a b fits is_a is_b same = grind (arith, nat_tests, one_range, shape_is, lengths_in)
+one_length p a b fits is_a is_b same = grind (arith, nat_tests, one_range, shape_is)
 
 -- so the bytes of a home are the frames of all that have it
 pub home_held : {p : Plan} {number at n : ℕ} {s : Shape} {bytes : List ℕ} (image : Image) → IsPlan p → IsObject p.geometry number → at ≡ home_place p number →
@@ -240,13 +232,11 @@ pub range_of : {p : Plan} {number : ℕ} {r : HomeRange} → IsPlan p → IsObje
 range_of {p} {number} {r} fits is reported =
     let at = found number fits is in
     let same : r ≡ range_at p.ranges at.0 = same_Some _ _ (reported ∙ at.1.found) in
-    record {
-      sector = subst (λ (q : HomeRange). q.sector ≤ 131072) (sym same) (let within = range_within fits at.1.within in omega (arith, within.1, fits.total));
-      place = ap (λ (q : Option HomeRange). place_by p.version p.geometry q number) (sym reported);
-    }
+    grind (arith, nat_tests, range_within)
 
 pub no_range : {p : Plan} {number : ℕ} → IsPlan p → IsObject p.geometry number → None ≡ range_with p.ranges number → ⊥
-no_range {p} {number} fits is reported = let at = found number fits is in let never : None ≡ Some (range_at p.ranges at.0) = reported ∙ at.1.found in cc
+no_range {p} {number} fits is reported =
+    let at = found number fits is in let never : None ≡ Some (range_at p.ranges at.0) = reported ∙ at.1.found in cc
 
 -- a place of a number, behind the headers and before the end
 pub record IsPlace (p : Plan) (number place : ℕ) : Type 0 where
@@ -276,37 +266,20 @@ pub ranked_in : {v : Version} {g : Geometry} {r : HomeRange} {number rank : ℕ}
     IsRanked v g r number rank
 ranked_in {v} {g} {r} {number} {rank} has e = grind (arith, nat_tests)
 
--- the place of a rank's cluster
-cluster_place : {v : Version} {g : Geometry} {r : HomeRange} {number rank : ℕ} → Has g r number → IsRanked v g r number rank →
-    place_in v g r number ≡ r.sector + 8 * ((number - r.first) / 5)
-cluster_place has is = rw (is.second, node_in has is.nodes) refl
-
--- and of the others of its range
-same_ranked : {v : Version} {g : Geometry} {r : HomeRange} {a number rank : ℕ} → IsRanked v g r number rank → IsRanked v g r a ((a - r.first) % 5)
-same_ranked is = record { second = is.second; nodes = is.nodes; value = refl }
-
-ranked_shape : {v : Version} {g : Geometry} {r : HomeRange} {number rank : ℕ} → Has g r number → IsRanked v g r number rank →
-    shape_in v g r number ≡ Packed rank
-ranked_shape has is = rw (is.second, node_in has is.nodes) (ap (λ (k : ℕ). Packed k) (sym is.value))
-
 -- in a range, what has the home of a number
 pub one_cluster : {v : Version} {g : Geometry} {r : HomeRange} {a number rank : ℕ} → Has g r a → Has g r number → IsRanked v g r number rank →
     place_in v g r a ≡ place_in v g r number → (a - r.first) / 5 ≡ (number - r.first) / 5
 one_cluster {v} {g} {r} {a} {number} {rank} has_a has is same = grind (arith, nat_tests)
 
-alone_in : (v : Version) {g : Geometry} {r : HomeRange} {a number : ℕ} → Has g r a → Has g r number → IsOwn (shape_in v g r number) →
-    place_in v g r a ≡ place_in v g r number → a ≡ number
-alone_in v {g} {r} {a} {number} has_a has own same = grind (arith, nat_tests)
-
 -- no other number has the home of a frame in sectors of its own
 pub alone : (p : Plan) (a number : ℕ) → IsPlan p → IsObject p.geometry a → IsObject p.geometry number → IsOwn (shape_of p number) →
     home_place p a ≡ home_place p number → a ≡ number
-alone p a number fits is_a is own same = grind (arith, nat_tests, one_range, alone_in, shape_is)
+alone p a number fits is_a is own same = grind (arith, nat_tests, one_range, shape_is)
 
 -- what has the home of the first of a cluster lies there by its rank
 pub ranked : (p : Plan) (a number : ℕ) → IsPlan p → IsObject p.geometry a → IsObject p.geometry number → shape_of p number ≡ Packed 0 →
     home_place p a ≡ home_place p number → (number ≤ a) × (a < number + 5) × (shape_of p a ≡ Packed (a - number)) × (a < p.geometry.nodes)
-ranked p a number fits is_a is shape same = grind (arith, nat_tests, one_range, ranked_in, shape_is, one_cluster, ranked_shape)
+ranked p a number fits is_a is shape same = grind (arith, nat_tests, one_range, ranked_in, shape_is, one_cluster, node_in)
 
 -- ---- the numbers of a cluster
 
@@ -317,7 +290,7 @@ module _ (p : Plan) (number rank i : ℕ) (fits : IsPlan p) (at : IsFound p.geom
 
   -- another of its range and its five has its home
   pub beside : {a : ℕ} → r.first ≤ a → a < r.first + r.count → (a - r.first) / 5 ≡ (number - r.first) / 5 → home_place p a ≡ home_place p number
-  beside {a} low high one = grind (arith, nat_tests, found_too, place_is, cluster_place, same_ranked)
+  beside {a} low high one = grind (arith, nat_tests, found_too, place_is, node_in)
 
 -- a number of a cluster but the first of it has the home of the number before
 pub one_before : (p : Plan) (number rank : ℕ) → IsPlan p → IsObject p.geometry number → shape_of p number ≡ Packed rank → 1 ≤ rank →
@@ -326,11 +299,8 @@ one_before p number rank fits is shape some =
     let there = found number fits is in
     let at = there.1 in
     let r : HomeRange = range_at p.ranges there.0 in
-    let here = ranked_in at.has (sym (shape_is p at) ∙ shape) in (
-      omega (arith, here.value, some, at.has.low),
-      beside p number rank there.0 fits at here (omega (arith, here.value, some, at.has.low)) (omega (arith, at.has.high, here.value, some))
-          (omega (arith, here.value, some, at.has.low)),
-    )
+    let here = ranked_in at.has (sym (shape_is p at) ∙ shape) in
+    grind (arith, nat_tests, beside)
 
 module _ {p : Plan} {number : ℕ} (fits : IsPlan p) (is : IsObject p.geometry number) where
   -- a frame in sectors of its own shares them with none
@@ -346,19 +316,8 @@ module _ {p : Plan} {number : ℕ} (fits : IsPlan p) (is : IsObject p.geometry n
       let q : HomeRange = range_at p.ranges there.0 in
       let one : r ≡ q = same_Some _ _ (reported ∙ at.found) in
       let few : n ≡ min (q.count - (number - q.first)) (5 - rank) = subst (λ (x : HomeRange). n ≡ min (x.count - (number - x.first)) (5 - rank)) one count in
-      let here = ranked_in at.has (sym (shape_is p at) ∙ shape) in record {
-        object = λ k lt. omega (arith, lt, few, here.nodes, at.has.low, at.has.high);
-        same = λ k lt. beside p number rank there.0 fits at here (omega (arith, at.has.low)) (omega (arith, lt, few, at.has.low, at.has.high))
-            (omega (arith, lt, few, here.value, at.has.low));
-        all = λ a is_a low same.
-            let both = one_range fits is_a is same in
-            let other : range_at p.ranges both.0 ≡ q = same_Some _ _ (sym both.1.other.found ∙ at.found) in
-            let a_has : Has p.geometry q a = subst (λ (x : HomeRange). Has p.geometry x a) other both.1.one.has in
-            let place : place_in p.version p.geometry q a ≡ place_in p.version p.geometry q number = subst
-            (λ (x : HomeRange). place_in p.version p.geometry x a ≡ place_in p.version p.geometry x number) other both.1.place in
-            let five = one_cluster a_has at.has here place in
-            omega (arith, few, five, here.value, low, a_has.low, a_has.high, at.has.low);
-      }
+      let here = ranked_in at.has (sym (shape_is p at) ∙ shape) in
+      grind (arith, nat_tests, beside, one_range, same_Some, found, one_cluster)
 
 -- the frames of all that have the home of the first node stay where those in the places of these do
 pub cluster_stays : {p : Plan} {first n : ℕ} (old new : List ℕ) → IsPlan p → IsObject p.geometry first → shape_of p first ≡ Packed 0 → HaveHome p first n
@@ -367,7 +326,7 @@ pub cluster_stays : {p : Plan} {first n : ℕ} (old new : List ℕ) → IsPlan p
 cluster_stays {p} {first} old new fits is shape have stays a is_a same =
     let at = ranked p a first fits is_a is shape same in
     let few = have.all a is_a at.0 same in
-    ap (λ (s : Shape). shape_bytes s new) at.2 ∙ stays (a - first) (omega (arith, few, at.0)) ∙ ap (λ (s : Shape). shape_bytes s old) (sym at.2)
+    grind (arith, nat_tests)
 
 -- what was written to a home, said in two ways
 pub bytes_home : (p : Plan) (number : ℕ) {at n : ℕ} {s : Shape} {bytes : List ℕ} (image : Image) → at ≡ home_place p number → s ≡ shape_of p number →

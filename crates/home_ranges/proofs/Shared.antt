@@ -1,6 +1,6 @@
 -- Homes that several numbers share.
-use Rattle.home_ranges.proofs.Names.{nat_tests, ℕ, nat_lt, sym, arith, Geometry, HomeRange, Shape, Packed, Page, Version, Two, place_in, home_place, shape_of}
-use Rattle.home_ranges.proofs.Names.{node_shape, Plan, IsPlan, IsObject}
+use Rattle.home_ranges.proofs.Names.{nat_tests, ℕ, nat_lt, sym, arith, HomeRange, Shape, Packed, Page, Two, home_place, shape_of, node_shape, Plan, IsPlan}
+use Rattle.home_ranges.proofs.Names.{IsObject}
 use Rattle.std.proofs.Common.{◌≡◌, ◌-◌, ◌%◌, ◌<◌, ◌≤◌, ◌∙◌}
 use Rattle.std.specs.Prelude.{if◌then◌else◌}
 use Rattle.home_ranges.proofs.Places.{range_at, Has, found, found_too, place_is, shape_is, one_range, IsOwn, ranked_in, one_cluster}
@@ -8,13 +8,9 @@ use Rattle.home_ranges.proofs.Places.{beside}
 
 -- ---- what lies between two numbers that share a home has it too
 
-place_between : (v : Version) {g : Geometry} {r : HomeRange} {a b n : ℕ} → Has g r a → Has g r b → Has g r n → n ≤ b → b ≤ a →
-    place_in v g r a ≡ place_in v g r n → place_in v g r b ≡ place_in v g r n
-place_between v {g} {r} {a} {b} {n} has_a has_b has_n low high same = grind (arith, nat_tests)
-
 pub home_between : {p : Plan} {a b n : ℕ} → IsPlan p → IsObject p.geometry a → IsObject p.geometry n → n ≤ b → b ≤ a → home_place p a ≡ home_place p n →
     home_place p b ≡ home_place p n
-home_between {p} {a} {b} {n} fits is_a is_n low high same = grind (arith, nat_tests, one_range, place_is, found_too, place_between)
+home_between {p} {a} {b} {n} fits is_a is_n low high same = grind (arith, nat_tests, one_range, place_is, found_too)
 
 -- ---- where a cluster begins
 
@@ -39,18 +35,7 @@ begins p n rank fits is shape =
     let has_first : Has p.geometry r (n - rank) = record { low = omega (arith, here.value, at.has.low); high = omega (arith, at.has.high); kind = at.has.kind }
     in
     let found_first = found_too 0 there.0 p.ranges fits.cover at.within has_first in
-    record {
-      below = omega (arith, here.value);
-      home = beside p n rank there.0 fits at here has_first.low has_first.high (omega (arith, here.value, at.has.low));
-      first = first_shape p r here.second (shape_is p found_first) (omega (arith, here.nodes, at.has.high)) (omega (arith, here.value, at.has.low));
-      least = λ a is_a same.
-          let shared = one_range fits is_a is same in
-          let both = shared.1 in
-          let q : HomeRange = range_at p.ranges shared.0 in
-          let rank_there = ranked_in both.other.has (sym (shape_is p both.other) ∙ shape) in
-          let one = one_cluster both.one.has both.other.has rank_there both.place in
-          omega (arith, one, rank_there.value, both.one.has.low, both.other.has.low);
-    }
+    grind (arith, nat_tests, beside, first_shape, shape_is, one_range, range_at, ranked_in, one_cluster)
 
 -- ---- frames in sectors of their own
 

@@ -104,6 +104,7 @@ impl<'a> Home<'a> {
 
     /// Makes the bytes of a cluster behind its nodes 0; `first` is its first node. The frames of
     /// the nodes stay.
+    #[tactic(auto, using(crate::proofs::Places::cluster_stays))]
     pub fn blank_rest(&self, first: u64, cluster: &mut [u8])
         requires object { IsObject self.now.geometry first }
         requires shape { shape_of self.now first ≡ shape.Packed 0 }

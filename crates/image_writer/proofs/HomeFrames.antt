@@ -1,11 +1,10 @@
 -- Homes are written one after the other.
-use Rattle.image_writer.proofs.Names.{ℕ, Result, List, length, refl, arith, OnOk, cases_eq, cases_lt, get_or_read, Cap, Frame, ObjectHeader, Content, frame_at}
-use Rattle.image_writer.proofs.Names.{frames_in, header_at, object_count, Image, Elsewhere, Shape, Node, Packed, Page, frame_bytes, home_place, place_length}
-use Rattle.image_writer.proofs.Names.{shape_of, bytes_at, Plan, IsPlan, same_shaped, IsObject, IsOwn, alone, one_before, places_within, places_apart, IsHome}
-use Rattle.image_writer.proofs.Names.{LieAt, frames_before}
-use Rattle.std.proofs.Common.{slice_index_or, ◌≡◌, ◌+◌, ◌-◌, ◌<◌, ◌≤◌}
+use Rattle.image_writer.proofs.Names.{nat_tests, ℕ, Result, List, length, refl, arith, OnOk, cases_eq, cases_lt, get_or_read, Cap, Frame, ObjectHeader, Content}
+use Rattle.image_writer.proofs.Names.{frame_at, frames_in, header_at, object_count, Image, Elsewhere, Shape, Node, Packed, Page, frame_bytes, home_place}
+use Rattle.image_writer.proofs.Names.{place_length, shape_of, bytes_at, Plan, IsPlan, same_shaped, IsObject, IsOwn, alone, one_before, places_within}
+use Rattle.image_writer.proofs.Names.{places_apart, IsHome, LieAt, frames_before, slice_index_or}
+use Rattle.std.proofs.Common.{◌≡◌, ◌+◌, ◌-◌, ◌<◌, ◌≤◌}
 use Rattle.capability.proofs.FrameLists.{frame_in}
-use Rattle.model.specs.declared.object.Content.TheVariants as content
 
 -- what has the home of a number below n is home
 abbrev pub AreHomeTo : Plan → List Frame → ℕ → Image → Type 0
@@ -46,18 +45,12 @@ pub own_at : (p : Plan) (hs : List ObjectHeader) (cs : List (Content Cap)) (n at
     LieAt p (frames_in hs cs) n at image
 own_at p hs cs n at c image fits is size same_size held own written a is_a same = search (arith, alone, frame_there)
 
-own_home : (p : Plan) (hs : List ObjectHeader) (cs : List (Content Cap)) (n : ℕ) (c : Content Cap) (image : Image) → IsPlan p → IsObject p.geometry n →
-    length hs ≡ object_count p.geometry → length cs ≡ object_count p.geometry
-    → c ≡ slice_index_or cs n c → IsOwn (shape_of p n) →
-    bytes_at image (home_place p n) p n ≡ frame_bytes p.geometry n (record { header = header_at hs n; content = c }) → IsHome p (frames_in hs cs) n image
-own_home p hs cs n c image fits is size same_size held own written a is_a same = search (arith, own_at)
-
 pub own_written : {T E : Type 0} (result : Result T E) (p : Plan) (hs : List ObjectHeader) (cs : List (Content Cap)) (n : ℕ) (c : Content Cap) (image : Image) →
     IsPlan p → IsObject p.geometry n → length hs ≡ object_count p.geometry
     → length cs ≡ object_count p.geometry → c ≡ slice_index_or cs n c → IsOwn (shape_of p n) →
     OnOk result (bytes_at image (home_place p n) p n ≡ frame_bytes p.geometry n (record { header = header_at hs n; content = c }))
     → OnOk result (IsHome p (frames_in hs cs) n image)
-own_written {T} {E} result p hs cs n c image fits is size same_size held own written = search (arith, own_home)
+own_written {T} {E} result p hs cs n c image fits is size same_size held own written = grind (arith, nat_tests, own_at)
 
 some_by : (rank : ℕ) → (rank ≡ 0 → ⊥) → 1 ≤ rank
 some_by rank not_first = search arith

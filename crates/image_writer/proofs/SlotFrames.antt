@@ -4,7 +4,7 @@ use Rattle.image_writer.proofs.Names.{ObjectHeader, Content, frame_at, frames_in
 use Rattle.image_writer.proofs.Names.{entry_at, frame_bytes, home_place, place_length, shape_of, bytes_at, directory_sector, frame_in, half_sector}
 use Rattle.image_writer.proofs.Names.{frame_slot_in, sectors_from, slot_sector, shape_length, Plan, IsPlan, half_extent, half_within, few_sectors, same_shaped}
 use Rattle.image_writer.proofs.Names.{IsObject, IsOwn, one_length, places_spare_log, frame_slot_entry, begins, AreFramesOf, LieAt, AreHome, AreInSlots}
-use Rattle.image_writer.proofs.Names.{slice_index_or}
+use Rattle.std.specs.Prelude.{slice_index_or}
 use Rattle.std.proofs.Common.{◌≡◌, ◌+◌, ◌-◌, ◌*◌, ◌<◌, ◌≤◌, ◌∙◌}
 use Rattle.image_writer.proofs.HomeFrames.{own_at}
 

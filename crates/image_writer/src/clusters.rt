@@ -15,6 +15,7 @@ use layout::{NODE_FRAME_BYTES, encode_frame, pack_node};
 use model::{Cap, Content, Geometry, ObjectHeader};
 
 // Puts the frame of a node's number into the place of a rank. Those of the other ranks stay.
+#[tactic(auto, using(layout::proofs::Clusters::node_end))]
 fn put_node(
     geometry: Geometry,
     number: u64,

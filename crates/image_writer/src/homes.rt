@@ -82,6 +82,7 @@ fn write_page<D: Device>(
 }
 
 // Writes the home of all nodes of the cluster that begins with `number`, with zeros behind them.
+#[tactic(auto, using(home_ranges::proofs::Places::zeros_home))]
 fn write_cluster<D: Device>(
     device: &mut D,
     home: &Home,

@@ -90,6 +90,7 @@ pub fn lay_out(
 }
 
 // The numbers of home ranges.
+#[tactic(auto, using(crate::proofs::LaidAgain::numbers_more, crate::proofs::LaidAgain::all_numbers))]
 fn put_numbers(ranges: &[HomeRange], into: &mut [NumberRange])
     requires size { length into.old ≡ length ranges.now }
     ensures { into.new ≡ map numbers_of ranges.now }

@@ -13,6 +13,4 @@ described_is_accepted g age fs d v sectors sound describes layout laid room buil
 described_is_accepted g age fs d v sectors sound describes layout laid room build.Owner =
     (plain_frames (objects_of fs), describes.frames, sound_banked g age (plain_frames (objects_of fs)) (sound_plain g age fs sound))
 described_is_accepted g age fs d v sectors sound describes layout laid room build.Small = room
-described_is_accepted g age fs d v sectors sound describes layout laid room build.Shape = tt
-described_is_accepted g age fs d v sectors sound describes layout laid room build.Failed = tt
-described_is_accepted g age fs d v sectors sound describes layout laid room build.NoMemory = tt
+described_is_accepted g age fs d v sectors sound describes layout laid room why = tt

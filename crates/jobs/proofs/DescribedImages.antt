@@ -3,90 +3,76 @@ use Rattle.jobs.proofs.Names.{ℕ, List, refl, sym, ap, subst, same_Some, Member
 use Rattle.jobs.proofs.Names.{Disk, Image, agrees_is, Encodes, SavedState, OnlyReads, Holds, SavedFrames, saved_by, AreSound, frames_of, objects_in}
 use Rattle.jobs.proofs.Names.{first_saved, Live, Recovers, RefusesToOpen, Description, IsDescription, IsSame, description_once, described_is_same}
 use Rattle.jobs.proofs.Names.{described_has_text, same_described, CanBeSpelled, View, Parts, DurableState, IsOver, DescribesSaved, IsDescriptionOf}
-use Rattle.jobs.proofs.Names.{DescribedIsDenoted, HoldsOfSaved, Whole}
+use Rattle.jobs.proofs.Names.{DescribedIsDenoted, HoldsOfSaved, Whole, InfoOf, InfoLine, info_lines, saved_of, kept_of}
 use Rattle.std.proofs.Common.{◌≡◌, ◌∙◌}
 use Rattle.layout.specs.declared.open_fault.OpenFault.TheVariants as opening
 
 -- A store that was made of a device.
-module _ {D S : Type 0} (disk : D → Disk) (seen_left : (d : D) → (disk d).may_leave (disk d).seen) (view : S → View D) (parts : S → Parts)
-    (durable : S → DurableState D) (is_over : (s : S) → IsOver disk (view s) (durable s)) (device : D) (l : Live S)
+module _ {D S : Type 0} {disk : D → Disk} (seen_left : (d : D) → (disk d).may_leave (disk d).seen) {view : S → View D} {parts : S → Parts}
+    (durable : S → DurableState D) (is_over : (s : S) → IsOver disk (view s) (durable s)) {device : D} {l : Live S}
     (wakes : Recovers disk view parts device l) where
   -- what is saved, as the device gives it
   abbrev pub state_of : SavedState
   state_of = saved_by disk (durable l.store)
 
-  -- the store was only read since
-  pub still_beneath : (s : S) (back : D) → durable s ≡ durable l.store → back ≡ (view s).beneath → back ≡ (durable l.store).beneath
-  still_beneath s back kept same = same ∙ (is_over s).beneath ∙ ap (λ (d : DurableState D). d.beneath) kept
-
-  reads : OnlyReads (disk device) (disk (durable l.store).beneath)
-  reads = subst (λ (d : D). OnlyReads (disk device) (disk d)) (is_over l.store).beneath wakes.only_reads
-
   pub frames_are : frames_of (parts l.store) ≡ state_of.frames
-  frames_are = wakes.frames ∙ ap (λ (x : SavedFrames). x.frames) (is_over l.store).saved
-
-  age_now : (age : ℕ) → age ≡ (view l.store).snapshots.saved.age → age ≡ state_of.header.age
-  age_now age is = is ∙ ap (λ (x : SavedFrames). x.age) (is_over l.store).saved
-
-  pub failures_are : (back : D) → back ≡ (durable l.store).beneath → (disk back).failures ≡ (disk device).failures
-  failures_are back same = ap (λ (d : D). (disk d).failures) (same ∙ sym (is_over l.store).beneath) ∙ wakes.failures
+  frames_are = wakes.frames ∙ ap (λ x. x.frames) (is_over l.store).saved
 
   pub encodes : Encodes (disk device).seen (disk device).sectors state_of
   encodes =
       let beneath = (durable l.store).beneath in
+      let reads : OnlyReads (disk device) (disk beneath) = rw (is_over l.store).beneath at wakes.only_reads in
       subst (λ (i : Image). Encodes i (disk device).sectors state_of) (agrees_is (disk beneath).seen (disk device).seen reads.seen)
-      (subst (λ (n : ℕ). Encodes (disk beneath).seen n state_of) reads.size
-      ((is_over l.store).sound wakes.up.store (disk beneath).seen (seen_left beneath)))
+      (subst (λ (n : ℕ). Encodes (disk beneath).seen n state_of) reads.size ((is_over l.store).sound wakes.up.store _ (seen_left beneath)))
 
   pub sound : IsSoundFrames state_of.plan.geometry state_of.header.age state_of.frames
-  sound = subst (λ (x : SavedFrames). IsSoundFrames x.geometry x.age x.frames) (is_over l.store).saved wakes.up.sound.saved.sound
+  sound = rw (is_over l.store).saved at wakes.up.sound.saved.sound
 
   pub sound_at : (age : ℕ) → age ≡ (view l.store).snapshots.saved.age → IsSoundFrames (parts l.store).geometry age (frames_of (parts l.store))
-  sound_at age is =
-      let saved = (view l.store).snapshots.saved in
-      subst (λ (g : Geometry). IsSoundFrames g age (frames_of (parts l.store))) (sym wakes.up.sound.geometry)
-      (subst (λ (n : ℕ). IsSoundFrames saved.geometry n (frames_of (parts l.store))) (sym is)
-      (subst (λ (fs : List Frame). IsSoundFrames saved.geometry saved.age fs) (sym wakes.frames) wakes.up.sound.saved.sound))
+  sound_at age is = rw (wakes.up.sound.geometry, is, wakes.frames) wakes.up.sound.saved.sound
 
   pub are_sound : AreSound (parts l.store)
   are_sound = ((view l.store).snapshots.saved.age, sound_at (view l.store).snapshots.saved.age refl)
 
-  module _ (back : D) (same : back ≡ (durable l.store).beneath) where
+  -- the store was only read since
+  module _ (s : S) (back : D) (kept : durable s ≡ durable l.store) (same : back ≡ (view s).beneath) where
+    beneath : back ≡ (view l.store).beneath
+    beneath = same ∙ (is_over s).beneath ∙ ap (λ d. d.beneath) kept ∙ sym (is_over l.store).beneath
+
     pub looked : OnlyReads (disk device) (disk back)
-    looked = subst (λ (d : D). OnlyReads (disk device) (disk d)) (sym same) reads
+    looked = rw beneath wakes.only_reads
+
+    pub failures_are : (disk back).failures ≡ (disk device).failures
+    failures_are = rw beneath wakes.failures
 
     -- memory ran out for what is read of it
     pub no_memory : RefusesToOpen disk device back opening.NoMemory
-    no_memory = record { is_why = failures_are back same; only_reads = looked }
+    no_memory = record { is_why = failures_are; only_reads = looked }
 
     pub saved : (age : ℕ) → age ≡ (view l.store).snapshots.saved.age → (d : Description) →
         IsDescriptionOf state_of.plan age (frames_of (parts l.store)) d → DescribesSaved disk device back d
-    saved age age_is d whole = record {
+    saved age age_is d is = record {
       state = state_of;
       encodes = encodes;
       sound = sound;
-      whole = subst (λ (n : ℕ). IsDescriptionOf state_of.plan n state_of.frames d) (age_now age age_is)
-          (subst (λ (fs : List Frame). IsDescriptionOf state_of.plan age fs d) frames_are whole);
-      failures = failures_are back same;
+      whole = rw (age_is ∙ ap (λ x. x.age) (is_over l.store).saved, frames_are) at is;
+      failures = failures_are;
       only_reads = looked;
     }
 
     -- all objects that are saved
     pub read : (os : List Object) → os ≡ objects_in (parts l.store) → HoldsOfSaved disk device back (λ us. os ≡ us)
-    read os is = record {
-      state = state_of;
-      encodes = encodes;
-      sound = sound;
-      holds = is ∙ ap (λ (fs : List Frame). objects_of fs) frames_are;
-      failures = failures_are back same;
-      only_reads = looked;
-    }
+    read os is = record { state = state_of; encodes = encodes; sound = sound; holds = rw frames_are at is; failures = failures_are; only_reads = looked }
+
+    -- the lines about it
+    pub informed : (lines : List InfoLine) → lines ≡ info_lines state_of.plan (saved_of (kept_of state_of)) → InfoOf disk device back lines
+    informed lines are = record { state = state_of; encodes = encodes; sound = sound; lines_are = are; failures = failures_are; only_reads = looked }
 
     -- both
     pub whole_read : (age : ℕ) → age ≡ (view l.store).snapshots.saved.age → (w : Whole) →
         IsDescriptionOf state_of.plan age (frames_of (parts l.store)) w.description → w.objects.items ≡ objects_in (parts l.store) →
         DescribesSaved disk device back w.description × HoldsOfSaved disk device back (λ us. w.objects.items ≡ us)
-    whole_read age age_is w whole objects = (saved age age_is w.description whole, read w.objects.items objects)
+    whole_read age age_is w is objects = (saved age age_is w.description is, read w.objects.items objects)
 
 -- A description of what is saved.
 module _ {D : Type 0} (disk : D → Disk) (device back : D) (d : Description) (saved : DescribesSaved disk device back d) where

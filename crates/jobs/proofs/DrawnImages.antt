@@ -15,9 +15,6 @@ module _ {D : Type 0} (disk : D → Disk) (device back : D) (whole : Whole)
       let below : object_count saved.state.plan.geometry < 2 ^ 64 = omega (arith, limits.most_nodes, limits.most_pages) in
       subst (λ (g : Geometry). object_count g < 2 ^ 64) (sym saved.whole.describes.geometry) below
 
-  pub numbers : HasNumbers whole.description
-  numbers = opened.0.whole.describes.numbers
-
   pub sound : AreSoundObjects whole.objects.items
   sound = objects_sound disk device back whole.objects.items opened.1
 
@@ -29,40 +26,16 @@ module _ {D : Type 0} (disk : D → Disk) (device back : D) (whole : Whole)
     pub draws_image : (outcome : Result (Unit {0}) Fault) → DrawsPart whole.objects.items focus whole.description output output_left outcome →
         DrawsImage disk focus device back output output_left outcome
     draws_image (Ok a) draws = of_whole (Ok a) draws
-    draws_image (Err fault.CannotReadDescription) draws = absurd draws.0
-    draws_image (Err fault.NotToml) draws = absurd draws.0
-    draws_image (Err fault.CannotWriteImage) draws = absurd draws.0
-    draws_image (Err fault.CannotOpenImage) draws = absurd draws.0
-    draws_image (Err fault.CannotReadScript) draws = absurd draws.0
     draws_image (Err fault.CannotWriteOutput) draws = of_whole (Err fault.CannotWriteOutput) draws
-    draws_image (Err fault.NoMemory) draws = absurd draws.0
-    draws_image (Err (fault.Build why)) draws = absurd draws.0
-    draws_image (Err (fault.Open opening.Failed)) draws = absurd draws.0
-    draws_image (Err (fault.Open opening.NoMemory)) draws = (record { is_why = opened.0.failures; only_reads = opened.0.only_reads }, draws)
-    draws_image (Err (fault.Open (opening.Bad reason))) draws = absurd draws.0
-    draws_image (Err (fault.Upgrade why)) draws = absurd draws.0
-    draws_image (Err (fault.Stopped stop)) draws = absurd draws.0
     draws_image (Err (fault.NoObject o)) draws = of_whole (Err (fault.NoObject o)) draws
     draws_image (Err (fault.NoProcess p)) draws = of_whole (Err (fault.NoProcess p)) draws
-    draws_image (Err (fault.Sizes why)) draws = absurd draws.0
+    draws_image (Err (fault.Open opening.NoMemory)) draws = (record { is_why = opened.0.failures; only_reads = opened.0.only_reads }, draws)
+    draws_image outcome draws = absurd draws.0
 
 -- A description is restricted twice.
 pub keeps_both : (os : List Object) (focus : Focus) (d m e : Description) → IsHeldTo focus.to d m → (outcome : Result (Unit {0}) Fault) →
     KeepsReached os focus.from m e outcome → KeepsPart os focus d e outcome
 keeps_both os focus d m e held (Ok a) keeps = (m, held, keeps)
-keeps_both os focus d m e held (Err fault.CannotReadDescription) keeps = keeps
-keeps_both os focus d m e held (Err fault.NotToml) keeps = keeps
-keeps_both os focus d m e held (Err fault.CannotWriteImage) keeps = keeps
-keeps_both os focus d m e held (Err fault.CannotOpenImage) keeps = keeps
-keeps_both os focus d m e held (Err fault.CannotReadScript) keeps = keeps
-keeps_both os focus d m e held (Err fault.CannotWriteOutput) keeps = keeps
-keeps_both os focus d m e held (Err fault.NoMemory) keeps = keeps
-keeps_both os focus d m e held (Err (fault.Build why)) keeps = keeps
-keeps_both os focus d m e held (Err (fault.Open opening.Failed)) keeps = keeps
-keeps_both os focus d m e held (Err (fault.Open opening.NoMemory)) keeps = keeps
-keeps_both os focus d m e held (Err (fault.Open (opening.Bad reason))) keeps = keeps
-keeps_both os focus d m e held (Err (fault.Upgrade why)) keeps = keeps
-keeps_both os focus d m e held (Err (fault.Stopped stop)) keeps = keeps
-keeps_both os focus d m e held (Err (fault.NoObject o)) keeps = absurd keeps
 keeps_both os focus d m e held (Err (fault.NoProcess p)) keeps = keeps
-keeps_both os focus d m e held (Err (fault.Sizes why)) keeps = keeps
+keeps_both os focus d m e held (Err (fault.Open opening.NoMemory)) keeps = keeps
+keeps_both os focus d m e held outcome keeps = absurd keeps

@@ -120,22 +120,10 @@ module _ {D : Type 0} (disk : D → Disk) (device back : D) (d : Description) (s
     pub describes_image : (outcome : Result (Unit {0}) Fault) → TellsGrown d sizes output output_left outcome →
         DescribesImage disk sizes device back output output_left outcome
     describes_image (Ok a) tells = tells_grown tells.0 tells.1 (Wrote output output_left) tells.2
-    describes_image (Err fault.CannotReadDescription) tells = absurd tells
-    describes_image (Err fault.NotToml) tells = absurd tells
-    describes_image (Err fault.CannotWriteImage) tells = absurd tells
-    describes_image (Err fault.CannotOpenImage) tells = absurd tells
-    describes_image (Err fault.CannotReadScript) tells = absurd tells
     describes_image (Err fault.CannotWriteOutput) tells = tells_grown tells.0 tells.1 (WroteFront output output_left) tells.2
-    describes_image (Err fault.NoMemory) tells = absurd tells
-    describes_image (Err (fault.Build why)) tells = absurd tells
-    describes_image (Err (fault.Open opening.Failed)) tells = absurd tells
     describes_image (Err (fault.Open opening.NoMemory)) tells = (record { is_why = saved.failures; only_reads = saved.only_reads }, tells)
-    describes_image (Err (fault.Open (opening.Bad reason))) tells = absurd tells
-    describes_image (Err (fault.Upgrade why)) tells = absurd tells
-    describes_image (Err (fault.Stopped stop)) tells = absurd tells
-    describes_image (Err (fault.NoObject o)) tells = absurd tells
-    describes_image (Err (fault.NoProcess p)) tells = absurd tells
     describes_image (Err (fault.Sizes why)) tells = (refuses_sizes why tells.0, tells.1)
+    describes_image outcome tells = absurd tells
 
 -- The text of a description that was renumbered.
 module _ (sizes : Sizes) (d e : Description) (grown : IsGrownFrom sizes d e) where
@@ -148,19 +136,6 @@ module _ (sizes : Sizes) (d e : Description) (grown : IsGrownFrom sizes d e) whe
   module _ (output output_left : Written) where
     pub tells_text : (outcome : Result (Unit {0}) Fault) → TellsDescription e output output_left outcome → TellsGrown d sizes output output_left outcome
     tells_text (Ok a) tells = (e, grown, tells)
-    tells_text (Err fault.CannotReadDescription) tells = tells
-    tells_text (Err fault.NotToml) tells = tells
-    tells_text (Err fault.CannotWriteImage) tells = tells
-    tells_text (Err fault.CannotOpenImage) tells = tells
-    tells_text (Err fault.CannotReadScript) tells = tells
     tells_text (Err fault.CannotWriteOutput) tells = (e, grown, tells)
-    tells_text (Err fault.NoMemory) tells = tells
-    tells_text (Err (fault.Build why)) tells = tells
-    tells_text (Err (fault.Open opening.Failed)) tells = tells
-    tells_text (Err (fault.Open opening.NoMemory)) tells = tells
-    tells_text (Err (fault.Open (opening.Bad reason))) tells = tells
-    tells_text (Err (fault.Upgrade why)) tells = tells
-    tells_text (Err (fault.Stopped stop)) tells = tells
-    tells_text (Err (fault.NoObject o)) tells = tells
-    tells_text (Err (fault.NoProcess p)) tells = tells
     tells_text (Err (fault.Sizes why)) tells = absurd tells
+    tells_text outcome tells = tells

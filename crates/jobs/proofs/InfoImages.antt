@@ -4,19 +4,13 @@ use Rattle.jobs.proofs.Names.{saved_of, Recovers, AllObjects, AreObjectsOf, IsOv
 use Rattle.jobs.proofs.Names.{ObjectHeader, Content, Object, Role, conveyed, frames_in, headers, object_of, objects_of, world_at, map_content, Plan, Checkpoint}
 use Rattle.jobs.proofs.Names.{InfoOf, has_role, info_lines, lines_over, lines_with, objects_with}
 use Rattle.std.proofs.Common.{◌≡◌, ◌+◌, ◌∷◌, ◌∙◌}
-use Rattle.std.specs.Prelude.{IfOk, Ok, Result}
 use Rattle.model.specs.declared.object.Content.TheVariants as content
 use Rattle.model.specs.declared.object.Role.TheVariants as role
-use Rattle.jobs.proofs.DescribedImages.{encodes, failures_are, frames_are, looked, sound}
 
 module _ (hs : List ObjectHeader) (r : Role) where
   same_role : (c : Content Cap) → has_role r (map_content (conveyed hs) c) ≡ has_role r c
   same_role content.Free = refl
-  same_role (content.Page words) = refl
-  same_role (content.Node slots) = refl
-  same_role (content.Root root) = refl
-  same_role (content.Annex registers) = refl
-  same_role (content.Bank limit) = refl
+  same_role c = refl
 
   role_sum : (ks : List ObjectHeader) (cs : List (Content Cap)) (n : ℕ) → length cs ≡ length ks →
       fold (λ k o. k + cond (has_role r o.content) 1 0) n (map (object_of hs) (frames_in ks cs)) ≡ fold (λ k c. k + cond (has_role r c) 1 0) n cs
@@ -53,31 +47,3 @@ lines_saved p reported s hs cs ds plan generation age entries contents whole fra
     ∙ ap (λ (xs : List (Content Cap)). lines_over s.plan saved xs) contents
     ∙ lines_same s.plan saved (λ r. count_by (λ c. has_role r c) cs) (λ r. objects_with r (world_at s.header.age s.frames))
     (λ r. sym (role_counted hs cs s.header.age r whole) ∙ ap (λ (fs : List Frame). objects_with r (world_at s.header.age fs)) frames)
-
--- objects that were taken out of a store
-pub objects_found : {E : Type 0} (p : Parts) (found : Result AllObjects E) (os : AllObjects) → found ≡ Ok os →
-    IfOk found (λ (o : AllObjects). AreObjectsOf p o) → AreObjectsOf p os
-objects_found {E} p found os is each = subst (λ (r : Result AllObjects E). IfOk r (λ (o : AllObjects). AreObjectsOf p o)) is each
-
--- lines that were found
-pub lines_found : {E : Type 0} (found : Result (Vec InfoLine Global) E) (lines : Vec InfoLine Global) (are : List InfoLine) → found ≡ Ok lines →
-    IfOk found (λ v. v.items ≡ are) → lines.items ≡ are
-lines_found {E} found lines are is each = subst (λ (r : Result (Vec InfoLine Global) E). IfOk r (λ v. v.items ≡ are)) is each
-
--- what is reported of a store that was made of a device
-module _ {D S : Type 0} (disk : D → Disk) (seen_left : (d : D) → (disk d).may_leave (disk d).seen) (view : S → View D) (parts : S → Parts)
-    (durable : S → DurableState D) (is_over : (s : S) → IsOver disk (view s) (durable s)) (device : D) (l : Live S)
-    (wakes : Recovers disk view parts device l) where
-  pub frames_saved : frames_of (parts l.store) ≡ (saved_by disk (durable l.store)).frames
-  frames_saved = frames_are disk seen_left view parts durable is_over device l wakes
-
-  pub informed : (back : D) → back ≡ (durable l.store).beneath → (lines : List InfoLine) →
-      (let state = saved_by disk (durable l.store) in lines ≡ info_lines state.plan (saved_of (kept_of state))) → InfoOf disk device back lines
-  informed back same lines are = record {
-    state = saved_by disk (durable l.store);
-    encodes = encodes disk seen_left view parts durable is_over device l wakes;
-    sound = sound disk seen_left view parts durable is_over device l wakes;
-    lines_are = are;
-    failures = failures_are disk seen_left view parts durable is_over device l wakes back same;
-    only_reads = looked disk seen_left view parts durable is_over device l wakes back same;
-  }

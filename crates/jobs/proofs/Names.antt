@@ -93,8 +93,8 @@ pub use Rattle.jobs.specs.Explained.{IsSyntaxLine, position_from, position_text}
 pub use Rattle.jobs.specs.Faults.{HasStop, IsRunEnd}
 pub use Rattle.jobs.specs.Growing.{IsGrownFrom, TellsDescription, TellsGrown, TellsText}
 pub use Rattle.jobs.specs.Images.{BuildsImage, ChecksImage, DescribesImage, DescribesSaved, IsDescribedIn, IsDescriptionOf, OpensAndRuns, OpensAndSees}
-pub use Rattle.jobs.specs.Images.{ReadsSaved, RefusesSizes, RunsImage, SeesImage, TellsWhole, UpgradesImage, built_text, checked_text, old_failed}
-pub use Rattle.jobs.specs.Images.{upgraded_text}
+pub use Rattle.jobs.specs.Images.{ReadsSaved, RefusesSizes, RunsImage, SeesImage, TellsSaved, TellsTotal, TellsWhole, UpgradesAndTells, UpgradesImage}
+pub use Rattle.jobs.specs.Images.{built_text, checked_text, old_failed, upgraded_text}
 pub use Rattle.jobs.specs.Info.{InfoOf, has_role, info_line, info_lines, info_text, lines_over, lines_with, objects_with, range_line}
 pub use Rattle.jobs.specs.Laws.{DescribedIsAccepted, DescribedIsDenoted, GrownIsDenoted, UnsizedIsWhole}
 pub use Rattle.jobs.specs.Reaching.{HoldsOfSaved, ReachesImage, TellsReach}

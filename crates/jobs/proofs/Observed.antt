@@ -32,13 +32,10 @@ module _ {D S : Type 0} (disk : D → Disk) (view : S → View D) (parts : S →
     pub needs_no_stop : ((g : Geometry) (t : Turn) (old new : O) (on : Bool) → sees g t old new on → on ≡ true) →
         (outcome : Result (Result (Unit {0}) RunFault) OpenFault) →
         SeesImage disk view parts sees device back before after input input_left output output_left outcome → HasStop outcome None
-    needs_no_stop always (Ok (Ok a)) seen = tt
-    needs_no_stop always (Ok (Err run.Read)) seen = tt
-    needs_no_stop always (Ok (Err run.Write)) seen = tt
     needs_no_stop always (Ok (Err run.Stopped)) seen =
         let r = seen.3 seen.2.geometry (Up (opened seen.2.geometry seen.2.saved)) seen.2.stands in
         let never : true ≡ false = sym (goes_on_to_end (sees seen.2.geometry) (always seen.2.geometry) before after r.0 r.3 r.4) ∙ r.5 in absurd cc
-    needs_no_stop always (Err why) seen = tt
+    needs_no_stop always outcome seen = tt
 
     opens_and_runs : (outcome : Result (Unit {0}) RunFault) → OpensAndSees disk view parts sees device back before after input input_left output output_left
         outcome →
@@ -48,28 +45,17 @@ module _ {D S : Type 0} (disk : D → Disk) (view : S → View D) (parts : S →
     pub runs_unseen : (outcome : Result (Result (Unit {0}) RunFault) OpenFault) (end : Result (Unit {0}) Fault) → IsRunEnd outcome None end →
         SeesImage disk view parts sees device back before after input input_left output output_left outcome →
         RunsImage disk view parts device back input input_left output output_left end
-    runs_unseen (Ok (Ok a)) end is seen = subst (λ (e : Result (Unit {0}) Fault). RunsImage disk view parts device back input input_left output output_left e)
-        (sym is) (opens_and_runs (Ok a) seen)
-    runs_unseen (Ok (Err run.Read)) end is seen = subst
-        (λ (e : Result (Unit {0}) Fault). RunsImage disk view parts device back input input_left output output_left e) (sym is)
-        (opens_and_runs (Err run.Read) seen)
-    runs_unseen (Ok (Err run.Write)) end is seen = subst
-        (λ (e : Result (Unit {0}) Fault). RunsImage disk view parts device back input input_left output output_left e) (sym is)
-        (opens_and_runs (Err run.Write) seen)
+    runs_unseen (Ok (Ok a)) end is seen = rw is (opens_and_runs (Ok a) seen)
+    runs_unseen (Ok (Err run.Read)) end is seen = rw is (opens_and_runs (Err run.Read) seen)
+    runs_unseen (Ok (Err run.Write)) end is seen = rw is (opens_and_runs (Err run.Write) seen)
     runs_unseen (Ok (Err run.Stopped)) end is seen = absurd is
-    runs_unseen (Err why) end is seen = subst (λ (e : Result (Unit {0}) Fault). RunsImage disk view parts device back input input_left output output_left e)
-        (sym is) (seen.0, seen.1, seen.2)
+    runs_unseen (Err why) end is seen = rw is (seen.0, seen.1, seen.2)
 
   -- a tracer that ended a run has the place
   pub tracer_has_stop : {V : Type 0} (written : V → Written) (before after : Tracer V) (input input_left : Option (List ℕ)) (output output_left : Written)
       (outcome : Result (Result (Unit {0}) RunFault) OpenFault) →
       SeesImage disk view parts (Sees written) device back before after input input_left output output_left outcome → HasStop outcome after.stop
-  tracer_has_stop written before after input input_left output output_left (Ok (Ok a)) seen = tt
-  tracer_has_stop written before after input input_left output output_left (Ok (Err run.Read)) seen = tt
-  tracer_has_stop written before after input input_left output output_left (Ok (Err run.Write)) seen = tt
   tracer_has_stop written before after input input_left output output_left (Ok (Err run.Stopped)) seen =
       let r = seen.3 seen.2.geometry (Up (opened seen.2.geometry seen.2.saved)) seen.2.stands in
-      let stop = has_ended written seen.2.geometry before after r.0 r.3 r.4 r.5 in
-      let stopped : Result (Result (Unit {0}) RunFault) OpenFault = Ok (Err run.Stopped) in
-      subst (λ (s : Option Stop). HasStop stopped s) (sym stop.1) tt
-  tracer_has_stop written before after input input_left output output_left (Err why) seen = tt
+      rw (has_ended written seen.2.geometry before after r.0 r.3 r.4 r.5).1 tt
+  tracer_has_stop written before after input input_left output output_left outcome seen = tt

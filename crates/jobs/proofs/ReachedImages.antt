@@ -26,19 +26,7 @@ module _ {D : Type 0} (disk : D → Disk) (device back : D) (objects : List Obje
     pub reaches_image : (outcome : Result (Unit {0}) Fault) → TellsReach objects starts shows output output_left outcome →
         ReachesImage disk starts shows device back output output_left outcome
     reaches_image (Ok a) tells = reported_of_saved (Ok a) tells
-    reaches_image (Err fault.CannotReadDescription) tells = absurd tells
-    reaches_image (Err fault.NotToml) tells = absurd tells
-    reaches_image (Err fault.CannotWriteImage) tells = absurd tells
-    reaches_image (Err fault.CannotOpenImage) tells = absurd tells
-    reaches_image (Err fault.CannotReadScript) tells = absurd tells
     reaches_image (Err fault.CannotWriteOutput) tells = reported_of_saved (Err fault.CannotWriteOutput) tells
-    reaches_image (Err fault.NoMemory) tells = absurd tells
-    reaches_image (Err (fault.Build why)) tells = absurd tells
-    reaches_image (Err (fault.Open opening.Failed)) tells = absurd tells
-    reaches_image (Err (fault.Open opening.NoMemory)) tells = (record { is_why = read.failures; only_reads = read.only_reads }, tells)
-    reaches_image (Err (fault.Open (opening.Bad reason))) tells = absurd tells
-    reaches_image (Err (fault.Upgrade why)) tells = absurd tells
-    reaches_image (Err (fault.NoObject o)) tells = absurd tells
     reaches_image (Err (fault.NoProcess p)) tells = reported_of_saved (Err (fault.NoProcess p)) tells
-    reaches_image (Err (fault.Sizes why)) tells = absurd tells
-    reaches_image (Err (fault.Stopped stop)) tells = absurd tells
+    reaches_image (Err (fault.Open opening.NoMemory)) tells = (record { is_why = read.failures; only_reads = read.only_reads }, tells)
+    reaches_image outcome tells = absurd tells

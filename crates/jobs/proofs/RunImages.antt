@@ -1,6 +1,6 @@
 -- The outcomes of the commands that open an image.
 use Rattle.jobs.proofs.Names.{Written, ℕ, List, Ok, Err, sym, ap, subst, Wrote, Running, Saved, line_of, Disk, Parts, Checkpoint, OnlyReads, View, Power, Opens}
-use Rattle.jobs.proofs.Names.{IsDeviceOf, IsReported, WroteFront, ChecksImage, checked_text}
+use Rattle.jobs.proofs.Names.{IsDeviceOf, IsReported, WroteFront, ChecksImage, checked_text, refl, TellsSaved}
 use Rattle.std.proofs.Common.{◌≡◌, ◌∙◌}
 use Rattle.std.specs.Prelude.{Some}
 use Rattle.kernel.specs.Power as power
@@ -22,36 +22,19 @@ module _ {D S : Type 0} (disk : D → Disk) (view : S → View D) (parts : S →
   -- a kernel that was just opened reports what is saved on the device
   text_reported : (p : Power D S) (reported : Checkpoint) (opens : Opens disk view parts device p) → IsReported disk view parts p (Some reported) →
       checked_text reported.generation reported.age reported.entries ≡ checked_text opens.saved.generation opens.saved.world.age opens.saved.entries
-  text_reported (power.Up l) reported opens is =
-      let same = ap (λ (r : Running). r.saved) opens.stands.1 in
-      ap (λ (g : ℕ). checked_text g reported.age reported.entries) (is.0 ∙ sym (ap (λ (s : Saved). s.generation) same))
-      ∙ ap (λ (a : ℕ). checked_text opens.saved.generation a reported.entries) (is.1 ∙ sym (ap (λ (s : Saved). s.world.age) same))
-      ∙ ap (λ (e : ℕ). checked_text opens.saved.generation opens.saved.world.age e) (is.2 ∙ sym (ap (λ (s : Saved). s.entries) same))
+  text_reported (power.Up l) reported opens is = rw (is.0, is.1, is.2, ap (λ (r : Running). r.saved) opens.stands.1) refl
   text_reported (power.Down d) reported opens is = absurd opens.stands
   text_reported power.Between reported opens is = absurd opens.stands
 
   module _ (back : D) (p : Power D S) (reported : Checkpoint) (opens : Opens disk view parts device p) (is : IsReported disk view parts p (Some reported))
-      (beneath : IsDeviceOf disk view parts p back)
-      (output output_left : Written) where
-    pub checked : Wrote output output_left (line_of (checked_text reported.generation reported.age reported.entries)) →
-        ChecksImage disk device back output output_left (Ok tt)
-    checked written = (
+      (beneath : IsDeviceOf disk view parts p back) where
+    pub checked : (Reported : List ℕ → Type 0) → Reported (line_of (checked_text reported.generation reported.age reported.entries)) →
+        TellsSaved disk device back Reported
+    checked Reported told = (
       opens.geometry,
       opens.saved,
       opens.denoted,
-      subst (λ (t : List ℕ). Wrote output output_left (line_of t)) (text_reported p reported opens is) written,
-      looked_at back p opens beneath,
-      none_failed back p opens beneath,
-    )
-
-    pub checked_untold : WroteFront output output_left (line_of (checked_text reported.generation reported.age reported.entries)) →
-        ChecksImage disk device back output output_left (Err fault.CannotWriteOutput)
-    checked_untold written = (
-      opens.geometry,
-      opens.saved,
-      opens.denoted,
-      subst (λ (t : List ℕ). WroteFront output output_left (line_of t)) (text_reported p reported opens is)
-          written,
+      subst (λ (t : List ℕ). Reported (line_of t)) (text_reported p reported opens is) told,
       looked_at back p opens beneath,
       none_failed back p opens beneath,
     )

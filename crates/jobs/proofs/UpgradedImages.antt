@@ -1,8 +1,9 @@
 -- The outcome of the command that upgrades.
 use Rattle.jobs.proofs.Names.{Written, ℕ, Ok, Err, refl, ap, arith, subst, sym, IfErr, IsErrOf, OnErr, OnOk, Wrote, line_of, Disk, Two, laid_again}
 use Rattle.jobs.proofs.Names.{UpgradeFault, IsRefusedAsOld, ReadsAndCloses, Upgrades, WroteFront, Fault, UpgradesImage, old_failed, upgraded_text}
+use Rattle.jobs.proofs.Names.{UpgradesAndTells}
 use Rattle.std.proofs.Common.{◌≡◌, ◌∙◌}
-use Rattle.std.specs.Prelude.{◌↔◌, Result}
+use Rattle.std.specs.Prelude.{◌↔◌, List, Result}
 use Rattle.layout.specs.declared.open_fault.OpenFault.TheVariants as opening
 use Rattle.image_builder.specs.declared.upgrade_fault.UpgradeFault.TheVariants as upgrade
 use Rattle.jobs.specs.declared.fault.Fault.TheVariants as fault
@@ -12,21 +13,15 @@ upgrade_cause why P caused = (λ is. caused.0 (ap (λ (f : UpgradeFault). Err f)
 
 module _ {D E : Type 0} (disk : D → Disk) (new_disk : E → Disk) (old : D) (before new : E) (output output_left : Written) (total : ℕ)
     (done : (upgrades : Upgrades (disk old) (new_disk before) (new_disk new)) × (total ≡ (laid_again Two upgrades.state.plan).total)) where
-  pub upgraded_reported : Wrote output output_left (line_of (upgraded_text total)) → UpgradesImage disk new_disk old before new output output_left (Ok tt)
-  upgraded_reported reported = (done.0, subst (λ (n : ℕ). Wrote output output_left (line_of (upgraded_text n))) done.1 reported)
-
-  pub upgraded_untold : WroteFront output output_left (line_of (upgraded_text total)) →
-      UpgradesImage disk new_disk old before new output output_left (Err fault.CannotWriteOutput)
-  upgraded_untold reported = (done.0, subst (λ (n : ℕ). WroteFront output output_left (line_of (upgraded_text n))) done.1 reported)
+  told_of : (Reported : List ℕ → Type 0) → Reported (line_of (upgraded_text total)) → UpgradesAndTells disk new_disk old before new Reported
+  told_of Reported told = (done.0, subst (λ (n : ℕ). Reported (line_of (upgraded_text n))) done.1 told)
 
   -- the total was reported, or couldn't be
   pub total_reported : (result : Result (Unit {0}) Fault) → OnOk result (Wrote output output_left (line_of (upgraded_text total))) →
       OnErr result (WroteFront output output_left (line_of (upgraded_text total)))
       → IfErr result (λ f. f ≡ fault.CannotWriteOutput) → UpgradesImage disk new_disk old before new output output_left result
-  total_reported (Ok a) reported front is = upgraded_reported reported
-  total_reported (Err f) reported front is = subst
-      (λ (x : Fault). let r : Result (Unit {0}) Fault = Err x in UpgradesImage disk new_disk old before new output output_left r) (sym is)
-      (upgraded_untold front)
+  total_reported (Ok a) reported front is = told_of (Wrote output output_left) reported
+  total_reported (Err f) reported front is = rw is (told_of (WroteFront output output_left) front)
 
 -- that isn't reported as a failure of the old device
 pub never_old : (result : Result (Unit {0}) Fault) → IfErr result (λ f. f ≡ fault.CannotWriteOutput) → IsErrOf result old_failed → ⊥

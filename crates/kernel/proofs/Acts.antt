@@ -1,11 +1,11 @@
 -- How a command ends: refused, carried out, or in a failure of the device.
-use Rattle.kernel.proofs.Names.{IsErrAnd, ℕ, Bool, Option, None, Some, Result, Ok, Err, List, [], length, refl, sym, ap, subst, arith, Answer, Refusal, Command}
-use Rattle.kernel.proofs.Names.{Frame, Geometry, objects_of, AreKeepable, IsSoundFrames, world_at, Frozen, Running, Saved, Up, touched_count, untouched, Step}
-use Rattle.kernel.proofs.Names.{refusal_of, second, Failed, Image, Disk, IsCommitAnswer, IsFreezeAnswer, IsRefused, Holds, LeavesSaved, LeavesEither, Parts}
-use Rattle.kernel.proofs.Names.{frames_of, objects_in, keepable_count, MayCommit, Snapshots, freezing, left_in, moved_saved, next_saved, all_frozen, whole}
-use Rattle.kernel.proofs.Names.{FrozenFrames, IsStabilizeAnswer, Continues, View, stabilized, AreCounted, BanksState, Performs, answer_of, Live, saved_of}
-use Rattle.kernel.proofs.Names.{LeavesOne, AreSoundTogether, IsUp, base_of, disk_at, frozen_of, renewed_since, running, running_of, IsCaused, ServesUp}
-use Rattle.kernel.proofs.Names.{leaves_saved, base_frozen, none_renewed, IsUnlooked}
+use Rattle.kernel.proofs.Names.{nat_tests, IsErrAnd, ℕ, Bool, Option, None, Some, Result, Ok, Err, List, [], length, refl, sym, ap, subst, arith, Answer}
+use Rattle.kernel.proofs.Names.{Refusal, Command, Frame, Geometry, objects_of, AreKeepable, IsSoundFrames, world_at, Frozen, Running, Saved, Up, touched_count}
+use Rattle.kernel.proofs.Names.{untouched, Step, refusal_of, second, Failed, Image, Disk, IsCommitAnswer, IsFreezeAnswer, IsRefused, Holds, LeavesSaved}
+use Rattle.kernel.proofs.Names.{LeavesEither, Parts, frames_of, objects_in, keepable_count, MayCommit, Snapshots, freezing, left_in, moved_saved, next_saved}
+use Rattle.kernel.proofs.Names.{all_frozen, whole, FrozenFrames, IsStabilizeAnswer, Continues, View, stabilized, AreCounted, BanksState, Performs, answer_of}
+use Rattle.kernel.proofs.Names.{Live, saved_of, LeavesOne, AreSoundTogether, IsUp, base_of, disk_at, frozen_of, renewed_since, running, running_of, IsCaused}
+use Rattle.kernel.proofs.Names.{ServesUp, leaves_saved, base_frozen, none_renewed, IsUnlooked}
 use Rattle.std.proofs.Common.{◌≡◌, ◌↔◌, ◌+◌, ◌-◌, ◌^◌, ◌<◌, ◌≤◌, ◌∷◌, ◌∙◌}
 use Rattle.checkpoint.specs.Snapshots as stage
 use Rattle.model.specs.declared.answer.Answer.TheVariants as answer
@@ -30,11 +30,7 @@ module _ {D S : Type 0} (disk : D → Disk) (view : S → View D) (parts : S →
   -- a store that is sound serves
   pub is_up : (g : Geometry) (l : Live S) → (view l.store).is_sound → AreSoundTogether g (parts l.store) (view l.store).snapshots l.banks l.age l.frozen_age →
       IsUp disk view parts g l
-  is_up g l store sound = record {
-    store = store;
-    sound = sound;
-    leaves = leaves_saved g (disk_at disk view parts l) (view l.store).snapshots.saved sound.saved (λ c left. sound_holds l.store c store left);
-  }
+  is_up g l store sound = search (arith, nat_tests, leaves_saved)
 
   -- a refusal that applies
   pub refused : (l : Live S) (c : Command) (why : Refusal) → ((g : Geometry) → IsUp disk view parts g l → refusal_of g (running disk view parts l) c ≡ Some why)
@@ -51,8 +47,7 @@ module _ {D S : Type 0} (disk : D → Disk) (view : S → View D) (parts : S →
   pub refused_again : (l : Live S) (s : S) (c : Command) (why : Refusal) → s ≡ l.store →
       ((g : Geometry) → IsUp disk view parts g l → refusal_of g (running disk view parts l) c ≡ Some why) →
       ServesUp disk view parts l c (answer.Refused why) (with_store l s)
-  refused_again l s c why same applies = subst (λ (x : S). ServesUp disk view parts l c (answer.Refused why) (with_store l x)) (sym same)
-      (refused l c why applies)
+  refused_again l s c why same applies = search (arith, nat_tests, refused)
 
   -- a failure of the device
   pub failed : (old new : Live S) (c : Command) →
@@ -66,8 +61,7 @@ module _ {D S : Type 0} (disk : D → Disk) (view : S → View D) (parts : S →
   module _ (l : Live S) (s : S) (continues : Continues disk (view l.store) (view s)) where
     continues_along : (g : Geometry) (c : Command) → IsUp disk view parts g l →
         LeavesOne g (disk_at disk view parts l) (disk (view s).beneath) (saved_of (view l.store).snapshots.saved ∷ second (Up (running disk view parts l)) c)
-    continues_along g c up =
-        leaves_along up.sound.saved continues.size (continues.any_moment up.store)
+    continues_along g c up = search (arith, nat_tests, leaves_along)
 
     -- processes act, at an age that doesn't fall
     pub acted : (banks : BanksState) (age : ℕ) (c : Command) (a : Answer) → l.age ≤ age → Performs l.age (parts l.store) c a age (parts s) →
@@ -170,8 +164,7 @@ module _ {D S : Type 0} (disk : D → Disk) (view : S → View D) (parts : S →
       stepped : (g : Geometry) (b : Snapshots FrozenFrames) (c : Command) (a : Answer) → (view s).snapshots ≡ b →
           Step g (Up (running disk view parts l)) c a (Up (running_of (parts l.store) b l.age l.frozen_age)) →
           Step g (Up (running disk view parts l)) c a (Up (running disk view parts (with_store l s)))
-      stepped g b c a beside step =
-          subst (λ (r : Running). Step g (Up (running disk view parts l)) c a (Up r)) (sym (same_running same beside l.age l.frozen_age)) step
+      stepped g b c a beside step = search (arith, nat_tests, running, same_running)
 
       module _ (f : FrozenFrames) (frozen : (view l.store).snapshots.frozen ≡ Some f) where
         now_frozen : Frozen
@@ -288,9 +281,7 @@ module _ {D S : Type 0} (disk : D → Disk) (view : S → View D) (parts : S →
       stabilize_refused refusal.NoCheckpoint n reported again moments =
           refused_again l s (command.Stabilize n) refusal.NoCheckpoint (again tt) (λ g up. none_to_stabilize g (running disk view parts l) n
           (frozen_none (view l.store).snapshots.frozen l.frozen_age (none_there (view l.store).snapshots.frozen reported.1)))
-      stabilize_refused refusal.Fault n reported again moments =
-          let f = some_there (view l.store).snapshots.frozen reported.1 in
-          stabilize_failed l s same size f.0 f.1 moments n
+      stabilize_refused refusal.Fault n reported again moments = search (arith, nat_tests, some_there, stabilize_failed)
       stabilize_refused why n reported again moments = absurd reported
 
       -- nothing is saved, or it isn't reported
@@ -323,47 +314,31 @@ failed_cause old new more = record { later = omega (arith, more); exact = (λ e.
 
 pub other_cause : (old new : Disk) (why : Refusal) → new.failures ≡ old.failures → (answer.Refused why ≡ answer.Refused refusal.Fault → ⊥) →
     IsCaused old new (answer.Refused why)
-other_cause old new why same other = record {
-  later = omega (arith, same);
-  exact = (λ e. absurd (other e), λ rose. absurd (omega (arith, same, rose)));
-}
+other_cause old new why same other = search (arith, nat_tests)
 
 pub freeze_cause : (old new : Disk) (left : Option ℕ) (entries : ℕ) (why : Refusal) → IsFreezeAnswer {T = ℕ} left entries (Err why) →
     new.failures ≡ old.failures → IsCaused old new (answer.Refused why)
-freeze_cause old new left entries refusal.Fault reported same = absurd reported
-freeze_cause old new left entries why reported same = other_cause old new why same (λ e. cc)
+freeze_cause old new left entries why reported same = search (arith, nat_tests, other_cause)
 
 pub stabilize_cause : (old new : Disk) (left : Option ℕ) (count : ℕ) (why : Refusal) → IsStabilizeAnswer old new left count (Err why) →
     IsCaused old new (answer.Refused why)
-stabilize_cause old new left count refusal.NoCheckpoint reported = other_cause old new refusal.NoCheckpoint reported.0 (λ e. cc)
-stabilize_cause old new left count refusal.Fault reported = failed_cause old new reported.0
-stabilize_cause old new left count why reported = absurd reported
+stabilize_cause old new left count why reported = search (arith, nat_tests, other_cause, failed_cause)
 
 pub commit_cause : (old new : Disk) (left : Option ℕ) (saved : ℕ) (why : Refusal) → IsCommitAnswer old new left saved (Err why) →
     IsCaused old new (answer.Refused why)
-commit_cause old new left saved refusal.NoCheckpoint reported = other_cause old new refusal.NoCheckpoint reported.0 (λ e. cc)
-commit_cause old new left saved (refusal.NotStable n) reported = other_cause old new (refusal.NotStable n) reported.0 (λ e. cc)
-commit_cause old new left saved refusal.Fault reported = failed_cause old new reported.0
-commit_cause old new left saved why reported = absurd reported
+commit_cause old new left saved why reported = search (arith, nat_tests, other_cause, failed_cause)
 
 -- none of them needs no look at an object
 pub freeze_looks : (left : Option ℕ) (entries : ℕ) (why : Refusal) → IsFreezeAnswer {T = ℕ} left entries (Err why) → IsUnlooked (answer.Refused why) → ⊥
-freeze_looks left entries refusal.CheckpointRunning reported is = is
-freeze_looks left entries refusal.MigrationPending reported is = is
-freeze_looks left entries why reported is = reported
+freeze_looks left entries why reported is = search (arith, nat_tests)
 
 pub stabilize_looks : (old new : Disk) (left : Option ℕ) (count : ℕ) (why : Refusal) → IsStabilizeAnswer old new left count (Err why) →
     IsUnlooked (answer.Refused why) → ⊥
-stabilize_looks old new left count refusal.NoCheckpoint reported is = is
-stabilize_looks old new left count refusal.Fault reported is = is
-stabilize_looks old new left count why reported is = reported
+stabilize_looks old new left count why reported is = search (arith, nat_tests)
 
 pub commit_looks : (old new : Disk) (left : Option ℕ) (saved : ℕ) (why : Refusal) → IsCommitAnswer old new left saved (Err why) →
     IsUnlooked (answer.Refused why) → ⊥
-commit_looks old new left saved refusal.NoCheckpoint reported is = is
-commit_looks old new left saved (refusal.NotStable n) reported is = is
-commit_looks old new left saved refusal.Fault reported is = is
-commit_looks old new left saved why reported is = reported
+commit_looks old new left saved why reported is = search (arith, nat_tests)
 
 -- what is frozen can be committed at its age
 pub may_commit : {D S : Type 0} (disk : D → Disk) (view : S → View D) (parts : S → Parts) (l : Live S) → ((g : Geometry) × IsUp disk view parts g l) →
@@ -379,27 +354,19 @@ may_commit disk view parts l up f frozen =
 
 -- what passes a failure on is answered by `Fault`
 pub err_answer : (Q : Failed → Type 0) (r : Result Answer Failed) → IsErrAnd r Q → answer_of r ≡ answer.Refused refusal.Fault
-err_answer Q (Ok a) failed = absurd failed
-err_answer Q (Err e) failed = refl
+err_answer Q r failed = search (arith, nat_tests, failed)
 
 -- the device reports who failed
 pub caused : {p q : Parts} {old new : Disk} {c : Command} {age later : ℕ} {a : Answer} → p.failures ≡ old.failures → q.failures ≡ new.failures →
     Performs age p c a later q → IsCaused old new a
-caused {p} {q} {old} {new} {c} {age} {later} {a} before after serves = record {
-  later = subst (λ (n : ℕ). n ≤ new.failures) before (subst (λ (n : ℕ). p.failures ≤ n) after serves.later);
-  exact = subst (λ (n : ℕ). (a ≡ answer.Refused refusal.Fault) ↔ (n < new.failures)) before
-      (subst (λ (n : ℕ). (a ≡ answer.Refused refusal.Fault) ↔ (p.failures < n)) after serves.cause);
-}
+caused {p} {q} {old} {new} {c} {age} {later} {a} before after serves = search (arith, nat_tests)
 
 -- what is counted of banks stays, where the objects do
 pub still_counted : (p q : Parts) (banks : BanksState) → q.headers ≡ p.headers → q.contents ≡ p.contents → q.geometry ≡ p.geometry →
     AreCounted p.geometry (objects_in p) banks → AreCounted q.geometry (objects_in q) banks
-still_counted p q banks headers contents geometry counted =
-    subst (λ (g : Geometry). AreCounted g (objects_in q) banks) (sym geometry)
-    (subst (λ (fs : List Frame). AreCounted p.geometry (objects_of fs) banks) (sym (frames_again p q headers contents)) counted)
+still_counted p q banks headers contents geometry counted = search (arith, nat_tests, frames_again)
 
 -- what is counted of the banks of a store that is up
 pub up_counted : {D S : Type 0} (disk : D → Disk) (view : S → View D) (parts : S → Parts) (l : Live S) → ((g : Geometry) × IsUp disk view parts g l) →
     AreCounted (parts l.store).geometry (objects_in (parts l.store)) l.banks
-up_counted disk view parts l up =
-    subst (λ (g : Geometry). AreCounted g (objects_in (parts l.store)) l.banks) (sym up.1.sound.geometry) up.1.sound.counted
+up_counted disk view parts l up = search (arith, nat_tests)

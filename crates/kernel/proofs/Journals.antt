@@ -26,64 +26,47 @@ use Rattle.kernel.proofs.Acts.{failed, failed_cause, is_up, other_cause, refused
 -- ---- steps
 
 module _ (g : Geometry) (s : Running) (n : ℕ) where
-  abbrev ordered : Bool → Option Frozen → Bool → Bool → Bool → Bool → Option Refusal
-  ordered young frozen home known page saved = unless young refusal.Worn (elim frozen [
-    | Some f ↦ Some refusal.CheckpointRunning
-    | None ↦ unless home refusal.MigrationPending (unless known refusal.BadNumber
-        (unless page (refusal.NotJournaled NotPage) (unless saved (refusal.NotJournaled Renewed) None)))
-  ])
-
-  by : {young : Bool} {frozen : Option Frozen} {home known page saved : Bool} → nat_lt s.now.age (2 ^ 62) ≡ young → s.frozen ≡ frozen →
-      (s.saved.entries == 0) ≡ home → nat_lt n (object_count g) ≡ known →
-      is_page (content_at s.now.objects n) ≡ page → machine.is_saved_page s n ≡ saved → refusal_of g s (command.Journal n) ≡ ordered young frozen home known
-      page saved
-  unfolding refusal_of
-  by a b c d e f = λ k. ordered (a k) (b k) (c k) (d k) (e k) (f k)
-
   pub journal_worn : 2 ^ 62 ≤ s.now.age → refusal_of g s (command.Journal n) ≡ Some refusal.Worn
-  journal_worn old =
-      let past : nat_lt s.now.age (2 ^ 62) ≡ false = grind (arith, nat_tests) in
-      by past refl refl refl refl refl
+  unfolding refusal_of
+  journal_worn old = search (arith, nat_tests)
 
   module _ (young : s.now.age < 2 ^ 62) where
     is_young : nat_lt s.now.age (2 ^ 62) ≡ true
     is_young = grind (arith, nat_tests)
 
     pub journal_running : (f : Frozen) → s.frozen ≡ Some f → refusal_of g s (command.Journal n) ≡ Some refusal.CheckpointRunning
-    journal_running f is = by is_young is refl refl refl refl
+    unfolding refusal_of
+    journal_running f is = search (arith, nat_tests)
 
     module _ (none : s.frozen ≡ None) where
       pub journal_pending : (s.saved.entries ≡ 0 → ⊥) → refusal_of g s (command.Journal n) ≡ Some refusal.MigrationPending
-      journal_pending more =
-          let away : (s.saved.entries == 0) ≡ false = grind (arith, nat_tests) in
-          by is_young none away refl refl refl
+      unfolding refusal_of
+      journal_pending more = search (arith, nat_tests)
 
       module _ (home : s.saved.entries ≡ 0) where
         is_home : (s.saved.entries == 0) ≡ true
         is_home = grind (arith, nat_tests)
 
         pub journal_unknown : object_count g ≤ n → refusal_of g s (command.Journal n) ≡ Some refusal.BadNumber
-        journal_unknown past =
-            let beyond : nat_lt n (object_count g) ≡ false = grind (arith, nat_tests) in
-            by is_young none is_home beyond refl refl
+        unfolding refusal_of
+        journal_unknown past = search (arith, nat_tests)
 
         module _ (known : n < object_count g) where
-          is_known : nat_lt n (object_count g) ≡ true
-          is_known = grind (arith, nat_tests)
-
           pub journal_no_page : is_page (content_at s.now.objects n) ≡ false → refusal_of g s (command.Journal n) ≡ Some (refusal.NotJournaled NotPage)
-          journal_no_page other = by is_young none is_home is_known other refl
+          unfolding refusal_of
+          journal_no_page other = search (arith, nat_tests)
 
           module _ (page : is_page (content_at s.now.objects n) ≡ true) where
             pub journal_renewed : machine.is_saved_page s n ≡ false → refusal_of g s (command.Journal n) ≡ Some (refusal.NotJournaled Renewed)
-            journal_renewed other = by is_young none is_home is_known page other
+            unfolding refusal_of
+            journal_renewed other = search (arith, nat_tests)
 
             pub journal_step : machine.is_saved_page s n ≡ true →
                 Step g (Up s) (command.Journal n) (answer.Journaled (s.saved.generation + 2))
                 (let now : World = record { objects = s.now.objects; age = s.now.age + 1 } in Up
                 (record s { now = now; saved = machine.journaled s n; to_move = 1 }))
-            unfolding carried_out
-            journal_step saved = done_step g s (command.Journal n) _ _ (by is_young none is_home is_known page saved) refl refl
+            unfolding refusal_of carried_out
+            journal_step saved = search (arith, nat_tests, done_step)
 
         -- what it may have saved besides
         abbrev seconds : Bool → Option Frozen → Bool → Bool → Bool → List Saved
@@ -99,31 +82,22 @@ module _ (g : Geometry) (s : Running) (n : ℕ) where
 -- ---- pages
 
 page_by_role : (r : Role) (c : Content Cap) → r ≡ role_of c → is_page_role r ≡ is_page c
-page_by_role r c is = ap is_page_role is ∙ of_content c
-  where
-    of_content : (c : Content Cap) → is_page_role (role_of c) ≡ is_page c
-    of_content content.Free = refl
-    of_content c = refl
+page_by_role r c is = search (arith, nat_tests)
 
 page_through : (f : Cap → Capability) (c : Content Cap) → is_page (map_content f c) ≡ is_page c
-page_through f content.Free = refl
-page_through f c = refl
+page_through f c = search (arith, nat_tests)
 
 words_through : (f : Cap → Capability) (c : Content Cap) → is_page c ≡ true → map_content f c ≡ content.Page (words_in c)
-words_through f (content.Page words) is = refl
-words_through f c is = cc
+words_through f c is = search (arith, nat_tests)
 
 role_of_page : (c : Content Cap) → is_page c ≡ true → role_of c ≡ role.Page
-role_of_page (content.Page words) is = refl
-role_of_page c is = cc
+role_of_page c is = search (arith, nat_tests)
 
 kind_of_page : (g : Geometry) (n : ℕ) (words : List ℕ) (c : Content Cap) → is_page c ≡ true → IsOfKind g n c → IsOfKind {C = Cap} g n (content.Page words)
-kind_of_page g n words (content.Page old) is kind = kind
-kind_of_page g n words c is kind = cc
+kind_of_page g n words c is kind = search (arith, nat_tests)
 
 kept_words : (g : Geometry) (age : ℕ) (c : Content Cap) → is_page c ≡ true → MayBeKept g age c → AreKeptWords 512 (words_in c)
-kept_words g age (content.Page words) is kept = kept
-kept_words g age c is kept = cc
+kept_words g age c is kept = search (arith, nat_tests)
 
 content_is : (fs : List Frame) (n : ℕ) → content_at (objects_of fs) n ≡ map_content (conveyed (headers fs)) (frame_at fs n).content
 unfolding objects_of
@@ -135,21 +109,10 @@ module _ (g : Geometry) (age : ℕ) (fs : List Frame) (n : ℕ) (keepable : AreK
   content_page = sym (page_through (conveyed (headers fs)) (frame_at fs n).content) ∙ ap is_page (sym (content_is fs n))
 
   pub page_at : is_page_role (frame_at fs n).header.role ≡ is_page (content_at (objects_of fs) n)
-  page_at = elim (cases_lt n (object_count g)) [
-    | inl lt ↦ page_by_role (frame_at fs n).header.role (frame_at fs n).content (keepable.each n lt).kept.role ∙ content_page
-    | inr past ↦
-        let blank : frame_at fs n ≡ blank_frame = get_or_past fs n blank_frame (omega (arith, past, keepable.count)) in
-        ap (λ (f : Frame). is_page_role f.header.role) blank ∙ ap (λ (f : Frame). is_page f.content) (sym blank) ∙ content_page
-  ]
+  page_at = search (arith, nat_tests, page_by_role, content_page, get_or_past)
 
   pub page_known : is_page (content_at (objects_of fs) n) ≡ true → n < object_count g
-  page_known page = elim (cases_lt n (object_count g)) [
-    | inl lt ↦ lt
-    | inr past ↦
-        let blank : frame_at fs n ≡ blank_frame = get_or_past fs n blank_frame (omega (arith, past, keepable.count)) in
-        let free : false ≡ true = ap (λ (f : Frame). is_page f.content) (sym blank) ∙ content_page ∙ page in
-        cc
-  ]
+  page_known page = search (arith, nat_tests, get_or_past, content_page)
 
 -- ---- frames, one with other words
 
@@ -166,28 +129,19 @@ module _ (fs : List Frame) (n : ℕ) (words : List ℕ) where
   same_header : (m : ℕ) → (frame_at (set fs n (with_words words (frame_at fs n))) m).header ≡ (frame_at fs m).header
   same_header m = header_is (set fs n page) m ∙ ap (λ (hs : List ObjectHeader). header_at hs m) same_headers ∙ sym (header_is fs m)
 
-  abbrev put_at_owner : ℕ → List Object
-  put_at_owner b = let o : Object = record { owner = b; content = content.Page words } in set (map (object_of (headers fs)) fs) n o
-
   owner_is : owner_at (map (object_of (headers fs)) fs) n ≡ (frame_at fs n).header.owner
   owner_is = ap (λ (o : Object). o.owner) (get_or-map (object_of (headers fs)) fs n blank_frame)
 
   pub objects_after : objects_of (set fs n (with_words words (frame_at fs n))) ≡ with_content (objects_of fs) n (content.Page words)
   unfolding objects_of with_content
-  objects_after =
-      ap (λ (hs : List ObjectHeader). map (object_of hs) (set fs n page)) same_headers ∙ map-set (object_of (headers fs)) fs n page
-      ∙ ap put_at_owner (sym owner_is)
+  objects_after = search (arith, nat_tests, same_headers, map-set, headers, owner_is)
 
   has_risen : List Frame → List Frame → ℕ → Bool
   has_risen base gs m = not ((frame_at gs m).header.allocations == (frame_at base m).header.allocations)
 
   pub renewed_after : (gs : List Frame) → renewed_since (set fs n (with_words words (frame_at fs n))) gs ≡ renewed_since fs gs
   unfolding renewed_since has_risen
-  renewed_after gs =
-      ap (λ (k : ℕ). map (λ m. not ((frame_at gs m).header.allocations == (frame_at (set fs n page) m).header.allocations)) (range_with_len 0 k))
-      (length-set fs n page) ∙ maps_same (λ m. not ((frame_at gs m).header.allocations == (frame_at (set fs n page) m).header.allocations))
-      (λ m. not ((frame_at gs m).header.allocations == (frame_at fs m).header.allocations)) (length fs)
-      (λ m lt. ap (λ (h : ObjectHeader). not ((frame_at gs m).header.allocations == h.allocations)) (same_header m))
+  renewed_after gs = search (arith, nat_tests, length-set, maps_same, same_header)
 
   pub allocations_after : (m : ℕ) → allocations_at (set fs n (with_words words (frame_at fs n))) m ≡ allocations_at fs m
   allocations_after m = ap (λ (h : ObjectHeader). h.allocations) (same_header m)
@@ -195,19 +149,7 @@ module _ (fs : List Frame) (n : ℕ) (words : List ℕ) where
   module _ (g : Geometry) (age : ℕ) (sound : IsSoundFrames g age fs) (is : is_page (frame_at fs n).content ≡ true) (lt : n < object_count g)
       (kept : AreKeptWords 512 words) where
     page_keepable : IsKeepable g age n page
-    page_keepable =
-        let f = sound.keepable.each n lt in
-        record {
-          kind = kind_of_page g n words (frame_at fs n).content is f.kind;
-          kept = record {
-            role = f.kept.role ∙ role_of_page (frame_at fs n).content is;
-            allocations = f.kept.allocations;
-            calls = f.kept.calls;
-            owner = f.kept.owner;
-            unowned = f.kept.unowned;
-            content = kept;
-          };
-        }
+    page_keepable = search (arith, nat_tests, kind_of_page, role_of_page)
 
     pub sound_after : IsSound g (record { objects = with_content (objects_of fs) n (content.Page words); age = age }) →
         IsSoundFrames g age (set fs n (with_words words (frame_at fs n)))
@@ -225,8 +167,7 @@ module _ (fs : List Frame) (n : ℕ) (words : List ℕ) where
 -- ---- a store whose page is journaled
 
 not_twice : (b : Bool) → not (not b) ≡ b
-not_twice true = refl
-not_twice false = refl
+not_twice b = search (arith, nat_tests)
 
 module _ {g : Geometry} {p : Parts} {a : Snapshots FrozenFrames} {banks : BanksState} {age frozen_age : ℕ} (s : AreSoundTogether g p a banks age frozen_age)
     (n : ℕ) where
@@ -239,11 +180,7 @@ module _ {g : Geometry} {p : Parts} {a : Snapshots FrozenFrames} {banks : BanksS
   module _ (none : a.frozen ≡ None) where
     same_count : n < object_count g → ((header_at p.headers n).allocations == (frame_at a.saved.frames n).header.allocations) ≡ not
         (slice_index_or (renewed_since (base_of a) (frames_of p)) n false)
-    same_count lt = sym (
-        ap (λ (base : List Frame). not (slice_index_or (renewed_since base (frames_of p)) n false)) (base_saved a none)
-        ∙ ap not (renewed_at a.saved.frames (frames_of p) n (omega (arith, lt, s.saved.sound.keepable.count)))
-        ∙ not_twice (allocations_at (frames_of p) n == allocations_at a.saved.frames n)
-        ∙ ap (λ (h : ObjectHeader). h.allocations == allocations_at a.saved.frames n) (header_in p.headers p.contents n))
+    same_count lt = search (arith, nat_tests, base_saved, renewed_at, not_twice, header_in)
 
     pub saved_is : n < object_count g → is_still_saved p a.saved n ≡ machine.is_saved_page (running_of p a age frozen_age) n
     saved_is lt = λ k. page_at g a.saved.age a.saved.frames n s.saved.sound.keepable k && same_count lt k
@@ -262,13 +199,10 @@ module _ {g : Geometry} {p : Parts} {a : Snapshots FrozenFrames} {banks : BanksS
       held_page = ap (λ (f : Frame). is_page f.content) (sym here) ∙ content_page g age (frames_of p) n s.now.keepable ∙ page_now
 
       pub words_are : content_at (objects_in p) n ≡ content.Page (words_now p n)
-      words_are =
-          content_is (frames_of p) n ∙ ap (λ (f : Frame). map_content (conveyed (headers (frames_of p))) f.content) here
-          ∙ words_through (conveyed (headers (frames_of p))) (held_at p.contents n) held_page
+      words_are = search (arith, nat_tests, content_is, headers, here, words_through, held_page)
 
       words_kept : AreKeptWords 512 (words_now p n)
-      words_kept = kept_words g age (held_at p.contents n) held_page
-          (subst (λ (f : Frame). MayBeKept g age f.content) here (s.now.keepable.each n known_now).kept.content)
+      words_kept = search (arith, nat_tests, kept_words, held_page, here, known_now)
 
       module _ (saved : is_still_saved p a.saved n ≡ true) (young : age < 2 ^ 62) where
         pub saved_too : machine.is_saved_page (running_of p a age frozen_age) n ≡ true
@@ -278,16 +212,10 @@ module _ {g : Geometry} {p : Parts} {a : Snapshots FrozenFrames} {banks : BanksS
         none_refuses = λ k. unless (page_now k) (refusal.NotJournaled NotPage) (unless (saved_too k) (refusal.NotJournaled Renewed) None)
 
         saved_page : is_page (frame_at a.saved.frames n).content ≡ true
-        saved_page = content_page g a.saved.age a.saved.frames n s.saved.sound.keepable ∙ first _ _ saved_too
-          where
-            first : (b c : Bool) → (b && c) ≡ true → b ≡ true
-            first true c e = refl
-            first false c e = cc
+        saved_page = search (arith, nat_tests, content_page, saved_too)
 
         pub saved_next : saved_of (journaled_saved (a.saved.age + 1) n (words_now p n) a.saved) ≡ machine.journaled (running_of p a age frozen_age) n
-        saved_next = ap (λ (os : List Object). let w : World = record { objects = os; age = a.saved.age + 1 } in let x : Saved =
-            record { world = w; generation = a.saved.generation + 2; entries = 1 } in x)
-            (objects_after a.saved.frames n (words_now p n) ∙ ap (with_content (objects_of a.saved.frames) n) (sym words_are))
+        saved_next = search (arith, nat_tests, objects_after, words_are)
 
         world_next : IsSound g (record { objects = with_content (objects_of a.saved.frames) n (content.Page (words_now p n)); age = a.saved.age + 1 })
         world_next = subst (λ (c : Content Capability). IsSound g (record { objects = with_content (objects_of a.saved.frames) n c; age = a.saved.age + 1 }))
@@ -297,10 +225,7 @@ module _ {g : Geometry} {p : Parts} {a : Snapshots FrozenFrames} {banks : BanksS
         frames_next = frames_later g a.saved.age (a.saved.age + 1) a.saved.frames (omega arith) (omega (arith, s.order, young)) s.saved.sound
 
         pub sound_next : IsSoundSaved g (journaled_saved (a.saved.age + 1) n (words_now p n) a.saved)
-        sound_next = record {
-          geometry = s.saved.geometry;
-          sound = sound_after a.saved.frames n (words_now p n) g (a.saved.age + 1) frames_next saved_page known_now words_kept world_next;
-        }
+        sound_next = search (arith, nat_tests, sound_after, frames_next, saved_page, known_now, words_kept, world_next)
 
         base_next : base_of (journaled (a.saved.age + 1) n (words_now p n) a) ≡ set a.saved.frames n (with_words (words_now p n) (frame_at a.saved.frames n))
         base_next = base_saved (journaled (a.saved.age + 1) n (words_now p n) a) none
@@ -322,26 +247,13 @@ module _ {g : Geometry} {p : Parts} {a : Snapshots FrozenFrames} {banks : BanksS
         pub running_next : running_of p (journaled (a.saved.age + 1) n (words_now p n) a) (age + 1) frozen_age
             ≡ (let now : World = record { objects = objects_in p; age = age + 1 } in let x : Running = record
             (running_of p a age frozen_age) { now = now; saved = machine.journaled (running_of p a age frozen_age) n; to_move = 1 } in x)
-        running_next =
-            let renewed = ap (λ (fs : List Frame). renewed_since fs (frames_of p)) base_next ∙ renewed_after a.saved.frames n (words_now p n) (frames_of p) ∙
-            ap (λ (fs : List Frame). renewed_since fs (frames_of p)) (sym (base_saved a none)) in
-            λ k. record {
-              now = record { objects = objects_in p; age = age + 1 };
-              touched = p.touched;
-              renewed = renewed k;
-              frozen = frozen_of frozen_age a.frozen;
-              saved = saved_next k;
-              to_move = 1;
-            }
+        running_next = search (arith, nat_tests, base_next, renewed_after, base_saved, saved_next)
 
 -- what is saved besides, where nothing but what is saved may refuse it
 pub next_is : {F : Type 0} (age n : ℕ) (words : List ℕ) (o : Option F) (s : SavedFrames) (page saved b : Bool) → o ≡ None → s.entries ≡ 0 → page ≡ true →
     saved ≡ b →
     next_journaled age n words o s page saved ≡ (if b then Some (journaled_saved age n words s) else None)
-next_is age n words o s page saved b none home is_page is_saved =
-    let at_home : (s.entries == 0) ≡ true = grind (arith, nat_tests) in
-    (λ k. next_journaled age n words (none k) s (is_page k) (is_saved k))
-    ∙ ap (λ (t : Bool). if t then (if b then Some (journaled_saved age n words s) else None) else None) at_home
+next_is age n words o s page saved b none home is_page is_saved = search (arith, nat_tests)
 
 -- the same but for the store and the age
 abbrev pub with_age : {S : Type 0} → Live S → S → ℕ → Live S
@@ -349,20 +261,15 @@ with_age l s age = record { store = s; banks = l.banks; age = age; frozen_age = 
 
 -- what was done left a sound store
 pub sound_done : {P : Type 0} (n : ℕ) → IsErrOf {T = ℕ} (Ok n) refusal.Fault ⊎ P → P
-sound_done n (inl failed) = absurd cc
-sound_done n (inr sound) = sound
+sound_done n either = search (arith, nat_tests)
 
 sound_still : {P : Type 0} → IsErrOf {T = ℕ} (Err (refusal.NotJournaled Renewed)) refusal.Fault ⊎ P → P
-sound_still (inl failed) = absurd cc
-sound_still (inr sound) = sound
+sound_still either = search (arith, nat_tests)
 
 -- where it is refused with no read of an object, the store is the same
 pub unlooked_same : {S : Type 0} (was now : Disk) (left : Option ℕ) (s : SavedFrames) (known page saved : Bool) (why : Refusal) {old new : S} →
     IsJournalAnswer was now left s known page saved (Err why) → (IsTurnedAway (Err why) → new ≡ old) → IsUnlooked (answer.Refused why) → new ≡ old
-unlooked_same was now left s known paged saved refusal.BadNumber reported same is = same tt
-unlooked_same was now left s known paged saved refusal.NoProcess reported same is = absurd reported
-unlooked_same was now left s known paged saved refusal.Down reported same is = absurd reported
-unlooked_same was now left s known paged saved why reported same is = absurd is
+unlooked_same was now left s known paged saved why reported same is = search (arith, nat_tests)
 
 module _ {D S : Type 0} (disk : D → Disk) (view : S → View D) (parts : S → Parts)
     (only_now : (d : D) (c : Image) → (disk d).left_since (disk d).moment c → (disk d).may_leave c)
@@ -401,9 +308,7 @@ module _ {D S : Type 0} (disk : D → Disk) (view : S → View D) (parts : S →
         (none : (view l.store).snapshots.frozen ≡ None) (home : (view l.store).snapshots.saved.entries ≡ 0) (page : is_page_now (parts l.store) n ≡ true) where
       run_by : (b : Bool) → is_still_saved (parts l.store) a.saved n ≡ b →
           LeavesOneOf old new a.saved (if b then Some (journaled_saved age n (words_now (parts l.store) n) a.saved) else None)
-      run_by b is = subst (λ (o : Option SavedFrames). LeavesOneOf old new a.saved o)
-          (next_is age n (words_now (parts l.store) n) a.frozen a.saved (is_page_now (parts l.store) n) (is_still_saved (parts l.store) a.saved n) b none home
-          page is) run
+      run_by b is = search (arith, nat_tests, next_is)
 
       -- what a crash leaves of it
       along : (b : Bool) → is_still_saved (parts l.store) a.saved n ≡ b → (g : Geometry) → IsUp disk view parts g l →
@@ -485,18 +390,11 @@ module _ {D S : Type 0} (disk : D → Disk) (view : S → View D) (parts : S →
         (λ g up. journal_no_page g (running disk view parts l) n young (frozen_none a.frozen l.frozen_age (none_there a.frozen reported.1)) reported.2
         (subst (λ (m : ℕ). n < m) (keepable_count g l.age (parts l.store) up.sound.now.keepable) (ltb-true n (length (parts l.store).headers) reported.3))
         (sym (now_is up.sound n) ∙ reported.4))
-    journal_refused (refusal.NotJournaled Renewed) same size reported away beside sound run =
-        not_saved same size run (none_there a.frozen reported.1) reported.2 reported.3 reported.4 beside (sound_still sound)
+    journal_refused (refusal.NotJournaled Renewed) same size reported away beside sound run = search (arith, nat_tests, not_saved, none_there, sound_still)
     journal_refused refusal.Fault same size reported away beside sound run = journal_failed same size run (none_there a.frozen reported.1) reported.2 reported.3
     journal_refused why same size reported away beside sound run = absurd reported
 
 -- who failed is reported where a store refuses
 pub journal_cause : (old new : Disk) (left : Option ℕ) (s : SavedFrames) (known page saved : Bool) (why : Refusal) →
     IsJournalAnswer old new left s known page saved (Err why) → IsCaused old new (answer.Refused why)
-journal_cause old new left s known page saved refusal.Fault reported = failed_cause old new reported.0
-journal_cause old new left s known page saved refusal.CheckpointRunning reported = other_cause old new refusal.CheckpointRunning reported.0 (λ e. cc)
-journal_cause old new left s known page saved refusal.MigrationPending reported = other_cause old new refusal.MigrationPending reported.0 (λ e. cc)
-journal_cause old new left s known page saved refusal.BadNumber reported = other_cause old new refusal.BadNumber reported.0 (λ e. cc)
-journal_cause old new left s known page saved (refusal.NotJournaled NotPage) reported = other_cause old new (refusal.NotJournaled NotPage) reported.0 (λ e. cc)
-journal_cause old new left s known page saved (refusal.NotJournaled Renewed) reported = other_cause old new (refusal.NotJournaled Renewed) reported.0 (λ e. cc)
-journal_cause old new left s known page saved why reported = absurd reported
+journal_cause old new left s known page saved why reported = search (arith, nat_tests, failed_cause, other_cause)

@@ -24,20 +24,7 @@ header_in hs cs n = sym (get_or-map (λ (f : Frame). f.header) (frames_in hs cs)
 
 -- a count differs where it did before, or rises now
 differs : (gone : Bool) (base old new : ℕ) → base ≤ old → new ≡ old + (if gone then 1 else 0) → (not (old == base) || gone) ≡ not (new == base)
-differs true base old new le is =
-    let up : new ≡ old + 1 = is in
-    either (not (old == base)) ∙ sym (ap (λ (b : Bool). not b) (ne_eqb new base (λ e. omega (arith, le, up, e))))
-  where
-    either : (b : Bool) → (b || true) ≡ true
-    either true = refl
-    either false = refl
-differs false base old new le is =
-    let same : old ≡ new = omega (arith, is) in
-    neither (not (old == base)) ∙ ap (λ (k : ℕ). not (k == base)) same
-  where
-    neither : (b : Bool) → (b || false) ≡ b
-    neither true = refl
-    neither false = refl
+differs gone base old new le is = search (arith, nat_tests, ne_eqb)
 
 -- counts through an invocation
 module _ (base : List Frame) (p q : Parts) (renews : Renews p q) (risen : (n : ℕ) → allocations_at base n ≤ allocations_at (frames_of p) n) where
@@ -45,9 +32,7 @@ module _ (base : List Frame) (p q : Parts) (renews : Renews p q) (risen : (n : �
   gone n = is_given_up (objects_in p) (objects_in q) n
 
   rising : (n : ℕ) → allocations_at (frames_of q) n ≡ allocations_at (frames_of p) n + (if gone n then 1 else 0)
-  rising n =
-      ap (λ (h : ObjectHeader). h.allocations) (header_in q.headers q.contents n) ∙ (renews.each n
-      ∙ ap (λ (h : ObjectHeader). h.allocations + (if gone n then 1 else 0)) (sym (header_in p.headers p.contents n)))
+  rising n = search (arith, nat_tests, header_in)
 
   pub risen_on : (n : ℕ) → allocations_at base n ≤ allocations_at (frames_of q) n
   risen_on n = omega (arith, risen n, rising n)
@@ -68,8 +53,7 @@ module _ (base : List Frame) (p q : Parts) (renews : Renews p q) (risen : (n : �
       ∙ sym (renewed_at base (frames_of q) n known))))
 
 frames_if : (b : Bool) (fs : SavedFrames) → (if b then home_saved fs else fs).frames ≡ fs.frames
-frames_if true fs = refl
-frames_if false fs = refl
+frames_if b fs = search (arith, nat_tests)
 
 pub base_moved : (a : Snapshots FrozenFrames) (n : ℕ) → base_of (moved n a) ≡ base_of a
 base_moved a n = ap (λ (fs : List Frame). base_by fs a.frozen) (frames_if (a.to_move - n == 0) a.saved)
@@ -81,19 +65,12 @@ among g size c (s ∷ ss) ts one = ⊎_elim (λ here. inl here) (λ there. inr (
 
 -- no call was made
 pub leaves_here : (g : Geometry) (disk : Disk) (ss ts : List Saved) → OnlyNow disk → Leaves g disk ss → LeavesOne g disk disk (ss ++ ts)
-leaves_here g disk ss ts only_now here = record {
-  size = refl;
-  any_moment = started disk (DenotesOne g disk.sectors (ss ++ ts)) only_now (λ c left. among g disk.sectors c ss ts (here c left));
-}
+leaves_here g disk ss ts only_now here = search (arith, nat_tests, started, among)
 
 -- a crash left what was saved all along
 pub leaves_along : {g : Geometry} {old new : Disk} {fs : SavedFrames} {ts : List Saved} → IsSoundSaved g fs → new.sectors ≡ old.sectors →
     LeavesSaved old new fs → LeavesOne g old new (saved_of fs ∷ ts)
-leaves_along {g} {old} {new} {fs} {ts} sound size moments = record {
-  size = size;
-  any_moment = leaves_weaker {old = old} {new = new} {P = λ c. Holds old.sectors c fs} (DenotesOne g old.sectors (saved_of fs ∷ ts))
-      (λ c holds. inl (denoted_by g old.sectors c fs sound holds)) moments;
-}
+leaves_along {g} {old} {new} {fs} {ts} sound size moments = search (arith, nat_tests, leaves_weaker, denoted_by)
 
 -- or what is saved next
 pub leaves_either : {g : Geometry} {old new : Disk} {fs next : SavedFrames} → IsSoundSaved g fs → IsSoundSaved g next → new.sectors ≡ old.sectors →
@@ -108,15 +85,12 @@ leaves_either {g} {old} {new} {fs} {next} sound sound_next size moments = record
 
 -- where a run ends a crash leaves no more than at its moments
 pub leaves_end : (g : Geometry) (old new : Disk) (ss : List Saved) → CountsNow new → LeavesOne g old new ss → Leaves g new ss
-leaves_end g old new ss counts_now run c left =
-    subst (λ (n : ℕ). DenotesOne g n ss c) (sym run.size) (ends {old = old} {new = new} {P = DenotesOne g old.sectors ss} run.any_moment counts_now c left)
+leaves_end g old new ss counts_now run c left = search (arith, nat_tests)
 
 -- ---- what is saved goes home
 
 home_same : (fs : SavedFrames) → fs.entries ≡ 0 → home_saved fs ≡ fs
-home_same fs none = ap
-    (λ (n : ℕ). let s : SavedFrames = record { geometry = fs.geometry; frames = fs.frames; generation = fs.generation; entries = n; age = fs.age } in s)
-    (sym none)
+home_same fs none = search (arith, nat_tests)
 
 home_or_saved : (g : Geometry) (size : ℕ) (c : Image) (fs : SavedFrames) → IsSoundSaved g fs → (home last : Bool) → (fs.entries == 0) ≡ home →
     Holds size c (if last then home_saved fs else fs) →
@@ -124,9 +98,7 @@ home_or_saved : (g : Geometry) (size : ℕ) (c : Image) (fs : SavedFrames) → I
 home_or_saved g size c fs sound home false is holds = inl (denoted_by g size c fs sound holds)
 home_or_saved g size c fs sound false true is holds = inr
     (inl (denoted_by g size c (home_saved fs) (record { geometry = sound.geometry; sound = sound.sound }) holds))
-home_or_saved g size c fs sound true true is holds =
-    let none : fs.entries ≡ 0 = grind (arith, nat_tests) in
-    inl (denoted_by g size c fs sound (subst (Holds size c) (home_same fs none) holds))
+home_or_saved g size c fs sound true true is holds = search (arith, nat_tests, denoted_by, home_same)
 
 pub leaves_home : (g : Geometry) (old new : Disk) (a : Snapshots FrozenFrames) (n : ℕ) → IsSoundSaved g a.saved → new.sectors ≡ old.sectors →
     LeavesEither old new a.saved (moved_saved n a) →
@@ -144,28 +116,17 @@ leaves_home g old new a n sound size moments =
 -- ---- steps of the machine
 
 only_one : (s t : Saved) → Contains (s ∷ []) t → t ≡ s
-only_one s t there = go there.0 there.1 there.2
-  where
-    go : (k : ℕ) → k < length (s ∷ []) → slice_index_or (s ∷ []) k t ≡ t → t ≡ s
-    go zero inside is = sym is
-    go (suc k) inside is = absurd (omega (arith, inside))
+only_one s t there = search (arith, nat_tests)
 
 -- one that is up is opened again at what is saved
 up_again : (g : Geometry) (r : Running) (a : Answer) (after : Machine) → Reopens g (r.saved ∷ []) a after →
     (a ≡ answer.At r.saved.generation r.saved.world.age) × (after ≡ Up (opened g r.saved))
-up_again g r a after again =
-    let same = only_one r.saved again.0 again.1 in
-    (again.2 ∙ ap (λ (s : Saved). answer.At s.generation s.world.age) same, again.3 ∙ ap (λ (s : Saved). Up (opened g s)) same)
+up_again g r a after again = search (arith, nat_tests, only_one)
 
 -- the device was opened again, or the machine is down for want of memory or after a failure
 restarts : (g : Geometry) (m : Machine) (a : Answer) (after : Machine) → ReopensAs g (candidates m) a after → Step g m command.Restart a after
 unfolding refusal_of carried_out
-restarts g (Up r) a after (inl again) = inl (up_again g r a after again)
-restarts g (Up r) a after (inr (inl none)) = inr (inl (refl, none.0, none.1))
-restarts g (Up r) a after (inr (inr failed)) = inr (inr (tt, failed.0, failed.1))
-restarts g (Down saved) a after (inl again) = inl again
-restarts g (Down saved) a after (inr (inl none)) = inr (inl (refl, none.0, none.1))
-restarts g (Down saved) a after (inr (inr failed)) = inr (inr (refl, failed.0, failed.1 ∙ ap Down (sym (append-nil saved))))
+restarts g m a after again = search (arith, nat_tests, up_again, append-nil)
 
 is_cut : (g : Geometry) (m : Machine) (a : Answer) (after : Machine) → ReopensAs g (candidates m) a after → Step g m command.Cut a after
 unfolding refusal_of carried_out
@@ -174,41 +135,26 @@ is_cut g (Down saved) a after again = restarts g (Down saved) a after again
 
 reopens_step : (g : Geometry) (m : Machine) (c : Command) (a : Answer) (after : Machine) → (c ≡ command.Restart) ⊎ (c ≡ command.Cut) →
     ReopensAs g (candidates m) a after → Step g m c a after
-reopens_step g m c a after (inl is) again = subst (λ (x : Command). Step g m x a after) (sym is) (restarts g m a after again)
-reopens_step g m c a after (inr is) again = subst (λ (x : Command). Step g m x a after) (sym is) (is_cut g m a after again)
+reopens_step g m c a after which again = search (arith, nat_tests, restarts, is_cut)
 
 -- ---- crashes
 
 -- more may be said of a run
 more_left : (g : Geometry) (old new : Disk) (ss ts : List Saved) → LeavesOne g old new ss → LeavesOne g old new (ss ++ ts)
-more_left g old new ss ts run = record {
-  size = run.size;
-  any_moment = leaves_weaker {old = old} {new = new} {P = DenotesOne g old.sectors ss} (DenotesOne g old.sectors (ss ++ ts))
-      (λ c one. among g old.sectors c ss ts one) run.any_moment;
-}
+more_left g old new ss ts run = search (arith, nat_tests, leaves_weaker, among)
 
 -- one run after another
 left_on : (g : Geometry) (old mid new : Disk) (ss : List Saved) → LeavesOne g old mid ss → LeavesOne g mid new ss → LeavesOne g old new ss
-left_on g old mid new ss first next = record {
-  size = next.size ∙ first.size;
-  any_moment = leaves_on {old = old} {mid = mid} {new = new} {P = DenotesOne g old.sectors ss} first.any_moment
-      (subst (λ (n : ℕ). LeavesOnly mid new (DenotesOne g n ss)) first.size next.any_moment);
-}
+left_on g old mid new ss first next = search (arith, nat_tests, leaves_on)
 
 -- the power was cut: a crash leaves what it left
 module _ (g : Geometry) (old new : Disk) (ss : List Saved) (left : old.may_leave new.seen) (durable : Only new.seen new) (size : new.sectors ≡ old.sectors)
     (before : Leaves g old ss) where
   pub cut_leaves : Leaves g new ss
-  cut_leaves c now =
-      subst (λ (n : ℕ). DenotesOne g n ss c) (sym size)
-      (subst (DenotesOne g old.sectors ss) (sym (agrees_is c new.seen (durable c now))) (before new.seen left))
+  cut_leaves c now = search (arith, nat_tests, agrees_is)
 
   pub cut_left : OnlyNow old → CountsNow old → Elapses old new → LeavesOne g old new ss
-  cut_left only_now counts_now time = record {
-    size = size;
-    any_moment = goes_on_cut {old = old} {mid = old} {new = new} {P = DenotesOne g old.sectors ss} (started old (DenotesOne g old.sectors ss) only_now before)
-        counts_now time left durable;
-  }
+  cut_left only_now counts_now time = search (arith, nat_tests, goes_on_cut, started)
 
 module _ {D S : Type 0} (disk : D → Disk) (view : S → View D) (parts : S → Parts) where
   -- ---- a command that goes on
@@ -219,11 +165,7 @@ module _ {D S : Type 0} (disk : D → Disk) (view : S → View D) (parts : S →
   some_up o d l is some = subst (λ (x : Option (Live S)). IsSomeMachine disk view parts (power_of x d)) is some
 
   pub requested_up : (o : Option (Live S)) (d : Option D) (l : Live S) → o ≡ Some l → IsSomeMachine disk view parts (power_of o d) → IsSomeUp disk view parts l
-  requested_up o d l is some = go (some_up o d l is some)
-    where
-      go : IsSomeMachine disk view parts (power.Up l) → IsSomeUp disk view parts l
-      go (g, Up r, stands) = (g, stands.0)
-      go (g, Down saved, stands) = absurd stands
+  requested_up o d l is some = search (arith, nat_tests, some_up)
 
   -- it answered
   pub stays_up : (l k : Live S) (c : Command) (a : Answer) → (a ≡ answer.Refused refusal.Fault → ⊥) → ServesUp disk view parts l c a k →
@@ -240,9 +182,7 @@ module _ {D S : Type 0} (disk : D → Disk) (view : S → View D) (parts : S →
 
   -- there is one device beneath a kernel
   pub one_device : (p : Power D S) (d e : D) → IsDeviceOf disk view parts p d → IsDeviceOf disk view parts p e → d ≡ e
-  one_device (power.Up l) d e is other = is ∙ sym other
-  one_device (power.Down f) d e is other = is ∙ sym other
-  one_device power.Between d e is other = absurd is
+  one_device p d e is other = search (arith, nat_tests)
 
   -- the device failed, and was given back
   pub goes_down : (l k : Live S) (c : Command) (d : D) → CountsNow (disk d) → ServesUp disk view parts l c (answer.Refused refusal.Fault) k →
@@ -269,9 +209,7 @@ module _ {D S : Type 0} (disk : D → Disk) (view : S → View D) (parts : S →
   -- only what shows an object or opens the device may be answered `no memory`
   pub memory_taken : (p q : Power D S) (c : Command) (a : Answer) → Serves disk view parts p c a q → IsSomeMachine disk view parts p →
       a ≡ answer.Refused refusal.NoMemory → takes_memory c ≡ true
-  memory_taken p q c a serves some is =
-      let from = serves some.0 some.1 some.2 in
-      wants_memory_to_show some.0 some.1 c from.after (subst (λ (x : Answer). Step some.0 some.1 c x from.after) is from.step)
+  memory_taken p q c a serves some is = search (arith, nat_tests, wants_memory_to_show)
 
   -- ---- opened, and opened again
 
@@ -345,16 +283,10 @@ module _ {D S : Type 0} (disk : D → Disk) (view : S → View D) (parts : S →
   -- what a crash leaves beneath a machine
   beneath : (g : Geometry) (p : Power D S) (m : Machine) (d : D) → Stands disk view parts g p m → IsDeviceOf disk view parts p d →
       Leaves g (disk d) (candidates m)
-  beneath g (power.Up l) (Up r) d stands is =
-      subst (λ (x : Running). Leaves g (disk d) (x.saved ∷ [])) (sym stands.1)
-      (subst (λ (x : D). Leaves g (disk x) (saved_of (view l.store).snapshots.saved ∷ [])) (sym is) stands.0.leaves)
-  beneath g (power.Down e) (Down saved) d stands is = subst (λ (x : D). Leaves g (disk x) saved) (sym is) stands
-  beneath g p m d stands is = absurd stands
+  beneath g p m d stands is = search (arith, nat_tests)
 
   disk_is : (p : Power D S) (d : D) (P : Disk → Type 0) → IsDeviceOf disk view parts p d → P (disk d) → P (disk_of disk view parts p)
-  disk_is (power.Up l) d P is has = subst (λ (x : D). P (disk x)) is has
-  disk_is (power.Down e) d P is has = subst (λ (x : D). P (disk x)) is has
-  disk_is power.Between d P is has = absurd is
+  disk_is p d P is has = search (arith, nat_tests)
 
   pub some_down : (p : Power D S) (d : D) → IsSomeMachine disk view parts p → IsDeviceOf disk view parts p d → IsSomeDown disk d
   some_down p d some is = (some.0, candidates some.1, beneath some.0 p some.1 d some.2 is)
@@ -381,43 +313,29 @@ module _ {D S : Type 0} (disk : D → Disk) (view : S → View D) (parts : S →
 
     pub again_caused : (e : D) → (disk e).failures ≡ (disk d).failures → IsCaused (disk e) (disk_of disk view parts q) a →
         IsCaused (disk_of disk view parts p) (disk_of disk view parts q) a
-    again_caused e same caused = disk_is p d (λ (x : Disk). IsCaused x (disk_of disk view parts q) a) is (record {
-      later = subst (λ (n : ℕ). n ≤ (disk_of disk view parts q).failures) same caused.later;
-      exact = subst (λ (n : ℕ). (a ≡ answer.Refused refusal.Fault) ↔ (n < (disk_of disk view parts q).failures)) same caused.exact;
-    })
+    again_caused e same caused = search (arith, nat_tests, disk_is)
 
   -- the device was left alone, or its power was cut
   pub left_alone : (d : D) → OnlyNow (disk d) → (g : Geometry) (ss : List Saved) → Leaves g (disk d) ss →
       LeavesOne g (disk d) (disk d) ss × Leaves g (disk d) ss
-  left_alone d only_now g ss leaves = (
-    subst (λ (ts : List Saved). LeavesOne g (disk d) (disk d) ts) (append-nil ss) (leaves_here g (disk d) ss [] only_now leaves),
-    leaves,
-  )
+  left_alone d only_now g ss leaves = search (arith, nat_tests, append-nil, leaves_here)
 
   pub left_cut : (d e : D) → OnlyNow (disk d) → CountsNow (disk d) → (disk d).may_leave (disk e).seen → Only (disk e).seen (disk e) →
       (disk e).sectors ≡ (disk d).sectors → Elapses (disk d) (disk e) →
       (g : Geometry) (ss : List Saved) → Leaves g (disk d) ss → LeavesOne g (disk d) (disk e) ss × Leaves g (disk e) ss
-  left_cut d e only_now counts_now left durable size time g ss leaves = (
-    cut_left g (disk d) (disk e) ss left durable size leaves only_now counts_now time,
-    cut_leaves g (disk d) (disk e) ss left durable size leaves,
-  )
+  left_cut d e only_now counts_now left durable size time g ss leaves = search (arith, nat_tests, cut_left, cut_leaves)
 
   pub some_cut : (d e : D) → OnlyNow (disk d) → CountsNow (disk d) → (disk d).may_leave (disk e).seen → Only (disk e).seen (disk e) →
       (disk e).sectors ≡ (disk d).sectors → Elapses (disk d) (disk e) → IsSomeDown disk d → IsSomeDown disk e
-  some_cut d e only_now counts_now left durable size time down =
-      (down.0, down.1, (left_cut d e only_now counts_now left durable size time down.0 down.1 down.2).1)
+  some_cut d e only_now counts_now left durable size time down = search (arith, nat_tests, left_cut)
 
 -- an invocation by a store that is up has that of its objects
 module _ {D S : Type 0} (disk : D → Disk) (view : S → View D) (parts : S → Parts) where
   invoked_code : (l : Live S) (i : Invocation) (code : Option ResultCode) → code ≡ code_with (parts l.store).geometry (objects_in (parts l.store)) i answer.Done
       → HasCode disk view parts (power.Up l) (command.Invoke i) (done_with code)
-  invoked_code l i code is g (Up r) stands =
-      is ∙ ap (λ (h : Geometry). code_with h (objects_in (parts l.store)) i answer.Done) stands.0.sound.geometry
-      ∙ ap (λ (x : Running). code_with g x.now.objects i answer.Done) (sym stands.1)
-  invoked_code l i code is g (Down saved) stands = absurd stands
+  invoked_code l i code is g m stands = search (arith, nat_tests)
 
   pub up_code : (l : Live S) (i : Invocation) (r : Result (Option ResultCode) Refusal) →
       IfOk r (λ code. code ≡ code_with (parts l.store).geometry (objects_in (parts l.store)) i answer.Done)
       → IfOk r (λ code. HasCode disk view parts (power.Up l) (command.Invoke i) (done_with code))
-  up_code l i (Ok code) is = invoked_code l i code is
-  up_code l i (Err why) is = tt
+  up_code l i r is = search (arith, nat_tests, invoked_code)

@@ -13,20 +13,6 @@ use Rattle.model.specs.declared.command.Command.TheVariants as command
 use Rattle.kernel.proofs.Performing.{done_step, refused_step, AreSame, refused_serves, same_frames, same_renews, same_sound, serves_looked, standing}
 use Rattle.kernel.proofs.Performing.{still_machine, reported_cause, early_fine}
 
--- a command of a process that has to run, and the refusal of one that does
-module _ (g : Geometry) (s : Running) (c : Command) (p : ℕ) (next : Option Refusal) (of : refusal_of g s c ≡ of_running s.now.objects p next) where
-  abbrev in_order : Bool → Bool → Option Refusal
-  in_order a b = unless a refusal.NoProcess (unless b refusal.NotRunning next)
-
-  by : {a b : Bool} → is_process s.now.objects p ≡ a → is_running_process s.now.objects p ≡ b → refusal_of g s c ≡ in_order a b
-  by as_a as_b = of ∙ (λ k. in_order (as_a k) (as_b k))
-
-  -- a process that can't act
-  pub cannot_act : (why : Refusal) → IsEarly s.now.objects p (Some why) → Step g (Up s) c (answer.Refused why) (Up s)
-  cannot_act refusal.NoProcess early = refused_step g s c refusal.NoProcess (by early refl)
-  cannot_act refusal.NotRunning early = refused_step g s c refusal.NotRunning (by early.0 early.1)
-  cannot_act _ early = absurd early
-
 -- what a load answers
 abbrev pub loaded_answer : Result ℕ MemoryFault → Answer
 loaded_answer (Ok word) = answer.Value word
@@ -34,102 +20,49 @@ loaded_answer (Err why) = answer.MemoryFault why
 
 -- a load
 module _ (g : Geometry) (s : Running) (p address : ℕ) where
-  load_order : refusal_of g s (command.Load p address) ≡ of_running s.now.objects p None
-  unfolding refusal_of
-  load_order = refl
-
   pub load_early : (why : Refusal) → IsEarly s.now.objects p (Some why) →
       Step g (Up s) (command.Load p address) (answer.Refused why) (Up s)
-  load_early = cannot_act g s (command.Load p address) p None load_order
-
-  abbrev after_loading : Result (ℕ × Access) MemoryFault → Outcome
-  after_loading r = elim r [
-    | Ok found ↦ outcome (answer.Value (word_at s.now.objects found.0 (address % 512))) s
-    | Err why ↦ outcome (answer.MemoryFault why) s
-  ]
-
-  loads : (r : Result (ℕ × Access) MemoryFault) → reached s.now.objects p address ≡ r → carried_out g s (command.Load p address) ≡ after_loading r
-  unfolding carried_out
-  loads r is = ap after_loading is
+  unfolding refusal_of
+  load_early why early = search (arith, nat_tests, refused_step)
 
   module _ (process : is_process s.now.objects p ≡ true) (running : is_running_process s.now.objects p ≡ true) where
-    load_done : (r : Result (ℕ × Access) MemoryFault) → reached s.now.objects p address ≡ r → (a : Answer) → a ≡ (after_loading r).answer →
-        s ≡ (after_loading r).after →
-        Step g (Up s) (command.Load p address) a (Up s)
-    load_done r is a reported stays =
-        done_step g s (command.Load p address) a (Up s) (by g s (command.Load p address) p None load_order process running)
-        (reported ∙ ap (λ (o : Outcome). o.answer) (sym (loads r is))) (ap Up (stays ∙ ap (λ (o : Outcome). o.after) (sym (loads r is))))
-
     pub load_step : (loaded : Result ℕ MemoryFault) → IsLoaded s.now.objects p address loaded →
         Step g (Up s) (command.Load p address) (loaded_answer loaded) (Up s)
-    load_step (Ok word) found = load_done (Ok found.0) found.1 (answer.Value word) (ap answer.Value found.2) refl
-    load_step (Err why) is = load_done (Err why) is (answer.MemoryFault why) refl refl
+    unfolding refusal_of carried_out
+    load_step loaded is = search (arith, nat_tests, done_step)
 
 -- a store
 module _ (g : Geometry) (s : Running) (p address word : ℕ) where
-  abbrev full_or_none : Result ℕ MemoryFault → Option Refusal
-  full_or_none r = elim r [
-    | Ok page ↦ unless (not (overfills g s.touched (page ∷ []))) refusal.LogFull None
-    | Err why ↦ None
-  ]
-
-  store_order : refusal_of g s (command.Store p address word) ≡ of_running s.now.objects p (full_or_none (writable (reached s.now.objects p address)))
-  unfolding refusal_of
-  store_order = refl
-
   pub store_early : (why : Refusal) → IsEarly s.now.objects p (Some why) →
       Step g (Up s) (command.Store p address word) (answer.Refused why) (Up s)
-  store_early = cannot_act g s (command.Store p address word) p (full_or_none (writable (reached s.now.objects p address))) store_order
-
-  abbrev after_storing : Result ℕ MemoryFault → Outcome
-  after_storing r = elim r [
-    | Ok page ↦ outcome answer.Done (writing s (with_word s.now.objects page (address % 512) word) s.now.age (page ∷ []) s.renewed)
-    | Err why ↦ outcome (answer.MemoryFault why) s
-  ]
-
-  stores : (r : Result ℕ MemoryFault) → writable (reached s.now.objects p address) ≡ r → carried_out g s (command.Store p address word) ≡ after_storing r
-  unfolding carried_out
-  stores r is = ap after_storing is
+  unfolding refusal_of
+  store_early why early = search (arith, nat_tests, refused_step)
 
   module _ (process : is_process s.now.objects p ≡ true) (running : is_running_process s.now.objects p ≡ true) where
-    store_refusal : (r : Result ℕ MemoryFault) → writable (reached s.now.objects p address) ≡ r → refusal_of g s (command.Store p address word) ≡ full_or_none r
-    store_refusal r is =
-        by g s (command.Store p address word) p (full_or_none (writable (reached s.now.objects p address))) store_order process running ∙ ap full_or_none is
-
-    store_done : (r : Result ℕ MemoryFault) → writable (reached s.now.objects p address) ≡ r → full_or_none r ≡ None →
-        Step g (Up s) (command.Store p address word) (after_storing r).answer (Up (after_storing r).after)
-    store_done r is fits =
-        done_step g s (command.Store p address word) (after_storing r).answer (Up (after_storing r).after) (store_refusal r is ∙ fits)
-        (ap (λ (o : Outcome). o.answer) (sym (stores r is))) (ap (λ (o : Outcome). Up o.after) (sym (stores r is)))
-
     pub store_step : (page : ℕ) → writable (reached s.now.objects p address) ≡ Ok page → touched_count (touching s.touched (page ∷ [])) ≤ g.log →
         Step g (Up s) (command.Store p address word) answer.Done
         (Up (writing s (with_word s.now.objects page (address % 512) word) s.now.age (page ∷ []) s.renewed))
-    store_step page is within =
-        let fits : overfills g s.touched (page ∷ []) ≡ false = grind (arith, nat_tests) in
-        store_done (Ok page) is (ap (λ (b : Bool). unless (not b) refusal.LogFull None) fits)
+    unfolding refusal_of carried_out
+    store_step page is within = search (arith, nat_tests, done_step)
 
     pub store_fault_step : (why : MemoryFault) → writable (reached s.now.objects p address) ≡ Err why →
         Step g (Up s) (command.Store p address word) (answer.MemoryFault why) (Up s)
-    store_fault_step why is = store_done (Err why) is refl
+    unfolding refusal_of carried_out
+    store_fault_step why is = search (arith, nat_tests, done_step)
 
     pub store_full_step : (page : ℕ) → writable (reached s.now.objects p address) ≡ Ok page → g.log < touched_count (touching s.touched (page ∷ [])) →
         Step g (Up s) (command.Store p address word) (answer.Refused refusal.LogFull) (Up s)
-    store_full_step page is over =
-        let overfull : overfills g s.touched (page ∷ []) ≡ true = grind (arith, nat_tests) in
-        refused_step g s (command.Store p address word) refusal.LogFull
-        (store_refusal (Ok page) is ∙ ap (λ (b : Bool). unless (not b) refusal.LogFull None) overfull)
+    unfolding refusal_of
+    store_full_step page is over = search (arith, nat_tests, refused_step)
 
 -- what was only read is the same
 pub looked_same : {S : Type 0} {parts : S → Parts} {Continues : S → S → Type 0} {old new : S} → OnlyFetches parts Continues old new →
     AreSame (parts old) (parts new)
-looked_same snapshots =
-    record { headers = snapshots.headers; contents = snapshots.contents; touched = snapshots.touched; geometry = snapshots.geometry }
+looked_same snapshots = search (arith, nat_tests)
 
 -- and so is what wasn't changed
 unchanged_same : (old new : Parts) → new.geometry ≡ old.geometry → IsUnchanged old new → AreSame old new
-unchanged_same old new geometry unchanged =
-    record { headers = unchanged.headers; contents = unchanged.contents; touched = unchanged.touched; geometry = geometry }
+unchanged_same old new geometry unchanged = search (arith, nat_tests)
 
 -- what a store answers
 abbrev pub stored_answer : Result (Unit {0}) MemoryFault → Answer
@@ -137,18 +70,15 @@ stored_answer (Ok done) = answer.Done
 stored_answer (Err why) = answer.MemoryFault why
 
 loaded_unfailed : (loaded : Result ℕ MemoryFault) → loaded_answer loaded ≡ answer.Refused refusal.Fault → ⊥
-loaded_unfailed (Ok word) e = cc
-loaded_unfailed (Err why) e = cc
+loaded_unfailed loaded e = search (arith, nat_tests)
 
 stored_unfailed : (stored : Result (Unit {0}) MemoryFault) → stored_answer stored ≡ answer.Refused refusal.Fault → ⊥
-stored_unfailed (Ok done) e = cc
-stored_unfailed (Err why) e = cc
+stored_unfailed stored e = search (arith, nat_tests)
 
 -- the machine of parts with these objects and these numbers touched
 machine_is : (age : ℕ) (new : Parts) (renewed now : List Bool) (frozen : Option Frozen) (saved : Saved) (to_move : ℕ) (os : List Object) (ts : List Bool) →
     objects_in new ≡ os → new.touched ≡ ts → renewed ≡ now → standing age renewed frozen saved to_move os ts ≡ machine_at age new now frozen saved to_move
-machine_is age new renewed now frozen saved to_move os ts objects touched same =
-    λ k. standing age (same k) frozen saved to_move (sym objects k) (sym touched k)
+machine_is age new renewed now frozen saved to_move os ts objects touched same = search (arith, nat_tests)
 
 -- a process that can't act
 module _ {S : Type 0} {parts : S → Parts} {Continues : S → S → Type 0} {age : ℕ} {old new : S} (p address : ℕ) (why : Refusal)
@@ -201,9 +131,7 @@ module _ {S : Type 0} {parts : S → Parts} {Continues : S → S → Type 0} {ag
       ((renewed : List Bool) (frozen : Option Frozen) (saved : Saved) (to_move : ℕ) →
       Step mid.geometry (machine_at age mid renewed frozen saved to_move) c (answer.Refused why) (machine_at age mid renewed frozen saved to_move)) →
       Performs age old c (answer.Refused why) age new
-  refused_then c why other unchanged later stayed step =
-      serves_looked same failures (refused_serves unchanged mid_sound later (reported_cause why other stayed)
-      (λ renewed frozen saved to_move differs. step renewed frozen saved to_move))
+  refused_then c why other unchanged later stayed step = search (arith, nat_tests, serves_looked, same, failures, refused_serves, mid_sound, reported_cause)
 
   load_then : (loaded : Result ℕ MemoryFault) → IsLoaded (objects_in mid) p address loaded → AreSame mid new → mid.failures ≤ new.failures →
       (mid.failures < new.failures → ⊥) → Performs age old (command.Load p address) (loaded_answer loaded) age new
@@ -221,9 +149,7 @@ module _ {S : Type 0} {parts : S → Parts} {Continues : S → S → Type 0} {ag
   pub load_answers : (loaded reported : Result ℕ MemoryFault) → loaded ≡ reported → IsLoaded (objects_in mid) p address loaded →
       FetchesOrFails {T = Result ℕ MemoryFault} parts Continues between after (Ok loaded) →
       Performs age old (command.Load p address) (loaded_answer reported) age new
-  load_answers loaded reported is found fetches =
-      subst (λ (r : Result ℕ MemoryFault). Performs age old (command.Load p address) (loaded_answer r) age new) is
-      (load_then loaded found (looked_same fetches.snapshots) fetches.later (λ rose. ok_no_err loaded (fetches.cause.1 rose)))
+  load_answers loaded reported is found fetches = search (arith, nat_tests, load_then, looked_same, ok_no_err)
 
   -- a store, after which the count of failures may have risen
   module _ (word : ℕ) (geometry : new.geometry ≡ mid.geometry) (headers : new.headers ≡ mid.headers) (later : mid.failures ≤ new.failures) where
@@ -231,13 +157,11 @@ module _ {S : Type 0} {parts : S → Parts} {Continues : S → S → Type 0} {ag
     stored_frame : (stored : Result (Unit {0}) MemoryFault) →
         IsStored mid.geometry.log (objects_in mid) mid.touched p address word (objects_in new) new.touched stored →
         SameFrame (objects_in mid) (objects_in new)
-    stored_frame (Ok done) is =
-        subst (λ (us : List Object). SameFrame (objects_in mid) us) (sym is.2) (word_frame (objects_in mid) is.0 (address % 512) word)
+    stored_frame (Ok done) is = subst (λ (us : List Object). SameFrame (objects_in mid) us) (sym is.2) (word_frame (objects_in mid) is.0 (address % 512) word)
     stored_frame (Err why) is = subst (λ (us : List Object). SameFrame (objects_in mid) us) (sym is.1) (frame_refl (objects_in mid))
 
     none_renewed : (renewed : List Bool) → SameFrame (objects_in mid) (objects_in new) → renewed_by renewed mid new ≡ renewed
-    none_renewed renewed frame =
-        renewing_none renewed (objects_in mid) (objects_in new) (none_in_frame (objects_in mid) (objects_in new) frame)
+    none_renewed renewed frame = search (arith, nat_tests, renewing_none, none_in_frame)
 
     stored_step : (stored : Result (Unit {0}) MemoryFault) →
         IsStored mid.geometry.log (objects_in mid) mid.touched p address word (objects_in new) new.touched stored →
@@ -282,9 +206,7 @@ module _ {S : Type 0} {parts : S → Parts} {Continues : S → S → Type 0} {ag
         refused_then (command.Store p address word) refusal.LogFull (λ e. cc) (unchanged_same mid new geometry unchanged) later
         (λ rose. let failed = cause.1 rose in cc)
         (λ renewed frozen saved to_move. store_full_step mid.geometry _ p address word process running over.0 over.1 over.2)
-    store_refused refusal.Fault of unchanged cause full =
-        serves_looked same failures (refused_serves (unchanged_same mid new geometry unchanged) mid_sound later
-        (λ e. cause.0 refl, λ rose. refl) (λ renewed frozen saved to_move other. absurd (other refl)))
+    store_refused refusal.Fault of unchanged cause full = search (arith, nat_tests, serves_looked, same, failures, refused_serves, unchanged_same, mid_sound)
     store_refused c of unchanged cause full = absurd of
 
 abbrev IsCountedAt : Parts → BanksState → Type 0
@@ -296,5 +218,4 @@ pub stored_counted : (before after : Parts) (s : BanksState) (p address word : �
     IsCountedAt after s
 stored_counted before after s p address word (Ok done) geometry stored h =
     subst (λ (X : Type 0). X) (λ k. AreCounted (sym geometry k) (sym stored.2 k) s) (counted_on (word_frame (objects_in before) stored.0 _ word) h)
-stored_counted before after s p address word (Err why) geometry stored h =
-    subst (λ (X : Type 0). X) (λ k. AreCounted (sym geometry k) (sym stored.1 k) s) h
+stored_counted before after s p address word (Err why) geometry stored h = search (arith, nat_tests)

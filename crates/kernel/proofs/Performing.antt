@@ -26,101 +26,53 @@ done_step g s c a after none reported then = inl (subst (AnswersBy g s c a after
 
 -- an invocation, by what is known of its process, of the age and of its effect
 module _ (g : Geometry) (s : Running) (i : Invocation) where
-  abbrev in_order : Bool → Bool → Bool → Option Effect → Option Refusal
-  in_order a b c o = unless a refusal.NoProcess (unless b refusal.NotRunning (unless c refusal.Worn (elim o [
-    | None ↦ Some refusal.Stalled
-    | Some effect ↦ unless (not (overfills g s.touched effect.written)) refusal.LogFull None
-  ])))
-
-  refusal_is : refusal_of g s (command.Invoke i) ≡ in_order (is_process s.now.objects i.process) (is_running_process s.now.objects i.process)
-      (nat_lt s.now.age (2 ^ 62)) (invoke g s.now.objects i)
-  unfolding refusal_of
-  refusal_is = refl
-
-  by : {a b c : Bool} {o : Option Effect} → is_process s.now.objects i.process ≡ a → is_running_process s.now.objects i.process ≡ b →
-      nat_lt s.now.age (2 ^ 62) ≡ c →
-      invoke g s.now.objects i ≡ o → refusal_of g s (command.Invoke i) ≡ in_order a b c o
-  by as_a as_b as_c as_o = refusal_is ∙ (λ k. in_order (as_a k) (as_b k) (as_c k) (as_o k))
-
   -- a process that can't act
   pub early_step : (why : Refusal) → IsEarly s.now.objects i.process (Some why) →
       Step g (Up s) (command.Invoke i) (answer.Refused why) (Up s)
-  early_step refusal.NoProcess early =
-      refused_step g s (command.Invoke i) refusal.NoProcess (by early refl refl refl)
-  early_step refusal.NotRunning early =
-      refused_step g s (command.Invoke i) refusal.NotRunning (by early.0 early.1 refl refl)
-  early_step _ early = absurd early
+  unfolding refusal_of
+  early_step why early = search (arith, nat_tests, refused_step)
 
   module _ (process : is_process s.now.objects i.process ≡ true) (running : is_running_process s.now.objects i.process ≡ true) where
     pub worn_step : 2 ^ 62 ≤ s.now.age → Step g (Up s) (command.Invoke i) (answer.Refused refusal.Worn) (Up s)
-    worn_step old =
-        let past : nat_lt s.now.age (2 ^ 62) ≡ false = grind (arith, nat_tests) in
-        refused_step g s (command.Invoke i) refusal.Worn (by process running past refl)
+    unfolding refusal_of
+    worn_step old = search (arith, nat_tests, refused_step)
 
     module _ (young : s.now.age < 2 ^ 62) where
-      test_young : nat_lt s.now.age (2 ^ 62) ≡ true
-      test_young = grind (arith, nat_tests)
-
       pub stalled_step : invoke g s.now.objects i ≡ None → Step g (Up s) (command.Invoke i) (answer.Refused refusal.Stalled) (Up s)
-      stalled_step none = refused_step g s (command.Invoke i) refusal.Stalled (by process running test_young none)
+      unfolding refusal_of
+      stalled_step none = search (arith, nat_tests, refused_step)
 
       pub full_step : (e : Effect) → invoke g s.now.objects i ≡ Some e → g.log < touched_count (touching s.touched e.written) →
           Step g (Up s) (command.Invoke i) (answer.Refused refusal.LogFull) (Up s)
-      full_step e is over =
-          let overfull : overfills g s.touched e.written ≡ true = grind (arith, nat_tests) in
-          refused_step g s (command.Invoke i) refusal.LogFull
-          (by process running test_young is ∙ ap (λ (b : Bool). unless (not b) refusal.LogFull None) overfull)
-
-      abbrev after_invoking : Option Effect → Outcome
-      after_invoking o = elim o [
-        | None ↦ record { answer = answer.Done; after = s }
-        | Some effect ↦ record {
-          answer = answer.Done;
-          after = writing s effect.objects (s.now.age + 1) effect.written (renewing s.renewed s.now.objects effect.objects);
-        }
-      ]
-
-      done_by_effect : (e : Effect) → invoke g s.now.objects i ≡ Some e → carried_out g s (command.Invoke i) ≡ after_invoking (Some e)
-      unfolding carried_out
-      done_by_effect e is = ap after_invoking is
+      unfolding refusal_of
+      full_step e is over = search (arith, nat_tests, refused_step)
 
       pub invoke_step : (e : Effect) → invoke g s.now.objects i ≡ Some e → touched_count (touching s.touched e.written) ≤ g.log →
           Step g (Up s) (command.Invoke i) answer.Done (Up (writing s e.objects (s.now.age + 1) e.written (renewing s.renewed s.now.objects e.objects)))
-      invoke_step e is within =
-          let fits : overfills g s.touched e.written ≡ false = grind (arith, nat_tests) in
-          done_step g s (command.Invoke i) answer.Done _ (by process running test_young is ∙ ap (λ (b : Bool). unless (not b) refusal.LogFull None) fits)
-          (sym (ap (λ (o : Outcome). o.answer) (done_by_effect e is))) (sym (ap (λ (o : Outcome). Up o.after) (done_by_effect e is)))
+      unfolding refusal_of carried_out
+      invoke_step e is within = search (arith, nat_tests, done_step)
 
 -- show
 module _ (g : Geometry) (s : Running) (n : ℕ) where
   pub show_step : n < object_count g → (a : Answer) → a ≡ shown s.now.objects n → Step g (Up s) (command.Show n) a (Up s)
   unfolding refusal_of carried_out
-  show_step within a reported =
-      let known : nat_lt n (object_count g) ≡ true = grind (arith, nat_tests) in
-      done_step g s (command.Show n) a (Up s) (ap (λ (b : Bool). unless b refusal.BadNumber None) known) reported refl
+  show_step within a reported = search (arith, nat_tests, done_step)
 
   pub bad_number_step : object_count g ≤ n → Step g (Up s) (command.Show n) (answer.Refused refusal.BadNumber) (Up s)
   unfolding refusal_of
-  bad_number_step past =
-      let beyond : nat_lt n (object_count g) ≡ false = grind (arith, nat_tests) in
-      refused_step g s (command.Show n) refusal.BadNumber (ap (λ (b : Bool). unless b refusal.BadNumber None) beyond)
+  bad_number_step past = search (arith, nat_tests, refused_step)
 
   pub show_no_memory : n < object_count g → Step g (Up s) (command.Show n) (answer.Refused refusal.NoMemory) (Up s)
   unfolding refusal_of
-  show_no_memory within =
-      let known : nat_lt n (object_count g) ≡ true = grind (arith, nat_tests) in
-      inr (inl (ap (λ (b : Bool). gives_way (unless b refusal.BadNumber None)) known, refl, refl))
+  show_no_memory within = search (arith, nat_tests)
 
 -- none of them is a failure
 pub early_fine : (os : List Object) (p : ℕ) (why : Refusal) → IsEarly os p (Some why) → why ≡ refusal.Fault → ⊥
-early_fine os p refusal.NoProcess early is = cc
-early_fine os p refusal.NotRunning early is = cc
-early_fine os p _ early is = absurd early
+early_fine os p why early is = search (arith, nat_tests)
 
 -- one that isn't refused runs
 pub early_none : (os : List Object) (p : ℕ) (o : Option Refusal) → ((why : Refusal) → o ≡ Some why → ⊥) → IsEarly os p o → IsEarly os p None
-early_none os p None other early = early
-early_none os p (Some why) other early = absurd (other why refl)
+early_none os p o other early = search (arith, nat_tests)
 
 -- the same parts but for failures
 pub record AreSame (old new : Parts) : Type 0 where
@@ -134,30 +86,22 @@ module _ {old new : Parts} (same : AreSame old new) where
   same_frames = ap (λ (hs : List ObjectHeader). frames_in hs new.contents) same.headers ∙ ap (frames_in old.headers) same.contents
 
   pub same_sound : (age : ℕ) → IsSoundFrames old.geometry age (frames_of old) → IsSoundFrames new.geometry age (frames_of new)
-  same_sound age sound =
-      subst (λ (g : Geometry). IsSoundFrames g age (frames_of new)) (sym same.geometry)
-      (subst (λ (fs : List Frame). IsSoundFrames old.geometry age fs) (sym same_frames) sound)
+  same_sound age sound = search (arith, nat_tests, same_frames)
 
   pub same_machine : (age : ℕ) (renewed : List Bool) (frozen : Option Frozen) (saved : Saved) (to_move : ℕ) →
       machine_at age new renewed frozen saved to_move ≡ machine_at age old renewed frozen saved to_move
-  same_machine age renewed frozen saved to_move = λ k.
-      Up (record { now = world_at age (same_frames k); touched = same.touched k; renewed = renewed; frozen = frozen; saved = saved; to_move = to_move })
+  same_machine age renewed frozen saved to_move = search (arith, nat_tests, same_frames)
 
   -- nothing is given up
   pub same_renews : Renews old new
-  same_renews =
-      renews_none old new (λ n. ap (λ (hs : List ObjectHeader). (header_at hs n).allocations) same.headers)
-      (λ n used. ap (λ (fs : List Frame). is_free (content_at (objects_of fs) n)) same_frames ∙ used)
+  same_renews = search (arith, nat_tests, renews_none, same_frames)
 
   pub same_renewed : (renewed : List Bool) → renewed_by renewed old new ≡ renewed
-  same_renewed renewed =
-      renewing_none renewed (objects_in old) (objects_in new)
-      (λ n. none_given_up (objects_in old) (objects_in new) n (λ used. ap (λ (fs : List Frame). is_free (content_at (objects_of fs) n)) same_frames ∙ used))
+  same_renewed renewed = search (arith, nat_tests, renewing_none, none_given_up, same_frames)
 
   pub still_machine : (age : ℕ) (renewed : List Bool) (frozen : Option Frozen) (saved : Saved) (to_move : ℕ) →
       machine_at age new (renewed_by renewed old new) frozen saved to_move ≡ machine_at age old renewed frozen saved to_move
-  still_machine age renewed frozen saved to_move =
-      ap (λ (rs : List Bool). machine_at age new rs frozen saved to_move) (same_renewed renewed) ∙ same_machine age renewed frozen saved to_move
+  still_machine age renewed frozen saved to_move = search (arith, nat_tests, same_renewed, same_machine)
 
 -- a refusal that changes nothing
 pub refused_serves : {age : ℕ} {old new : Parts} {c : Command} {why : Refusal} → AreSame old new → IsSoundFrames old.geometry age (frames_of old) →
@@ -252,9 +196,7 @@ module _ {S : Type 0} (parts : S → Parts) (Continues : S → S → Type 0) (ag
 
   pub fault_serves : (f : Refusal) → TellsState (objects_in (parts old)) i (Err f) → Invoked parts Continues old new i (Err f) →
       Performs age (parts old) (command.Invoke i) (answer.Refused f) age (parts new)
-  fault_serves refusal.NotRunning tells said =
-      refused refusal.NotRunning said refusal.NotRunning (λ e. cc, λ e. cc)
-      (λ renewed frozen saved to_move other. early_step (parts old).geometry _ i refusal.NotRunning (process, tells))
+  fault_serves refusal.NotRunning tells said = search (arith, nat_tests, refused, early_step)
   fault_serves refusal.Stalled tells said =
       refused refusal.Stalled said refusal.Stalled (λ e. cc, λ e. cc)
       (λ renewed frozen saved to_move other. stalled_step (parts old).geometry _ i process tells young (said.stalled refl))
@@ -262,8 +204,7 @@ module _ {S : Type 0} (parts : S → Parts) (Continues : S → S → Type 0) (ag
       let over = said.full refl in
       refused refusal.LogFull said refusal.LogFull (λ e. cc, λ e. cc)
       (λ renewed frozen saved to_move other. full_step (parts old).geometry _ i process tells young over.0 over.1 over.2)
-  fault_serves refusal.Fault tells said =
-      refused refusal.Fault said refusal.Fault (λ e. refl, λ e. refl) (λ renewed frozen saved to_move other. absurd (other refl))
+  fault_serves refusal.Fault tells said = search (arith, nat_tests, refused)
   fault_serves c tells said = absurd tells
 
   -- and to one that was
@@ -307,10 +248,7 @@ module _ (age : ℕ) (old new : Parts) (n : ℕ) (same : AreSame old new) (sound
   pub unshown_serves : n < length old.headers → (why : Refusal) → IsUnread why →
       (let r : Result Answer Refusal = Err why in IsErrOf r refusal.Fault ↔ (old.failures < new.failures)) →
       Performs age old (command.Show n) (answer.Refused why) age new
-  unshown_serves known refusal.NoMemory of cause = show_no_memory_serves known (λ rose. let failed = cause.1 rose in cc)
-  unshown_serves known refusal.Fault of cause =
-      refused_serves same sound later (λ e. cause.0 refl, λ rose. refl) (λ renewed frozen saved to_move other. absurd (other refl))
-  unshown_serves known c of cause = absurd of
+  unshown_serves known why of cause = search (arith, nat_tests, show_no_memory_serves, refused_serves)
 
 -- what a read isn't
 pub shown_unfailed : (a : Answer) → (let r : Result Answer Refusal = Ok a in IsErrOf r refusal.Fault) → ⊥

@@ -23,53 +23,32 @@ module _ (g : Geometry) (s : Running) where
   -- ---- evictions
   pub evict_step : (n : ℕ) → n < object_count g → Step g (Up s) (command.Evict n) answer.Done (Up s)
   unfolding refusal_of carried_out
-  evict_step n within =
-      let known : nat_lt n (object_count g) ≡ true = grind (arith, nat_tests) in
-      done_step g s (command.Evict n) answer.Done (Up s) (ap (λ (b : Bool). unless b refusal.BadNumber None) known) refl refl
+  evict_step n within = search (arith, nat_tests, done_step)
 
   pub evict_refused : (n : ℕ) → object_count g ≤ n → refusal_of g s (command.Evict n) ≡ Some refusal.BadNumber
   unfolding refusal_of
-  evict_refused n past =
-      let beyond : nat_lt n (object_count g) ≡ false = grind (arith, nat_tests) in
-      ap (λ (b : Bool). unless b refusal.BadNumber None) beyond
+  evict_refused n past = search (arith, nat_tests)
 
   -- ---- a checkpoint begins
-  abbrev begun : Bool → Option Frozen → Bool → Option Refusal
-  begun young frozen home = unless young refusal.Worn (elim frozen [
-    | Some f ↦ Some refusal.CheckpointRunning
-    | None ↦ unless home refusal.MigrationPending None
-  ])
-
-  begun_by : {young : Bool} {frozen : Option Frozen} {home : Bool} → nat_lt s.now.age (2 ^ 62) ≡ young → s.frozen ≡ frozen → (s.saved.entries == 0) ≡ home →
-      refusal_of g s command.Checkpoint ≡ begun young frozen home
-  unfolding refusal_of
-  begun_by is_young is_frozen is_home = λ k. begun (is_young k) (is_frozen k) (is_home k)
-
   pub worn : 2 ^ 62 ≤ s.now.age → refusal_of g s command.Checkpoint ≡ Some refusal.Worn
-  worn old =
-      let past : nat_lt s.now.age (2 ^ 62) ≡ false = grind (arith, nat_tests) in
-      begun_by past refl refl
+  unfolding refusal_of
+  worn old = search (arith, nat_tests)
 
   module _ (young : s.now.age < 2 ^ 62) where
-    is_young : nat_lt s.now.age (2 ^ 62) ≡ true
-    is_young = grind (arith, nat_tests)
-
     pub running_already : (f : Frozen) → s.frozen ≡ Some f → refusal_of g s command.Checkpoint ≡ Some refusal.CheckpointRunning
-    running_already f is = begun_by is_young is refl
+    unfolding refusal_of
+    running_already f is = search (arith, nat_tests)
 
     pub not_home : s.frozen ≡ None → (s.saved.entries ≡ 0 → ⊥) → refusal_of g s command.Checkpoint ≡ Some refusal.MigrationPending
-    not_home none more =
-        let away : (s.saved.entries == 0) ≡ false = grind (arith, nat_tests) in
-        begun_by is_young none away
+    unfolding refusal_of
+    not_home none more = search (arith, nat_tests)
 
     pub checkpoint_step : s.frozen ≡ None → s.saved.entries ≡ 0 → (let now : World = record { objects = s.now.objects; age = s.now.age + 1 } in
         let f : Frozen = record { world = now; size = touched_count s.touched; left = touched_count s.touched } in
         Step g (Up s) command.Checkpoint (answer.Frozen (touched_count s.touched))
         (Up (record { now = now; touched = untouched g; renewed = untouched g; frozen = Some f; saved = s.saved; to_move = s.to_move })))
-    unfolding carried_out
-    checkpoint_step none home =
-        let there : (s.saved.entries == 0) ≡ true = grind (arith, nat_tests) in
-        done_step g s command.Checkpoint _ _ (begun_by is_young none there) refl refl
+    unfolding refusal_of carried_out
+    checkpoint_step none home = search (arith, nat_tests, done_step)
 
   -- ---- and goes on
   pub none_to_stabilize : (n : ℕ) → s.frozen ≡ None → refusal_of g s (command.Stabilize n) ≡ Some refusal.NoCheckpoint
@@ -78,43 +57,22 @@ module _ (g : Geometry) (s : Running) where
 
   pub none_to_commit : s.frozen ≡ None → refusal_of g s command.Commit ≡ Some refusal.NoCheckpoint
   unfolding refusal_of
-  none_to_commit none = ap (λ (o : Option Frozen). elim o [ None ↦ Some refusal.NoCheckpoint | Some f ↦ unless (f.left == 0) (refusal.NotStable f.left) None ])
-      none
+  none_to_commit none = search (arith, nat_tests)
 
   pub not_stable : (f : Frozen) → s.frozen ≡ Some f → (f.left ≡ 0 → ⊥) → refusal_of g s command.Commit ≡ Some (refusal.NotStable f.left)
   unfolding refusal_of
-  not_stable f is more =
-      let away : (f.left == 0) ≡ false = grind (arith, nat_tests) in
-      ap (λ (o : Option Frozen). elim o [ None ↦ Some refusal.NoCheckpoint | Some f ↦ unless (f.left == 0) (refusal.NotStable f.left) None ]) is
-      ∙ ap (λ (b : Bool). unless b (refusal.NotStable f.left) None) away
-
-  stabilize_with : (n : ℕ) (f : Frozen) →
-      Step g (Up (with_frozen s (Some f))) (command.Stabilize n) (answer.Left (f.left - n))
-      (Up (with_frozen s (Some (record { world = f.world; size = f.size; left = f.left - n }))))
-  unfolding refusal_of carried_out
-  stabilize_with n f = done_step g (with_frozen s (Some f)) (command.Stabilize n) _ _ refl refl refl
+  not_stable f is more = search (arith, nat_tests)
 
   pub stabilize_step : (n : ℕ) (f : Frozen) → s.frozen ≡ Some f →
       Step g (Up s) (command.Stabilize n) (answer.Left (f.left - n)) (Up (with_frozen s (Some (record { world = f.world; size = f.size; left = f.left - n }))))
-  stabilize_step n f is =
-      subst (λ (o : Option Frozen). Step g (Up (with_frozen s o)) (command.Stabilize n) (answer.Left (f.left - n))
-      (Up (with_frozen s (Some (record { world = f.world; size = f.size; left = f.left - n }))))) (sym is) (stabilize_with n f)
-
-  commit_with : (f : Frozen) → f.left ≡ 0 →
-      Step g (Up (with_frozen s (Some f))) command.Commit (answer.Committed (s.saved.generation + 1))
-      (Up (record { now = s.now; touched = s.touched; renewed = s.renewed; frozen = None; saved = committed s f; to_move = f.size }))
   unfolding refusal_of carried_out
-  commit_with f stable =
-      let there : (f.left == 0) ≡ true = grind (arith, nat_tests) in
-      done_step g (with_frozen s (Some f)) command.Commit _ _ (ap (λ (b : Bool). unless b (refusal.NotStable f.left) None) there) refl refl
+  stabilize_step n f is = search (arith, nat_tests, done_step)
 
   pub commit_step : (f : Frozen) → s.frozen ≡ Some f → f.left ≡ 0 →
       Step g (Up s) command.Commit (answer.Committed (s.saved.generation + 1))
       (Up (record { now = s.now; touched = s.touched; renewed = s.renewed; frozen = None; saved = committed s f; to_move = f.size }))
-  commit_step f is stable =
-      subst (λ (o : Option Frozen). Step g (Up (with_frozen s o)) command.Commit (answer.Committed (s.saved.generation + 1))
-      (Up (record { now = s.now; touched = s.touched; renewed = s.renewed; frozen = None; saved = committed s f; to_move = f.size })))
-      (sym is) (commit_with f stable)
+  unfolding refusal_of carried_out
+  commit_step f is stable = search (arith, nat_tests, done_step)
 
   pub migrate_step : (n : ℕ) → Step g (Up s) (command.Migrate n) (answer.Left (s.to_move - n))
       (Up (record { now = s.now; touched = s.touched; renewed = s.renewed; frozen = s.frozen; saved = moved s n; to_move = s.to_move - n }))
@@ -134,36 +92,14 @@ module _ (g : Geometry) (s : Running) where
 -- ---- frames at a later age
 
 world_later : (g : Geometry) (age later : ℕ) (fs : List Frame) → later ≤ 2 ^ 62 → IsSound g (world_at age fs) → IsSound g (world_at later fs)
-world_later g age later fs within w = record {
-  size = w.size;
-  kinds = w.kinds;
-  shapes = w.shapes;
-  words = w.words;
-  slots = w.slots;
-  register_0 = w.register_0;
-  spaces = w.spaces;
-  annexes = w.annexes;
-  one_root = w.one_root;
-  some_root = w.some_root;
-  unowned = w.unowned;
-  owners = w.owners;
-  prime = w.prime;
-  chains = w.chains;
-  limits = w.limits;
-  age = within;
-}
+world_later g age later fs within w = search (arith, nat_tests)
 
 pub frames_later : (g : Geometry) (age later : ℕ) (fs : List Frame) → age ≤ later → later ≤ 2 ^ 62 → IsSoundFrames g age fs → IsSoundFrames g later fs
-frames_later g age later fs le within f = record {
-  keepable = keepable_later g age later fs le f.keepable;
-  current = f.current;
-  sound = world_later g age later fs within f.sound;
-}
+frames_later g age later fs le within f = search (arith, nat_tests, keepable_later, world_later)
 
 -- sound frames can be put out and read back
 pub keepable_most : (g : Geometry) (p : Parts) (age : ℕ) → p.geometry ≡ g → IsSoundFrames g age (frames_of p) → AreKeepable p.geometry most (frames_of p)
-keepable_most g p age same f =
-    subst (λ (h : Geometry). AreKeepable h most (frames_of p)) (sym same) (keepable_later g age most (frames_of p) (omega (arith, f.sound.age)) f.keepable)
+keepable_most g p age same f = search (arith, nat_tests, most, keepable_later)
 
 -- ---- the same objects
 
@@ -278,12 +214,10 @@ module _ {g : Geometry} {p : Parts} {a : Snapshots FrozenFrames} {banks : BanksS
 
     -- and goes home
     home_or_not : (b : Bool) → IsSoundSaved g (if b then home_saved a.saved else a.saved)
-    home_or_not true = record { geometry = s.saved.geometry; sound = s.saved.sound }
-    home_or_not false = s.saved
+    home_or_not b = search (arith, nat_tests)
 
     age_or_not : (b : Bool) → (if b then home_saved a.saved else a.saved).age ≡ a.saved.age
-    age_or_not true = refl
-    age_or_not false = refl
+    age_or_not b = search (arith, nat_tests)
 
     pub moved_sound : (n : ℕ) → AreSoundTogether g p (stage.moved n a) banks age frozen_age
     moved_sound n =
@@ -300,8 +234,7 @@ module _ {g : Geometry} {p : Parts} {a : Snapshots FrozenFrames} {banks : BanksS
 
 -- what is saved after a migration is that of the machine
 saved_if : (b : Bool) (fs : SavedFrames) → saved_of (if b then home_saved fs else fs) ≡ (if b then at_home (saved_of fs) else saved_of fs)
-saved_if true fs = refl
-saved_if false fs = refl
+saved_if b fs = search (arith, nat_tests)
 
 pub saved_moved : (p : Parts) (a : Snapshots FrozenFrames) (age frozen_age n : ℕ) → saved_of (moved_saved n a) ≡ moved (running_of p a age frozen_age) n
 saved_moved p a age frozen_age n = saved_if (a.to_move - n == 0) a.saved
@@ -317,18 +250,14 @@ frozen_none o age is = ap (frozen_of age) is
 
 -- what is left of it says whether there is one
 pub none_there : (o : Option FrozenFrames) → option_map (λ (f : FrozenFrames). f.left) o ≡ None → o ≡ None
-none_there None reported = refl
-none_there (Some f) reported = cc
+none_there o reported = search (arith, nat_tests)
 
 pub some_there : (o : Option FrozenFrames) → (option_map (λ (f : FrozenFrames). f.left) o ≡ None → ⊥) → (f : FrozenFrames) × (o ≡ Some f)
-some_there None reported = absurd (reported refl)
-some_there (Some f) reported = (f, refl)
+some_there o reported = search (arith, nat_tests)
 
 pub some_left : (o : Option FrozenFrames) (n : ℕ) → Some n ≡ option_map (λ (f : FrozenFrames). f.left) o → (f : FrozenFrames) × (o ≡ Some f) × (f.left ≡ n)
-some_left None n reported = let never : None ≡ Some n = sym reported in cc
-some_left (Some f) n reported = (f, refl, let same : n ≡ f.left = cc in sym same)
+some_left o n reported = search (arith, nat_tests)
 
 pub some_left_after : (o : Option FrozenFrames) (count n : ℕ) → option_map (λ (k : ℕ). k - count) (option_map (λ (f : FrozenFrames). f.left) o) ≡ Some n →
     (f : FrozenFrames) × (o ≡ Some f) × (n ≡ f.left - count)
-some_left_after None count n reported = cc
-some_left_after (Some f) count n reported = (f, refl, let same : f.left - count ≡ n = cc in sym same)
+some_left_after o count n reported = search (arith, nat_tests)

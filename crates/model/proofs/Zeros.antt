@@ -1,7 +1,6 @@
 -- Words that are 0.
-use Rattle.std.proofs.Common.{◌≡◌, ℕ, ◌<◌, ◌≤◌, List, length, replicate, slice_index, ap, sym, ◌∙◌, arith, ◌⊎◌, inl, inr}
+use Rattle.std.proofs.Common.{◌≡◌, ℕ, ◌<◌, ◌≤◌, List, length, replicate, slice_index, ap, sym, ◌∙◌, arith}
 use Rattle.std.proofs.lemmas.List.{get_or-replicate, length-replicate}
-use Rattle.std.proofs.lemmas.Bool.{cases_lt}
 use Rattle.std.proofs.lemmas.Grind.{same_number_lists}
 use Rattle.model.specs.Words.{IsZeroFrom}
 
@@ -9,15 +8,10 @@ use Rattle.model.specs.Words.{IsZeroFrom}
 pub zero_from_start : (words : List ℕ) → words ≡ replicate 512 0 → IsZeroFrom 0 words
 zero_from_start words are = (omega arith, λ i from within. ap (λ it. slice_index it i) are ∙ get_or-replicate 512 i 0 0 within)
 
-zero_at : (words : List ℕ) (end index k : ℕ) → end ≤ index → ((i : ℕ) → i < index → slice_index words i ≡ 0) → IsZeroFrom end words → k < 512
-    → (k < index) ⊎ (index ≤ k) → slice_index words k ≡ 0
-zero_at words end index k past before from within (inl lt) = before k lt
-zero_at words end index k past before from within (inr le) = from.1 k (omega (arith, past, le)) within
-
 -- words are 0 that are so up to an index, and from one before it on
 pub all_zero : (words : List ℕ) (end index : ℕ) → length words ≡ 512 → end ≤ index → ((i : ℕ) → i < index → slice_index words i ≡ 0)
     → IsZeroFrom end words → words ≡ replicate 512 0
 all_zero words end index count past before from =
     same_number_lists words (replicate 512 0) (count ∙ sym (length-replicate {A = ℕ} 512 0)) (λ k within.
-    let lt : k < 512 = omega (arith, count, within) in
-    zero_at words end index k past before from lt (cases_lt k index) ∙ sym (get_or-replicate 512 k 0 0 lt))
+    let zero : slice_index words k ≡ 0 = grind (arith, before k, from.1 k) in
+    zero ∙ sym (get_or-replicate 512 k 0 0 (omega (arith, count, within))))

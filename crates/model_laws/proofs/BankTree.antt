@@ -43,10 +43,7 @@ within_on os k b on = rw (ne_eqb b 0 on) refl
 
 within_length : (os : List Object) (k b : ℕ) → length (chain_within k os b) ≤ k
 within_length os zero b = omega arith
-within_length os (suc k) b = elim (cases_eq b 0) [
-  | inl end ↦ omega (arith, ap (λ (xs : List ℕ). length xs) (within_end os k b end))
-  | inr on ↦ omega (arith, ap (λ (xs : List ℕ). length xs) (within_on os k b on), within_length os k (owner_at os b))
-]
+within_length os (suc k) b = search (arith, within_end, within_on, within_length os k (owner_at os b))
 
 within_on_same : (os us : List Object) (k b : ℕ) → ((x : ℕ) → is_member (chain_within k os b) x ≡ true → owner_at us x ≡ owner_at os x)
     → chain_within k us b ≡ chain_within k os b

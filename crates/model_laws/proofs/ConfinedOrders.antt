@@ -58,11 +58,7 @@ stored_stays inside os o a slot c h n stays =
 node_stays : (inside : ℕ → Bool) (os : List Object) (o : ℕ) (a : Access) (requested : NodeOrder) (args : Arguments) → Encloses inside os
     → StaysInside inside (Node o a) → StaysInside inside args.capability → OutcomeStays inside os (on_node os o a requested args)
 unfolding on_node
-node_stays inside os o a node.Fetch args h c sent =
-    chosen (OutcomeStays inside os) (nat_lt args.first 32) _ _
-    (λ _. still inside os (fetched a (slot_at os o args.first)) h
-    (fetched_stays inside o a (slot_at os o args.first) c (λ is. h.closed.slots o args.first is)))
-    (λ _. refused_stays inside os h)
+node_stays inside os o a node.Fetch args h c sent = search (arith, nat_tests, chosen, still, fetched_stays, refused_stays)
 node_stays inside os o a node.Store args h c sent = stored_stays inside os o a args.first args.capability h c sent
 node_stays inside os o a node.PutNumber args h c sent = stored_stays inside os o a args.first (Number args.second) h c (inl tt)
 node_stays inside os o a which args h c sent = grind (arith, nat_tests, chosen, still, refused_stays)

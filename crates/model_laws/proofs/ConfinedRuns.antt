@@ -19,12 +19,6 @@ use Rattle.model.specs.declared.object.Content.TheVariants as content
 use Rattle.model_laws.proofs.ConfinedGates.{invocation_confined}
 use Rattle.model_laws.proofs.Kept.{stays_refl, stays_trans, stays_word}
 
--- a closed set with what is free
-
--- a number, if there is one, that is a member
-abbrev IsNoneOr : (ℕ → Bool) → Option ℕ → Type 0
-IsNoneOr inside o = elim o [ None ↦ Unit {0} | Some n ↦ IsTrue (inside n) ]
-
 -- a closed set with what is free encloses it
 encloses_free : (inside : ℕ → Bool) (os : List Object) → IsClosed os inside → Encloses (with_free os inside) os
 encloses_free inside os h = grind (arith, nat_tests)

@@ -32,9 +32,7 @@ slot_frame os n i c = frame_content os n (with_slot_in (content_at os n) i c) (a
 
 slots_frame : (os : List Object) (n i : ℕ) (cs : List Capability) → SameFrame os (with_slots_from os n i cs)
 slots_frame os n i [] = frame_refl os
-slots_frame os n i (c ∷ cs) =
-    frame_trans os (with_slot os n i c) (with_slots_from (with_slot os n i c) n (i + 1) cs) (slot_frame os n i c)
-    (slots_frame (with_slot os n i c) n (i + 1) cs)
+slots_frame os n i (c ∷ cs) = search (arith, nat_tests, frame_trans, slot_frame, slots_frame (with_slot os n i c) n (i + 1) cs)
 
 -- a message is delivered: the frame stays
 pub deliver_frame : (os : List Object) (p : ℕ) (m : Message) → IsTrue (is_process os p) → SameFrame os (deliver os p m)

@@ -88,8 +88,7 @@ on_node_keeps g os o a node.Fetch args h held fits =
     (λ _. given_keeps g os _ h (held_fetched os (Waits os) a (slot_at os o args.first) ((h.filled o).slots args.first)))
     (λ _. refused_keeps g os _ h)
 on_node_keeps g os o a node.Store args h held fits = stored_keeps g os o a args.first args.capability h held.names fits.held
-on_node_keeps g os o a node.PutNumber args h held fits =
-    stored_keeps g os o a args.first (Number args.second) h held.names (record { well_formed = fits.second; names = tt })
+on_node_keeps g os o a node.PutNumber args h held fits = search (arith, nat_tests, stored_keeps)
 on_node_keeps g os o a which args h held fits = grind (arith, nat_tests, chosen, given_keeps, refused_keeps)
 
 -- processes

@@ -48,11 +48,6 @@ is_touched xs (m ∷ ns) n (suc k) h l e = is_touched (slice_set xs m true) ns n
 pub touches_written : TouchesWritten
 touches_written xs ns n h = grind (arith, nat_tests, touched_from, stays_touched, is_touched)
 
--- what is left to check once an invocation has an effect
-abbrev last_checks : Geometry → Running → Option Effect → Option Refusal
-last_checks g s None = Some refusal.Stalled
-last_checks g s (Some effect) = unless (not (overfills g s.touched effect.written)) refusal.LogFull None
-
 refusal_is : (g : Geometry) (s : Running) (i : Invocation) (e : Effect) →
     IsTrue (is_running_process s.now.objects i.process) → s.now.age < 2 ^ 62 → invoke g s.now.objects i ≡ Some e →
     refusal_of g s (command.Invoke i) ≡ unless (not (overfills g s.touched e.written)) refusal.LogFull None

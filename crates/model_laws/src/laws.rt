@@ -58,11 +58,13 @@ pub fn store_log_full_is_exact()
 
 /// The machine takes only steps that the specification allows. It lets each invocation, load, store
 /// and `show` want memory, except in place of `no process` and `bad number`.
+#[tactic(auto, using(crate::proofs::Stepping::steps_allowed))]
 pub fn steps_are_allowed()
     ensures { StepsAllowed }
 {}
 
 /// Only a `show`, a `restart` and a `cut` may be answered `no memory`.
+#[tactic(auto, using(crate::proofs::Stepping::wants_memory_to_show))]
 pub fn wants_memory_to_show()
     ensures { WantsMemoryToShow }
 {}

@@ -36,25 +36,19 @@ closed_by_steps os inside continues = record {
   annexes = λ p is root. continues (record { from = p; way = way.Annex; to = annex_at os p }) (root, refl) is;
   owned = λ b n is bank free owned. continues (record { from = b; way = way.Owner; to = n }) (bank, free, owned) is;
   slots = λ n i is. slots_inside os inside n i (content_at os n) (λ w m by. continues (record { from = n; way = w; to = m }) by is);
-  spaces = λ p is. stays_inside inside (root_at os p).space
-      (λ m conveys. continues (record { from = p; way = way.Space (root_at os p).space; to = m }) (refl, conveys) is);
+  spaces = λ p is. stays_inside inside _ (λ m conveys. continues (record { from = p; way = way.Space (root_at os p).space; to = m }) (refl, conveys) is);
 }
 
 -- no step leaves a closed set
 module _ (os : List Object) (inside : ℕ → Bool) (closed : IsClosed os inside) where
   held_inside : (n i : ℕ) (x : Content Capability) → content_at os n ≡ x → IsTrue (inside n) → StaysInside inside (slice_index_or (held_by os x) i Void)
-  held_inside n i (content.Node slots) is member = subst (λ (x : Content Capability). StaysInside inside (slice_index_or (slots_in x) i Void)) is
-      (closed.slots n i member)
+  held_inside n i (content.Node slots) is member = rw is at (closed.slots n i member)
   held_inside n i (content.Root root) is member = grind (arith, nat_tests)
-  held_inside n i (content.Annex slots) is member = subst (λ (x : Content Capability). StaysInside inside (slice_index_or (slots_in x) i Void)) is
-      (closed.slots n i member)
+  held_inside n i (content.Annex slots) is member = rw is at (closed.slots n i member)
   held_inside n i x is member = inl tt
 
-  way_inside : (n : ℕ) (w : Way) (m : ℕ) → IsWay os n (content_at os n) w m → IsTrue (inside n) → IsTrue (inside m)
-  way_inside n w m by member = grind (arith, nat_tests, named_inside, held_inside)
-
   pub step_inside : (s : Step) → IsStep os s → IsTrue (inside s.from) → IsTrue (inside s.to)
-  step_inside s by member = way_inside s.from s.way s.to by member
+  step_inside s by member = search (arith, named_inside, held_inside)
 
   path_inside : (ss : List Step) (n m : ℕ) → IsPath os n ss m → IsTrue (inside n) → IsTrue (inside m)
   path_inside [] n m path member = subst (λ (k : ℕ). IsTrue (inside k)) path member
@@ -80,9 +74,8 @@ module _ (os : List Object) (starts : List ℕ) (level : ℕ) (l : Levels) (over
   continues_on n k found s from = grind (arith, nat_tests)
 
   continues_along : (ss : List Step) (n k m : ℕ) → IsFoundIn l n k → IsPath os n ss m → IsFoundIn l m (k + length ss)
-  continues_along [] n k m found path = subst (λ (j : ℕ). IsFoundIn l j (k + 0)) path (found.0, found.1, omega (arith, found.2))
-  continues_along (s ∷ ss) n k m found path =
-      grind (arith, nat_tests, continues_along ss s.to (k + 1) m (continues_on n k found s (path.0, path.1)) path.2, continues_on)
+  continues_along [] n k m found path = search (arith, continues_on)
+  continues_along (s ∷ ss) n k m found path = search (arith, continues_on, continues_along ss s.to (k + 1) m)
 
   pub found_by_chain : (steps : List Step) (o : ℕ) → IsChain os starts steps o → IsFoundIn l o (length steps)
   found_by_chain steps o chain =
@@ -106,9 +99,7 @@ module _ (os : List Object) (starts : List ℕ) (level : ℕ) (l : Levels) (over
 
   module _ (o : ℕ) (none : is_some (found_at l o) ≡ false) where
     pub no_chain : (steps : List Step) → IsChain os starts steps o → ⊥
-    no_chain steps chain =
-        let found = found_by_chain steps o chain in
-        let wrong : false ≡ true = sym none ∙ found_some o found.0 found.1 in cc
+    no_chain steps chain = let found = found_by_chain _ _ chain in let wrong : false ≡ true = sym none ∙ found_some _ _ found.1 in cc
 
     pub not_reached : (inside : ℕ → Bool) → IsReach os starts inside → inside o ≡ false
     not_reached inside reach = grind (arith, nat_tests, reached_found)

@@ -101,9 +101,8 @@ pub finds_both : (P Q R : Step → Type 0) (level : ℕ) (a b c : Levels) → ((
 finds_both P Q R level a b c from_first from_next either first next = record {
   count = next.count ∙ first.count;
   kept = λ n f is. next.kept n f (first.kept n f is);
-  each = λ n f is. ⊎_elim
-      (λ middle. ⊎_elim (λ before. inl before) (λ now. inr (found_more P R level n f from_first now)) (first.each n f middle))
-      (λ now. inr (found_more Q R level n f from_next now)) (next.each n f is);
+  each = λ n f is. ⊎_elim (λ middle. ⊎_elim (λ before. inl before) (λ now. inr (found_more _ _ _ _ _ from_first now)) (first.each n f middle))
+      (λ now. inr (found_more _ _ _ _ _ from_next now)) (next.each n f is);
   all = λ s by. ⊎_elim (λ p. let found = first.all s p in (found.0, next.kept s.to found.0 found.1)) (λ q. next.all s q) (either s by);
   later = omega (arith, first.later, next.later);
   within = λ n f is. grind (arith, nat_tests);

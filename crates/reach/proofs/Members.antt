@@ -16,17 +16,6 @@ known (o ∷ os) (suc n) test none passes = let later : n < length os = known os
 pub processes_known : (os : List Object) (ns : List ℕ) → All (λ n. IsTrue (is_root (content_at os n))) ns → All (λ n. n < length os) ns
 processes_known os ns all k d lt = known os (slice_index_or ns k d) is_root refl (all k d lt)
 
--- so what a capability names is there
-pub names_within : (os : List Object) (c : Capability) → NamesItsKind os c → NamesWithin (length os) c
-names_within os (Page o a) names = known os o is_page refl names
-names_within os (Node o a) names = known os o is_node refl names
-names_within os (Space o h a) names = known os o is_node refl names
-names_within os (Process p) names = known os p is_root refl names
-names_within os (Start p key) names = known os p is_root refl names
-names_within os (Resume p) names = known os p is_root refl names.0
-names_within os (Bank b) names = known os b is_bank refl names
-names_within os other names = tt
-
 -- an object of a slice, by its content
 pub content_is : (os : List Object) (n : ℕ) (o : Object) (x : Content Capability) → n < length os → (slice_index_or os n o).content ≡ x → content_at os n ≡ x
 content_is os n o x lt content = ap (λ (p : Object). p.content) (get_or_default os n free o lt) ∙ content
@@ -38,7 +27,8 @@ slot_is os n slots is k d lt = ap (λ (l : List Capability). slice_index_or l k 
 
 pub slots_known : (os : List Object) (n count : ℕ) (slots : List Capability) → AreSoundObjects os → count ≡ length os → slots_in (content_at os n) ≡ slots →
     All (NamesWithin count) slots
-slots_known os n count slots sound same is k d lt = rw same (rw (← slot_is os n slots is k d lt) (names_within os (slot_at os n k) (sound.2.slots n k).1))
+slots_known os n count slots sound same is k d lt =
+    rw same (rw (← slot_is os n slots is k d lt) (search (arith, known, (slot_at os n k), (sound.2.slots n k).1)))
 
 pub slots_stay : (os : List Object) (n : ℕ) (slots : List Capability) (other : ℕ → Bool) → slots_in (content_at os n) ≡ slots → IsClosedAt os other n →
     All (StaysInside other) slots

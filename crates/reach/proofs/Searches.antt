@@ -5,10 +5,6 @@ use Rattle.reach.proofs.Names.{IsFoundBy, IsFoundIn, IsFrom, IsFromLevel, IsSear
 use Rattle.std.proofs.Common.{◌≡◌, ◌+◌, ◌<◌, ◌≤◌, ◌∷◌, ◌∙◌}
 use Rattle.reach.proofs.Finding.{finds_both, finds_same, missing_most}
 
--- the level of what was found
-at_of : (o : Option Found) (k : ℕ) → has_level o k ≡ true → (f : Found) × (o ≡ Some f) × (f.level ≡ k)
-at_of o k test = grind (arith, nat_tests)
-
 level_of : (o : Option Found) (f : Found) (k : ℕ) → o ≡ Some f → f.level ≡ k → has_level o k ≡ true
 level_of o f k is at = grind (arith, nat_tests)
 
@@ -20,7 +16,7 @@ module _ (os : List Object) (start now : Levels) (level i : ℕ) (first : FindsB
   pub level_next : (new : Levels) → has_level (found_at now i) level ≡ true → FindsBy (IsFrom os i) (level + 1) now new →
       FindsBy (IsFromLevel os start level (i + 1)) (level + 1) start new
   level_next new test next = finds_both (IsFromLevel os start level i) (IsFrom os i) (IsFromLevel os start level (i + 1)) (level + 1) start now new
-      (λ s from. (from.0, omega (arith, from.1), from.2)) (λ s from. (rw from.0 (at_once i (at_of (found_at now i) level test)), omega (arith, from.0), from.1))
+      (λ s from. (from.0, omega (arith, from.1), from.2)) (λ s from. (rw from.0 (at_once i (search arith)), omega (arith, from.0), from.1))
       (λ s from. elim (cases_lt s.from i) [
         | inl below ↦ inl (from.0, below, from.2)
         | inr past ↦ inr (omega (arith, past, from.1), from.2)

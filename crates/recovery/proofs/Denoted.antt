@@ -23,12 +23,12 @@ pub denotes_held : (g : Geometry) (size : ℕ) (c : Image) (s : Saved) (fs : Sav
     (saved_of fs ≡ s) × IsSoundSaved g fs
 denotes_held g size c s fs denoted held =
     let same : denoted.frames ≡ fs = holds_one size c denoted.frames fs denoted.holds held in
-    (ap saved_of (sym same) ∙ denoted.stands, subst (IsSoundSaved g) same denoted.sound)
+    grind (arith, nat_tests)
 
 pub denotes_one : DenoteOneSaved
 denotes_one g h size c s t ds dt =
     let held = denotes_held g size c s dt.frames ds dt.holds in
-    (sym held.1.geometry ∙ dt.sound.geometry, sym held.0 ∙ dt.stands)
+    grind (arith, nat_tests)
 
 pub denoted_sound : DenotedIsSound
 denoted_sound g size c s denoted = subst (λ (x : Saved). IsSound g x.world) denoted.stands denoted.sound.sound.sound

@@ -1,7 +1,7 @@
 -- What objects hold, and whether it is named.
-use Rattle.recovery.proofs.Names.{nat_tests, ℕ, inl, inr, Bool, true, List, [], length, slice_index_or, refl, sym, ap, subst, arith, IsTrue, nat_lt, All}
-use Rattle.recovery.proofs.Names.{cases_lt, get_or_default, Cap, Frame, ObjectHeader, Content, Role, Root, current_count, frame_at, headers, caps_in, role_of}
-use Rattle.recovery.proofs.Names.{Parts, frames_of, AreNamed, IsNamed, NamesItsRole}
+use Rattle.recovery.proofs.Names.{nat_tests, ℕ, inl, inr, Bool, true, List, [], length, slice_index_or, sym, ap, subst, arith, IsTrue, nat_lt, All, cases_lt}
+use Rattle.recovery.proofs.Names.{get_or_default, Cap, Frame, ObjectHeader, Content, Role, Root, current_count, frame_at, headers, caps_in, role_of, Parts}
+use Rattle.recovery.proofs.Names.{frames_of, AreNamed, IsNamed, NamesItsRole}
 use Rattle.std.proofs.Common.{◌≡◌, ◌+◌, ◌↔◌, ◌<◌, ◌≤◌, ◌∷◌, ◌∙◌}
 use Rattle.model.specs.declared.object.Content.TheVariants as content
 use Rattle.model.specs.declared.object.Role.TheVariants as role
@@ -28,17 +28,13 @@ module _ (fs : List Frame) (c : Content Cap) (n : ℕ) (is : c ≡ (frame_at fs 
   pub space_named : (held : Cap) → caps_in c ≡ held ∷ [] → (IsTrue b ↔ IsNamed fs held) → IsTrue b ↔ All (IsNamed fs) (caps_in (frame_at fs n).content)
   space_named held all tells = grind (arith, nat_tests)
 
--- what holds none
-none_named : (fs : List Frame) (n : ℕ) → caps_in (frame_at fs n).content ≡ [] → IsTrue true ↔ All (IsNamed fs) (caps_in (frame_at fs n).content)
-none_named fs n none = subst (λ (cs : List Cap). IsTrue true ↔ All (IsNamed fs) cs) (sym none) (λ so k d inside. absurd (omega arith), λ each. refl)
-
 pub holds_none : (c : Content Cap) → ((x : List Cap) → c ≡ content.Node x → ⊥) → ((x : Root Cap) → c ≡ content.Root x → ⊥) →
     ((x : List Cap) → c ≡ content.Annex x → ⊥) → caps_in c ≡ []
 holds_none c node root annex = grind (arith, nat_tests)
 
 pub other_named : (fs : List Frame) (c : Content Cap) (n : ℕ) → c ≡ (frame_at fs n).content → caps_in c ≡ [] →
     IsTrue true ↔ All (IsNamed fs) (caps_in (frame_at fs n).content)
-other_named fs c n is none = none_named fs n (sym (ap (λ (d : Content Cap). caps_in d) is) ∙ none)
+other_named fs c n is none = grind (arith, nat_tests)
 
 pub role_holds_none : (c : Content Cap) (r : Role) → r ≡ role_of c → (r ≡ role.Node → ⊥) → (r ≡ role.Root → ⊥) → (r ≡ role.Annex → ⊥) → caps_in c ≡ []
 role_holds_none c r is node root annex = grind (arith, nat_tests)

@@ -3,6 +3,7 @@ pub use Rattle.capability.proofs.FrameLists.{frame_in, headers_in, length_in}
 pub use Rattle.capability.proofs.Keeping.{keepable_roles}
 pub use Rattle.capability.proofs.Mapped.{kind_map, mapped}
 pub use Rattle.capability.proofs.References.{not_annex, not_node, not_root}
+pub use Rattle.capability.proofs.SnapshotLaws.{only_reads_twice}
 pub use Rattle.capability.proofs.Untouched.{untouched_count}
 pub use Rattle.capability.specs.Parts.{HaveTheirRoles, OnlyFetches, Parts, frames_of, objects_in}
 pub use Rattle.checkpoint.specs.Opened.{OnlyReads}
@@ -20,23 +21,22 @@ pub use Rattle.layout.specs.declared.bad_image.BadImage.TheVariants.{BadBank, Ba
 pub use Rattle.layout.specs.declared.open_fault.OpenFault.{OpenFault}
 unfoldable pub use Rattle.model.specs.Bank.{chain, usage}
 pub use Rattle.model.specs.Capability.{IsWellFormed}
-pub use Rattle.model.specs.Frame.{blank_frame, content_behind, conveyed, current_count, frame_at, header_at, headers, held_at, object_of, void_held}
+pub use Rattle.model.specs.Frame.{blank_frame, conveyed, current_count, frame_at, header_at, headers, held_at, object_of, void_held}
 unfoldable pub use Rattle.model.specs.Frame.{frames_in, objects_of}
 pub use Rattle.model.specs.Keepable.{AreKeepable, Follows, IsKeepable, IsKeptCap, IsSoundFrames, MayBeKept, caps_in}
-pub use Rattle.model.specs.Machine.{Frozen, Saved, opened, touched_count}
+pub use Rattle.model.specs.Machine.{Saved, opened, touched_count}
 unfoldable pub use Rattle.model.specs.Machine.{untouched}
 pub use Rattle.model.specs.Object.{is_annex, is_bank, is_free, is_node, is_page, is_root, is_waiting, limit_in, map_content, role_number, role_of, root_in}
 pub use Rattle.model.specs.Object.{slots_in}
 pub use Rattle.model.specs.Sound.{IsSound, IsSpace, MayBeHeld, NamesItsKind}
-pub use Rattle.model.specs.World.{World, annex_at, content_at, is_process, owner_at, root_at}
+pub use Rattle.model.specs.World.{annex_at, content_at, is_process, owner_at, root_at}
 pub use Rattle.model.specs.declared.capability.Cap.{Cap}
 pub use Rattle.model.specs.declared.capability.Capability.{Capability}
-pub use Rattle.model.specs.declared.capability.Capability.TheVariants.{Bank, Node, Page, Void}
+pub use Rattle.model.specs.declared.capability.Capability.TheVariants.{Void}
 pub use Rattle.model.specs.declared.frame.Frame.{Frame}
 pub use Rattle.model.specs.declared.frame.ObjectHeader.{ObjectHeader}
 pub use Rattle.model.specs.declared.geometry.Geometry.{Geometry}
 pub use Rattle.model.specs.declared.object.Content.{Content}
-pub use Rattle.model.specs.declared.object.ContentRef.{ContentRef}
 pub use Rattle.model.specs.declared.object.Object.{Object}
 pub use Rattle.model.specs.declared.object.Role.{Role}
 pub use Rattle.model.specs.declared.object.Root.{Root}

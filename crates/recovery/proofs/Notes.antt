@@ -1,7 +1,7 @@
 -- What is noted of roots.
-use Rattle.recovery.proofs.Names.{nat_tests, ℕ, List, Option, None, Some, length, sym, ap, arith, get_or_past, Frame, Content, Root, frame_at, Noted, IsRootOf}
-use Rattle.recovery.proofs.Names.{annex_in, AreNoted, note_at, noted_in}
-use Rattle.std.proofs.Common.{◌≡◌, ◌<◌, ◌∙◌}
+use Rattle.recovery.proofs.Names.{nat_tests, ℕ, List, Option, None, Some, length, arith, get_or_past, Frame, Content, Root, frame_at, Noted, IsRootOf, AreNoted}
+use Rattle.recovery.proofs.Names.{note_at, noted_in}
+use Rattle.std.proofs.Common.{◌≡◌, ◌<◌}
 use Rattle.model.specs.declared.object.Content.TheVariants as content
 
 -- what is no root is not noted
@@ -13,14 +13,10 @@ annex_of_note : Option Noted → Option ℕ
 annex_of_note None = None
 annex_of_note (Some note) = Some note.annex
 
-annex_noted : {C : Type 0} (c : Content C) → annex_of_note (noted_in c) ≡ annex_in c
-unfolding annex_of_note
-annex_noted {C} c = grind (arith, nat_tests)
-
 module _ (fs : List Frame) (notes : List (Option Noted)) (noted : AreNoted fs notes) where
   pub root_noted : (p : ℕ) (note : Noted) → note_at notes p ≡ Some note → IsRootOf fs p note.annex
   unfolding annex_of_note
-  root_noted p note is = sym (annex_noted (frame_at fs p).content) ∙ sym (ap annex_of_note (noted.each p)) ∙ ap annex_of_note is
+  root_noted p note is = grind (arith, nat_tests, annex_of_note)
 
   pub none_noted : (p a : ℕ) → note_at notes p ≡ None → IsRootOf fs p a → ⊥
   unfolding annex_of_note

@@ -1,19 +1,13 @@
 -- A device that was opened, and one that was refused.
-use Rattle.recovery.proofs.Names.{nat_tests, ℕ, Bool, Option, None, List, refl, sym, ap, subst, inr, arith, Result, Ok, Err, IsErrOf, Frame, ObjectHeader}
-use Rattle.recovery.proofs.Names.{Geometry, frames_in, IsSoundFrames, Frozen, Saved, opened, touched_count, untouched, World, Only, Image, Disk, Peeks}
-use Rattle.recovery.proofs.Names.{CountsNow, ends, BadImage, OpenFault, OnlyReads, Holds, OnlyFetches, Parts, frames_of, objects_in, untouched_count, Snapshots}
-use Rattle.recovery.proofs.Names.{FrozenFrames, Continues, OpensStore, View, unrisen, AreCounted, BanksState, IsInconsistent, Live, saved_of, IsSoundSaved}
-use Rattle.recovery.proofs.Names.{IsWhy, Recovers, RefusesToOpen, AreSoundTogether, base_of, running}
+use Rattle.recovery.proofs.Names.{nat_tests, ℕ, None, List, refl, sym, ap, subst, inr, arith, Result, Ok, Err, IsErrOf, Frame, ObjectHeader, frames_in}
+use Rattle.recovery.proofs.Names.{IsSoundFrames, opened, touched_count, Only, Image, Disk, Peeks, CountsNow, ends, BadImage, OpenFault, OnlyReads, Holds}
+use Rattle.recovery.proofs.Names.{OnlyFetches, Parts, frames_of, objects_in, untouched_count, Snapshots, FrozenFrames, Continues, OpensStore, View, unrisen}
+use Rattle.recovery.proofs.Names.{AreCounted, BanksState, IsInconsistent, Live, saved_of, IsSoundSaved, IsWhy, Recovers, RefusesToOpen, AreSoundTogether}
+use Rattle.recovery.proofs.Names.{base_of, running}
 use Rattle.std.proofs.Common.{◌≡◌, ◌↔◌, ◌<◌, ◌≤◌, ◌∙◌}
 use Rattle.layout.specs.declared.open_fault.OpenFault.TheVariants as fault
 use Rattle.recovery.proofs.Denoted.{leaves_saved}
 use Rattle.recovery.proofs.Renewed.{base_saved, none_renewed}
-
--- a machine whose parts are those of an opened one
-opened_by : (g : Geometry) (at : Saved) (now : World) (touched renewed : List Bool) (frozen : Option Frozen) (to_move : ℕ) → now ≡ at.world →
-    touched ≡ untouched g → renewed ≡ untouched g → frozen ≡ None →
-    to_move ≡ at.entries → record { now = now; touched = touched; renewed = renewed; frozen = frozen; saved = at; to_move = to_move } ≡ opened g at
-opened_by g at now touched renewed frozen to_move a b c d e = cc
 
 -- two reads of a device are one, where a crash leaves what a read gives
 only_reads_on : (old mid new : Disk) → OnlyReads old mid → Only mid.seen mid → new.sectors ≡ mid.sectors → Peeks mid new → CountsNow new →
@@ -98,7 +92,7 @@ module _ {D S : Type 0} (disk : D → Disk) (view : S → View D) (parts : S →
 
     at_saved : running disk view parts live ≡ opened (view t).snapshots.saved.geometry (saved_of (view t).snapshots.saved)
     unfolding live
-    at_saved = grind (arith, nat_tests, opened_by, age_saved, frames, base_is, none_renewed, now_sound, frozen)
+    at_saved = grind (arith, nat_tests, age_saved, frames, base_is, none_renewed, now_sound, frozen)
 
     pub recovers : Recovers disk view parts device (record { store = t; banks = banks; age = age; frozen_age = age })
     unfolding live

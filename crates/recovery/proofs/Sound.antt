@@ -1,10 +1,10 @@
 -- Consistent frames are sound, part by part.
-use Rattle.recovery.proofs.Names.{nat_tests, ℕ, inl, inr, Bool, List, map, length, slice_index, slice_index_or, refl, sym, ap, subst, arith, nat_lt, All}
-use Rattle.recovery.proofs.Names.{get_or-map, cases_lt, get_or_past, length-map, Cap, Capability, Void, Page, Node, Bank, Frame, Geometry, Content}
-use Rattle.recovery.proofs.Names.{IsWellFormed, conveyed, current_count, frame_at, headers, objects_of, void_held, AreKeepable, Follows, IsKeepable, IsKeptCap}
-use Rattle.recovery.proofs.Names.{MayBeKept, caps_in, map_content, IsSpace, MayBeHeld, annex_at, IsFilled, IsFramed, IsHeld, Waits, held_from, held_void}
-use Rattle.recovery.proofs.Names.{nearly_to, HaveTheirRoles, keepable_roles, AreBanked, AreWholeProcesses, IsNamed, ConsistentIsSound, kind_map}
-use Rattle.std.proofs.Common.{◌≡◌, ◌^◌, ◌<◌, ◌≤◌, ◌∙◌}
+use Rattle.recovery.proofs.Names.{nat_tests, ℕ, inl, inr, Bool, List, map, length, slice_index, slice_index_or, sym, ap, subst, arith, nat_lt, All, get_or-map}
+use Rattle.recovery.proofs.Names.{cases_lt, get_or_past, length-map, Cap, Capability, Void, Frame, Geometry, Content, IsWellFormed, conveyed, current_count}
+use Rattle.recovery.proofs.Names.{frame_at, headers, objects_of, void_held, AreKeepable, Follows, IsKeepable, IsKeptCap, MayBeKept, caps_in, map_content}
+use Rattle.recovery.proofs.Names.{IsSpace, MayBeHeld, annex_at, IsFilled, IsFramed, IsHeld, Waits, held_from, held_void, nearly_to, HaveTheirRoles}
+use Rattle.recovery.proofs.Names.{keepable_roles, AreBanked, AreWholeProcesses, IsNamed, ConsistentIsSound, kind_map}
+use Rattle.std.proofs.Common.{◌^◌, ◌<◌, ◌∙◌}
 use Rattle.std.specs.Prelude.{if◌then◌else◌}
 use Rattle.model.specs.declared.object.Content.TheVariants as content
 use Rattle.recovery.proofs.Standing.{annex_role, bank_role, content_is, free_role, length_is, limit_is, names_kind, owner_is, process_of, role_annex}
@@ -22,13 +22,8 @@ module _ (g : Geometry) (age : ℕ) (fs : List Frame) (k : AreKeepable g age fs)
   roles : HaveTheirRoles fs
   roles = keepable_roles g age fs k
 
-  -- what a held capability conveys may be held
-  conveyed_by : (c : Cap) → Follows g age c.count c.what → IsNamed fs c → (b : Bool) → nat_lt c.count (current_count (headers fs) c.what) ≡ b →
-      MayBeHeld (objects_of fs) (if b then Void else c.what)
-  conveyed_by c f named b stale = grind (arith, nat_tests, follows_formed, names_kind, roles)
-
   held : (c : Cap) → Follows g age c.count c.what → IsNamed fs c → MayBeHeld (objects_of fs) (conveyed (headers fs) c)
-  held c f named = conveyed_by c f named (nat_lt c.count (current_count (headers fs) c.what)) refl
+  held c f named = grind (arith, nat_tests, follows_formed, names_kind, roles)
 
   held_each : (slots : List Cap) → All (IsKeptCap g age) slots → All (IsNamed fs) slots → (i : ℕ) →
       IsHeld (objects_of fs) (Waits (objects_of fs)) (slice_index_or (map (conveyed (headers fs)) slots) i Void)

@@ -1,9 +1,9 @@
 -- What stands at a number, of frames and of the objects that they stand for.
 use Rattle.recovery.proofs.Names.{arith, nat_tests, ℕ, zero, suc, Bool, true, List, Option, Some, length, sym, ap, IsTrue, get_or-map, eqb-true, length-map}
-use Rattle.recovery.proofs.Names.{Cap, Capability, Page, Node, Bank, Frame, Content, Object, Role, blank_frame, conveyed, frame_at, header_at, headers}
-use Rattle.recovery.proofs.Names.{object_of, objects_of, is_annex, is_bank, is_free, is_node, is_page, is_root, is_waiting, limit_in, map_content, role_number}
-use Rattle.recovery.proofs.Names.{role_of, root_in, NamesItsKind, annex_at, content_at, is_process, owner_at, root_at, HaveTheirRoles, mapped, IsRootOf}
-use Rattle.recovery.proofs.Names.{NamesItsRole, annex_in, is_waiting_root, owner_of, role_at}
+use Rattle.recovery.proofs.Names.{Capability, Frame, Content, Object, Role, blank_frame, conveyed, frame_at, header_at, headers, object_of, objects_of}
+use Rattle.recovery.proofs.Names.{is_annex, is_bank, is_free, is_node, is_page, is_root, is_waiting, limit_in, map_content, role_number, role_of, NamesItsKind}
+use Rattle.recovery.proofs.Names.{annex_at, content_at, is_process, owner_at, root_at, HaveTheirRoles, mapped, IsRootOf, NamesItsRole, annex_in}
+use Rattle.recovery.proofs.Names.{is_waiting_root, owner_of, role_at}
 use Rattle.std.proofs.Common.{◌≡◌, ◌==◌, ◌∙◌}
 use Rattle.model.specs.declared.object.Role.TheVariants as role
 
@@ -39,10 +39,6 @@ from_number : (r : Role) → role_from (role_number r) ≡ r
 unfolding role_from
 from_number r = grind (arith, nat_tests)
 
--- roles of one number are the same
-pub is_same : (r s : Role) → is r s ≡ true → r ≡ s
-is_same r s same = sym (from_number r) ∙ ap role_from (eqb-true (role_number r) (role_number s) same) ∙ from_number s
-
 record AreTested {C : Type 0} (c : Content C) : Type 0 where
   free : is_free c ≡ is (role_of c) role.Free
   page : is_page c ≡ is (role_of c) role.Page
@@ -54,51 +50,32 @@ record AreTested {C : Type 0} (c : Content C) : Type 0 where
 tested : {C : Type 0} (c : Content C) → AreTested c
 tested {C} c = grind (arith, nat_tests)
 
--- roots, whatever capabilities they hold
-annex_map : (f : Cap → Capability) (c : Content Cap) → annex_in (map_content f c) ≡ annex_in c
-annex_map f c = grind (arith, nat_tests)
-
-waiting_map : (f : Cap → Capability) (c : Content Cap) → is_waiting_root (map_content f c) ≡ is_waiting_root c
-waiting_map f c = grind (arith, nat_tests)
-
-root_annex : (c : Content Capability) → is_root c ≡ true → annex_in c ≡ Some (root_in c).annex
-root_annex c root = grind (arith, nat_tests)
-
 -- one number in an option
 pub some_same : (a b : ℕ) → (let x : Option ℕ = Some a in x) ≡ Some b → a ≡ b
 some_same a b same = cc
-
-annex_root : (c : Content Capability) (a : ℕ) → annex_in c ≡ Some a → IsTrue (is_root c) × ((root_in c).annex ≡ a)
-annex_root c a root = grind (arith, nat_tests)
-
-waiting_root : (c : Content Capability) → is_waiting_root c ≡ true → IsTrue (is_root c) × IsTrue (is_waiting (root_in c).state)
-waiting_root c waits = grind (arith, nat_tests)
-
-root_waiting : (c : Content Capability) → is_waiting_root c ≡ is_waiting (root_in c).state
-root_waiting c = grind (arith, nat_tests)
 
 pub limit_is : (fs : List Frame) (n : ℕ) → limit_in (content_at (objects_of fs) n) ≡ limit_in (frame_at fs n).content
 limit_is fs n = ap (λ (c : Content Capability). limit_in c) (content_is fs n) ∙ (mapped (conveyed (headers fs)) (frame_at fs n).content).limit
 
 module _ (fs : List Frame) (p : ℕ) where
   annex_is : annex_in (content_at (objects_of fs) p) ≡ annex_in (frame_at fs p).content
-  annex_is = ap (λ (c : Content Capability). annex_in c) (content_is fs p) ∙ annex_map (conveyed (headers fs)) (frame_at fs p).content
+  annex_is = grind (arith, nat_tests, content_is)
 
   -- a process is a root with its annex, and the other way round
   pub root_of : IsTrue (is_process (objects_of fs) p) → IsRootOf fs p (annex_at (objects_of fs) p)
-  root_of process = sym annex_is ∙ root_annex (content_at (objects_of fs) p) process
+  root_of process = grind (arith, nat_tests, annex_is)
 
   pub process_of : (a : ℕ) → IsRootOf fs p a → IsTrue (is_process (objects_of fs) p) × (annex_at (objects_of fs) p ≡ a)
-  process_of a root = annex_root (content_at (objects_of fs) p) a (annex_is ∙ root)
+  process_of a root = grind (arith, nat_tests, annex_is)
 
   waiting_is : is_waiting_root (content_at (objects_of fs) p) ≡ is_waiting_root (frame_at fs p).content
-  waiting_is = ap (λ (c : Content Capability). is_waiting_root c) (content_is fs p) ∙ waiting_map (conveyed (headers fs)) (frame_at fs p).content
+  waiting_is = grind (arith, nat_tests, content_is)
 
   waiting_of : IsTrue (is_waiting_root (frame_at fs p).content) → IsTrue (is_process (objects_of fs) p) × IsTrue (is_waiting (root_at (objects_of fs) p).state)
-  waiting_of waits = waiting_root (content_at (objects_of fs) p) (waiting_is ∙ waits)
+  waiting_of waits = grind (arith, nat_tests, waiting_is)
 
   waits_of : IsTrue (is_waiting (root_at (objects_of fs) p).state) → IsTrue (is_waiting_root (frame_at fs p).content)
-  waits_of waits = sym waiting_is ∙ root_waiting (content_at (objects_of fs) p) ∙ waits
+  waits_of waits = grind (arith, nat_tests, waiting_is)
 
 -- what the roles of frames say of objects, and the other way round
 module _ (fs : List Frame) (roles : HaveTheirRoles fs) (n : ℕ) where
@@ -106,7 +83,7 @@ module _ (fs : List Frame) (roles : HaveTheirRoles fs) (n : ℕ) where
   role_is = ap (λ (c : Content Capability). role_of c) (content_is fs n) ∙ (mapped (conveyed (headers fs)) (frame_at fs n).content).role ∙ sym (roles n)
 
   to_role : (r : Role) (b : Bool) → b ≡ is (role_of (content_at (objects_of fs) n)) r → b ≡ true → role_at fs n ≡ r
-  to_role r b test passes = sym role_is ∙ is_same (role_of (content_at (objects_of fs) n)) r (sym test ∙ passes)
+  to_role r b test passes = grind (arith, nat_tests, role_is, from_number, role_from, eqb-true)
 
   of_role : (r : Role) (b : Bool) → b ≡ is (role_of (content_at (objects_of fs) n)) r → role_at fs n ≡ r → b ≡ is r r
   of_role r b test same = test ∙ ap (λ (s : Role). is s r) (role_is ∙ same)

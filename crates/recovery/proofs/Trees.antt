@@ -32,13 +32,10 @@ reaches b xs P is p = (
 
 -- all numbers
 module _ (p : Parts) (hs : List ObjectHeader) (count n : ℕ) (table : hs ≡ p.headers) (all : count ≡ length hs) (past : count ≤ n) where
-  known_before : (m : ℕ) → (role_at (frames_of p) m ≡ role.Free → ⊥) → m < n
-  known_before m used = omega (arith, role_known p m used, all, past, ap (λ (ks : List ObjectHeader). length ks) table)
-
   pub owned_whole : (role_at (frames_of p) 0 ≡ role.Bank) × (owner_of (frames_of p) 0 ≡ 0) →
       ((m : ℕ) → m < n → role_at (frames_of p) m ≢ role.Free → role_at (frames_of p) (owner_of (frames_of p) m) ≡ role.Bank) →
       ((b : ℕ) → b < n → role_at (frames_of p) b ≡ role.Bank → Contains (chain (objects_in p) b) 0) → AreOwned (frames_of p)
-  owned_whole prime owners chains = grind (arith, nat_tests, known_before)
+  owned_whole prime owners chains = grind (arith, nat_tests, role_known)
 
 -- owned objects are a tree
 module _ (g : Geometry) (age : ℕ) (fs : List Frame) (k : AreKeepable g age fs) where
@@ -74,7 +71,7 @@ module _ (g : Geometry) (age : ℕ) (p : Parts) (k : AreKeepable g age (frames_o
     below low b bank =
         let is = role_bank (frames_of p) (keepable_roles g age (frames_of p) k) b bank in
         let least : slice_index usages b ≤ slice_index limits b = low b bank in
-        omega (arith, least, used b is, limit_there b (bank_counted b is))
+        grind (arith, nat_tests, limit_there, bank_counted)
 
     above : (why : Unbanked) → IsAboveLimit (frames_of p) usages limits why → IsUnbanked (frames_of p) why
     above why.Prime is = absurd is

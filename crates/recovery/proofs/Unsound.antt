@@ -1,23 +1,19 @@
 -- What follows of sound frames: no reason of inconsistency.
 use Rattle.recovery.proofs.Names.{nat_tests, ℕ, List, Option, Some, map, slice_index_or, sym, ap, subst, arith, IsTrue, All, get_or-map, All-from_get_or, Cap}
-use Rattle.recovery.proofs.Names.{Capability, Void, Frame, ObjectHeader, Geometry, Content, conveyed, current_count, frame_at, headers, objects_of, void_held}
-use Rattle.recovery.proofs.Names.{IsSoundFrames, caps_in, is_annex, map_content, root_in, slots_in, MayBeHeld, content_at, owner_at, HaveTheirRoles}
-use Rattle.recovery.proofs.Names.{keepable_roles, BadCapability, BadProcess, BadBank, AreBanked, AreNamed, AreWholeProcesses, IsNamed, InconsistentIsUnsound}
+use Rattle.recovery.proofs.Names.{Capability, Void, Frame, Geometry, Content, conveyed, current_count, frame_at, headers, objects_of, void_held, IsSoundFrames}
+use Rattle.recovery.proofs.Names.{caps_in, is_annex, map_content, root_in, slots_in, MayBeHeld, content_at, owner_at, HaveTheirRoles, keepable_roles}
+use Rattle.recovery.proofs.Names.{BadCapability, BadProcess, BadBank, AreBanked, AreNamed, AreWholeProcesses, IsNamed, InconsistentIsUnsound}
 use Rattle.std.proofs.Common.{◌≡◌, ◌≤◌, ◌∙◌}
 use Rattle.model.specs.declared.object.Content.TheVariants as content
 use Rattle.recovery.proofs.Standing.{annex_role, bank_role, content_is, free_role, limit_is, names_role, owner_is, process_of, role_annex, role_bank}
 use Rattle.recovery.proofs.Standing.{root_of}
-
--- a live capability conveys what it is
-live_conveyed : (hs : List ObjectHeader) (c : Cap) → c.count ≡ current_count hs c.what → conveyed hs c ≡ c.what
-live_conveyed hs c live = grind (arith, nat_tests)
 
 module _ (g : Geometry) (age : ℕ) (fs : List Frame) (h : IsSoundFrames g age fs) where
   roles : HaveTheirRoles fs
   roles = keepable_roles g age fs h.keepable
 
   named_from : (c : Cap) → c.count ≤ current_count (headers fs) c.what → MayBeHeld (objects_of fs) (conveyed (headers fs) c) → IsNamed fs c
-  named_from c current may = grind (arith, nat_tests, names_role, roles, live_conveyed)
+  named_from c current may = grind (arith, nat_tests, names_role, roles)
 
   each_named : (slots : List Cap) → All (λ c. c.count ≤ current_count (headers fs) c.what) slots →
       ((i : ℕ) → MayBeHeld (objects_of fs) (slice_index_or (map (conveyed (headers fs)) slots) i Void)) → All (IsNamed fs) slots

@@ -14,6 +14,7 @@ pub fn denoted_is_one_of()
 {}
 
 /// Its world is sound.
+#[tactic(auto, using(crate::proofs::Denoted::denoted_sound))]
 pub fn denoted_is_sound()
     ensures { DenotedIsSound }
 {}

@@ -1,7 +1,7 @@
 -- Two runs of one machine on the same lines.
-use Rattle.runs.proofs.Names.{ℕ, true, List, [], Option, None, Some, refl, sym, ap, subst, append-nil, inl, inr, flat_map-append, Answer, Refusal, Command}
-use Rattle.runs.proofs.Names.{Geometry, Line, Machine, Running, Up, Reply, Reported, Turn, IsRun, Replies, reply_text, output_of, Answers, Outcome, Step}
-use Rattle.runs.proofs.Names.{carried_out, refusal_of, takes_memory, Says, says_one, lines_in, SteadyRunsAgree, IsSteady, wants_memory_to_show}
+use Rattle.runs.proofs.Names.{arith, nat_tests, ℕ, true, List, [], Option, None, Some, refl, sym, ap, subst, append-nil, inl, inr, flat_map-append, Answer}
+use Rattle.runs.proofs.Names.{Refusal, Command, Geometry, Line, Machine, Running, Up, Reply, Reported, Turn, IsRun, Replies, reply_text, output_of, Answers}
+use Rattle.runs.proofs.Names.{Outcome, Step, carried_out, refusal_of, takes_memory, Says, says_one, lines_in, SteadyRunsAgree, IsSteady, wants_memory_to_show}
 use Rattle.std.proofs.Common.{◌≡◌, ◌∷◌, ◌++◌, ◌∙◌, ◌≢◌}
 use Rattle.model.specs.declared.answer.Answer.TheVariants as answer
 use Rattle.model.specs.declared.answer.Refusal.TheVariants as refusal
@@ -21,8 +21,7 @@ AnswersBy s o r a after = elim r [
 ]
 
 answers_agree : (s : Running) (o : Outcome) (r : Option Refusal) (x y : Answer) (a b : Machine) → AnswersBy s o r x a → AnswersBy s o r y b → Agree x y a b
-answers_agree s o (Some why) x y a b p q = record { then_up = s; answers = p.0 ∙ sym q.0; first = p.1; second = q.1 }
-answers_agree s o None x y a b p q = record { then_up = o.after; answers = p.0 ∙ sym q.0; first = p.1; second = q.1 }
+answers_agree s o r x y a b p q = search (arith, nat_tests)
 
 -- an answer to a line for which neither the device failed nor memory that its command takes ran out
 record IsFine (l : Line) (p : Reply) : Type 0 where
@@ -35,11 +34,7 @@ fine t l steady says = record { device = steady.device; memory = λ c is. steady
 -- it is the command's own
 own : (g : Geometry) (s : Running) (c : Command) (p : Reply) (a : Answer) (after : Machine) → IsFine (line.Command c) p →
     p ≡ Reported a → Step g (Up s) c a after → Answers g s c a after
-own g s c p a after steady reported (inl answers) = answers
-own g s c p a after steady reported (inr (inl wanting)) =
-    let takes = wants_memory_to_show g (Up s) c after (subst (λ (x : Answer). Step g (Up s) c x after) wanting.1 (inr (inl wanting))) in
-    absurd (steady.memory c refl takes (reported ∙ ap Reported wanting.1))
-own g s c p a after steady reported (inr (inr failed)) = absurd (steady.device (reported ∙ ap Reported failed.1))
+own g s c p a after steady reported step = search (arith, nat_tests, wants_memory_to_show)
 
 -- two replies to one line
 record AgreeOn (p q : Reply) (a b : Machine) : Type 0 where
@@ -52,10 +47,7 @@ replies_agree : (g : Geometry) (s : Running) (l : Line) (p q : Reply) (a b : Mac
     IsFine l p → IsFine l q → AgreeOn p q a b
 replies_agree g s line.Skip p q a b x y steady_p steady_q = record { then_up = s; replies = x.0 ∙ sym y.0; first = x.1; second = y.1 }
 replies_agree g s line.Bad p q a b x y steady_p steady_q = record { then_up = s; replies = x.0 ∙ sym y.0; first = x.1; second = y.1 }
-replies_agree g s (line.Command c) p q a b x y steady_p steady_q =
-    let reported : Agree x.0 y.0 a b = answers_agree s (carried_out g s c) (refusal_of g s c) x.0 y.0 a b
-    (own g s c p x.0 a steady_p x.1 x.2) (own g s c q y.0 b steady_q y.1 y.2) in
-    record { then_up = reported.then_up; replies = x.1 ∙ ap Reported reported.answers ∙ sym y.1; first = reported.first; second = reported.second }
+replies_agree g s (line.Command c) p q a b x y steady_p steady_q = search (arith, nat_tests, answers_agree, own)
 
 same_head : (x y : List ℕ) (xs ys : List (List ℕ)) → x ∷ xs ≡ y ∷ ys → (x ≡ y) × (xs ≡ ys)
 same_head x y xs ys same = (cc, cc)

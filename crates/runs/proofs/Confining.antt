@@ -1,8 +1,8 @@
 -- What a run over a kernel changes, where its lines are by processes of a closed set.
-use Rattle.runs.proofs.Names.{ℕ, Bool, List, [], Option, Ok, Err, ap, sym, subst, ⊎_elim, append-nil, Result, Consumes, All-cons, All-head, All-nil, All-tail}
-use Rattle.runs.proofs.Names.{Geometry, Line, Machine, Running, Up, Down, IsRun, Turn, lines_of, IsSound, Says, Disk, AreBy, IsLineBy, with_free, run_confined}
-use Rattle.runs.proofs.Names.{Written, Parts, View, Power, Stands, RunFault, AreAll, AreFirst, AreLines, AreLinesBy, BeginsWith, Does, IsConfined, RunsOver}
-use Rattle.runs.proofs.Names.{lines_in}
+use Rattle.runs.proofs.Names.{arith, nat_tests, ℕ, Bool, List, [], Option, Ok, Err, ap, sym, subst, ⊎_elim, append-nil, Result, Consumes, All-cons, All-head}
+use Rattle.runs.proofs.Names.{All-nil, All-tail, Geometry, Line, Machine, Running, Up, Down, IsRun, Turn, lines_of, IsSound, Says, Disk, AreBy, IsLineBy}
+use Rattle.runs.proofs.Names.{with_free, run_confined, Written, Parts, View, Power, Stands, RunFault, AreAll, AreFirst, AreLines, AreLinesBy, BeginsWith, Does}
+use Rattle.runs.proofs.Names.{IsConfined, RunsOver, lines_in}
 use Rattle.std.proofs.Common.{◌≡◌, ◌∷◌, ◌++◌, ◌∙◌}
 use Rattle.kernel.specs.Power as power
 use Rattle.script.specs.declared.fault.RunFault.TheVariants as fault
@@ -53,16 +53,11 @@ turns_by inside (t ∷ ts) more by =
 module _ {D S : Type 0} (disk : D → Disk) (view : S → View D) (parts : S → Parts) where
   -- a kernel that is up stands for one machine
   pub one_machine : (g : Geometry) (p : Power D S) (m : Machine) (t : Running) → Stands disk view parts g p m → Stands disk view parts g p (Up t) → m ≡ Up t
-  one_machine g (power.Up l) (Up r) t first second = ap Up (first.1 ∙ sym second.1)
-  one_machine g (power.Up l) (Down saved) t first second = absurd first
-  one_machine g (power.Down d) m t first second = absurd second
-  one_machine g power.Between m t first second = absurd second
+  one_machine g p m t first second = search (arith, nat_tests)
 
   -- and its world is sound
   pub sound_world : (g : Geometry) (p : Power D S) (s : Running) → Stands disk view parts g p (Up s) → IsSound g s.now
-  sound_world g (power.Up l) s up = subst (λ (r : Running). IsSound g r.now) (sym up.1) up.0.sound.now.sound
-  sound_world g (power.Down d) s up = absurd up
-  sound_world g power.Between s up = absurd up
+  sound_world g p s up = search (arith, nat_tests)
 
   pub run_is_confined : (old new : Power D S) (input left : Option (List ℕ)) (output written : Written) (result : Result (Unit {0}) RunFault) →
       RunsOver disk view parts old new input left output written result → IsConfined disk view parts old new input left

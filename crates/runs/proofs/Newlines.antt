@@ -13,8 +13,7 @@ one_line bytes end nowhere k d lt = λ is.
 
 pub line_ends : (bytes : List ℕ) (r : Option ℕ) → IsFirstByte (is_byte 10) bytes r
     → IfSome r (λ end. (end < length bytes) × IsOneLine (take end bytes) × (slice_index_or bytes end 0 ≡ 10))
-line_ends bytes None first = tt
-line_ends bytes (Some end) first = (first.0.high, one_line bytes end first.0.before, grind (arith, nat_tests))
+line_ends bytes r first = search (arith, nat_tests, one_line)
 
 pub no_line_ends : (bytes : List ℕ) (r : Option ℕ) → IsFirstByte (is_byte 10) bytes r → IfNone r (IsOneLine bytes)
 no_line_ends bytes None first = subst (λ (text : List ℕ). IsOneLine text) (take_all (length bytes) bytes (omega arith)) (one_line bytes (length bytes) first)

@@ -50,21 +50,18 @@ line_more text lines rest are = record {
 
 -- a text that they begin
 pub begins_with : (text : List ℕ) (lines : List (List ℕ)) (more : List ℕ) → AreLines text lines [] → BeginsWith (text ++ more) lines
-begins_with text lines more are =
-    record { more = more; whole = ap (λ (l : List ℕ). l ++ more) (are.whole ∙ append-nil (flat_map line_of lines)); each = are.each }
+begins_with text lines more are = search (arith, nat_tests, append-nil)
 
 -- they are its first lines, whatever follows
 lines_first : (text : List ℕ) (lines : List (List ℕ)) (more : List ℕ) → AreLines text lines [] → lines_of (text ++ more) ≡ lines ++ lines_of more
-lines_first text lines more are =
-    ap (λ (l : List ℕ). lines_of (l ++ more)) (are.whole ∙ append-nil (flat_map line_of lines)) ∙ lines_before lines more are.each
+lines_first text lines more are = search (arith, nat_tests, append-nil, lines_before)
 
 -- and all of them, where nothing is left, or with what is left
 pub lines_whole : (text : List ℕ) (lines : List (List ℕ)) → AreLines text lines [] → lines_of text ≡ lines
 lines_whole text lines are = ap lines_of (sym (append-nil text)) ∙ lines_first text lines [] are ∙ append-nil lines
 
 pub lines_with_rest : (text : List ℕ) (lines : List (List ℕ)) (rest : List ℕ) → AreLines text lines rest → (rest ≡ [] → ⊥) → lines_of text ≡ lines ++ rest ∷ []
-lines_with_rest text lines rest are some =
-    ap lines_of are.whole ∙ lines_before lines rest are.each ∙ ap (λ (l : List (List ℕ)). lines ++ l) (last_line rest are.none some)
+lines_with_rest text lines rest are some = search (arith, nat_tests, lines_before, last_line)
 
 -- ---- a piece of a text
 
@@ -77,10 +74,7 @@ one_and_more (x ∷ xs) (suc i) b within is = ap (λ (ys : List ℕ). x ∷ ys) 
 -- a line is taken off what is left of it
 pub line_taken : (piece read rest : List ℕ) (end : ℕ) → piece ≡ read ++ rest → end < length rest → slice_index_or rest end 0 ≡ 10 →
     piece ≡ ((read ++ take end rest) ++ 10 ∷ []) ++ drop (suc end) rest
-line_taken piece read rest end is within newline =
-    is ∙ ap (λ (r : List ℕ). read ++ r) (one_and_more rest end 10 within newline)
-    ∙ sym (append_assoc read (take end rest ++ 10 ∷ []) (drop (suc end) rest))
-    ∙ ap (λ (r : List ℕ). r ++ drop (suc end) rest) (sym (append_assoc read (take end rest) (10 ∷ [])))
+line_taken piece read rest end is within newline = search (arith, nat_tests, one_and_more, append_assoc)
 
 -- what follows a place, as a slice
 pub rest_of : (xs : List ℕ) (i : ℕ) → take (length xs - (i + 1)) (drop (i + 1) xs) ≡ drop (suc i) xs

@@ -1,6 +1,6 @@
 -- What a crash leaves in the course of a run, and that it is opened.
-use Rattle.runs.proofs.Names.{ℕ, zero, suc, List, [], refl, sym, subst, ⊎_elim, inl, inr, arith, Contains, Geometry, Machine, Running, Saved, Up, Down}
-use Rattle.runs.proofs.Names.{candidates, opened, Turn, IsRun, second, Image, Disk, LeavesOnly, leaves_on, leaves_weaker, started, OpenFault, Parts, View}
+use Rattle.runs.proofs.Names.{nat_tests, ℕ, zero, suc, List, [], refl, sym, subst, ⊎_elim, inl, inr, arith, Contains, Geometry, Machine, Running, Saved, Up}
+use Rattle.runs.proofs.Names.{Down, candidates, opened, Turn, IsRun, second, Image, Disk, LeavesOnly, leaves_on, leaves_weaker, started, OpenFault, Parts, View}
 use Rattle.runs.proofs.Names.{Power, Denotes, DenotesOne, RefusesToOpen, IsNoReason, Opens, Stands, disk_of, denotes_one, denoted_not_bad, AreTurnsOf, IsLeftIn}
 use Rattle.runs.proofs.Names.{CrashesAreSurvived, IsOpenedAt, MaySave}
 use Rattle.std.proofs.Common.{◌∷◌}
@@ -36,13 +36,8 @@ module _ {D S : Type 0} (disk : D → Disk) (view : S → View D) (parts : S →
 
   -- before the first turn
   before_turns : (g : Geometry) (m : Machine) (p : Power D S) → Stands disk view parts g p m → LeavesOnly (of p) (of p) (LeavesSaved g (of p).sectors m [])
-  before_turns g (Up r) (power.Up l) stands =
-      let d = (view l.store).beneath in
-      started (disk d) (LeavesSaved g (disk d).sectors (Up r) []) (only_now d)
-      (λ c left. candidate g (disk d).sectors (Up r) [] c
-      (subst (λ (x : Running). DenotesOne g (disk d).sectors (x.saved ∷ []) c) (sym stands.1) (stands.0.leaves c left)))
-  before_turns g (Down saved) (power.Down d) stands =
-      started (disk d) (LeavesSaved g (disk d).sectors (Down saved) []) (only_now d) (λ c left. candidate g (disk d).sectors (Down saved) [] c (stands c left))
+  before_turns g (Up r) (power.Up l) stands = search (arith, nat_tests, started, candidate)
+  before_turns g (Down saved) (power.Down d) stands = search (arith, nat_tests, started, candidate)
   before_turns g (Down saved) (power.Up l) stands = absurd stands
   before_turns g (Up r) (power.Down d) stands = absurd stands
   before_turns g m power.Between stands = absurd stands
@@ -50,8 +45,7 @@ module _ {D S : Type 0} (disk : D → Disk) (view : S → View D) (parts : S →
   -- turn after turn
   turns_leave : (g : Geometry) (turns : List Turn) (m last : Machine) (old new : Power D S) → Stands disk view parts g old m → IsRun g m turns last →
       AreTurnsOf disk view parts g old new turns → LeavesOnly (of old) (of new) (LeavesSaved g (of old).sectors m turns)
-  turns_leave g [] m last old new stands run same =
-      subst (λ (p : Power D S). LeavesOnly (of old) (of p) (LeavesSaved g (of old).sectors m [])) (sym same) (before_turns g m old stands)
+  turns_leave g [] m last old new stands run same = search (arith, nat_tests, before_turns)
   turns_leave g (t ∷ ts) m last old new stands run goes =
       let turn = goes.1 in
       let size = (of old).sectors in

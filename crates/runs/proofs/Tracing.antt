@@ -1,8 +1,8 @@
 -- What a tracer makes of a turn.
-use Rattle.runs.proofs.Names.{ℕ, min, Bool, true, false, not, Option, None, Some, List, [], codes, refl, sym, ap, subst, IfNone, IfSome, Answer, Command}
-use Rattle.runs.proofs.Names.{Geometry, ResultCode, Reply, Nothing, BadLine, Reported, Turn, Says, line_of, spaced, says_one, LineFault, command_name}
-use Rattle.runs.proofs.Names.{IsFaultOf, Cause, Stop, Tracer, reported_code, Ends, EndsIf, IsCauseIn, IsCauseOf, IsOutcome, IsTrace, IsTraced, Notes, Sees}
-use Rattle.runs.proofs.Names.{cause_text, place_text, Written}
+use Rattle.runs.proofs.Names.{arith, nat_tests, ℕ, min, Bool, true, false, not, Option, None, Some, List, [], codes, refl, sym, ap, subst, IfNone, IfSome}
+use Rattle.runs.proofs.Names.{Answer, Command, Geometry, ResultCode, Reply, Nothing, BadLine, Reported, Turn, Says, line_of, spaced, says_one, LineFault}
+use Rattle.runs.proofs.Names.{command_name, IsFaultOf, Cause, Stop, Tracer, reported_code, Ends, EndsIf, IsCauseIn, IsCauseOf, IsOutcome, IsTrace, IsTraced}
+use Rattle.runs.proofs.Names.{Notes, Sees, cause_text, place_text, Written}
 use Rattle.std.proofs.Common.{◌≡◌, ◌+◌, ◌-◌, ◌^◌, ◌∷◌, ◌++◌, ◌∙◌}
 use Rattle.model.specs.declared.line.Line.TheVariants as line
 use Rattle.runs.specs.declared.cause.Cause.TheVariants as cause
@@ -11,14 +11,7 @@ use Rattle.runs.specs.declared.cause.Cause.TheVariants as cause
 
 ended : (g : Geometry) (t : Turn) (strict : Bool) (why : Option Cause) (place : ℕ) (on : Bool) (stop : Option Stop) → EndsIf strict why place on stop →
     IfSome why (IsCauseOf g t) → IfNone why ((w : Cause) → IsCauseOf g t w → ⊥) → Ends g place t strict on stop
-ended g t false why place on stop ends some none = fine why ends
-  where
-    fine : (w : Option Cause) → EndsIf false w place on stop → on ≡ true
-    fine None is = is
-    fine (Some w) is = is
-ended g t true None place on stop ends some none = subst (λ (o : Bool). Ends g place t true o stop) (sym ends) none
-ended g t true (Some w) place on stop ends some none =
-    subst (λ (o : Bool). Ends g place t true o stop) (sym ends.0) (subst (λ (s : Option Stop). Ends g place t true false s) (sym ends.1) (refl, some))
+ended g t strict why place on stop ends some none = search (arith, nat_tests)
 
 -- ---- what is seen of a turn
 
@@ -27,27 +20,16 @@ module _ {V : Type 0} (written : V → Written) (g : Geometry) (t : Turn) (old n
     where
       seen : IsTrace g place t t.reply (line_of text) → IfSome why (IsCauseOf g t) → IfNone why ((w : Cause) → IsCauseOf g t w → ⊥) →
           Sees written g t old new on
-      seen trace some none = record {
-        options = noted.options;
-        place = noted.place ∙ next;
-        text = line_of text;
-        trace = subst (λ (p : ℕ). IsTrace g p t t.reply (line_of text)) (sym noted.place) trace;
-        traced = noted.traced;
-        ends = subst (λ (p : ℕ). Ends g p t old.options.strict on new.stop) (sym noted.place)
-            (ended g t old.options.strict why place on new.stop noted.ends some none);
-      }
+      seen trace some none = search (arith, nat_tests, ended)
 
       -- a command
       module _ (c : Command) (a : Answer) (reported : Option ResultCode) (says : Says t.line (line.Command c)) (reply : t.reply ≡ Reported a)
           (coded : reported_code g t.before c a ≡ reported) where
         causes : (w : Cause) → IsCauseIn a reported w → IsCauseOf g t w
-        causes (cause.BadLine fault) is = absurd is
-        causes (cause.Refused r) is = (c, says, a, reply, is)
-        causes (cause.Code k) is = (c, says, a, reply, (coded ∙ is.0, is.1))
+        causes w is = search (arith, nat_tests)
 
         some_causes : (w : Option Cause) → IfSome w (IsCauseIn a reported) → IfSome w (IsCauseOf g t)
-        some_causes None is = tt
-        some_causes (Some w) is = causes w is
+        some_causes w is = search (arith, nat_tests, causes)
 
         same_command : (d : Command) → Says t.line (line.Command d) → d ≡ c
         same_command d said = let is = says_one t.line (line.Command d) (line.Command c) said says in cc
@@ -65,20 +47,14 @@ module _ {V : Type 0} (written : V → Written) (g : Geometry) (t : Turn) (old n
         )
 
         no_causes : (w : Option Cause) → IfNone w ((v : Cause) → IsCauseIn a reported v → ⊥) → IfNone w ((v : Cause) → IsCauseOf g t v → ⊥)
-        no_causes None none = λ v is. none v (is_cause_in v is)
-        no_causes (Some w) none = tt
+        no_causes w none = search (arith, nat_tests, is_cause_in)
 
         pub answer_seen : (outcome : List ℕ) → IsOutcome reported a outcome → text ≡ spaced (place_text place ∷ (command_name c ++ codes ":") ∷ outcome ∷ []) →
             IfSome why (IsCauseIn a reported) → IfNone why ((w : Cause) → IsCauseIn a reported w → ⊥) → Sees written g t old new on
-        answer_seen outcome is spelt some none =
-            seen (subst (λ (r : Reply). IsTrace g place t r (line_of text)) (sym reply)
-            (c, says, outcome, subst (λ (k : Option ResultCode). IsOutcome k a outcome) (sym coded) is, ap line_of spelt)) (some_causes why some)
-            (no_causes why none)
+        answer_seen outcome is spelt some none = search (arith, nat_tests, seen, some_causes, no_causes)
 
   -- a bad line
   pub bad_seen : (place : ℕ) (text : List ℕ) (fault : LineFault) → Notes written place text (Some (cause.BadLine fault)) old new on →
       place ≡ min (old.line + 1) (2 ^ 64 - 1) →
       t.reply ≡ BadLine → IsFaultOf t.line fault → text ≡ spaced (place_text place ∷ cause_text (cause.BadLine fault) ∷ []) → Sees written g t old new on
-  bad_seen place text fault noted next reply is spelt =
-      seen place text (Some (cause.BadLine fault)) noted next
-      (subst (λ (r : Reply). IsTrace g place t r (line_of text)) (sym reply) (fault, is, ap line_of spelt)) (reply, is) tt
+  bad_seen place text fault noted next reply is spelt = search (arith, nat_tests, seen)

@@ -1,8 +1,8 @@
 -- Turns of a kernel, one after another.
-use Rattle.runs.proofs.Names.{ℕ, suc, take, drop, length, Bool, true, false, List, [], Option, None, Some, Ok, Err, refl, sym, ap, subst, ⊎_elim, inl, inr}
-use Rattle.runs.proofs.Names.{append_assoc, append-nil, arith, slice_index_or, IsTrue, Result, Appends-trans, Consumes-trans, Consumes, IsAtEnd, Answer}
-use Rattle.runs.proofs.Names.{ReadsPiece, Writes, Written, Wrote, WroteFront, wrote_trans, Command, Geometry, Line, ResultCode, Machine, Running, Saved, Up}
-use Rattle.runs.proofs.Names.{Down, candidates, Reply, Nothing, BadLine, Reported, Turn, Replies, lines_of, reply_text, output_of, second, Says, bad_line}
+use Rattle.runs.proofs.Names.{nat_tests, ℕ, suc, take, drop, length, Bool, true, false, List, [], Option, None, Some, Ok, Err, refl, sym, ap, subst, ⊎_elim}
+use Rattle.runs.proofs.Names.{inl, inr, append_assoc, append-nil, arith, slice_index_or, IsTrue, Result, Appends-trans, Consumes-trans, Consumes, IsAtEnd}
+use Rattle.runs.proofs.Names.{Answer, ReadsPiece, Writes, Written, Wrote, WroteFront, wrote_trans, Command, Geometry, Line, ResultCode, Machine, Running, Saved}
+use Rattle.runs.proofs.Names.{Up, Down, candidates, Reply, Nothing, BadLine, Reported, Turn, Replies, lines_of, reply_text, output_of, second, Says, bad_line}
 use Rattle.runs.proofs.Names.{Image, Disk, LeavesOnly, leaves_weaker, started, Parts, View, Power, DenotesOne, saved_of, IsCaused, Serves, Stands, disk_of}
 use Rattle.runs.proofs.Names.{RunFault, LineBuffer, Holds, IsOneLine, AreFirst, AreLines, AreSeen, AreTurnsOf, BeginsWith, Does, IsCutShort, IsLeftIn, IsRunOf}
 use Rattle.runs.proofs.Names.{IsReportedBy, IsTurnOf, EndsBy, RunsOver, RunsSeen, lines_in, tells_fault, reported_code, Ended, IsWritten, SoFar, Stopped}
@@ -29,21 +29,11 @@ split_one g size c (s ∷ ss) ts one = ⊎_elim (λ here. inl (inl here))
 
 -- an answer reports a failure exactly where there was one
 answer_reported : (old new : Disk) (a : Answer) → IsCaused old new a → IsReportedBy old new (Reported a)
-answer_reported old new a caused = record {
-  later = caused.later;
-  exact = (λ reported. caused.exact.0 (is_fault a reported), λ rose. subst (λ (b : Answer). tells_fault (Reported b) ≡ true) (sym (caused.exact.1 rose)) refl);
-}
-  where
-    is_fault : (b : Answer) → tells_fault (Reported b) ≡ true → b ≡ answer.Refused refusal.Fault
-    is_fault (answer.Refused refusal.Fault) reported = refl
-    is_fault _ reported = cc
+answer_reported old new a caused = search (arith, nat_tests)
 
 -- where no call is made none fails
 none_reported : (disk : Disk) (reply : Reply) → tells_fault reply ≡ false → IsReportedBy disk disk reply
-none_reported disk reply fine = record {
-  later = omega arith;
-  exact = (λ reported. let never : true ≡ false = sym reported ∙ fine in cc, λ rose. absurd (omega (arith, rose)));
-}
+none_reported disk reply fine = search (arith, nat_tests)
 
 -- ---- what an observer saw
 
@@ -75,15 +65,7 @@ module _ {D S O : Type 0} (disk : D → Disk) (view : S → View D) (parts : S �
   -- where no call is made a crash leaves a candidate
   here : (g : Geometry) (m : Machine) (p : Power D S) → Stands disk view parts g p m →
       LeavesOnly (disk_of disk view parts p) (disk_of disk view parts p) (DenotesOne g (disk_of disk view parts p).sectors (candidates m))
-  here g (Up r) (power.Up l) stands =
-      subst (λ (x : Running). LeavesOnly (disk (view l.store).beneath) (disk (view l.store).beneath)
-      (DenotesOne g (disk (view l.store).beneath).sectors (x.saved ∷ []))) (sym stands.1)
-      (started (disk (view l.store).beneath) (DenotesOne g (disk (view l.store).beneath).sectors (saved_of (view l.store).snapshots.saved ∷ []))
-      (only_now (view l.store).beneath) stands.0.leaves)
-  here g (Down saved) (power.Down d) stands = started (disk d) (DenotesOne g (disk d).sectors saved) (only_now d) stands
-  here g (Down saved) (power.Up l) stands = absurd stands
-  here g (Up r) (power.Down d) stands = absurd stands
-  here g m power.Between stands = absurd stands
+  here g m p stands = search (arith, nat_tests, started)
 
   -- a line that is no command
   no_command : (g : Geometry) (m : Machine) (text : List ℕ) (says : Line) (p : Power D S) (before seen : O) (written wrote : Written)
@@ -92,37 +74,18 @@ module _ {D S O : Type 0} (disk : D → Disk) (view : S → View D) (parts : S �
       sees g (record { line = text; before = m; reply = reply; after = m }) before seen on →
       IsWritten written wrote result on (reply_text reply) → TakesTurn disk view parts sees g m text says p p before seen written wrote result
   no_command g m text says p before seen written wrote result reply on stands replies fine is_seen writes =
-      let d = disk_of disk view parts p in
-      let size = d.sectors in
-      record {
-        reply = reply;
-        after = m;
-        replies = replies;
-        stands = stands;
-        size = refl;
-        any_moment = leaves_weaker {old = d} {new = d} {P = DenotesOne g size (candidates m)}
-            (λ c. DenotesOne g size (candidates m) c ⊎ ((command : Command) × (says ≡ line.Command command) × DenotesOne g size (second m command) c))
-            (λ c one. inl one) (here g m p stands);
-        faults = none_reported d reply fine;
-        on = on;
-        is_seen = is_seen;
-        writes = writes;
-      }
+      search (arith, nat_tests, leaves_weaker, second, here, none_reported)
 
   pub skipped : (g : Geometry) (m : Machine) (text : List ℕ) (says : Line) (p : Power D S) (before seen : O) (on : Bool) (written : Written) →
       says ≡ line.Skip → Stands disk view parts g p m →
       ((t : Turn) → t.reply ≡ Nothing → sees g t before seen on) → TakesTurn disk view parts sees g m text says p p before seen written written (Ok on)
-  skipped g m text says p before seen on written is stands saw =
-      subst (λ (x : Line). TakesTurn disk view parts sees g m text x p p before seen written written (Ok on)) (sym is)
-      (no_command g m text line.Skip p before seen written written (Ok on) Nothing on stands (refl, refl) refl (saw _ refl) (refl, wrote_none written))
+  skipped g m text says p before seen on written is stands saw = search (arith, nat_tests, no_command, wrote_none)
 
   pub is_bad : (g : Geometry) (m : Machine) (text : List ℕ) (says : Line) (p : Power D S) (before seen : O) (on : Bool) (written wrote : Written)
       (result : Result Bool RunFault) →
       says ≡ line.Bad → Stands disk view parts g p m → ((t : Turn) → t.line ≡ text → t.reply ≡ BadLine → sees g t before seen on) →
       IsWritten written wrote result on bad_line → TakesTurn disk view parts sees g m text says p p before seen written wrote result
-  is_bad g m text says p before seen on written wrote result is stands saw writes =
-      subst (λ (x : Line). TakesTurn disk view parts sees g m text x p p before seen written wrote result) (sym is)
-      (no_command g m text line.Bad p before seen written wrote result BadLine on stands (refl, refl) refl (saw _ refl refl) writes)
+  is_bad g m text says p before seen on written wrote result is stands saw writes = search (arith, nat_tests, no_command)
 
   pub answered : (g : Geometry) (m : Machine) (text : List ℕ) (says : Line) (c : Command) (a : Answer) (code : Option ResultCode) (p q : Power D S)
       (before seen : O) (on : Bool)
@@ -157,15 +120,7 @@ module _ {D S O : Type 0} (disk : D → Disk) (view : S → View D) (parts : S �
   pub begun : (g : Geometry) (m : Machine) (p : Power D S) (seen : O) (line : LineBuffer) (output : Written) → Holds line [] →
       Stands disk view parts g p m →
       SoFar disk view parts sees g m p p seen seen [] line output output
-  begun g m p seen line output empty stands = record {
-    turns = [];
-    rest = [];
-    run = record { after = m; run = refl; stands = stands; each = refl };
-    are_seen = (refl, refl);
-    lines = no_lines;
-    held = empty;
-    written = wrote_none output;
-  }
+  begun g m p seen line output empty stands = search (arith, nat_tests, no_lines, wrote_none)
 
   -- a turn more
   turns_more : (g : Geometry) (old mid new : Power D S) (ts : List Turn) (t : Turn) → AreTurnsOf disk view parts g old mid ts →
@@ -206,26 +161,10 @@ module _ {D S O : Type 0} (disk : D → Disk) (view : S → View D) (parts : S �
     turns_on = so_far.turns ++ turn_of ∷ []
 
     turn_taken : IsTurnOf disk view parts g mid new turn_of
-    turn_taken =
-        let size = (disk_of disk view parts mid).sectors in
-        record {
-          stands = turn.stands;
-          size = turn.size;
-          any_moment = leaves_weaker {old = disk_of disk view parts mid} {new = disk_of disk view parts new}
-              {P = λ c. DenotesOne g size (candidates so_far.run.after) c ⊎
-              ((command : Command) × (taken.0 ≡ line.Command command) × DenotesOne g size (second so_far.run.after command) c)}
-              (IsLeftIn g size turn_of)
-              (λ c has. ⊎_elim (λ first. inl first) (λ besides. inr (besides.0, subst (Says rest) besides.1 taken.1, besides.2)) has) turn.any_moment;
-          faults = turn.faults;
-        }
+    turn_taken = search (arith, nat_tests, leaves_weaker, second)
 
     more_run : IsRunOf disk view parts g m old new turns_on
-    more_run = record {
-      after = turn.after;
-      run = run_more g m so_far.turns so_far.run.after turn_of so_far.run.run refl (taken.0, taken.1, turn.replies);
-      stands = turn.stands;
-      each = turns_more g old mid new so_far.turns turn_of so_far.run.each turn_taken;
-    }
+    more_run = search (arith, nat_tests, run_more, turns_more, turn_taken)
 
     all_seen : AreSeen (sees g) first seen turns_on turn.on
     all_seen = seen_more (sees g) first before seen so_far.turns turn_of turn.on so_far.are_seen turn.is_seen
@@ -234,32 +173,17 @@ module _ {D S O : Type 0} (disk : D → Disk) (view : S → View D) (parts : S �
     seen_on on = subst (AreSeen (sees g) first seen turns_on) (sym on) all_seen
 
     all_written : Wrote written wrote (reply_text turn.reply) → Wrote output wrote (output_of turns_on)
-    all_written all = subst (Wrote output wrote) (sym (output_more so_far.turns turn_of))
-        (wrote_trans output written wrote (output_of so_far.turns) (reply_text turn.reply) so_far.written all)
+    all_written all = search (arith, nat_tests, output_more, wrote_trans)
 
     cut_short : WroteFront written wrote (reply_text turn.reply) → IsCutShort turns_on output wrote
-    cut_short cut = record {
-      front = so_far.turns;
-      last = turn_of;
-      turns_are = refl;
-      reported = cut.taken.0;
-      cut = cut.taken.1;
-      answer = cut.taken.2;
-      written = Appends-trans output.contents written.contents wrote.contents (output_of so_far.turns) cut.taken.0 so_far.written.taken cut.taken.3;
-      failed = subst (λ (n : ℕ). n < wrote.failures) so_far.written.none_failed cut.failed;
-    }
+    cut_short cut = search (arith, nat_tests, Appends-trans)
 
     stops_by : (r : Result Bool RunFault) (e : RunFault) → Ending r e → IsWritten written wrote r turn.on (reply_text turn.reply) →
         StopsBy disk view parts sees e turns_on turn.on output wrote
-    stops_by (Ok true) e ending writes = absurd ending
-    stops_by (Ok false) e ending writes = subst (λ (f : RunFault). StopsBy disk view parts sees f turns_on turn.on output wrote) (sym ending)
-        (sym writes.0, all_written writes.1)
-    stops_by (Err f) e ending writes = subst (λ (x : RunFault). StopsBy disk view parts sees x turns_on turn.on output wrote) (sym (ending ∙ writes.0))
-        (cut_short writes.1)
+    stops_by r e ending writes = search (arith, nat_tests, all_written, cut_short)
 
     whole_lines : AreLines (text ++ 10 ∷ []) (lines_in turns_on) []
-    whole_lines = subst (λ (ls : List (List ℕ)). AreLines (text ++ 10 ∷ []) ls []) (sym (lines_more so_far.turns turn_of))
-        (line_more text (lines_in so_far.turns) rest lines)
+    whole_lines = search (arith, nat_tests, lines_more, line_more)
 
     -- by its newline
     pub goes_on : true ≡ turn.on → Wrote written wrote (reply_text turn.reply) → SoFar disk view parts sees g m old new first seen (text ++ 10 ∷ []) next
@@ -268,14 +192,7 @@ module _ {D S O : Type 0} (disk : D → Disk) (view : S → View D) (parts : S �
 
     pub stopped : (more : List ℕ) (e : RunFault) → Ending result e → Stopped disk view parts sees (BeginsWith ((text ++ 10 ∷ []) ++ more)) e g m old new first
         seen output wrote
-    stopped more e ending = record {
-      turns = turns_on;
-      run = more_run;
-      on = turn.on;
-      are_seen = all_seen;
-      lines = begins_with (text ++ 10 ∷ []) (lines_in turns_on) more whole_lines;
-      stops = stops_by result e ending turn.writes;
-    }
+    stopped more e ending = search (arith, nat_tests, more_run, all_seen, begins_with, whole_lines, stops_by)
 
     -- by the end of the input
     last_lines : (rest ≡ [] → ⊥) → lines_of text ≡ lines_in turns_on
@@ -287,20 +204,13 @@ module _ {D S O : Type 0} (disk : D → Disk) (view : S → View D) (parts : S �
 
     pub stopped_at_rest : (rest ≡ [] → ⊥) → (e : RunFault) → Ending result e → Stopped disk view parts sees (λ lines. lines_of text ≡ lines) e g m old new first
         seen output wrote
-    stopped_at_rest some e ending =
-        record { turns = turns_on; run = more_run; on = turn.on; are_seen = all_seen; lines = last_lines some; stops = stops_by result e ending turn.writes }
+    stopped_at_rest some e ending = search (arith, nat_tests, more_run, all_seen, last_lines, stops_by)
 
   -- nothing is left of the input
   pub ended : (g : Geometry) (m : Machine) (old new : Power D S) (first seen : O) (text : List ℕ) (line : LineBuffer) (output written : Written)
       (so_far : SoFar disk view parts sees g m old new first seen text line output written) → so_far.rest ≡ [] →
       Ended disk view parts sees g m old new first seen text output written
-  ended g m old new first seen text line output written so_far none = record {
-    turns = so_far.turns;
-    run = so_far.run;
-    are_seen = so_far.are_seen;
-    lines = lines_whole text (lines_in so_far.turns) (subst (AreLines text (lines_in so_far.turns)) none so_far.lines);
-    written = so_far.written;
-  }
+  ended g m old new first seen text line output written so_far none = search (arith, nat_tests, lines_whole)
 
   -- ---- a piece
 
@@ -312,8 +222,7 @@ module _ {D S O : Type 0} (disk : D → Disk) (view : S → View D) (parts : S �
         line output written
 
     pub none_read : Goes [] first saw begun_line had
-    none_read g m start begins text output so_far = subst (λ (t : List ℕ). SoFar disk view parts sees g m start first begins saw t begun_line output had)
-        (sym (append-nil text)) so_far
+    none_read g m start begins text output so_far = search (arith, nat_tests, append-nil)
 
     pub goes_longer : (read : List ℕ) (k : Power D S) (seen : O) (line longer_line : LineBuffer) (written : Written) (bytes : List ℕ) →
         Goes read k seen line written → IsOneLine bytes →
@@ -333,9 +242,7 @@ module _ {D S O : Type 0} (disk : D → Disk) (view : S → View D) (parts : S �
         (turn : (g : Geometry) (m : Machine) (held : List ℕ) → Stands disk view parts g k m → Holds line held →
         TakesLine disk view parts sees g m (held ++ bytes) k new before seen written wrote result) where
       text_is : (text : List ℕ) → ((text ++ read) ++ bytes) ++ 10 ∷ [] ≡ text ++ ((read ++ bytes) ++ 10 ∷ [])
-      text_is text =
-          append_assoc (text ++ read) bytes (10 ∷ []) ∙ append_assoc text read (bytes ++ 10 ∷ []) ∙
-          ap (λ (t : List ℕ). text ++ t) (sym (append_assoc read bytes (10 ∷ [])))
+      text_is text = search (arith, nat_tests, append_assoc)
 
       -- the line with its newline, in a run so far
       module _ (g : Geometry) (m : Machine) (start : Power D S) (begins : O) (text : List ℕ) (output : Written)
@@ -406,8 +313,7 @@ module _ {D S O : Type 0} (disk : D → Disk) (view : S → View D) (parts : S �
       SoFar disk view parts sees g m old new first seen text line output output_left
 
   pub no_text : (old : Option (List ℕ)) → Consumes old old []
-  no_text None = tt
-  no_text (Some xs) = refl
+  no_text old = search (arith, nat_tests)
 
   -- a text was read, and the run is that of its lines
   abbrev pub HasRead : Power D S → Power D S → O → O → LineBuffer → Option (List ℕ) → Option (List ℕ) → Written → Written → Type 0
@@ -418,15 +324,7 @@ module _ {D S O : Type 0} (disk : D → Disk) (view : S → View D) (parts : S �
   kept_so_far : (g : Geometry) (m : Machine) (old new : Power D S) (first seen : O) (text : List ℕ) (line : LineBuffer) (output written kept : Written)
       → Wrote written kept [] →
       SoFar disk view parts sees g m old new first seen text line output written → SoFar disk view parts sees g m old new first seen text line output kept
-  kept_so_far g m old new first seen text line output written kept keeps so_far = record {
-    turns = so_far.turns;
-    rest = so_far.rest;
-    run = so_far.run;
-    are_seen = so_far.are_seen;
-    lines = so_far.lines;
-    held = so_far.held;
-    written = wrote_kept output written kept (output_of so_far.turns) so_far.written keeps;
-  }
+  kept_so_far g m old new first seen text line output written kept keeps so_far = search (arith, nat_tests, wrote_kept)
 
   pub nothing_read : (k : Power D S) (seen : O) (line : LineBuffer) (input : Option (List ℕ)) (output : Written) → Holds line [] →
       HasRead k k seen seen line input input output output
@@ -450,11 +348,7 @@ module _ {D S O : Type 0} (disk : D → Disk) (view : S → View D) (parts : S �
     -- the reader failed
     pub none_was_read : (piece : List ℕ) (e : RunFault) → ReadsPiece read left piece (Err e) →
         RunsSeen disk view parts sees old mid first before input left output written (Err e)
-    none_was_read piece e failed = subst (λ (f : RunFault). RunsSeen disk view parts sees old mid first before input left output written (Err f)) (sym failed.0)
-        (λ g m stands.
-        let s = so_far.2 g m stands in
-        let consumed = subst (Consumes input left) (append-nil so_far.0) (Consumes-trans input read left so_far.0 [] so_far.1 failed.1) in
-        (s.turns, s.run, (so_far.0, s.rest, consumed, s.lines, s.written), true, s.are_seen, refl))
+    none_was_read piece e failed = search (arith, nat_tests, append-nil, Consumes-trans)
 
     module _ (bytes : List ℕ) (new : Power D S) (seen : O) (wrote : Written) (more : Consumes read left bytes) where
       pub piece_on : (next : LineBuffer) → ((g : Geometry) (m : Machine) (start : Power D S) (begins : O) (text : List ℕ) (out : Written) →
@@ -506,9 +400,7 @@ module _ {D S O : Type 0} (disk : D → Disk) (view : S → View D) (parts : S �
           SoFar disk view parts sees g m start mid begins before text line out written → Ended disk view parts sees g m start new begins seen text out wrote) →
           (result : Result (Unit {0}) RunFault) → Writes wrote passed result [] → RunsSeen disk view parts sees old new first seen input left output
           passed result
-      end_passed_on passed ends (Ok a) kept g m stands =
-          let e = ends g m old first so_far.0 output (so_far.2 g m stands) in
-          (e.turns, e.run, (so_far.0, all_read, end, e.lines, wrote_kept output wrote passed (output_of e.turns) e.written kept), true, e.are_seen, refl)
+      end_passed_on passed ends (Ok a) kept g m stands = search (arith, nat_tests, all_read, wrote_kept)
       end_passed_on passed ends (Err d) failed g m stands =
           let e = ends g m old first so_far.0 output (so_far.2 g m stands) in
           let cut = wrote_and_failed output wrote passed (output_of e.turns) e.written failed.1 in (

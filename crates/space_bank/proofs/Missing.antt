@@ -24,15 +24,8 @@ module _ (os : List Object) (base : ℕ) (marks : List Bool) (same : (n : ℕ) �
   next_by : (k from n : ℕ) → n ≡ from + k → IsNextMarked marks from n → free_from from ≡ (base + n) ∷ free_from (n + 1)
   next_by zero from n is next = grind (arith, nat_tests, free_one)
   next_by (suc k) from n is next =
-      let inside : from < length marks = omega (arith, next.inside) in
-      free_one from inside
-      ∙ ap (λ (b : Bool). cond b ((base + from) ∷ free_from (from + 1)) (free_from (from + 1))) (next.least from (omega arith) (omega arith))
-      ∙ next_by k (from + 1) n (omega arith) (record {
-        past = omega arith;
-        inside = next.inside;
-        marked = next.marked;
-        least = λ m late early. next.least m (omega arith) early;
-      })
+      let next_is : IsNextMarked marks (from + 1) n = search (arith, nat_tests, next.least) in
+      search (arith, nat_tests, free_one, next_by k (from + 1) n (omega arith) next_is)
 
   -- the least number that is free from a mark on
   pub next_free : (from n : ℕ) → IsNextMarked marks from n → free_from from ≡ (base + n) ∷ free_from (n + 1)
@@ -40,10 +33,7 @@ module _ (os : List Object) (base : ℕ) (marks : List Bool) (same : (n : ℕ) �
 
   none_by : (k from : ℕ) → from + k ≡ length marks → HasNoneMarked marks from → free_from from ≡ []
   none_by zero from is none = grind (arith, nat_tests)
-  none_by (suc k) from is none =
-      let inside : from < length marks = omega arith in
-      free_one from inside ∙ ap (λ (b : Bool). cond b ((base + from) ∷ free_from (from + 1)) (free_from (from + 1))) (none from (omega arith))
-      ∙ none_by k (from + 1) (omega arith) (λ m late. none m (omega arith))
+  none_by (suc k) from is none = search (arith, nat_tests, free_one, none_by k (from + 1) (omega arith) (λ m late. none m (omega arith)))
 
   pub none_free : (from : ℕ) → HasNoneMarked marks from → free_from from ≡ []
   none_free from none = ⊎_elim (λ (past : length marks < from). let k : length marks - from ≡ 0 = omega arith in rw k refl)
@@ -142,10 +132,7 @@ cond_append b x ys zs = grind (arith, nat_tests)
 
 filter_more : (p : ℕ → Bool) (a n m : ℕ) → a + n ≡ m → filter p (range_with_len a (n + 1)) ≡ filter p (range_with_len a n) ++ cond (p m) (m ∷ []) []
 filter_more p a zero m is = grind (arith, nat_tests)
-filter_more p a (suc n) m is =
-    let more : suc n + 1 ≡ suc (n + 1) = omega arith in
-    ap (λ (k : ℕ). filter p (range_with_len a k)) more ∙ ap (λ (xs : List ℕ). cond (p a) (a ∷ xs) xs) (filter_more p (a + 1) n m (omega arith))
-    ∙ cond_append (p a) a (filter p (range_with_len (a + 1) n)) (cond (p m) (m ∷ []) [])
+filter_more p a (suc n) m is = search (arith, nat_tests, cond_append, filter_more p (a + 1) n m (omega arith))
 
 -- the list so far, before the next number
 pub listed_more : (p : ℕ → Bool) (before now new : List ℕ) (n : ℕ) → now ≡ before ++ filter p (range_with_len 0 n) → p n ≡ true →

@@ -62,9 +62,7 @@ member_at ns i inside = list_any_at (nat_eq (slice_index ns i)) ns i 0 inside (e
 pub once_of_differ : (ns : List ℕ) → AllDiffer ns → IsOnce ns
 once_of_differ [] differ i inside = absurd (omega arith)
 once_of_differ (n ∷ ns) differ zero inside = refl
-once_of_differ (n ∷ ns) differ (suc i) inside =
-    member_tail (slice_index ns i) n (take i ns) (λ e. false≢true (sym differ.0 ∙ (ap (λ m. is_member ns m) (sym e) ∙ member_at ns i (omega arith))))
-    ∙ once_of_differ ns differ.1 i (omega arith)
+once_of_differ (n ∷ ns) differ (suc i) inside = search (arith, nat_tests, member_tail, member_at, once_of_differ ns differ.1 i (omega arith))
 
 -- contents after a rescind
 

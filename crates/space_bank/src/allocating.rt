@@ -85,6 +85,7 @@ impl Banks {
     }
 
     // Makes a free number a new object, and marks it as taken. What banks account for stays.
+    #[tactic(auto, unfolding(model::specs::Banking::with_new))]
     fn make<F: PresentFrames>(&mut self, store: &mut F, number: u64, fresh: Fresh, bank: u64)
         requires nodes { length self.old.limits ≡ length self.old.free_nodes }
         requires known { number < length self.old.free_nodes + length self.old.free_pages }

@@ -84,6 +84,7 @@ impl Banks {
     }
 
     // Whether `count` more objects of a bank pass the limit of no bank in its chain.
+    #[tactic(auto, using(crate::proofs::Plans::quota_is, crate::proofs::Plans::chain_within_limits))]
     pub(crate) fn has_quota<F: Frames>(&self, store: &F, bank: u64, count: u64) -> bool
         requires { MayServe (F.parts store.now) self.now bank }
         ensures { result ≡ is_room (objects_in (F.parts store.now)) bank count }

@@ -80,6 +80,7 @@ pub fn is_named<F: Frames>(store: &F, notes: &[Option<Noted>], held: Cap) -> boo
 }
 
 // The same of each of some capabilities.
+#[tactic(auto, using(crate::proofs::Named::named_more))]
 fn are_all_named<F: Frames>(store: &F, notes: &[Option<Noted>], held: &[Cap]) -> bool
     requires { AreNoted (frames_of (F.parts store.now)) notes.now }
     ensures { IsTrue result ↔ All (IsNamed (frames_of (F.parts store.now))) held.now }
@@ -108,6 +109,7 @@ fn holds_named<F: Frames>(store: &F, notes: &[Option<Noted>], number: u64) -> bo
 }
 
 // Whether an object may hold capabilities, by its role.
+#[tactic(auto, using(crate::proofs::Tables::header_read, crate::proofs::Named::role_holds_none))]
 fn may_hold<F: Frames>(store: &F, number: u64) -> bool
     requires { HaveTheirRoles (frames_of (F.parts store.now)) }
     ensures { result ≡ false → caps_in (frame_at (frames_of (F.parts store.now)) number).content ≡ [] }

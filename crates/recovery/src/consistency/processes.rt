@@ -59,6 +59,7 @@ fn read_note<F: Frames>(store: &mut F, number: u64) -> Result<Option<Noted>, Ref
 }
 
 /// Notes of all objects by number, nothing of what is no root. Each root is fetched, one at a time.
+#[tactic(auto, using(capability::proofs::FrameLists::length_in, crate::proofs::Notes::noted_whole))]
 pub fn read_notes<F: Frames>(alloc: Global, store: &mut F) -> Result<Vec<Option<Noted>>, Refusal>
     requires { AreKeepable (F.parts store.old).geometry u64.MAX (frames_of (F.parts store.old)) }
     ensures notes { IfOk result (λ notes.
@@ -91,6 +92,7 @@ pub fn is_annex_for<F: Frames>(store: &F, root: u64, annex: u64) -> bool
 }
 
 // Takes the annex of a root, where it is one for it and no other root took it.
+#[tactic(auto, using(crate::proofs::Tables::annex_known))]
 fn take_annex<F: Frames>(store: &F, taken: &mut [bool], root: u64, annex: u64) -> bool
     requires { length taken.old ≡ length (F.parts store.now).headers }
     ensures yes { IsTrue result → IsTaking (frames_of (F.parts store.now)) root annex
@@ -128,6 +130,7 @@ fn take_annexes<F: Frames>(store: &F, notes: &[Option<Noted>], taken: &mut [bool
 }
 
 // Whether each annex is taken.
+#[tactic(auto, using(crate::proofs::Tables::annex_known))]
 fn are_all_taken<F: Frames>(store: &F, taken: &[bool]) -> bool
     requires { length taken.now ≡ length (F.parts store.now).headers }
     ensures { IsTrue result ↔ ((a : ℕ) → role_at (frames_of (F.parts store.now)) a ≡ Role.Annex
@@ -142,6 +145,7 @@ fn are_all_taken<F: Frames>(store: &F, taken: &[bool]) -> bool
 }
 
 // Whether each process is a root and an annex. `taken` marks no annex at first.
+#[tactic(auto, using(crate::proofs::Taking::whole_taken, crate::proofs::Taking::taken_whole))]
 fn are_matched<F: Frames>(store: &F, notes: &[Option<Noted>], taken: &mut [bool]) -> bool
     requires size { length taken.old ≡ length (F.parts store.now).headers }
     requires none { (a : ℕ) → is_taken taken.old a ≡ false }

@@ -7,6 +7,7 @@ use capability::Frames;
 use model::Role;
 
 /// Whether an object has a role. What is no number is free.
+#[tactic(auto, using(crate::proofs::Tables::header_read))]
 pub fn has_role<F: Frames>(store: &F, number: u64, role: Role) -> bool
     ensures { IsTrue result ↔ (role_at (frames_of (F.parts store.now)) number ≡ role) }
 {
@@ -14,6 +15,7 @@ pub fn has_role<F: Frames>(store: &F, number: u64, role: Role) -> bool
 }
 
 // The owner of an object.
+#[tactic(auto, using(crate::proofs::Tables::header_read))]
 pub(crate) fn owner<F: Frames>(store: &F, number: u64) -> u64
     ensures { result ≡ owner_of (frames_of (F.parts store.now)) number }
 {

@@ -3,9 +3,7 @@ use Rattle.address_space.proofs.Known.{sound_keepable, sound_onward, word_stays_
 use Rattle.address_space.proofs.reference.put.Goals as goal
 
 pub prepare-requires-clause-keepable : goal.prepare-requires-clause-keepable
-prepare-requires-clause-keepable g c =
-    let p = g.F.Frames.parts c.args.frames.now in
-    sound_keepable p.geometry c.requires.sound.0 (frames_of p) c.requires.sound.1
+prepare-requires-clause-keepable g c = search (rules, sound_keepable)
 
 pub returns-clause-writes : goal.returns-clause-writes
 returns-clause-writes g c =

@@ -1,16 +1,11 @@
-use Rattle.address_space.proofs.Names.{refl, sym, subst, arith, List, Object, MayBeHeld, Space, objects_in}
+use Rattle.address_space.proofs.Names.{nat_tests, sym, subst, arith, List, Object, MayBeHeld, Space, objects_in}
 use Rattle.std.proofs.Common.{◌∙◌}
 use Rattle.address_space.proofs.Paths.{goes_on, union_access, at_early_page, at_hole, at_other, at_other_tree, at_page}
 use Rattle.address_space.proofs.Known.{fetches_on, read_there, same_objects, ok_no_err, still_held, still_sound, unrisen}
 use Rattle.address_space.proofs.walking.descend.Goals as goal
 
 pub loop-object-init : goal.loop-object-init
-loop-object-init g c = record {
-  snapshots = record { headers = refl; contents = refl; touched = refl; geometry = refl; continues = g.met.F.Frames.continues_same c.args.frames.now };
-  failures = refl;
-  held = c.requires.held;
-  way = refl;
-}
+loop-object-init g c = grind (arith, nat_tests)
 
 pub next_slot-requires-clause-sound : goal.next_slot-requires-clause-sound
 next_slot-requires-clause-sound g c = still_sound c.loop-object.invariant c.requires.sound
@@ -19,11 +14,7 @@ pub next_slot-requires-clause-held : goal.next_slot-requires-clause-held
 next_slot-requires-clause-held g c = still_held c.loop-object.invariant
 
 pub returns-in-Void-clause-reached : goal.returns-in-Void-clause-reached
-returns-in-Void-clause-reached g c =
-    let os = objects_in (g.F.Frames.parts c.args.frames.now) in
-    let at = c.loop-object.at in
-    sym (c.loop-object.invariant.way ∙ at_hole os at.node at.height c.args.index at.access c.in_ok-next_slot.field-0 c.loop-object.invariant.held.0.0
-    (read_there c.loop-object.invariant _ _ c.in_ok-next_slot.ensures.slot) c.in-Void.is)
+returns-in-Void-clause-reached g c = grind (arith, nat_tests, at_hole, read_there)
 
 pub returns-then-at-ne1-clause-reached : goal.returns-then-at-ne1-clause-reached
 returns-then-at-ne1-clause-reached g c =
@@ -34,12 +25,7 @@ returns-then-at-ne1-clause-reached g c =
     (λ e. omega (arith, e, c.if-at-ne1.true)))
 
 pub returns-in-Page-clause-reached : goal.returns-in-Page-clause-reached
-returns-in-Page-clause-reached g c =
-    let os = objects_in (g.F.Frames.parts c.args.frames.now) in
-    let at = c.loop-object.at in
-    rw (c.at.ensures, c.union.ensures) (sym (c.loop-object.invariant.way ∙ at_page os at.node at.height c.args.index at.access
-    c.in_ok-next_slot.field-0 c.loop-object.invariant.held.0.0 (read_there c.loop-object.invariant _ _ c.in_ok-next_slot.ensures.slot)
-    c.in-Page.object c.in-Page.access c.in-Page.is (omega (arith, c.if-at-ne1.false))))
+returns-in-Page-clause-reached g c = grind (arith, nat_tests, at_page, read_there)
 
 pub returns-then-at-height-clause-reached : goal.returns-then-at-height-clause-reached
 returns-then-at-height-clause-reached g c =
@@ -68,8 +54,4 @@ loop-object-preserved g c =
     })
 
 pub returns-in_default-clause-reached : goal.returns-in_default-clause-reached
-returns-in_default-clause-reached g c =
-    let os = objects_in (g.F.Frames.parts c.args.frames.now) in
-    let at = c.loop-object.at in
-    sym (c.loop-object.invariant.way ∙ at_other os at.node at.height c.args.index at.access c.in_ok-next_slot.field-0 c.loop-object.invariant.held.0.0
-    (read_there c.loop-object.invariant _ _ c.in_ok-next_slot.ensures.slot) c.in_default.not-Void c.in_default.not-Page c.in_default.not-Space)
+returns-in_default-clause-reached g c = grind (arith, nat_tests, at_other, read_there)

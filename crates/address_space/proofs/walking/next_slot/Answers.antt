@@ -4,8 +4,7 @@ use Rattle.address_space.proofs.Known.{space_known}
 use Rattle.address_space.proofs.walking.next_slot.Goals as goal
 
 pub look-requires-clause-known : goal.look-requires-clause-known
-look-requires-clause-known g c =
-    space_known (g.F.Frames.parts c.args.frames.now) c.args.tree.node c.args.tree.height c.args.tree.access c.requires.held
+look-requires-clause-known g c = search (rules, space_known)
 
 pub returns-clause-held : goal.returns-clause-held
 returns-clause-held g c =

@@ -1,5 +1,4 @@
 use Rattle.std.proofs.Common.{rules}
-use Rattle.model.specs.declared.object.Content.TheVariants as content
 use Rattle.capability.proofs.FrameLists.{content_there, no_process_annex}
 use Rattle.capability.proofs.References.{not_root}
 use Rattle.capability.proofs.objects.annex.Goals as goal

@@ -1,5 +1,4 @@
 use Rattle.std.proofs.Common.{rules}
-use Rattle.model.specs.declared.object.Content.TheVariants as content
 use Rattle.capability.proofs.FrameLists.{word_there, no_word_there}
 use Rattle.capability.proofs.References.{not_page}
 use Rattle.capability.proofs.objects.word.Goals as goal

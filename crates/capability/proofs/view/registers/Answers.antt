@@ -1,5 +1,4 @@
 use Rattle.capability.proofs.Names.{rules, IfOk-weaker}
-use Rattle.model.specs.declared.object.Content.TheVariants as content
 use Rattle.capability.proofs.FrameLists.{content_there, no_annex_there}
 use Rattle.capability.proofs.References.{not_annex}
 use Rattle.capability.proofs.view.registers.Goals as goal

@@ -5,8 +5,7 @@ use Rattle.description.proofs.fields.are_distinct_slots.Goals as goal
 pub returns-then-names_slot : goal.returns-then-names_slot
 returns-then-names_slot c = (
   λ never. absurd cc,
-  λ distinct. absurd (index_twice (λ s. s.index) c.args.slots.now c.loop-i.i (record { index = 0; capability = None }) c.loop-i-test.true c.loop-i.invariant
-      (c.names_slot.ensures.0 c.if-names_slot.true) distinct),
+  λ distinct. absurd (index_twice (λ s. s.index) _ _ _ c.loop-i-test.true c.loop-i.invariant (c.names_slot.ensures.0 c.if-names_slot.true) distinct),
 )
 
 pub loop-i-preserved : goal.loop-i-preserved

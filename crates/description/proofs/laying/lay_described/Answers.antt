@@ -42,6 +42,5 @@ returns-clause-keepable c =
     (laid_keepable c.args.description.now c.requires.geometry c.requires.numbers c.requires.fields c.requires.targets all.fits)
 
 pub returns-clause-headers : goal.returns-clause-headers
-returns-clause-headers c =
-    c.in_ok-lay_pages.ensures.headers ∙ c.in_ok-lay_nodes.ensures.headers ∙ c.in_ok-lay_annexes.ensures.headers ∙ c.lay_roots.ensures.headers ∙
-    c.lay_banks.ensures.headers ∙ c.in_ok-world.ensures.count.headers
+returns-clause-headers c = c.in_ok-lay_pages.ensures.headers ∙ c.in_ok-lay_nodes.ensures.headers ∙ c.in_ok-lay_annexes.ensures.headers
+    ∙ c.lay_roots.ensures.headers ∙ c.lay_banks.ensures.headers ∙ c.in_ok-world.ensures.count.headers

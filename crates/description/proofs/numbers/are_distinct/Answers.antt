@@ -21,9 +21,9 @@ loop-number-preserved c =
     let at = c.loop-number.number-index in
     let n = slice_index_or c.args.numbers.now at 0 in
     rw c.set.ensures (
-      length-set c.loop-number.seen n true ∙ c.loop-number.invariant.0,
-      still_new c.args.numbers.now c.loop-number.seen at c.loop-number-test.true (rw c.loop-number.invariant.0 (c.requires at 0 c.loop-number-test.true))
-          (sym c.contains.ensures ∙ c.if-contains.false) c.loop-number.invariant.1,
+      length-set _ _ _ ∙ c.loop-number.invariant.0,
+      still_new c.args.numbers.now c.loop-number.seen at c.loop-number-test.true
+          (rw c.loop-number.invariant.0 (c.requires at 0 c.loop-number-test.true)) (sym c.contains.ensures ∙ c.if-contains.false) c.loop-number.invariant.1,
     )
 
 pub returns : goal.returns

@@ -3,5 +3,4 @@ use Rattle.description.proofs.Parts.{missed}
 use Rattle.description.proofs.object.read_numbers.Goals as goal
 
 pub returns-in_err-check_keys : goal.returns-in_err-check_keys
-returns-in_err-check_keys c = missed _ (HasNumberAndOwner c.args.list.now (table_view c.args.table.now)) _ _ c.from_residual.ensures.1
-    c.in_err-check_keys.ensures (λ _ is. (tt, is.known))
+returns-in_err-check_keys c = missed _ _ _ _ c.from_residual.ensures.1 c.in_err-check_keys.ensures (λ _ is. (tt, is.known))

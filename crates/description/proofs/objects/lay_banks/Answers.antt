@@ -7,8 +7,7 @@ pub loop-bank-init : goal.loop-bank-init
 loop-bank-init c = none_laid OfBank c.args.banks.now c.args.world.now
 
 pub loop-bank-preserved : goal.loop-bank-preserved
-loop-bank-preserved c = more_laid OfBank _ _ _ _ _ _
-    (drop_more c.args.banks.now c.loop-bank.bank-index (record { number = 0; owner = 0; limit = 0 }) c.loop-bank-test.true)
+loop-bank-preserved c = more_laid _ _ _ _ _ _ _ (drop_more _ _ _ c.loop-bank-test.true)
     (let owner : (slice_index_or c.args.banks.now c.loop-bank.bank-index (record { number = 0; owner = 0; limit = 0 })).owner < 2 ^ 64 = search rules in
     (owner, c.bank_of.ensures.fits)) (put_same _ _ _ _ _ _ c.bank_of.ensures.bank c.put.ensures) c.loop-bank.invariant
 

@@ -13,8 +13,7 @@ loop-node-preserved c = more_laid OfNode _ _ _ _ _ _ (split_at _ _ _ c.loop-node
     c.loop-node.invariant
 
 pub put-requires-clause-within : goal.put-requires-clause-within
-put-requires-clause-within c = still_within _ _ _
-    (rw c.node-item.is (c.requires.within c.loop-node.node-index c.node-item.result c.loop-node-test.true)) c.loop-node.invariant.headers
+put-requires-clause-within c = still_within _ _ _ (rw c.node-item.is (c.requires.within _ _ c.loop-node-test.true)) c.loop-node.invariant.headers
 
 pub put-requires-clause-even : goal.put-requires-clause-even
 put-requires-clause-even c = c.loop-node.invariant.contents ∙ c.requires.even ∙ sym c.loop-node.invariant.headers

@@ -9,14 +9,12 @@ loop-page-init c = none_laid OfPage c.args.pages.now c.args.world.now
 
 pub loop-page-preserved : goal.loop-page-preserved
 loop-page-preserved c = more_laid OfPage _ _ _ _ _ _ (split_at _ _ _ c.loop-page-test.true c.page-item.is)
-    (let owner : c.page-item.result.owner < 2 ^ 64 = search rules in
-    (owner, subst (λ xs. All (λ w. w < 2 ^ 64) (words_of xs)) c.deref.ensures.value c.in_ok-words.ensures.fits))
+    (let owner : c.page-item.result.owner < 2 ^ 64 = search rules in (owner, (rw c.deref.ensures.value at c.in_ok-words.ensures.fits)))
     (put_same _ _ _ _ _ _ (ap content.Page c.in_ok-words.ensures.words ∙ ap (λ xs. content.Page (words_of xs)) c.deref.ensures.value) c.put.ensures)
     c.loop-page.invariant
 
 pub put-requires-clause-within : goal.put-requires-clause-within
-put-requires-clause-within c = still_within _ _ _
-    (rw c.page-item.is (c.requires.within c.loop-page.page-index c.page-item.result c.loop-page-test.true)) c.loop-page.invariant.headers
+put-requires-clause-within c = still_within _ _ _ (rw c.page-item.is (c.requires.within _ _ c.loop-page-test.true)) c.loop-page.invariant.headers
 
 pub put-requires-clause-even : goal.put-requires-clause-even
 put-requires-clause-even c = c.loop-page.invariant.contents ∙ c.requires.even ∙ sym c.loop-page.invariant.headers

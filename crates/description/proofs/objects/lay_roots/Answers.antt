@@ -12,8 +12,7 @@ loop-process-preserved c = more_laid OfRoot _ _ _ _ _ _ (split_at _ _ _ c.loop-p
     (put_same _ _ _ _ _ _ c.root_of.ensures.root c.put.ensures) c.loop-process.invariant
 
 pub put-requires-clause-within : goal.put-requires-clause-within
-put-requires-clause-within c = still_within _ _ _
-    (rw c.process-item.is (c.requires.within c.loop-process.process-index c.process-item.result c.loop-process-test.true)) c.loop-process.invariant.headers
+put-requires-clause-within c = still_within _ _ _ (rw c.process-item.is (c.requires.within _ _ c.loop-process-test.true)) c.loop-process.invariant.headers
 
 pub put-requires-clause-even : goal.put-requires-clause-even
 put-requires-clause-even c = c.loop-process.invariant.contents ∙ c.requires.even ∙ sym c.loop-process.invariant.headers

@@ -1,4 +1,4 @@
-use Rattle.image_writer.proofs.Names.{rules, inr, home_place, place_length, shape_of, frames_in, places_within, frames_before}
+use Rattle.image_writer.proofs.Names.{arith, nat_tests, rules, inr, home_place, place_length, shape_of, frames_in, places_within, frames_before}
 use Rattle.std.proofs.Common.{◌≡◌, ◌<◌, ◌∙◌}
 use Rattle.image_writer.proofs.ClosedGates.{closed_on, leaves_closed}
 use Rattle.image_writer.proofs.HomeFrames.{is_there, later, one_more, stays_between}
@@ -6,12 +6,7 @@ use Rattle.image_writer.proofs.homes.write_homes.Goals as goal
 use Rattle.image_writer.proofs.homes.write_homes.Goals.{then-is_first+in_ok-write_home, else-is_first}
 
 pub returns-in_err-write_home-clause-elsewhere : goal.returns-in_err-write_home-clause-elsewhere
-returns-in_err-write_home-clause-elsewhere g c =
-    let below : c.loop-number.number < c.args.count = search rules in
-    let lt = rw c.requires.count at below in
-    stays_between (g.D.Device.disk c.args.device.now).seen (g.D.Device.disk c.loop-number.device).seen (g.D.Device.disk c.write_home.new.device).seen
-    c.args.home.now c.loop-number.number
-    c.requires.plan lt c.write_home.ensures.writes.elsewhere c.loop-number.invariant.1
+returns-in_err-write_home-clause-elsewhere g c = grind (arith, nat_tests, stays_between)
 
 pub loop-number-preserved : goal.loop-number-preserved
 loop-number-preserved g c =
@@ -53,19 +48,7 @@ loop-number-preserved g c =
     ]
 
 pub returns-in_err-write_home-clause-closed : goal.returns-in_err-write_home-clause-closed
-returns-in_err-write_home-clause-closed g c =
-    let below : c.loop-number.number < c.args.count = search rules in
-    let lt = rw c.requires.count at below in
-    leaves_closed (home_place c.args.home.now c.loop-number.number)
-    (place_length c.args.home.now c.loop-number.number) {old = g.D.Device.disk c.loop-number.device} {new = g.D.Device.disk c.write_home.new.device}
-    (inr (places_within c.args.home.now c.loop-number.number c.requires.plan lt).0) c.loop-number.invariant.4 c.write_home.ensures.writes
+returns-in_err-write_home-clause-closed g c = grind (arith, nat_tests, leaves_closed, places_within)
 
 pub returns-in_err-write_home-clause-any_moment : goal.returns-in_err-write_home-clause-any_moment
-returns-in_err-write_home-clause-any_moment g c =
-    let below : c.loop-number.number < c.args.count = search rules in
-    let lt = rw c.requires.count at below in
-    closed_on (home_place c.args.home.now c.loop-number.number)
-    (place_length c.args.home.now c.loop-number.number) {old = g.D.Device.disk c.args.device.now} {mid = g.D.Device.disk c.loop-number.device} {new =
-    g.D.Device.disk c.write_home.new.device}
-    c.loop-number.invariant.5 (inr (places_within c.args.home.now c.loop-number.number c.requires.plan lt).0) c.loop-number.invariant.4
-    c.write_home.ensures.writes
+returns-in_err-write_home-clause-any_moment g c = grind (arith, nat_tests, closed_on, places_within)

@@ -1,18 +1,10 @@
-use Rattle.image_writer.proofs.Names.{ap, arith, Image, elsewhere_on, is_open, Encodes, frames_in, kept_of, state_of, on_ok_weaker}
+use Rattle.image_writer.proofs.Names.{rules, nat_tests, ap, arith, Image, elsewhere_on, is_open, Encodes, frames_in, state_of, on_ok_weaker}
 use Rattle.std.proofs.Common.{◌∙◌}
 use Rattle.image_writer.proofs.FreshImages.{denotes, durable_is, five, not_yet, opening_run, widened}
 use Rattle.image_writer.proofs.image.write_saved.Goals as goal
 
 pub returns-clause-denotes : goal.returns-clause-denotes
-returns-clause-denotes g c =
-    let size = c.open_gate.ensures.size ∙ c.write_parts.ensures.size in
-    on_ok_weaker c.open_gate.result
-    (λ gate. denotes c.args.superblock.now c.args.header c.args.entries.now (frames_in c.args.headers.now c.args.contents.now)
-    (g.D.Device.disk c.write_parts.new.device).seen (g.D.Device.disk c.open_gate.new.device).seen
-    c.in_ok-write_parts.ensures.written c.requires.first c.open_gate.ensures.elsewhere (ap is_open gate) (g.D.Device.disk c.open_gate.new.device).sectors
-    c.requires.header c.requires.directory c.requires.count
-    (omega (arith, size, c.requires.inside)) c.requires.keepable)
-    c.open_gate.ensures.written
+returns-clause-denotes g c = grind (arith, nat_tests, on_ok_weaker, denotes)
 
 pub returns-clause-crash : goal.returns-clause-crash
 returns-clause-crash g c =
@@ -31,17 +23,10 @@ returns-clause-crash g c =
     c.open_gate.ensures.durable
 
 pub returns-clause-elsewhere : goal.returns-clause-elsewhere
-returns-clause-elsewhere g c =
-    let enough = five c.args.superblock.now c.in_ok-write_parts.ensures.written.plan in
-    elsewhere_on 0 c.args.superblock.now.total (g.D.Device.disk c.args.device.now).seen (g.D.Device.disk c.write_parts.new.device).seen
-    (g.D.Device.disk c.open_gate.new.device).seen
-    c.write_parts.ensures.elsewhere (widened c.args.superblock.now.total 2 1 _ _ (omega (arith, enough)) c.open_gate.ensures.elsewhere)
+returns-clause-elsewhere g c = grind (arith, nat_tests, five, elsewhere_on, widened)
 
 pub returns-in_err-write_parts-clause-any_moment : goal.returns-in_err-write_parts-clause-any_moment
-returns-in_err-write_parts-clause-any_moment g c =
-    not_yet {old = g.D.Device.disk c.args.device.now} {mid = g.D.Device.disk c.write_parts.new.device}
-    (kept_of (state_of c.args.superblock.now c.args.header c.args.entries.now (frames_in c.args.headers.now c.args.contents.now)))
-    c.write_parts.ensures.any_moment
+returns-in_err-write_parts-clause-any_moment g c = search (rules, not_yet)
 
 pub returns-clause-any_moment : goal.returns-clause-any_moment
 returns-clause-any_moment g c =
@@ -51,9 +36,7 @@ returns-clause-any_moment g c =
     c.write_parts.ensures.any_moment c.open_gate.ensures.any_moment
 
 pub open_gate-requires-clause-inside : goal.open_gate-requires-clause-inside
-open_gate-requires-clause-inside g c =
-    let enough = five c.args.superblock.now c.in_ok-write_parts.ensures.written.plan in
-    omega (arith, enough, c.write_parts.ensures.size, c.requires.inside)
+open_gate-requires-clause-inside g c = grind (arith, nat_tests, five)
 
 pub write_parts-requires-clause-few : goal.write_parts-requires-clause-few
 write_parts-requires-clause-few g c = omega (arith, c.requires.count, c.requires.header.entries)

@@ -1,5 +1,5 @@
-use Rattle.image_writer.proofs.Names.{rules, inr, entry_at, place_length, slot_sector, frames_in}
-use Rattle.std.proofs.Common.{◌≡◌, ◌∙◌}
+use Rattle.image_writer.proofs.Names.{arith, nat_tests, rules, inr, entry_at, place_length, slot_sector}
+use Rattle.std.proofs.Common.{◌≡◌}
 use Rattle.image_writer.proofs.ClosedGates.{closed_on, leaves_closed}
 use Rattle.image_writer.proofs.SlotFrames.{one_more_slot, slot_behind, stays_in_half}
 use Rattle.image_writer.proofs.slots.write_slots.Goals as goal
@@ -22,31 +22,12 @@ returns-in_err-write_entry-clause-any_moment g c =
     c.loop-index.invariant.5 (inr (slot_behind p c.args.generation e.slot c.requires.plan)) c.loop-index.invariant.4 c.write_entry.ensures.writes
 
 pub returns-in_err-write_entry-clause-elsewhere : goal.returns-in_err-write_entry-clause-elsewhere
-returns-in_err-write_entry-clause-elsewhere g c =
-    stays_in_half c.args.home.now c.args.generation c.args.entries.now c.loop-index.index (g.D.Device.disk c.loop-index.device).seen
-    (g.D.Device.disk c.write_entry.new.device).seen
-    c.requires.directory c.loop-index-test.true c.write_entry.ensures.writes.elsewhere (g.D.Device.disk c.args.device.now).seen c.loop-index.invariant.1
+returns-in_err-write_entry-clause-elsewhere g c = grind (arith, nat_tests, stays_in_half)
 
 pub loop-index-preserved : goal.loop-index-preserved
 loop-index-preserved g c =
     let p = c.args.home.now in
     let e = entry_at c.args.entries.now c.loop-index.index in
     let behind = slot_behind p c.args.generation e.slot c.requires.plan in
-    let same : (g.D.Device.disk c.write_entry.new.device).failures ≡ (g.D.Device.disk c.loop-index.device).failures = search rules in (
-      one_more_slot p c.args.generation c.args.entries.now c.loop-index.index (g.D.Device.disk c.loop-index.device).seen
-          (g.D.Device.disk c.write_entry.new.device).seen
-          c.requires.directory c.loop-index-test.true c.write_entry.ensures.writes.elsewhere (frames_in c.args.headers.now c.args.contents.now)
-          c.loop-index.invariant.0 c.in_ok-write_entry.ensures.written,
-      stays_in_half p c.args.generation c.args.entries.now c.loop-index.index (g.D.Device.disk c.loop-index.device).seen
-          (g.D.Device.disk c.write_entry.new.device).seen
-          c.requires.directory c.loop-index-test.true c.write_entry.ensures.writes.elsewhere (g.D.Device.disk c.args.device.now).seen c.loop-index.invariant.1,
-      c.write_entry.ensures.writes.size ∙ c.loop-index.invariant.2,
-      same ∙ c.loop-index.invariant.3,
-      leaves_closed (slot_sector p c.args.generation e.slot)
-          (place_length p e.object) {old = g.D.Device.disk c.loop-index.device} {new = g.D.Device.disk c.write_entry.new.device}
-          (inr behind) c.loop-index.invariant.4 c.write_entry.ensures.writes,
-      closed_on (slot_sector p c.args.generation e.slot)
-          (place_length p e.object) {old = g.D.Device.disk c.args.device.now} {mid = g.D.Device.disk c.loop-index.device} {new = g.D.Device.disk
-          c.write_entry.new.device}
-          c.loop-index.invariant.5 (inr behind) c.loop-index.invariant.4 c.write_entry.ensures.writes,
-    )
+    let same : (g.D.Device.disk c.write_entry.new.device).failures ≡ (g.D.Device.disk c.loop-index.device).failures = search rules in
+    grind (arith, nat_tests, one_more_slot, stays_in_half, leaves_closed, closed_on)

@@ -7,8 +7,4 @@ returns-in-Some g c = grind (arith, common_steps)
 
 pub returns-in-None : goal.returns-in-None
 unfolding chain_text
-returns-in-None g c =
-    subst (λ (chain : Option (Vec Step Global)). Writes (g.W.Output.written c.args.writer.now) (g.W.Output.written c.write_to.new.writer) c.write_to.result
-    (chain_text c.args.objects.now c.args.object chain)) (sym c.in-None.is)
-    (subst (λ (text : List ℕ). Writes (g.W.Output.written c.args.writer.now) (g.W.Output.written c.write_to.new.writer) c.write_to.result (line_of text))
-    c.new.ensures c.write_to.ensures)
+returns-in-None g c = rw c.in-None.is (rw c.new.ensures at c.write_to.ensures)

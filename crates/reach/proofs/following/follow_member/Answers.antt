@@ -22,8 +22,7 @@ returns-in-Node-clause-least c other closed =
 pub returns-in-Annex-clause-least : goal.returns-in-Annex-clause-least
 returns-in-Annex-clause-least c other closed =
     let is = content_is _ _ _ _ c.requires.known c.in-Annex.is in
-    c.follow_all-in-Annex.ensures.least other (slots_stay _ _ _ other
-    (ap (λ (x : Content Capability). slots_in x) is ∙ sym c.as_slice-in-Annex.ensures.value) closed)
+    c.follow_all-in-Annex.ensures.least other (slots_stay _ _ _ other (ap (λ x. slots_in x) is ∙ sym c.as_slice-in-Annex.ensures.value) closed)
 
 pub returns-in-Root-clause-least : goal.returns-in-Root-clause-least
 returns-in-Root-clause-least c other closed within =

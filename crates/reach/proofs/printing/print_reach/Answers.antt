@@ -34,8 +34,7 @@ returns-in_err-write_to g c =
     let marks = c.args.inside.now in
     let is = counted marks c.numbered.result c.count_members.result c.numbered.ensures.text c.count_members.ensures in
     rw (p.1, p.2) (writes_fail _ _ _ _ (members os marks) (line_of (closed marks)) (pulled os marks) _ refl c.in_ok-print_members.ensures
-    (subst (λ (l : List ℕ). Writes (g.W.Output.written c.print_members.new.writer) (g.W.Output.written c.write_to.new.writer) (Err c.in_err-write_to.field-0.0)
-    (line_of l)) is c.in_err-write_to.ensures))
+    (rw is at c.in_err-write_to.ensures))
 
 pub returns : goal.returns
 unfolding reach_text
@@ -43,6 +42,4 @@ returns g c =
     let os = c.args.objects.now in
     let marks = c.args.inside.now in
     let is = counted marks _ _ c.numbered.ensures.text c.count_members.ensures in
-    writes_after _ _ _ _ _ _ (wrote_trans _ _ _ _ _ c.in_ok-print_members.ensures
-    (subst (λ (l : List ℕ). Wrote (g.W.Output.written c.print_members.new.writer) (g.W.Output.written c.write_to.new.writer) (line_of l)) is
-    c.in_ok-write_to.ensures)) c.print_all_pulls.ensures
+    writes_after _ _ _ _ _ _ (wrote_trans _ _ _ _ _ c.in_ok-print_members.ensures (rw is at c.in_ok-write_to.ensures)) c.print_all_pulls.ensures

@@ -4,6 +4,4 @@ use Rattle.description.proofs.Parts.{node_said}
 use Rattle.description.proofs.object.NodeEntryFromValue.is_said.Goals as goal
 
 pub returns-in-Ok : goal.returns-in-Ok
-returns-in-Ok c =
-    let ms = table_view c.in-Ok.table.now in
-    table_said IsNode (view c.args.value.now) ms _ c.in-Ok.ensures (node_said ms _ c.is_numbered.ensures)
+returns-in-Ok c = let ms = table_view c.in-Ok.table.now in table_said _ _ _ _ c.in-Ok.ensures (node_said _ _ c.is_numbered.ensures)

@@ -8,5 +8,4 @@ pub returns-clause-frames : goal.returns-clause-frames
 returns-clause-frames c =
     let filled : c.loop.contents.items ≡ replicate c.args.count content.Free = search rules in
     ap (λ hs. frames_in hs c.loop.contents.items) (c.in_ok-headers.ensures.items_if_clones_equal (λ y is. is))
-    ∙ ap (λ cs. frames_in (replicate c.args.count blank_header) cs) filled
-    ∙ blank_frames c.args.count
+    ∙ ap (λ cs. frames_in (replicate c.args.count blank_header) cs) filled ∙ blank_frames _

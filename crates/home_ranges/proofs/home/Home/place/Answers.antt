@@ -1,4 +1,4 @@
-use Rattle.std.proofs.Common.{rules}
+use Rattle.home_ranges.proofs.Names.{arith, nat_tests}
 use Rattle.home_ranges.proofs.Places.{range_of, no_range, place_lies}
 use Rattle.home_ranges.proofs.home.Home.place.Goals as goal
 
@@ -10,8 +10,7 @@ pub returns-in-Some : goal.returns-in-Some
 returns-in-Some c =
     let made = rw (c.version-version.ensures.value, c.geometry.ensures.value, c.self.view_is) at c.place_in.ensures in
     let is = place_lies (rw c.self.view_is at c.version-version.ensures.fits) c.requires.object (rw c.self.view_is at c.in-Some.ensures.value) made in
-    record { plan = search rules; value = is.value; behind = is.behind; inside = is.inside }
+    grind (arith, nat_tests)
 
 pub returns-in-None : goal.returns-in-None
-returns-in-None c = absurd
-    (no_range (rw c.self.view_is at c.version-version.ensures.fits) c.requires.object (rw c.self.view_is at c.in-None.ensures.value))
+returns-in-None c = grind (arith, nat_tests, no_range)

@@ -1,4 +1,4 @@
-use Rattle.std.proofs.Common.{rules, refl}
+use Rattle.std.proofs.Common.{refl}
 use Rattle.model.proofs.Zeros.{zero_from_start}
 use Rattle.model.proofs.page.Page.blank.Goals as goal
 

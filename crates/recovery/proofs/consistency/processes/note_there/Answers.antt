@@ -1,5 +1,4 @@
 use Rattle.recovery.proofs.Names.{rules, not_root}
-use Rattle.std.proofs.Common.{◌∙◌}
 use Rattle.recovery.proofs.Notes.{unnoted}
 use Rattle.recovery.proofs.Tables.{content_read}
 use Rattle.recovery.proofs.consistency.processes.note_there.Goals as goal

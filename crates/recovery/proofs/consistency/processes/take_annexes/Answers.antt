@@ -1,5 +1,4 @@
 use Rattle.recovery.proofs.Names.{nat_tests, rules, arith, length_in}
-use Rattle.std.proofs.Common.{◌≡◌, ◌+◌, ◌<◌, ◌∙◌}
 use Rattle.recovery.proofs.Notes.{none_noted, root_noted}
 use Rattle.recovery.proofs.Tables.{annex_known}
 use Rattle.recovery.proofs.Taking.{taken_more, taken_same}
