@@ -1,6 +1,6 @@
 // The values of a description. Each call fails only where memory runs out.
 ghost use Rattle.std.specs.Prelude.{◌≡◌, ℕ, ◌++◌, List, OnOk, codes, string_bytes};
-ghost use Rattle.std.specs.List.{All, flat_map};
+ghost use Rattle.std.specs.List.{All, flat_map, join_by};
 ghost use Rattle.model.specs.Capability.{IsAccess, IsWellFormed};
 ghost use Rattle.model.specs.Text.{access_text, capability_text, state_text};
 ghost use Rattle.description.specs.Described.{IsSomeCapability};
@@ -122,21 +122,30 @@ fn put_others<T: Item>(text: &mut String, items: &[T]) -> Result<(), AllocError>
     Ok(())
 }
 
+// Writes the items of a list.
+fn put_joined<T: Item>(text: &mut String, items: &[T]) -> Result<(), AllocError>
+    requires { All T.MayBePut items.now }
+    ensures { OnOk result (string_bytes text.new
+        ≡ string_bytes text.old ++ join_by T.text_of (codes ", ") items.now) }
+{
+    match items {
+        [] => Ok(()),
+        [first, others @ ..] => {
+            first.put(text)?;
+            put_others(text, others)
+        }
+    }
+}
+
 /// Writes a list.
 pub(crate) fn put_items<T: Item>(text: &mut String, items: &[T]) -> Result<(), AllocError>
     requires { All T.MayBePut items.now }
     ensures { OnOk result
         (string_bytes text.new ≡ string_bytes text.old ++ list_text T.text_of items.now) }
 {
-    match items {
-        [] => text.push_str("[]"),
-        [first, others @ ..] => {
-            text.push_str("[")?;
-            first.put(text)?;
-            put_others(text, others)?;
-            text.push_str("]")
-        }
-    }
+    text.push_str("[")?;
+    put_joined(text, items)?;
+    text.push_str("]")
 }
 
 impl Item for u64 {

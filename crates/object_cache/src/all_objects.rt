@@ -4,8 +4,9 @@ ghost use Rattle.cache_entries.specs.Entries.{entry_at, present_of};
 ghost use Rattle.model.specs.Frame.{held_at};
 
 use cache_entries::Entries;
+use capability::ObjectTable;
 use migrator::AllObjects;
-use model::{Cap, Content, ObjectHeader};
+use model::{Cap, Content};
 use std::alloc::{AllocError, Global};
 
 // Copies of all bodies, by number. Each object must have an entry.
@@ -27,18 +28,21 @@ fn copy_bodies(
     Ok(bodies)
 }
 
-/// The objects with these headers and copies of their bodies. Each must have an entry.
+/// Copies of the objects with these headers, each of which must have an entry. Fails only if memory runs out.
 pub(crate) fn copy_objects(
     alloc: Global,
-    headers: Vec<ObjectHeader>,
+    table: &ObjectTable,
     entries: &Entries,
 ) -> Result<AllObjects, AllocError>
-    requires { (n : ℕ) → n < length headers.items → IsSome (entry_at entries.now.at n) }
-    ensures headers { IfOk result (λ objects. objects.headers.items ≡ headers.items) }
-    ensures count { IfOk result (λ objects. length objects.contents.items ≡ length headers.items) }
-    ensures bodies { IfOk result (λ objects. (n : ℕ) → n < length headers.items
+    requires { (n : ℕ) → n < length table.now → IsSome (entry_at entries.now.at n) }
+    ensures headers { IfOk result (λ objects. objects.headers.items ≡ table.now) }
+    ensures count { IfOk result (λ objects. length objects.contents.items ≡ length table.now) }
+    ensures bodies { IfOk result (λ objects. (n : ℕ) → n < length table.now
         → option_map present_of (entry_at entries.now.at n) ≡ Some (held_at objects.contents.items n)) }
 {
-    let contents = copy_bodies(alloc, entries, headers.len())?;
-    Ok(AllObjects { headers, contents })
+    let headers = table.headers();
+    Ok(AllObjects {
+        headers: headers.to_vec(alloc)?,
+        contents: copy_bodies(alloc, entries, headers.len())?,
+    })
 }

@@ -14,6 +14,7 @@ use jobs::{
     explain_description, explain_image, finish, info_image, reach_image, run_image, run_shell,
     run_traced, upgrade_opened,
 };
+use migrator::WholeStore;
 use object_cache::{BoundedCache, Capacity, PlainStore};
 use runs::{ScriptReader, TraceOptions, Tracer};
 use script::{BufferedOutput, CountedWriter};
@@ -30,9 +31,6 @@ type StandardOutput = BufferedOutput<Stdout, Global>;
 
 // Standard error.
 type StandardError = CountedWriter<Stderr>;
-
-// The store of an image that is only read.
-type Plain = PlainStore<FileDevice>;
 
 // The fault where the system refused something: that memory ran out, or something else.
 fn of_io(error: &io::Error, otherwise: Fault) -> Fault {
@@ -214,16 +212,8 @@ fn run_by<D: Device + Drop, S: ObjectStore<D>, R: Read + Drop>(
 ) -> u8 {
     match mode {
         Mode::Plain => {
-            let mut script = ScriptReader::new(script);
-            let done = run_image::<D, S, _, _, _>(
-                rt.alloc(),
-                device,
-                setting,
-                &mut script,
-                writer,
-                errors,
-            );
-            done.status
+            let (alloc, mut script) = (rt.alloc(), ScriptReader::new(script));
+            run_image::<D, S, _, _, _>(alloc, device, setting, &mut script, writer, errors).status
         }
         Mode::Traced(options) => {
             trace_by::<D, S, R>(rt, device, setting, script, options, writer, errors)
@@ -308,15 +298,16 @@ fn check(
 
 // Writes what an image saves to a new one by version 2 of the layout, and gives the status. The new
 // file is made only once the old image was opened and read whole.
-fn upgrade(
+fn upgrade<S: WholeStore<FileDevice>>(
     rt: &HostRuntime,
     old: &str,
     new: &str,
+    setting: S::Setting,
     writer: &mut StandardOutput,
     errors: &mut StandardError,
 ) -> Result<u8, Fault> {
     let device = open_to_read(rt, old)?;
-    let image = match OldImage::<_, Plain>::open(rt.alloc(), device, ()) {
+    let image = match OldImage::<_, S>::open(rt.alloc(), device, setting) {
         Ok(image) => image,
         Err(fault) => return Err(Fault::Upgrade(fault)),
     };
@@ -325,55 +316,59 @@ fn upgrade(
 }
 
 // Describes an image for other sizes, and gives the status.
-fn describe(
+fn describe<S: WholeStore<FileDevice>>(
     rt: &HostRuntime,
     image: &str,
     sizes: Sizes,
+    setting: S::Setting,
     writer: &mut StandardOutput,
     errors: &mut StandardError,
 ) -> Result<u8, Fault> {
     let device = open_to_read(rt, image)?;
-    let done = describe_image::<_, Plain, _, _>(rt.alloc(), device, (), sizes, writer, errors);
+    let done = describe_image::<_, S, _, _>(rt.alloc(), device, setting, sizes, writer, errors);
     Ok(done.status)
 }
 
 // Draws a part of an image, and gives the status.
-fn draw(
+fn draw<S: WholeStore<FileDevice>>(
     rt: &HostRuntime,
     image: &str,
     focus: Focus,
+    setting: S::Setting,
     writer: &mut StandardOutput,
     errors: &mut StandardError,
 ) -> Result<u8, Fault> {
     let device = open_to_read(rt, image)?;
-    let done = draw_image::<_, Plain, _, _>(rt.alloc(), device, (), focus, writer, errors);
+    let done = draw_image::<_, S, _, _>(rt.alloc(), device, setting, focus, writer, errors);
     Ok(done.status)
 }
 
 // Prints the sizes of an image and the state of its checkpoint, and gives the status.
-fn info(
+fn info<S: WholeStore<FileDevice>>(
     rt: &HostRuntime,
     image: &str,
+    setting: S::Setting,
     writer: &mut StandardOutput,
     errors: &mut StandardError,
 ) -> Result<u8, Fault> {
     let device = open_to_read(rt, image)?;
-    let done = info_image::<_, Plain, _, _>(rt.alloc(), device, (), writer, errors);
+    let done = info_image::<_, S, _, _>(rt.alloc(), device, setting, writer, errors);
     Ok(done.status)
 }
 
 // Writes what processes can ever change, or how they can change one object, and gives the status.
-fn reach(
+fn reach<S: WholeStore<FileDevice>>(
     rt: &HostRuntime,
     image: &str,
     processes: &[u64],
     shows: Option<u64>,
+    setting: S::Setting,
     writer: &mut StandardOutput,
     errors: &mut StandardError,
 ) -> Result<u8, Fault> {
     let device = open_to_read(rt, image)?;
     let alloc = rt.alloc();
-    let done = reach_image::<_, Plain, _, _>(alloc, device, (), processes, shows, writer, errors);
+    let done = reach_image::<_, S, _, _>(alloc, device, setting, processes, shows, writer, errors);
     Ok(done.status)
 }
 
@@ -404,15 +399,16 @@ fn refuse_file<C: Display + Drop>(rt: &HostRuntime, file: &str, cause: C) -> u8 
 }
 
 // Says why the image in a file is refused, and gives the status.
-fn explain_file(
+fn explain_file<S: WholeStore<FileDevice>>(
     rt: &HostRuntime,
     image: &str,
+    setting: S::Setting,
     writer: &mut StandardOutput,
     errors: &mut StandardError,
 ) -> Result<u8, Fault> {
     match FileDevice::open_to_read(rt, image) {
         Ok(device) => {
-            let done = explain_image::<_, Plain, _, _>(rt.alloc(), device, (), writer, errors);
+            let done = explain_image::<_, S, _, _>(rt.alloc(), device, setting, writer, errors);
             Ok(done.status)
         }
         Err(FileFault::NoMemory) => Err(Fault::NoMemory),
@@ -422,9 +418,10 @@ fn explain_file(
 
 // Says why a regular file is refused as a description or an image, and gives the status. It is an image if its bytes
 // are no text, or one of them is zero.
-fn explain_regular(
+fn explain_regular<S: WholeStore<FileDevice>>(
     rt: &HostRuntime,
     file: &str,
+    setting: S::Setting,
     writer: &mut StandardOutput,
     errors: &mut StandardError,
 ) -> Result<u8, Fault> {
@@ -437,15 +434,16 @@ fn explain_regular(
         Ok(text) if !bytes.contains(&0) => {
             Ok(explain_description(rt.alloc(), text, writer, errors))
         }
-        _ => explain_file(rt, file, writer, errors),
+        _ => explain_file::<S>(rt, file, setting, writer, errors),
     }
 }
 
 // Says why a file is refused as a description or an image, and gives the status. A block device may have an image. Any
 // other file that isn't regular, such as a FIFO, isn't opened: reading one waits until somebody writes to it.
-fn explain(
+fn explain<S: WholeStore<FileDevice>>(
     rt: &HostRuntime,
     file: &str,
+    setting: S::Setting,
     writer: &mut StandardOutput,
     errors: &mut StandardError,
 ) -> Result<u8, Fault> {
@@ -455,9 +453,9 @@ fn explain(
         Err(error) => return Ok(refuse_file(rt, file, &error)),
     };
     if kind.is_block_device() {
-        explain_file(rt, file, writer, errors)
+        explain_file::<S>(rt, file, setting, writer, errors)
     } else if kind.is_file() {
-        explain_regular(rt, file, writer, errors)
+        explain_regular::<S>(rt, file, setting, writer, errors)
     } else {
         Ok(refuse_file(rt, file, "not a regular file"))
     }
@@ -489,10 +487,11 @@ fn run_with(
     }
 }
 
-// Does a job, and gives the status.
-fn serve(
+// Does a job, and gives the status. An image that is only read is opened by a store of this kind.
+fn serve<S: WholeStore<FileDevice>>(
     rt: &HostRuntime,
     job: &Job<'_>,
+    setting: S::Setting,
     writer: &mut StandardOutput,
     errors: &mut StandardError,
 ) -> Result<u8, Fault> {
@@ -514,26 +513,28 @@ fn serve(
             run_with(rt, image, &lines, *cache, Mode::Shell, None, writer, errors)
         }
         Job::Check { image } => check(rt, image, writer, errors),
-        Job::Upgrade { old, new } => upgrade(rt, old, new, writer, errors),
-        Job::Describe { image, sizes } => describe(rt, image, sizes_of(sizes), writer, errors),
+        Job::Upgrade { old, new } => upgrade::<S>(rt, old, new, setting, writer, errors),
+        Job::Describe { image, sizes } => {
+            describe::<S>(rt, image, sizes_of(sizes), setting, writer, errors)
+        }
         Job::Draw { image, from, to } => {
             let (from, to) = (*from, *to);
-            draw(rt, image, Focus { from, to }, writer, errors)
+            draw::<S>(rt, image, Focus { from, to }, setting, writer, errors)
         }
-        Job::Explain { file } => explain(rt, file, writer, errors),
-        Job::Info { image } => info(rt, image, writer, errors),
+        Job::Explain { file } => explain::<S>(rt, file, setting, writer, errors),
+        Job::Info { image } => info::<S>(rt, image, setting, writer, errors),
         Job::Reach {
             image,
             processes,
             shows,
-        } => reach(rt, image, processes, *shows, writer, errors),
+        } => reach::<S>(rt, image, processes, *shows, setting, writer, errors),
     }
 }
 
 // Does a job, passes on what it wrote, and gives the status.
 fn serve_whole(rt: &HostRuntime, job: &Job<'_>) -> Result<u8, Fault> {
     let (mut writer, mut errors) = (output(rt)?, errors_of(rt));
-    match serve(rt, job, &mut writer, &mut errors) {
+    match serve::<PlainStore<_>>(rt, job, (), &mut writer, &mut errors) {
         Ok(status) => Ok(finish(&mut writer, status, &mut errors)),
         Err(fault) => Err(fault),
     }

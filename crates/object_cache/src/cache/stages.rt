@@ -23,27 +23,27 @@ use std::alloc::{AllocError, Global};
 use std::mem;
 
 impl<D: Device> Cache<D> {
-    // The durable store. All that is in memory is dropped.
-    fn into_durable(self) -> Durable<D>
+    // The durable store. Leaves the entries in `memory`; all else in memory is dropped.
+    fn into_durable(self, memory: &mut Option<Entries>) -> Durable<D>
         ensures { result ≡ self.durable }
     {
-        self.durable
+        let Cache {
+            durable,
+            entries,
+            ..
+        } = self;
+        *memory = Some(entries);
+        durable
     }
 
-    /// The durable store below, and all present objects if each has an entry.
+    /// The durable store below, and copies of all present objects if each has an entry.
     pub(crate) fn into_parts(self, alloc: Global) -> (Durable<D>, Result<AllObjects, AllocError>)
         requires { IsWhole self }
         ensures durable { result.0 ≡ self.durable }
         ensures objects { IfOk result.1 (λ objects. AreObjectsOf (parts_of D.disk self) objects) }
     {
-        let Cache {
-            durable,
-            table,
-            entries,
-            ..
-        } = self;
-        let objects = copy_objects(alloc, table.into_headers(), &entries);
-        (durable, objects)
+        let objects = copy_objects(alloc, &self.table, &self.entries);
+        (self.into_durable(&mut None), objects)
     }
 
     /// The superblock of the device.
@@ -64,20 +64,14 @@ impl<D: Device> Cache<D> {
     pub fn into_device(self) -> D
         ensures { result ≡ self.durable.beneath }
     {
-        self.into_durable().into_device()
+        self.close(&mut None)
     }
 
     /// The device. Makes no call of it. Leaves the entries in `memory`.
     pub fn close(self, memory: &mut Option<Entries>) -> D
         ensures { result ≡ self.durable.beneath }
     {
-        let Cache {
-            durable,
-            entries,
-            ..
-        } = self;
-        *memory = Some(entries);
-        durable.into_device()
+        self.into_durable(memory).into_device()
     }
 
     /// The generation, the age and the number of entries of the committed checkpoint.
