@@ -28,7 +28,7 @@ fn copy_bodies(
     Ok(bodies)
 }
 
-/// Copies of the objects with these headers, each of which must have an entry. Fails only if memory runs out.
+/// Copies of the objects with these headers. Each must have an entry. Fails only if memory runs out.
 pub(crate) fn copy_objects(
     alloc: Global,
     table: &ObjectTable,
