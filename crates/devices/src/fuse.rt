@@ -1,5 +1,5 @@
 // A device that stops after some calls.
-ghost use Rattle.std.specs.Prelude.{◌≡◌, ◌≤◌, ◌+◌, ◌%◌, ◌-◌, ◌↔◌, length, OnOk, OnErr, IsErr, option_map};
+ghost use Rattle.std.specs.Prelude.{None, ◌≡◌, ◌≤◌, ◌+◌, ◌%◌, ◌-◌, ◌↔◌, length, OnOk, OnErr, IsErr, option_map};
 ghost use Rattle.device.specs.Calls.{Agrees, Elsewhere, sectors_of, AreSectors, Narrows, Tears, Only, Counts};
 ghost use Rattle.device.specs.Moments.{Elapses};
 
@@ -30,6 +30,19 @@ impl<D: Device> Fuse<D> {
         Fuse {
             inner,
             left: Some(calls),
+            failures: Tally::new(),
+        }
+    }
+
+    /// Passes each read, write and sync to `inner`, as after a power cut.
+    pub fn mended(inner: D) -> Fuse<D>
+        ensures inner { beneath result ≡ inner }
+        ensures left { calls_left result ≡ None }
+        ensures failures { (fused D.disk result).failures ≡ (D.disk inner).failures }
+    {
+        Fuse {
+            inner,
+            left: None,
             failures: Tally::new(),
         }
     }
