@@ -1,6 +1,6 @@
 -- The names that the proofs here cite: of other crates, and of the definitions of this one.
 pub use Rattle.collections.specs.SparseVec.{item_at}
-pub use Rattle.device.proofs.Flat.{got_inside, put_elsewhere, put_written, rewritten, zeros_are}
+pub use Rattle.device.proofs.Flat.{got_inside, rewritten, zeros_are}
 pub use Rattle.device.specs.Calls.{Agrees, AreSectors, Elsewhere, Narrows, Only, Patches, Tears, image_of, sectors_of}
 pub use Rattle.device.specs.Disk.{Disk, Image, IsWhole}
 pub use Rattle.device.specs.Moments.{Elapses}
@@ -34,7 +34,6 @@ pub use Rattle.devices.specs.PastLaws.{image_whole}
 pub use Rattle.devices.specs.RawCalls.{Adds, Call, Deed, Takes, Tells, calls_of, events_by, taken, took, writes}
 pub use Rattle.devices.specs.Record.{entries_of, entry_events, event_of, events_of, mark_after, mark_of, marked, names}
 pub use Rattle.devices.specs.SectorCopy.{AreWhole, IsSector, bytes_of}
-unfoldable pub use Rattle.devices.specs.SectorCopy.{bytes_in}
 pub use Rattle.devices.specs.Sound.{IsCopy}
 pub use Rattle.devices.specs.SoundLaws.{unwritten_same}
 pub use Rattle.devices.specs.Steps.{fresh, stepped}

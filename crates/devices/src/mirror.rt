@@ -54,6 +54,7 @@ impl Mirror {
     }
 
     /// Fills `into` with the sectors from `at` on.
+    #[tactic(auto, using(device::proofs::Flat::got_inside))]
     pub fn read(&self, at: u64, into: &mut [u8])
         requires whole { length into.old % 512 ≡ 0 }
         requires inside { at + sectors_of into.old ≤ self.now.sectors }

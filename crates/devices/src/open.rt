@@ -104,6 +104,7 @@ fn get_all<F: Openable>(
 }
 
 // Reads all whole sectors of the file.
+#[tactic(auto, using(crate::proofs::Openings::keeps_length))]
 fn load<F: Openable>(alloc: Global, file: &mut F) -> Result<SectorCopy, FileFault>
     ensures read { IfOk result (λ copy. Loads (F.opening file.old) (F.opening file.new) copy) }
     ensures few { IfOk result (λ copy. sectors_of copy ≤ 131072) }
@@ -119,6 +120,7 @@ fn load<F: Openable>(alloc: Global, file: &mut F) -> Result<SectorCopy, FileFaul
 }
 
 // Takes a lock on the file, or goes without one where the system has none. `Held` where another open file excludes it.
+#[tactic(auto, using(crate::proofs::Openings::keeps_length))]
 fn take_lock<F: Openable>(file: &mut F, lock: Lock) -> Result<(), FileFault>
     ensures ok { OnOk result (TakesLock lock (F.opening file.old) (F.opening file.new)) }
     ensures held { IsErrOf result FileFault.Held
@@ -155,6 +157,7 @@ fn load_locked<F: Openable>(
 
 // Locks the file, fills it with zeros and makes it durable. At `Held` the only call was for the
 // lock.
+#[tactic(auto, using(crate::proofs::Openings::fills))]
 fn make_zeros<F: Openable>(
     rt: &HostRuntime,
     file: &mut F,

@@ -60,6 +60,7 @@ pub(crate) fn note_writes(entries: &mut Vec<RecordEntry>, at: u64, from: &[u8])
 }
 
 /// Marks the last entry with a power cut, where there is one and it has no mark yet.
+#[tactic(auto, using(crate::proofs::Entries::marked_set))]
 pub(crate) fn mark(entries: &mut Vec<RecordEntry>, outcome: Outcome)
     ensures items { entries.new.items ≡ marked outcome entries.old.items }
     ensures capacity { vec_capacity entries.new ≡ vec_capacity entries.old }

@@ -69,6 +69,7 @@ fn store(stored: &mut SparseVec<[u8; SECTOR_SIZE]>, at: usize, sector: &[u8])
 
 impl SectorCopy {
     /// Sectors of zeros. Fails only if memory runs out.
+    #[tactic(auto, using(crate::proofs::Stored::none_whole, crate::proofs::Stored::none_zeros))]
     pub fn zeros(alloc: Global, sectors: usize) -> Result<SectorCopy, AllocError>
         ensures { IfOk result (λ copy. copy ≡ replicate (512 * sectors) 0) }
     {
@@ -78,6 +79,7 @@ impl SectorCopy {
     }
 
     /// These sectors. Fails only if memory runs out.
+    #[tactic(auto, using(crate::proofs::Stored::all_put))]
     pub fn of(alloc: Global, bytes: &[u8]) -> Result<SectorCopy, AllocError>
         requires { length bytes.now % 512 ≡ 0 }
         ensures { IfOk result (λ copy. copy ≡ bytes.now) }
@@ -88,6 +90,7 @@ impl SectorCopy {
     }
 
     /// The number of sectors.
+    #[tactic(auto, using(crate::proofs::Stored::count_is, crate::proofs::Stored::fits))]
     pub fn sectors(&self) -> usize
         ensures size { length self.now ≡ 512 * result }
         ensures fits { All (λ b. b < 256) self.now }
