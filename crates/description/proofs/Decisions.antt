@@ -1,10 +1,9 @@
 -- What is said, and what isn't.
-use Rattle.description.proofs.Names.{ℕ, zero, suc, Bool, true, List, [], length, get_or, Option, None, Some, Result, Ok, Err, Vec, Global, refl, sym, ap, subst}
-use Rattle.description.proofs.Names.{arith, IsTrue, MatchOption, All, All-head, All-tail, none-some, same_Some, Data, Items, Members, array, get_item}
-use Rattle.description.proofs.Names.{get_member, view, items_view, Value, AreItems, IsList, BuildFault, HasBadItem, IsBadAt, HasList, Finds, IsTable, table}
-use Rattle.description.proofs.Names.{false≢true, is_ok}
-use Rattle.std.proofs.Common.{◌≡◌, ◌<◌, ◌^◌, ◌∷◌, ◌∙◌}
-use Rattle.std.specs.Prelude.{◌↔◌}
+use Rattle.description.proofs.Names.{suc, Bool, true, List, [], length, Option, None, Some, Result, Ok, Err, Vec, Global, refl, sym, ap, subst, arith, IsTrue}
+use Rattle.description.proofs.Names.{All, All-head, All-tail, none-some, same_Some, Data, Members, array, view, items_view, Value, AreItems, IsList, BuildFault}
+use Rattle.description.proofs.Names.{Finds, IsTable, table, false≢true, is_ok}
+use Rattle.std.specs.Prelude.{MatchOption, ◌↔◌}
+use Rattle.std.proofs.Common.{◌≡◌, ◌<◌, ◌^◌, ◌∷◌}
 use Rattle.description.proofs.Elements.{element, items_read}
 use Rattle.description.proofs.Parts.{in_table}
 use denote.RawPtr.{null_ptr}
@@ -13,7 +12,7 @@ pub read_or_not : {A : Type 0} (P : A → Type 0) (r : Result A BuildFault) (out
 read_or_not P r out is reads = search arith
 
 -- a list of as many entries as memory may hold is that of a Vec
-vec_of : {A : Type 0} (xs : List A) → length xs < 2 ^ 63 → (v : Vec A Global) × (v.items ≡ xs)
+pub vec_of : {A : Type 0} (xs : List A) → length xs < 2 ^ 63 → (v : Vec A Global) × (v.items ≡ xs)
 vec_of xs small = (
   record {
     ptr = null_ptr;
@@ -65,30 +64,3 @@ unlisted P (Some e) is = absurd (none-some e is)
 pub table_said : {A : Type 0} (P : Members → A → Type 0) (d : Data) (ms : Members) (X : Type 0) → d ≡ table ms → (X ↔ ((x : A) × P ms x)) →
     X ↔ ((x : A) × IsTable P d x)
 table_said P d ms X is said = (λ so. let x = said.0 so in (x.0, (ms, is, x.1)), λ x. said.1 (x.0, in_table P d ms x.0 is x.1))
-
-pub item_viewed : (vs : List Value) (i : ℕ) (v : Value) → i < length vs → get_or vs i v ≡ v → get_item i (items_view vs) ≡ Some (view v)
-item_viewed [] i v within at = absurd (omega arith)
-item_viewed (w ∷ vs) zero v within at = ap (λ x. Some (view x)) at
-item_viewed (w ∷ vs) (suc i) v within at = item_viewed vs i v (omega arith) at
-
--- a list at a key
-pub unsaid_at : {A : Type 0} (P : Data → A → Type 0) (key : List ℕ) (ms : Members) (d : Data) → Some d ≡ get_member key ms → (HasList P key ms → ⊥) →
-    (v : Vec A Global) → IsList P d v.items → ⊥
-unsaid_at P key ms d is none v list = none (v, subst (λ (o : Option Data). MatchOption o (v.items ≡ []) (λ e. IsList P e v.items)) is list)
-
-pub bad_at : {A : Type 0} (P : Data → A → Type 0) (key : List ℕ) (ms : Members) (i : ℕ) (e d : Data) → Some d ≡ get_member key ms → IsBadAt P i e d →
-    HasBadItem P key i e ms
-bad_at P key ms i e d is bad = (bad.0, sym is ∙ ap Some bad.1, bad.2, bad.3)
-
-pub unlisted_at : (key : List ℕ) (ms : Members) (d : Data) → Some d ≡ get_member key ms → ((ds : Items) → d ≡ array ds → ⊥) → (ds : Items) →
-    get_member key ms ≡ Some (array ds) → ⊥
-unlisted_at key ms d is none ds at = none ds (same_Some d (array ds) (is ∙ at))
-
--- a list with another default
-pub with_default : {A : Type 0} (P : Data → List A → Type 0) (o : Option Data) (default : List A) → length default < 2 ^ 63 → (v : Vec A Global)
-    → MatchOption o (v.items ≡ []) (λ d. P d v.items) → (u : Vec A Global) × MatchOption o (u.items ≡ default) (λ d. P d u.items)
-with_default P None default small v is = vec_of default small
-with_default P (Some d) default small v is = (v, is)
-
-pub at_some : {A : Type 0} (P : Type 0) (Q : A → Type 0) (o : Option A) (x : A) → o ≡ Some x → MatchOption o P Q → Q x
-at_some P Q o x is known = search (arith, none-some, same_Some)

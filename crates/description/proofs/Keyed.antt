@@ -1,7 +1,7 @@
 -- What is at a key, and what isn't.
 use Rattle.description.proofs.Names.{arith, ℕ, List, Option, Some, None, Result, Vec, Global, refl, sym, none-some, same_Some, Data, Members, get_member, AtOr}
-use Rattle.description.proofs.Names.{ReadsList, BuildFault}
-use Rattle.std.proofs.Common.{MatchOption, ◌≡◌}
+use Rattle.description.proofs.Names.{ReadsList, BuildFault, MatchOption}
+use Rattle.std.proofs.Common.{◌≡◌}
 
 pub defaulted : {A : Type 0} (P : Data → A → Type 0) (o : Option Data) → None ≡ o → (x : A) → MatchOption o (x ≡ x) (λ d. P d x)
 defaulted P o is x = search (arith, none-some)

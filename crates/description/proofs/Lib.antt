@@ -14,10 +14,5 @@ pub mod NamedTargets
 pub mod WholeProcesses
 pub mod Worlds
 pub mod Decisions
-pub mod Flaws
-pub mod FaultElements
-pub mod Ranges
-pub mod NumberPlaces
-pub mod Refuted
-pub mod NamedCapabilities
-pub mod Slots
+pub mod Taken
+pub mod Rules

@@ -4,8 +4,8 @@ use Rattle.description.proofs.Names.{same_Some, capability_text, state_text, Cap
 use Rattle.description.proofs.Names.{integer, string, array, table, Items, no_items, item, Members, get_member, text_once, Each, IsSame, IsSameNode, IsSamePage}
 use Rattle.description.proofs.Names.{IsSameProcess, NumberIsSpelledOnce, AreFour, AreItems, At, AtOr, IsBank, IsCapability, IsDescription, IsGeometry, IsList}
 use Rattle.description.proofs.Names.{IsNode, IsNumber, IsPage, IsPair, IsProcess, IsRange, IsSlot, IsState, IsTable, IsWideNumber, IsWord, whole_ranges}
-use Rattle.description.proofs.Names.{Description}
-use Rattle.std.proofs.Common.{MatchOption, ◌≡◌, if◌then◌else◌, ◌∷◌, ◌∙◌}
+use Rattle.description.proofs.Names.{Description, MatchOption}
+use Rattle.std.proofs.Common.{◌≡◌, if◌then◌else◌, ◌∷◌, ◌∙◌}
 
 -- ---- values
 

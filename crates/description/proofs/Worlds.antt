@@ -1,6 +1,7 @@
 -- Worlds as headers with contents beside them.
 use Rattle.description.proofs.Names.{nat_tests, ℕ, zero, suc, List, replicate, refl, ap, arith, vec_len, with_item, Cap, Frame, ObjectHeader, Content, Role}
-use Rattle.description.proofs.Names.{blank_frame, blank_header, frames_in, role_of, set_in, World, first_frame, IsPut}
+use Rattle.description.proofs.Names.{blank_frame, blank_header, frames_in, role_of, set_in, World, first_frame, IsPut, keepable_later, AreKeepable}
+use Rattle.description.proofs.Names.{object_count, HasFields, HasNumbers, IsDescribed, AreLaid, Description}
 use Rattle.std.proofs.Common.{◌≡◌, ◌<◌, ◌∷◌}
 use Rattle.model.specs.declared.object.Content.TheVariants as content
 
@@ -19,3 +20,16 @@ pub put_there : (w : World) (n owner : ℕ) (held : Content Cap) (role : Role) �
     vec_len w.contents ≡ vec_len w.headers
     → IsPut n (first_frame owner held) w (record { headers = with_item w.headers n (first_header role owner); contents = with_item w.contents n held })
 put_there w n owner held role is within even = grind (arith, nat_tests, set_in)
+
+-- the frames of a world that is laid
+pub world_laid : (d : Description) (w : World) → HasNumbers d × HasFields d → IsDescribed d (frames_in w.headers.items w.contents.items) →
+    AreKeepable d.geometry 0 (frames_in w.headers.items w.contents.items) → vec_len w.headers ≡ object_count d.geometry →
+    vec_len w.contents ≡ object_count d.geometry → AreLaid d w.headers.items w.contents.items
+world_laid d w named described keepable header_each content_each = record {
+  numbers = named.0;
+  fields = named.1;
+  described = described;
+  keepable = keepable_later d.geometry 0 d.age (frames_in w.headers.items w.contents.items) (omega arith) keepable;
+  header_each = omega (arith, w.headers.ok.0, header_each);
+  content_each = omega (arith, w.contents.ok.0, content_each);
+}

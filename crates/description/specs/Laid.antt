@@ -1,7 +1,7 @@
 -- How frames are laid: object by object, over free ones.
 use Rattle.description.specs.Names.{ℕ, List, [], map, replicate, slice_set, unwrap_or, vec_len, All, Cap, Void, Frame}
 use Rattle.description.specs.Names.{Geometry, Content, Available, frames_in, void_held, AreKeptWords, IsTarget}
-use Rattle.description.specs.Names.{fresh_cap}
+use Rattle.description.specs.Names.{fresh_cap, length, AreKeepable, ObjectHeader, object_count}
 use Rattle.std.specs.Prelude.{◌≡◌, ◌^◌, ◌<◌, ◌∷◌, ◌++◌}
 use Rattle.description.specs.declared.entry.BankEntry.{BankEntry}
 use Rattle.description.specs.declared.entry.Description.{Description}
@@ -13,6 +13,7 @@ use Rattle.description.specs.declared.entry.WordEntry.{WordEntry}
 use Rattle.model.specs.declared.object.Content.TheVariants as content
 use Rattle.description.specs.Described.{first_frame}
 use Rattle.description.specs.declared.world.World.{World}
+use Rattle.description.specs.Described.{HasFields, HasNumbers, IsDescribed}
 
 -- an object that is named
 pub data Entry : Type 0 where
@@ -111,3 +112,12 @@ pub record HasProcessTargets (g : Geometry) (p : ProcessEntry) : Type 0 where
 pub record HasTargets (g : Geometry) (d : Description) : Type 0 where
   pub processes : All (HasProcessTargets g) d.processes.items
   pub nodes : All (λ n. AreTargets g n.slots.items) d.nodes.items
+
+-- headers and contents are those of the described frames
+pub record AreLaid (d : Description) (headers : List ObjectHeader) (contents : List (Content Cap)) : Type 0 where
+  pub numbers : HasNumbers d
+  pub fields : HasFields d
+  pub described : IsDescribed d (frames_in headers contents)
+  pub keepable : AreKeepable d.geometry d.age (frames_in headers contents)
+  pub header_each : length headers ≡ object_count d.geometry
+  pub content_each : length contents ≡ object_count d.geometry

@@ -1,12 +1,14 @@
--- A number has one spelling, a text is that of one capability, and a table that of one description.
+-- A number has one spelling, a text is that of one capability, and a table that of one description; a description is
+-- refused with at most one fault.
 use Rattle.description.specs.Names.{ℕ, List, [], IfSome, IsWellFormed, named, capability_text, Capability, Data}
-use Rattle.description.specs.Names.{Members}
+use Rattle.description.specs.Names.{Members, BuildFault}
 use Rattle.std.specs.Prelude.{◌≡◌, ◌^◌, ◌<◌, ◌∷◌}
 use Rattle.description.specs.Reading.{IsDescription, IsWideNumber}
 use Rattle.description.specs.declared.entry.Description.{Description}
 use Rattle.description.specs.declared.entry.NodeEntry.{NodeEntry}
 use Rattle.description.specs.declared.entry.PageEntry.{PageEntry}
 use Rattle.description.specs.declared.entry.ProcessEntry.{ProcessEntry}
+use Rattle.description.specs.Rules.{IsAccepted, IsFirstBroken}
 
 -- two lists of as many items, and each two stand so to one another
 abbrev pub Each : {A : Type 0} → (A → A → Type 0) → List A → List A → Type 0
@@ -58,3 +60,13 @@ TextIsOfOne = (c d : Capability) → IsWellFormed c × IfSome (named c) (λ n. n
 -- no table is that of two descriptions
 abbrev pub TableIsOfOne : Type 0
 TableIsOfOne = (ms : Members) (d e : Description) → IsDescription ms d → IsDescription ms e → IsSame d e
+
+-- no two rules are the first that is broken
+abbrev pub OneFault : Type 0
+OneFault = (d : Description) (sectors : ℕ) (fault other : BuildFault) → IsFirstBroken d sectors fault →
+    IsFirstBroken d sectors other → fault ≡ other
+
+-- where all rules are kept none is
+abbrev pub NoFault : Type 0
+NoFault = (d : Description) (sectors : ℕ) (fault : BuildFault) → IsAccepted d sectors → IsFirstBroken d sectors fault →
+    ⊥

@@ -4,7 +4,5 @@ pub mod Outcomes
 pub mod Reading
 pub mod Described
 pub mod Laid
+pub mod Rules
 pub mod Wholeness
-pub mod Broken
-pub mod FaultOutcomes
-pub mod Shapes

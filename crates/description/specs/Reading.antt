@@ -1,9 +1,10 @@
 -- What a table says.
 use Rattle.description.specs.Names.{ℕ, pos, Bool, true, false, Option, None, Some, List, [], length, codes, IfSome}
 use Rattle.description.specs.Names.{IsTrue, IsSomeAnd, MatchOption, list_any, NumberRange, IsWellFormed, named}
-use Rattle.description.specs.Names.{capability_text, state_text, Capability, Number, Void, Geometry, State, Data}
-use Rattle.description.specs.Names.{integer, string, array, table, Items, no_items, item, Members, no_members, member}
-use Rattle.description.specs.Names.{get_member, same_key}
+use Rattle.description.specs.Names.{capability_text, state_text, Capability, Void, Geometry, State, Data, integer}
+use Rattle.description.specs.Names.{string, array, table, Items, no_items, item, Members, no_members, member}
+use Rattle.description.specs.Names.{get_member, same_key, Vec, Global}
+use Rattle.model.specs.declared.capability.Capability.TheVariants.{Number}
 use Rattle.std.specs.Prelude.{◌≡◌, ◌≢◌, ◌⊎◌, ◌^◌, ◌<◌, ◌≤◌, ◌&&◌, ◌||◌, ◌∷◌}
 use Rattle.description.specs.declared.entry.BankEntry.{BankEntry}
 use Rattle.description.specs.declared.entry.Description.{Description}
@@ -75,6 +76,10 @@ At key P ms x = IsSomeAnd (get_member key ms) (λ d. P d x)
 -- the value at a key, or else this one
 abbrev pub AtOr : {A : Type 0} → A → List ℕ → (Data → A → Type 0) → Members → A → Type 0
 AtOr default key P ms x = MatchOption (get_member key ms) (x ≡ default) (λ d. P d x)
+
+-- a list of entries at a key, none where the key is missing
+abbrev pub HasList : {A : Type 0} → (Data → A → Type 0) → List ℕ → Members → Type 0
+HasList {A = A} P key ms = (v : Vec A Global) × AtOr [] key (IsList P) ms v.items
 
 -- Entries
 

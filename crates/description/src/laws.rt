@@ -1,6 +1,6 @@
-//! Laws of what a table says, each the contract of a function that does nothing.
+//! Laws of what a table says and of faults, each the contract of a function that does nothing.
 
-ghost use Rattle.description.specs.Laws.{NumberIsSpelledOnce, TableIsOfOne, TextIsOfOne};
+ghost use Rattle.description.specs.Laws.{NoFault, NumberIsSpelledOnce, OneFault, TableIsOfOne, TextIsOfOne};
 
 /// A number has one spelling: below 2^63 it is a number of TOML, and from 2^63 on a text.
 pub fn number_is_spelled_once()
@@ -15,4 +15,14 @@ pub fn text_is_of_one()
 /// A table is that of one description at most.
 pub fn table_is_of_one()
     ensures { TableIsOfOne }
+{}
+
+/// A description that is refused for its own sake is refused with one fault.
+pub fn one_fault()
+    ensures { OneFault }
+{}
+
+/// A description that is accepted is refused with none.
+pub fn accepted_has_none()
+    ensures { NoFault }
 {}

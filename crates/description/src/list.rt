@@ -6,8 +6,7 @@ ghost use Rattle.toml.specs.Data.{Data, array, item, no_items};
 ghost use Rattle.toml.specs.View.{table_view, view};
 ghost use Rattle.image_writer.specs.declared.fault.BuildFault.TheVariants.{Shape};
 ghost use Rattle.description.specs.Outcomes.{Finds, Reads, ReadsList};
-ghost use Rattle.description.specs.Reading.{AreFour, AtOr, IsList, IsRange, IsSlot, IsWord};
-ghost use Rattle.description.specs.Shapes.{HasList};
+ghost use Rattle.description.specs.Reading.{AreFour, AtOr, HasList, IsList, IsRange, IsSlot, IsWord};
 
 use crate::entry::{SlotEntry, WordEntry};
 use crate::member::member;
@@ -54,7 +53,7 @@ fn is_list_of<T: FromValue>(value: &Value) -> bool
 }
 
 /// Whether a list of values of this type is at a key, or nothing.
-pub(crate) fn may_have_list<T: FromValue>(table: &Table, key: &str) -> bool
+pub fn may_have_list<T: FromValue>(table: &Table, key: &str) -> bool
     ensures { IsTrue result ↔ HasList T.IsSaid key.now (table_view table.now) }
 {
     match member(table, key) {

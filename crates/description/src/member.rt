@@ -83,15 +83,15 @@ pub fn number_or(table: &Table, key: &str, default: u64) -> Result<u64, BuildFau
     }
 }
 
-// Whether a number is at a key.
-pub(crate) fn has_number(table: &Table, key: &str) -> bool
+/// Whether a number is at a key.
+pub fn has_number(table: &Table, key: &str) -> bool
     ensures { IsTrue result ↔ ((n : ℕ) × At key.now IsNumber (table_view table.now) n) }
 {
     number(table, key).is_ok()
 }
 
-// Whether a number is at a key, or nothing.
-pub(crate) fn may_have_number(table: &Table, key: &str, default: u64) -> bool
+/// Whether a number is at a key, or nothing.
+pub fn may_have_number(table: &Table, key: &str, default: u64) -> bool
     ensures { IsTrue result ↔ ((n : ℕ) × AtOr default key.now IsNumber (table_view table.now) n) }
 {
     number_or(table, key, default).is_ok()

@@ -2,9 +2,8 @@
 ghost use Rattle.std.specs.Prelude.{◌↔◌, ℕ, IsTrue};
 ghost use Rattle.toml.specs.View.{table_view};
 ghost use Rattle.description.specs.Outcomes.{Finds};
-ghost use Rattle.description.specs.Reading.{HasNumberAndOwner, HasProcessFields, IsBank, IsNode, IsPage, IsProcess};
-ghost use Rattle.description.specs.Reading.{IsTable};
-ghost use Rattle.description.specs.Shapes.{HasList};
+ghost use Rattle.description.specs.Reading.{HasList, HasNumberAndOwner, HasProcessFields, IsBank, IsNode, IsPage};
+ghost use Rattle.description.specs.Reading.{IsProcess, IsTable};
 ghost use Rattle.description.specs.declared.entry.ProcessEntry.{ProcessEntry};
 
 use crate::entry::{BankEntry, NodeEntry, PageEntry, ProcessEntry, SlotEntry, WordEntry};

@@ -2,13 +2,19 @@
 use Rattle.description_explainer.proofs.Names.{ℕ, List, subst, Frame, Unbanked, AreNamed, IsUnbanked, NamesItsRole, unbanked_refuted, Description, HasFields}
 use Rattle.description_explainer.proofs.Names.{HasNumbers, IsDescribed, IsTarget, described_once, IsFirstBroken, IsWithinLimits, Refuses, field_broken}
 use Rattle.description_explainer.proofs.Names.{limits_broken, number_broken, owner_broken, target_broken, Held, Limit, Misnumbered, Part, BreaksField}
-use Rattle.description_explainer.proofs.Names.{BreaksLimit, BreaksNumber, BreaksTarget, AllHave, BreaksIt, OneLacks, all_named, kind_broken, role_broken}
-use Rattle.description_explainer.proofs.Names.{target_refuted, field_refuted, ExplainsDescription, IfNone, IfSome, MatchOption, Members, IsDescription, Rule}
-use Rattle.description_explainer.proofs.Names.{rule_fault}
+use Rattle.description_explainer.proofs.Names.{BreaksLimit, BreaksNumber, BreaksTarget, AllHave, BreaksIt, OneLacks}
+use Rattle.description_explainer.proofs.NamedCapabilities.{all_named, kind_broken, role_broken}
+use Rattle.description_explainer.proofs.Names.{ExplainsDescription, IfNone, IfSome, MatchOption, Members, IsDescription, Rule}
+use Rattle.description_explainer.proofs.NamedCapabilities.{target_refuted}
+use Rattle.description_explainer.proofs.Refuted.{field_refuted}
+use Rattle.description_explainer.proofs.Names.{rule_fault, arith, none-some, same_Some}
 use Rattle.std.proofs.Common.{◌≡◌}
 use Rattle.std.specs.Prelude.{Option, Some, None}
 use Rattle.description_explainer.specs.declared.place.Rule.TheVariants as rule
 use Rattle.description_explainer.proofs.Sizes.{limit_refuted}
+
+pub at_some : {A : Type 0} (P : Type 0) (Q : A → Type 0) (o : Option A) (x : A) → o ≡ Some x → MatchOption o P Q → Q x
+at_some P Q o x is known = search (arith, none-some, same_Some)
 
 module _ (d : Description) where
   pub explains_limit : (l : Limit) → BreaksLimit d l → ExplainsDescription d (Some (rule.Limit l))

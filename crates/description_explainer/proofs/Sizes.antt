@@ -1,8 +1,9 @@
 -- A size that no image has isn't that of a description within the limits.
 use Rattle.description_explainer.proofs.Names.{List, Option, None, Some, subst, arith, MatchOption, version_number, Version, MayBeLaid, NumberRange}
-use Rattle.description_explainer.proofs.Names.{IsWithinLimits, Description, Limit, BreaksGeometry, BreaksLimit, BreaksRanges, ranges_refuted}
+use Rattle.description_explainer.proofs.Names.{IsWithinLimits, Description, Limit, BreaksGeometry, BreaksLimit, BreaksRanges}
+use Rattle.description_explainer.proofs.Refuted.{ranges_refuted}
 use Rattle.std.proofs.Common.{◌≡◌, ◌≤◌, ◌^◌}
-use Rattle.description.specs.declared.faults.place.Limit.TheVariants as limit
+use Rattle.description_explainer.specs.declared.faults.place.Limit.TheVariants as limit
 
 pub limit_refuted : (d : Description) (l : Limit) → BreaksLimit d l → IsWithinLimits d → ⊥
 limit_refuted d limit.Nodes broken within = broken (within.laid.geometry.least_nodes, within.laid.geometry.most_nodes)

@@ -1,7 +1,6 @@
 -- The explanation of a description.
-use Rattle.std.specs.Prelude.{ℕ, ◌≤◌, Option, None, Some}
-use Rattle.description.specs.declared.entry.Description.{Description}
-use Rattle.image_builder.specs.Built.{IsAccepted, IsFirstBroken, plan_for}
+use Rattle.description_explainer.specs.Names.{ℕ, Option, None, Some, Description, IsAccepted, IsFirstBroken, plan_for}
+use Rattle.std.specs.Prelude.{◌≤◌}
 use Rattle.description_explainer.specs.declared.place.Rule.{Rule}
 use Rattle.description_explainer.specs.Places.{BreaksRule, rule_fault}
 

@@ -1,3 +1,7 @@
+pub mod Names
+pub mod Broken
 pub mod Explained
+pub mod FaultOutcomes
 pub mod Places
+pub mod Shapes
 pub mod Text

@@ -1,17 +1,14 @@
 -- Why the image of a table isn't built, and where.
-use Rattle.std.specs.Prelude.{ℕ, ◌≤◌, Option, None, Some}
-use Rattle.toml.specs.Data.{Members}
-use Rattle.description.specs.declared.entry.Description.{Description}
-use Rattle.description.specs.Reading.{IsDescription}
-use Rattle.image_writer.specs.declared.fault.BuildFault.{BuildFault}
+use Rattle.description_explainer.specs.Names.{ℕ, Option, None, Some, Members, Description, IsDescription, BuildFault}
+use Rattle.description_explainer.specs.Names.{IsAccepted, Refuses, plan_for}
+use Rattle.std.specs.Prelude.{◌≤◌}
 use Rattle.image_writer.specs.declared.fault.BuildFault.TheVariants as fault
-use Rattle.image_builder.specs.Built.{IsAccepted, Refuses, plan_for}
 use Rattle.description_explainer.specs.declared.place.Place.{Place}
 use Rattle.description_explainer.specs.declared.place.Place.TheVariants as place
 use Rattle.description_explainer.specs.declared.place.Rule.{Rule}
 use Rattle.description_explainer.specs.declared.place.Rule.TheVariants as rule
-use Rattle.description.specs.Broken.{BreaksField, BreaksLimit, BreaksNumber, BreaksOwner, BreaksTarget}
-use Rattle.description.specs.Shapes.{BreaksShape}
+use Rattle.description_explainer.specs.Broken.{BreaksField, BreaksLimit, BreaksNumber, BreaksOwner, BreaksTarget}
+use Rattle.description_explainer.specs.Shapes.{BreaksShape}
 
 -- the fault that `build` answers
 abbrev pub rule_fault : Rule → BuildFault

@@ -1,33 +1,29 @@
 -- The text of a place, and what an explanation says.
-use Rattle.std.specs.Prelude.{◌≡◌, ℕ, ◌==◌, ◌||◌, if◌then◌else◌, List, [], ◌++◌, Option, None, Some, IfSome, codes}
-use Rattle.std.specs.Prelude.{decimal, position, unwrap_or}
-use Rattle.std.specs.Fmt.{debug_str}
-use Rattle.std.specs.List.{list_any}
-use Rattle.recovery.specs.declared.consistency.reason.Unbanked.{Unbanked}
+use Rattle.description_explainer.specs.Names.{ℕ, List, [], Option, None, Some, IfSome, codes, decimal, position}
+use Rattle.description_explainer.specs.Names.{unwrap_or, debug_str, list_any, Unbanked, Description, fault_number}
+use Rattle.std.specs.Prelude.{◌≡◌, ◌==◌, ◌||◌, if◌then◌else◌, ◌++◌}
 use Rattle.recovery.specs.declared.consistency.reason.Unbanked.TheVariants as unbanked
-use Rattle.description.specs.declared.entry.Description.{Description}
-use Rattle.image_writer.specs.Faults.{fault_number}
-use Rattle.description.specs.Broken.{number_at}
-use Rattle.description.specs.Shapes.{key_name}
-use Rattle.description.specs.declared.faults.place.Flaw.{Flaw}
-use Rattle.description.specs.declared.faults.place.Flaw.TheVariants as flaw
-use Rattle.description.specs.declared.faults.place.Held.{Held}
-use Rattle.description.specs.declared.faults.place.Held.TheVariants as held
-use Rattle.description.specs.declared.faults.place.Indexed.{Indexed}
-use Rattle.description.specs.declared.faults.place.Indexed.TheVariants as indexed
-use Rattle.description.specs.declared.faults.place.Limit.{Limit}
-use Rattle.description.specs.declared.faults.place.Limit.TheVariants as limit
-use Rattle.description.specs.declared.faults.place.Misnumbered.{Misnumbered}
-use Rattle.description.specs.declared.faults.place.Misnumbered.TheVariants as misnumbered
-use Rattle.description.specs.declared.faults.place.Named.{Named}
-use Rattle.description.specs.declared.faults.place.Named.TheVariants as named
-use Rattle.description.specs.declared.faults.place.Part.{Part}
-use Rattle.description.specs.declared.faults.place.Part.TheVariants as part
-use Rattle.description.specs.declared.faults.place.ShapePlace.{ShapePlace}
-use Rattle.description.specs.declared.faults.place.SlotFlaw.{SlotFlaw}
-use Rattle.description.specs.declared.faults.place.SlotFlaw.TheVariants as slot
-use Rattle.description.specs.declared.faults.place.TableName.{TableName}
-use Rattle.description.specs.declared.faults.place.TableName.TheVariants as name
+use Rattle.description_explainer.specs.Broken.{number_at}
+use Rattle.description_explainer.specs.Shapes.{key_name}
+use Rattle.description_explainer.specs.declared.faults.place.Flaw.{Flaw}
+use Rattle.description_explainer.specs.declared.faults.place.Flaw.TheVariants as flaw
+use Rattle.description_explainer.specs.declared.faults.place.Held.{Held}
+use Rattle.description_explainer.specs.declared.faults.place.Held.TheVariants as held
+use Rattle.description_explainer.specs.declared.faults.place.Indexed.{Indexed}
+use Rattle.description_explainer.specs.declared.faults.place.Indexed.TheVariants as indexed
+use Rattle.description_explainer.specs.declared.faults.place.Limit.{Limit}
+use Rattle.description_explainer.specs.declared.faults.place.Limit.TheVariants as limit
+use Rattle.description_explainer.specs.declared.faults.place.Misnumbered.{Misnumbered}
+use Rattle.description_explainer.specs.declared.faults.place.Misnumbered.TheVariants as misnumbered
+use Rattle.description_explainer.specs.declared.faults.place.Named.{Named}
+use Rattle.description_explainer.specs.declared.faults.place.Named.TheVariants as named
+use Rattle.description_explainer.specs.declared.faults.place.Part.{Part}
+use Rattle.description_explainer.specs.declared.faults.place.Part.TheVariants as part
+use Rattle.description_explainer.specs.declared.faults.place.ShapePlace.{ShapePlace}
+use Rattle.description_explainer.specs.declared.faults.place.SlotFlaw.{SlotFlaw}
+use Rattle.description_explainer.specs.declared.faults.place.SlotFlaw.TheVariants as slot
+use Rattle.description_explainer.specs.declared.faults.place.TableName.{TableName}
+use Rattle.description_explainer.specs.declared.faults.place.TableName.TheVariants as name
 use Rattle.description_explainer.specs.declared.place.Place.{Place}
 use Rattle.description_explainer.specs.declared.place.Place.TheVariants as place
 use Rattle.description_explainer.specs.declared.place.Rule.{Rule}

@@ -9,19 +9,17 @@ ghost use Rattle.description.specs.declared.entry.Description.{Description};
 ghost use Rattle.description.specs.Reading.{IsDescription};
 ghost use Rattle.description.specs.Described.{HasFields, HasNumbers};
 ghost use Rattle.description.specs.Laid.{HasTargets};
-ghost use Rattle.image_builder.specs.Built.{IsWithinLimits};
-ghost use Rattle.image_builder.specs.Checked.{AreLaid};
+ghost use Rattle.description.specs.Rules.{IsWithinLimits};
+ghost use Rattle.description.specs.Laid.{AreLaid};
 ghost use Rattle.description_explainer.specs.Explained.{ExplainsDescription};
 ghost use Rattle.description_explainer.specs.Places.{Explains};
 
+use crate::faults::{Held, OfItsKind, OfItsRole, failing, misfilled, misnumbered, misshapen};
 use crate::limits::beyond_limits;
 use crate::place::{Place, Rule};
 use capability::Plain;
-use description::{
-    Description, Held, OfItsKind, OfItsRole, World, failing, lay_described, misfilled, misnumbered,
-    misshapen,
-};
-use image_builder::BuildFault;
+use description::{Description, World, lay_described};
+use image_writer::BuildFault;
 use recovery::{Noted, find_unbanked, read_notes};
 use std::alloc::{AllocError, Global};
 use toml::Table;

@@ -2,6 +2,7 @@
 #![tactic(auto)]
 
 mod explaining;
+mod faults;
 mod limits;
 mod naming;
 mod place;
@@ -9,5 +10,10 @@ mod place_text;
 mod text;
 
 pub use explaining::explain;
+pub use faults::{
+    Flaw, Held, Indexed, Key, Limit, Misnumbered, Named, Naming, OfItsKind, OfItsRole, Part,
+    ShapePlace, SlotFlaw, TableName, bad_count, bad_ranges, failing, misfilled, misnumbered,
+    misshapen,
+};
 pub use place::{Place, Rule};
 pub use text::explanation;

@@ -1,10 +1,11 @@
 // Which size of a description no image has.
 ghost use Rattle.std.specs.Prelude.{◌≤◌, ◌^◌, MatchOption};
 ghost use Rattle.layout.specs.Superblock.{IsGeometry};
-ghost use Rattle.image_builder.specs.Built.{IsWithinLimits};
-ghost use Rattle.description.specs.Broken.{BreaksLimit};
+ghost use Rattle.description.specs.Rules.{IsWithinLimits};
+ghost use Rattle.description_explainer.specs.Broken.{BreaksLimit};
 
-use description::{Description, Limit, bad_count, bad_ranges};
+use crate::faults::{Limit, bad_count, bad_ranges};
+use description::Description;
 use layout::Version;
 use model::MAX_AGE;
 

@@ -2,8 +2,9 @@
 ghost use Rattle.std.specs.Prelude.{◌≡◌};
 ghost use Rattle.description_explainer.specs.Places.{fault_of, rule_fault};
 
-use description::{Description, Held, Limit, Misnumbered, Part, ShapePlace};
-use image_builder::BuildFault;
+use crate::faults::{Held, Limit, Misnumbered, Part, ShapePlace};
+use description::Description;
+use image_writer::BuildFault;
 use recovery::Unbanked;
 
 /// Where a description breaks one of the rules beyond its shape.

@@ -1,28 +1,14 @@
 -- What is written is an image of a description.
-use Rattle.image_builder.proofs.Names.{ℕ, List, ap, inl, inr, subst, sym, ⊎_elim, Members, Cap, Frame, ObjectHeader, Content, frames_in, AreKeepable}
-use Rattle.image_builder.proofs.Names.{IsSoundFrames, Disk, Image, Elsewhere, LeavesOnly, OnlyNow, leaves_weaker, started, Encodes, Plan, one_state, Holds}
-use Rattle.image_builder.proofs.Names.{SavedFrames, kept_of, IsLeftWriting, first_saved, first_state, kept_holds_the_same, none_is_held, IsDescription}
-use Rattle.image_builder.proofs.Names.{Description, Builds, IsLeftOf, IsWithinLimits, plan_for, AreLaid, IsLeftBuilding, IsSoundDescription, described_once}
-use Rattle.image_builder.proofs.Names.{World, arith, vec_len, object_count, keepable_later, HasNumbers, HasFields, IsDescribed}
+use Rattle.image_builder.proofs.Names.{ℕ, List, ap, inl, inr, subst, sym, ⊎_elim, Members, Cap, Frame, ObjectHeader, Content, frames_in, IsSoundFrames, Disk}
+use Rattle.image_builder.proofs.Names.{Image, Elsewhere, LeavesOnly, OnlyNow, leaves_weaker, started, Encodes, Plan, one_state, Holds, SavedFrames, kept_of}
+use Rattle.image_builder.proofs.Names.{IsLeftWriting, first_saved, first_state, kept_holds_the_same, none_is_held, IsDescription, Description, Builds, IsLeftOf}
+use Rattle.image_builder.proofs.Names.{IsLeftBuilding, IsSoundDescription, described_once, IsWithinLimits, plan_for, AreLaid}
 use Rattle.std.proofs.Common.{◌≡◌, ◌≤◌, ◌∙◌}
 use Rattle.image_builder.proofs.Refusals.{accepted}
 
 -- an image holds one state
 pub holds_one : (size : ℕ) (c : Image) (a b : SavedFrames) → Holds size c a → Holds size c b → a ≡ b
 holds_one size c a b in_a in_b = sym in_a.2 ∙ ap kept_of (one_state c size in_a.0 in_b.0 in_a.1 in_b.1) ∙ in_b.2
-
--- the frames of a world that is laid
-pub world_laid : (d : Description) (w : World) → HasNumbers d × HasFields d → IsDescribed d (frames_in w.headers.items w.contents.items) →
-    AreKeepable d.geometry 0 (frames_in w.headers.items w.contents.items) → vec_len w.headers ≡ object_count d.geometry →
-    vec_len w.contents ≡ object_count d.geometry → AreLaid d w.headers.items w.contents.items
-world_laid d w named described keepable header_each content_each = record {
-  numbers = named.0;
-  fields = named.1;
-  described = described;
-  keepable = keepable_later d.geometry 0 d.age (frames_in w.headers.items w.contents.items) (omega arith) keepable;
-  header_each = omega (arith, w.headers.ok.0, header_each);
-  content_each = omega (arith, w.contents.ok.0, content_each);
-}
 
 module _ (d : Description) (hs : List ObjectHeader) (cs : List (Content Cap)) (laid : AreLaid d hs cs) where
   module _ (limits : IsWithinLimits d) (s : IsSoundDescription d) (old new : Disk) where

@@ -1,5 +1,4 @@
 mod Names
-pub mod Rules
 mod Refusals
 pub mod Images
 mod Numbered

@@ -1,13 +1,15 @@
 -- The names that the proofs here cite: of other crates, and of the definitions of this one.
-pub use Rattle.capability.proofs.Keeping.{keepable_later}
 pub use Rattle.checkpoint.specs.Opened.{OnlyReads}
 pub use Rattle.checkpoint.specs.Saved.{Holds, SavedFrames, kept_of}
 pub use Rattle.description.proofs.DescribedOnce.{described_once}
+pub use Rattle.description.proofs.Rules.{all_kept, field_broken, number_broken, owner_broken, small_broken, target_broken}
+pub use Rattle.description.proofs.Worlds.{world_laid}
 pub use Rattle.description.specs.Described.{HasFields, HasNumbers, IsDescribed, IsWorldFault}
+pub use Rattle.description.specs.Laid.{AreLaid}
 pub use Rattle.description.specs.Outcomes.{Fails}
 pub use Rattle.description.specs.Reading.{IsDescription}
+pub use Rattle.description.specs.Rules.{IsAccepted, IsRefused, IsWithinLimits, Refuses, Rule, TellsNoSize, plan_for}
 pub use Rattle.description.specs.declared.entry.Description.{Description}
-pub use Rattle.description.specs.declared.world.World.{World}
 pub use Rattle.device.proofs.Images.{agrees_is}
 pub use Rattle.device.proofs.Moments.{OnlyNow, leaves_weaker, started}
 pub use Rattle.device.specs.Calls.{Agrees, Elsewhere}
@@ -31,8 +33,7 @@ pub use Rattle.layout.specs.declared.open_fault.OpenFault.{OpenFault}
 pub use Rattle.layout.specs.declared.version.Version.TheVariants.{Two}
 pub use Rattle.migrator.specs.Durable.{DurableState, saved_by}
 unfoldable pub use Rattle.model.specs.Frame.{frames_in}
-pub use Rattle.model.specs.Keepable.{AreKeepable, IsSoundFrames}
-pub use Rattle.model.specs.Sound.{object_count}
+pub use Rattle.model.specs.Keepable.{IsSoundFrames}
 pub use Rattle.model.specs.declared.capability.Cap.{Cap}
 pub use Rattle.model.specs.declared.frame.Frame.{Frame}
 pub use Rattle.model.specs.declared.frame.ObjectHeader.{ObjectHeader}
@@ -43,16 +44,13 @@ pub use Rattle.recovery.specs.Consistency.{AreBanked, AreNamed, AreWholeProcesse
 pub use Rattle.recovery.specs.Denotes.{IsSoundSaved}
 pub use Rattle.recovery.specs.Recovered.{RefusesToOpen}
 pub use Rattle.std.proofs.Common.{List, [], ap, append_assoc, arith, drop, get_or, inl, inr, length, refl, rules, subst, suc, sym, zero, ℕ, ⊎_elim}
-pub use Rattle.std.proofs.lemmas.Bool.{cases_lt}
 pub use Rattle.std.proofs.lemmas.List.{append-nil, drop_all, drop_more}
 pub use Rattle.std.proofs.lemmas.Result.{err_from_is_err_and}
-pub use Rattle.std.specs.Prelude.{Err, IfErr, IfOk, IsErrOf, Ok, OnOk, Result, slice_index_or, vec_len}
+pub use Rattle.std.specs.Prelude.{Err, IfErr, IfOk, IsErrOf, Ok, OnOk, Result, slice_index_or}
 pub use Rattle.toml.specs.Data.{Members}
 pub use Rattle.toml.specs.View.{table_view}
-pub use Rattle.image_builder.specs.Built.{Builds, BuildsFrom, IsAccepted, IsFirstBroken, IsLeftOf, IsRefused, IsWithinLimits, Refuses, Rule, TellsNoSize}
-pub use Rattle.image_builder.specs.Built.{plan_for}
-pub use Rattle.image_builder.specs.Checked.{AreLaid, IsLeftBuilding, IsRefusedEarly, IsSoundDescription}
-pub use Rattle.image_builder.specs.Laws.{NoFault, OneFault}
+pub use Rattle.image_builder.specs.Built.{Builds, BuildsFrom, IsLeftOf}
+pub use Rattle.image_builder.specs.Checked.{IsLeftBuilding, IsRefusedEarly, IsSoundDescription}
 pub use Rattle.image_builder.specs.Upgraded.{IsLeftUpgrading, IsNotUpgraded, IsOnlyRead, IsOpenedFrom, IsWhole, Upgrades, WritesUpgraded, upgraded}
 unfoldable pub use Rattle.image_builder.specs.Upgraded.{numbered}
 pub use Rattle.image_builder.specs.declared.upgrade_fault.UpgradeFault.{UpgradeFault}

@@ -3,10 +3,9 @@ use Rattle.image_builder.proofs.Names.{ℕ, List, ap, refl, subst, sym, arith, I
 use Rattle.image_builder.proofs.Names.{Content, frames_in, IsSoundFrames, sound_banked, sound_named, BadImage, BadCapability, BadProcess, BadBank, AreBanked}
 use Rattle.image_builder.proofs.Names.{AreNamed, AreWholeProcesses, IsInconsistent, Description, IsDescription, HasFields, HasNumbers, IsDescribed, BuildFault}
 use Rattle.image_builder.proofs.Names.{Shape, Limits, Number, Field, Target, Owner, Small, Failed, NoMemory, Builds, BuildsFrom, IsAccepted, IsRefused}
-use Rattle.image_builder.proofs.Names.{IsWithinLimits, Refuses, Rule, TellsNoSize, fault_number, AreLaid, IsRefusedEarly, IsSoundDescription, described_once}
-use Rattle.image_builder.proofs.Names.{IsWorldFault, Fails}
+use Rattle.image_builder.proofs.Names.{fault_number, IsRefusedEarly, IsSoundDescription, described_once, IsWithinLimits, Refuses, Rule, TellsNoSize, AreLaid}
+use Rattle.image_builder.proofs.Names.{IsWorldFault, Fails, all_kept, field_broken, number_broken, owner_broken, small_broken, target_broken}
 use Rattle.std.proofs.Common.{◌≡◌, ◌≢◌, ◌<◌}
-use Rattle.image_builder.proofs.Rules.{all_kept, field_broken, number_broken, owner_broken, small_broken, target_broken}
 
 -- a lesser fault isn't that of the device
 unfailed : (fault : BuildFault) → fault_number fault < 8 → fault ≢ Failed

@@ -1,5 +1,4 @@
 pub mod Names
 pub mod Built
 pub mod Checked
-pub mod Laws
 pub mod Upgraded

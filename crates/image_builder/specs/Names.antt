@@ -4,32 +4,23 @@ pub use Rattle.checkpoint.specs.Opened.{OnlyReads}
 pub use Rattle.checkpoint.specs.Saved.{Holds, SavedFrames, kept_of}
 pub use Rattle.description.specs.Described.{HasFields, HasNumbers, IsDescribed}
 pub use Rattle.description.specs.Reading.{IsDescription}
+pub use Rattle.description.specs.Rules.{IsAccepted, IsRefused, plan_for}
 pub use Rattle.description.specs.declared.entry.Description.{Description}
 pub use Rattle.device.specs.Calls.{Elsewhere}
 pub use Rattle.device.specs.Disk.{Disk, Image}
 pub use Rattle.device.specs.Moments.{LeavesOnly}
-pub use Rattle.image_writer.specs.Faults.{fault_number}
-pub use Rattle.image_writer.specs.Laid.{MayBeLaid, laid_again, plan_from}
+pub use Rattle.image_writer.specs.Laid.{laid_again}
 pub use Rattle.image_writer.specs.Written.{IsLeftWriting, first_saved, first_state}
 pub use Rattle.image_writer.specs.declared.fault.BuildFault.{BuildFault}
-pub use Rattle.image_writer.specs.declared.fault.BuildFault.TheVariants.{Failed, Field, Limits, NoMemory, Number, Owner}
-pub use Rattle.image_writer.specs.declared.fault.BuildFault.TheVariants.{Shape, Small, Target}
+pub use Rattle.image_writer.specs.declared.fault.BuildFault.TheVariants.{Failed}
 pub use Rattle.layout.specs.Image.{Encodes, SavedState}
-pub use Rattle.layout.specs.Superblock.{Plan, version_number}
 pub use Rattle.layout.specs.declared.directory.Entry.{Entry}
 pub use Rattle.layout.specs.declared.open_fault.OpenFault.{OpenFault}
-pub use Rattle.layout.specs.declared.version.Version.{Version}
-pub use Rattle.layout.specs.declared.version.Version.TheVariants.{One, Two}
+pub use Rattle.layout.specs.declared.version.Version.TheVariants.{Two}
 pub use Rattle.migrator.specs.Durable.{DurableState, saved_by}
-unfoldable pub use Rattle.model.specs.Frame.{frames_in}
-pub use Rattle.model.specs.Keepable.{AreKeepable, IsSoundFrames}
-pub use Rattle.model.specs.Sound.{object_count}
-pub use Rattle.model.specs.declared.capability.Cap.{Cap}
+pub use Rattle.model.specs.Keepable.{IsSoundFrames}
 pub use Rattle.model.specs.declared.frame.Frame.{Frame}
-pub use Rattle.model.specs.declared.frame.ObjectHeader.{ObjectHeader}
-pub use Rattle.model.specs.declared.object.Content.{Content}
-pub use Rattle.recovery.specs.Consistency.{AreBanked, AreNamed}
 pub use Rattle.recovery.specs.Denotes.{IsSoundSaved}
 pub use Rattle.recovery.specs.Recovered.{RefusesToOpen}
-pub use Rattle.std.specs.Prelude.{IfErr, IfOk, IsErrOf, List, OnOk, Result, [], length, ℕ}
+pub use Rattle.std.specs.Prelude.{IfErr, IfOk, IsErrOf, List, OnOk, Result, [], ℕ}
 pub use Rattle.toml.specs.Data.{Members}

@@ -4,7 +4,8 @@ ghost use Rattle.toml.specs.Data.{Members};
 ghost use Rattle.toml.specs.View.{table_view};
 ghost use Rattle.device.specs.Moments.{LeavesOnly};
 ghost use Rattle.description.specs.Reading.{IsDescription};
-ghost use Rattle.image_builder.specs.Built.{BuildsFrom, IsLeftOf, IsWithinLimits, Refuses, TellsNoSize, plan_for};
+ghost use Rattle.image_builder.specs.Built.{BuildsFrom, IsLeftOf};
+ghost use Rattle.description.specs.Rules.{IsWithinLimits, Refuses, TellsNoSize, plan_for};
 
 use crate::planning::plan;
 use crate::writing::build_described;
@@ -26,7 +27,7 @@ pub struct Blueprint {
 impl Model for Blueprint {
     ghost use Rattle.std.specs.Prelude.{◌≡◌};
     ghost use Rattle.description.specs.declared.entry.Description.{Description};
-    ghost use Rattle.image_builder.specs.Built.{IsWithinLimits, plan_for};
+    ghost use Rattle.description.specs.Rules.{IsWithinLimits, plan_for};
 
     ghost Value = { Description };
 

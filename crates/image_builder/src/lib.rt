@@ -6,7 +6,6 @@
 mod blueprint;
 mod building;
 mod closable;
-pub mod laws;
 mod planning;
 mod upgrade_fault;
 mod upgrading;

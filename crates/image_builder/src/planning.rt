@@ -1,6 +1,6 @@
 // Where the parts of the images of descriptions lie.
 ghost use Rattle.std.specs.Prelude.{◌≡◌, IfOk, IfErr};
-ghost use Rattle.image_builder.specs.Built.{IsWithinLimits, plan_for};
+ghost use Rattle.description.specs.Rules.{IsWithinLimits, plan_for};
 
 use description::Description;
 use image_writer::{BuildFault, lay_out};

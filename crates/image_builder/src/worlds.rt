@@ -1,7 +1,8 @@
 // The worlds that descriptions name.
 ghost use Rattle.std.specs.Prelude.{◌≡◌, ◌≢◌, IfOk, IfErr, OnOk};
-ghost use Rattle.image_builder.specs.Built.{IsWithinLimits};
-ghost use Rattle.image_builder.specs.Checked.{AreLaid, IsRefusedEarly, IsSoundDescription};
+ghost use Rattle.description.specs.Rules.{IsWithinLimits};
+ghost use Rattle.image_builder.specs.Checked.{IsRefusedEarly, IsSoundDescription};
+ghost use Rattle.description.specs.Laid.{AreLaid};
 
 use capability::Plain;
 use checkpoint::OpenFault;

@@ -1,8 +1,10 @@
 // Writing the images of descriptions.
 ghost use Rattle.std.specs.Prelude.{◌≡◌, ◌≢◌, ◌<◌, ◌≤◌, ◌↔◌, IfErr, IsErrOf, OnOk};
 ghost use Rattle.device.specs.Moments.{LeavesOnly};
-ghost use Rattle.image_builder.specs.Built.{Builds, IsRefused, IsWithinLimits, plan_for};
-ghost use Rattle.image_builder.specs.Checked.{AreLaid, IsLeftBuilding, IsSoundDescription};
+ghost use Rattle.image_builder.specs.Built.{Builds};
+ghost use Rattle.description.specs.Rules.{IsRefused, IsWithinLimits, plan_for};
+ghost use Rattle.image_builder.specs.Checked.{IsLeftBuilding, IsSoundDescription};
+ghost use Rattle.description.specs.Laid.{AreLaid};
 
 use crate::worlds::lay_sound;
 use description::{Description, World};

@@ -9,11 +9,12 @@ pub use Rattle.description.proofs.Once.{description_once}
 pub use Rattle.description.specs.Described.{HasFields, HasNumbers}
 pub use Rattle.description.specs.Laws.{IsSame}
 pub use Rattle.description.specs.Reading.{IsDescription}
+pub use Rattle.description.specs.Rules.{IsWithinLimits, plan_for}
 pub use Rattle.description.specs.declared.entry.Description.{Description}
 pub use Rattle.description_explainer.specs.Places.{Explains}
 pub use Rattle.device.proofs.Images.{agrees_is}
 pub use Rattle.device.specs.Disk.{Disk, Image}
-pub use Rattle.image_builder.specs.Built.{BuildsFrom, IsWithinLimits, plan_for}
+pub use Rattle.image_builder.specs.Built.{BuildsFrom}
 pub use Rattle.image_builder.specs.Upgraded.{IsRefusedAsOld, ReadsAndCloses, Upgrades}
 pub use Rattle.image_builder.specs.declared.upgrade_fault.UpgradeFault.{UpgradeFault}
 pub use Rattle.image_describer.proofs.GrownDescription.{brief_grown, fields_grown}

@@ -6,12 +6,13 @@ pub use Rattle.checkpoint.specs.Store.{View}
 pub use Rattle.checkpoint.specs.declared.committed.Checkpoint.{Checkpoint}
 pub use Rattle.collections.specs.Marks.{is_marked}
 pub use Rattle.description.specs.Reading.{IsDescription}
+pub use Rattle.description.specs.Rules.{IsAccepted, Refuses, plan_for}
 pub use Rattle.description.specs.declared.entry.Description.{Description}
 pub use Rattle.description_explainer.specs.Places.{Explains}
 pub use Rattle.description_explainer.specs.Text.{IsExplanation}
 pub use Rattle.description_explainer.specs.declared.place.Place.{Place}
 pub use Rattle.device.specs.Disk.{Disk, Image}
-pub use Rattle.image_builder.specs.Built.{BuildsFrom, IsAccepted, IsSavedOf, Refuses, plan_for}
+pub use Rattle.image_builder.specs.Built.{BuildsFrom, IsSavedOf}
 pub use Rattle.image_builder.specs.Upgraded.{IsNotUpgraded, Upgrades}
 pub use Rattle.image_builder.specs.declared.upgrade_fault.UpgradeFault.{UpgradeFault}
 pub use Rattle.image_describer.specs.Describes.{Describes, IsBrief}

@@ -1,6 +1,6 @@
 use Rattle.description.proofs.Names.{length, get_or, refl, sym, arith, common_steps, view, false≢true}
 use Rattle.std.proofs.Common.{◌≡◌, ◌<◌, ◌≤◌, ◌∙◌}
-use Rattle.description.proofs.FaultElements.{all_taken, one_more}
+use Rattle.description.proofs.Taken.{all_taken, one_more}
 use Rattle.description.proofs.list.are_said.Goals as goal
 
 pub returns-then-not-is_said : goal.returns-then-not-is_said

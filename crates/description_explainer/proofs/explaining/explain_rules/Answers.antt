@@ -1,4 +1,4 @@
-use Rattle.description.proofs.Decisions.{at_some}
+use Rattle.description_explainer.proofs.Explanations.{at_some}
 use Rattle.description_explainer.proofs.Explanations.{explains_limit, explains_number}
 use Rattle.description_explainer.proofs.explaining.explain_rules.Goals as goal
 

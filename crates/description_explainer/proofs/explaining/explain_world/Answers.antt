@@ -1,4 +1,4 @@
-use Rattle.image_builder.proofs.Images.{world_laid}
+use Rattle.description.proofs.Worlds.{world_laid}
 use Rattle.description_explainer.proofs.explaining.explain_world.Goals as goal
 
 pub explain_frames-requires-clause-laid : goal.explain_frames-requires-clause-laid

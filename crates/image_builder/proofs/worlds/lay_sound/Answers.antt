@@ -1,5 +1,4 @@
-use Rattle.image_builder.proofs.Names.{err_from_is_err_and, AreLaid}
-use Rattle.image_builder.proofs.Images.{world_laid}
+use Rattle.image_builder.proofs.Names.{err_from_is_err_and, AreLaid, world_laid}
 use Rattle.image_builder.proofs.Refusals.{world_refused}
 use Rattle.image_builder.proofs.worlds.lay_sound.Goals as goal
 

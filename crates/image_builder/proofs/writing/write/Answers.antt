@@ -1,4 +1,4 @@
-use Rattle.image_builder.specs.Checked.{AreLaid}
+use Rattle.description.specs.Laid.{AreLaid}
 use Rattle.image_builder.proofs.Images.{builds, left_writing}
 use Rattle.image_builder.proofs.writing.write.Goals as goal
 

@@ -1,5 +1,0 @@
-use Rattle.description.proofs.Names.{take, All, IsProcessEntry}
-use Rattle.description.proofs.faults.fields.bad_processes.Given as goal
-
-abbrev pub invariant-loop-k : goal.invariant-loop-k
-invariant-loop-k l = All IsProcessEntry (take l.k l.processes)

@@ -1,0 +1,13 @@
+use Rattle.description_explainer.proofs.Names.{common_steps, arith, refl}
+use Rattle.std.proofs.Common.{◌∙◌}
+use Rattle.description_explainer.proofs.NumberPlaces.{annex_number, node_number}
+use Rattle.description_explainer.proofs.faults.numbers.node_named_at.Goals as goal
+
+pub returns-then-annex-processes-clause-number : goal.returns-then-annex-processes-clause-number
+returns-then-annex-processes-clause-number c = grind (arith, common_steps, annex_number)
+
+pub returns-clause-number : goal.returns-clause-number
+returns-clause-number c =
+    let d = c.args.description.now in
+    node_number d _ _ _ _ _ (c.len-banks.ensures ∙ d.banks.ok.0) (c.len-processes.ensures ∙ d.processes.ok.0) c.if-place-banks.false refl
+    c.if-root-processes.false refl c.if-annex-processes.false

@@ -1,0 +1,33 @@
+-- The names of other crates that the definitions here cite.
+pub use Rattle.description.specs.Described.{IsDescribed, IsSomeCapability, IsSpaceEntry, node_numbers}
+pub use Rattle.description.specs.Reading.{AreFour, At, AtOr, HasList, IsBank, IsCapability, IsDescription, IsNode}
+pub use Rattle.description.specs.Reading.{IsNumber, IsPage, IsProcess, IsRange, IsSlot, IsState, IsTable, IsWord}
+pub use Rattle.description.specs.Reading.{has_key}
+unfoldable pub use Rattle.description.specs.Reading.{IsWideNumber}
+pub use Rattle.description.specs.Rules.{IsAccepted, IsFirstBroken, Refuses, plan_for}
+pub use Rattle.description.specs.declared.entry.BankEntry.{BankEntry}
+pub use Rattle.description.specs.declared.entry.Description.{Description}
+pub use Rattle.description.specs.declared.entry.NodeEntry.{NodeEntry}
+pub use Rattle.description.specs.declared.entry.PageEntry.{PageEntry}
+pub use Rattle.description.specs.declared.entry.ProcessEntry.{ProcessEntry}
+pub use Rattle.description.specs.declared.entry.SlotEntry.{SlotEntry}
+pub use Rattle.description.specs.declared.entry.WordEntry.{WordEntry}
+pub use Rattle.image_writer.specs.Faults.{fault_number}
+pub use Rattle.image_writer.specs.Laid.{placed}
+pub use Rattle.image_writer.specs.declared.fault.BuildFault.{BuildFault}
+pub use Rattle.image_writer.specs.declared.number_range.NumberRange.{NumberRange}
+pub use Rattle.layout.specs.Superblock.{IsNext, version_number}
+pub use Rattle.layout.specs.declared.version.Version.{Version}
+pub use Rattle.model.specs.Sound.{object_count}
+pub use Rattle.model.specs.declared.capability.Capability.{Capability}
+pub use Rattle.model.specs.declared.capability.Capability.TheVariants.{Void}
+pub use Rattle.model.specs.declared.frame.Frame.{Frame}
+pub use Rattle.model.specs.declared.geometry.Geometry.{Geometry}
+pub use Rattle.model.specs.declared.object.State.{State}
+pub use Rattle.recovery.specs.Consistency.{IsUnbanked, NamesItsRole}
+pub use Rattle.recovery.specs.declared.consistency.reason.Unbanked.{Unbanked}
+pub use Rattle.std.specs.Fmt.{debug_str}
+pub use Rattle.std.specs.List.{All, Contains, list_any}
+pub use Rattle.std.specs.Prelude.{Bool, IfSome, IsSomeAnd, IsTrue, List, None, Option, Some, [], codes, decimal, false}
+pub use Rattle.std.specs.Prelude.{length, map, option_map, position, slice_get, take, true, unwrap_or, ℕ}
+pub use Rattle.toml.specs.Data.{Data, Items, Members, array, get_item, get_member, same_key, table}

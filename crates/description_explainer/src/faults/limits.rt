@@ -1,0 +1,75 @@
+// Which size of a description no image has.
+ghost use Rattle.std.specs.Prelude.{◌≡◌, ◌+◌, ◌<◌, ◌≤◌, ◌↔◌, length, map, IsTrue, MatchOption};
+ghost use Rattle.layout.specs.Superblock.{Cover, IsGeometry, IsNext};
+ghost use Rattle.image_writer.specs.Laid.{MayBeLaid, placed};
+ghost use Rattle.model.specs.Sound.{object_count};
+ghost use Rattle.description_explainer.specs.Broken.{BreaksGeometry, BreaksRanges, GoesOn};
+
+use crate::faults::place::Limit;
+use image_writer::NumberRange;
+use layout::{MAX_LOG, MAX_RANGES};
+use model::Geometry;
+
+// The least number of nodes and of slots in a half of the log, and the greatest of nodes and of pages.
+const LEAST: u64 = 16;
+
+const GREATEST: u64 = 4096;
+
+/// Which count of objects or slots is outside its limits, if one is.
+pub fn bad_count(geometry: Geometry) -> Option<Limit>
+    ensures { MatchOption result (IsGeometry geometry) (λ limit. BreaksGeometry geometry limit) }
+{
+    if geometry.nodes < LEAST || geometry.nodes > GREATEST {
+        return Some(Limit::Nodes);
+    }
+    if geometry.pages < 1 || geometry.pages > GREATEST {
+        return Some(Limit::Pages);
+    }
+    if geometry.log < LEAST || geometry.log > MAX_LOG as u64 {
+        return Some(Limit::Log);
+    }
+    None
+}
+
+// Whether a range goes on at a number, isn't empty, is of one kind, and doesn't go beyond the last number.
+fn goes_on(geometry: Geometry, range: NumberRange, next: u64) -> bool
+    requires geometry { IsGeometry geometry }
+    requires within { next ≤ object_count geometry }
+    ensures { IsTrue result ↔ GoesOn geometry range next }
+{
+    let is_of_one_kind = range.first >= geometry.nodes
+        || range.count <= geometry.nodes - range.first;
+    let is_within = range.count <= geometry.nodes + geometry.pages - next;
+    range.first == next && range.count > 0 && is_of_one_kind && is_within
+}
+
+// Which range doesn't go on where the one before ends, if one doesn't.
+fn bad_range(geometry: Geometry, ranges: &[NumberRange]) -> Option<Limit>
+    requires { IsGeometry geometry }
+    ensures { MatchOption result (Cover geometry 0 (map (placed 0) ranges.now))
+        (λ limit. BreaksRanges geometry ranges.now limit) }
+{
+    let mut next = 0;
+    for (index, range) in ranges.iter().enumerate() {
+        if !goes_on(geometry, *range, next) {
+            return Some(Limit::Range { index, next });
+        }
+        next += range.count;
+    }
+    if next < geometry.nodes + geometry.pages {
+        return Some(Limit::RangesEnd { next });
+    }
+    None
+}
+
+/// What is wrong with the ranges, if anything is.
+pub fn bad_ranges(geometry: Geometry, ranges: &[NumberRange]) -> Option<Limit>
+    requires { IsGeometry geometry }
+    ensures { MatchOption result (MayBeLaid geometry ranges.now)
+        (λ limit. BreaksRanges geometry ranges.now limit) }
+{
+    if ranges.is_empty() || ranges.len() > MAX_RANGES {
+        return Some(Limit::RangeCount);
+    }
+    bad_range(geometry, ranges)
+}

@@ -1,0 +1,120 @@
+// Which number of a description is none of its kind, or comes twice.
+ghost use Rattle.std.specs.Prelude.{◌≡◌, ℕ, ◌++◌, ◌<◌, ◌≤◌, length, slice_get, IfOk, MatchOption};
+ghost use Rattle.layout.specs.Superblock.{IsGeometry};
+ghost use Rattle.model.specs.declared.geometry.Geometry.{Geometry};
+ghost use Rattle.std.specs.List.{All};
+ghost use Rattle.model.specs.Sound.{object_count};
+ghost use Rattle.description.specs.Described.{AreDistinct, HasNumbers, node_numbers, page_numbers};
+ghost use Rattle.description_explainer.specs.FaultOutcomes.{BreaksIt, place_of};
+ghost use Rattle.description_explainer.specs.Broken.{BreaksNumber, IsOfItsKind, number_at};
+
+use crate::faults::indexes::{find_outside, find_twice};
+use crate::faults::place::{Misnumbered, Named};
+use description::{Description, node_numbers, page_numbers};
+use std::alloc::{AllocError, Global};
+
+// The bank, process or node whose number stands at a place among those of banks, roots, annexes and nodes.
+fn node_named_at(description: &Description, place: usize) -> Named
+    ensures number { number_at description.now result ≡ slice_get (node_numbers description.now) place }
+    ensures place { place_of description.now result ≡ place }
+    ensures kind { (g : Geometry) (n : ℕ) → IsOfItsKind g result n → n < g.nodes }
+{
+    let banks = description.banks.len();
+    let processes = description.processes.len();
+    if place < banks {
+        return Named::Bank(place);
+    }
+    let root = place - banks;
+    if root < processes {
+        return Named::Root(root);
+    }
+    let annex = root - processes;
+    if annex < processes {
+        return Named::Annex(annex);
+    }
+    Named::Node(annex - processes)
+}
+
+// The object whose number stands at a place among all.
+fn named_at(description: &Description, nodes: usize, place: usize) -> Named
+    requires { nodes ≡ length (node_numbers description.now) }
+    ensures number { number_at description.now result
+        ≡ slice_get (node_numbers description.now ++ page_numbers description.now) place }
+    ensures place { place_of description.now result ≡ place }
+{
+    if place < nodes {
+        node_named_at(description, place)
+    } else {
+        Named::Page(place - nodes)
+    }
+}
+
+// Which number of a bank, a process or a node isn't one of a node, if there is one.
+fn node_out_of_range(description: &Description, numbers: &[u64]) -> Option<Misnumbered>
+    requires { numbers.now ≡ node_numbers description.now }
+    ensures { MatchOption result
+        (All (λ n. (0 ≤ n) × (n < description.now.geometry.nodes)) numbers.now)
+        (BreaksIt (BreaksNumber description.now) (HasNumbers description.now)) }
+{
+    match find_outside(0, description.geometry.nodes, numbers) {
+        Some(i) => Some(Misnumbered::OutOfRange(node_named_at(description, i))),
+        None => None,
+    }
+}
+
+// Which number of a page isn't one of a page, if there is one.
+fn page_out_of_range(description: &Description, numbers: &[u64]) -> Option<Misnumbered>
+    requires geometry { IsGeometry description.now.geometry }
+    requires numbers { numbers.now ≡ page_numbers description.now }
+    ensures { MatchOption result
+        (All (λ n. (description.now.geometry.nodes ≤ n) × (n < object_count description.now.geometry)) numbers.now)
+        (BreaksIt (BreaksNumber description.now) (HasNumbers description.now)) }
+{
+    let end = description.geometry.nodes + description.geometry.pages;
+    match find_outside(description.geometry.nodes, end, numbers) {
+        Some(i) => Some(Misnumbered::OutOfRange(Named::Page(i))),
+        None => None,
+    }
+}
+
+// Which two objects have one number, if there are two.
+fn named_twice(description: &Description, nodes: usize, numbers: &[u64]) -> Option<Misnumbered>
+    requires nodes { nodes ≡ length (node_numbers description.now) }
+    requires numbers { numbers.now ≡ node_numbers description.now ++ page_numbers description.now }
+    ensures { MatchOption result (AreDistinct numbers.now)
+        (BreaksIt (BreaksNumber description.now) (HasNumbers description.now)) }
+{
+    match find_twice(numbers) {
+        Some((i, j)) => Some(Misnumbered::Twice(
+            named_at(description, nodes, i),
+            named_at(description, nodes, j),
+        )),
+        None => None,
+    }
+}
+
+/// Which number of a description is none of its kind, or comes twice, if there is one. Fails only where
+/// memory runs out.
+pub fn misnumbered(
+    alloc: Global,
+    description: &Description,
+) -> Result<Option<Misnumbered>, AllocError>
+    requires { IsGeometry description.now.geometry }
+    ensures { IfOk result (λ found. MatchOption found (HasNumbers description.now)
+        (BreaksIt (BreaksNumber description.now) (HasNumbers description.now))) }
+{
+    let nodes = node_numbers(alloc, description)?;
+    let pages = page_numbers(alloc, description)?;
+    match node_out_of_range(description, &nodes) {
+        Some(place) => return Ok(Some(place)),
+        None => {}
+    }
+    match page_out_of_range(description, &pages) {
+        Some(place) => return Ok(Some(place)),
+        None => {}
+    }
+    let count = nodes.len();
+    let mut numbers = nodes;
+    numbers.extend_from_slice(&pages)?;
+    Ok(named_twice(description, count, &numbers))
+}

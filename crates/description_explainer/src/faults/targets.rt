@@ -1,0 +1,169 @@
+// Which capability of a description names no object of its kind.
+ghost use Rattle.std.specs.Prelude.{◌≡◌, ◌↔◌, false, IsTrue, MatchOption};
+ghost use Rattle.std.specs.List.{All};
+ghost use Rattle.model.specs.declared.capability.Capability.{Capability};
+ghost use Rattle.capability.specs.Parts.{frames_of};
+ghost use Rattle.capability.specs.Plain.{parts_of};
+ghost use Rattle.recovery.specs.Consistency.{NamesItsRole};
+ghost use Rattle.recovery.specs.Noted.{AreNoted};
+ghost use Rattle.model.specs.Keepable.{IsTarget};
+ghost use Rattle.description_explainer.specs.FaultOutcomes.{AllHave, AllIn, AllOfProcess, IfNamed, OneLacks, OneOf};
+ghost use Rattle.description_explainer.specs.FaultOutcomes.{OneOfNodes};
+ghost use Rattle.description_explainer.specs.FaultOutcomes.{OneOfProcess, OneOfProcesses, LacksIt};
+
+use crate::faults::place::Held;
+use capability::Plain;
+use description::{Description, NodeEntry, ProcessEntry, SlotEntry};
+use model::{Capability, Geometry};
+use recovery::{Noted, names_its_role};
+use std::marker::Model;
+
+/// A test of what a capability names.
+pub trait Naming {
+    /// Whether a capability passes.
+    ghost Passes: { Self → Capability → Type 0 };
+
+    fn passes(&self, capability: Capability) -> bool
+        ensures { IsTrue result ↔ Passes self.now capability };
+}
+
+/// What a capability names is a number of its kind.
+#[derive(Drop)]
+pub struct OfItsKind {
+    geometry: Geometry,
+}
+
+impl Model for OfItsKind {
+    ghost use Rattle.model.specs.declared.geometry.Geometry.{Geometry};
+
+    ghost Value = { Geometry };
+
+    ghost view = { λ k. k.geometry };
+}
+
+impl OfItsKind {
+    pub fn new(geometry: Geometry) -> OfItsKind
+        ensures { result ≡ geometry }
+    {
+        OfItsKind { geometry }
+    }
+}
+
+impl Naming for OfItsKind {
+    ghost Passes = { λ g c. IsTarget g c };
+
+    fn passes(&self, capability: Capability) -> bool {
+        self.geometry.has_target(capability)
+    }
+}
+
+/// What a capability names is an object of its kind, and that of a resume capability waits.
+#[derive(Drop)]
+pub struct OfItsRole<'a> {
+    frames: &'a Plain,
+    notes: &'a [Option<Noted>],
+}
+
+impl<'a> Model for OfItsRole<'a> {
+    ghost use Rattle.std.specs.Prelude.{List};
+    ghost use Rattle.model.specs.declared.frame.Frame.{Frame};
+    ghost use Rattle.capability.specs.Parts.{frames_of};
+    ghost use Rattle.capability.specs.Plain.{parts_of};
+    ghost use Rattle.recovery.specs.Noted.{AreNoted};
+
+    ghost Value = { List Frame };
+
+    ghost view = { λ r. frames_of (parts_of r.frames.now) };
+
+    ghost invariant = { λ r. AreNoted (frames_of (parts_of r.frames.now)) r.notes.now };
+}
+
+impl<'a> OfItsRole<'a> {
+    pub fn new(frames: &'a Plain, notes: &'a [Option<Noted>]) -> OfItsRole<'a>
+        requires { AreNoted (frames_of (parts_of frames.now)) notes.now }
+        ensures { result ≡ frames_of (parts_of frames.entry.now) }
+    {
+        OfItsRole { frames, notes }
+    }
+}
+
+impl Naming for OfItsRole<'_> {
+    ghost Passes = { λ fs c. NamesItsRole fs c };
+
+    fn passes(&self, capability: Capability) -> bool {
+        names_its_role(self.frames, self.notes, capability)
+    }
+}
+
+// Whether a capability that may be absent passes.
+fn may_pass<N: Naming>(naming: &N, capability: Option<Capability>) -> bool
+    ensures passes { IsTrue result → IfNamed (N.Passes naming.now) capability }
+    ensures fails { result ≡ false → LacksIt (N.Passes naming.now) capability }
+{
+    match capability {
+        Some(capability) => naming.passes(capability),
+        None => true,
+    }
+}
+
+// The first slot whose capability doesn't pass, if there is one.
+fn first_failing<N: Naming>(naming: &N, slots: &[SlotEntry]) -> Option<usize>
+    ensures { MatchOption result (AllIn (N.Passes naming.now) slots.now)
+        (λ i. OneOf (N.Passes naming.now) slots.now i) }
+{
+    for (i, slot) in slots.iter().enumerate() {
+        if !may_pass(naming, slot.capability) {
+            return Some(i);
+        }
+    }
+    None
+}
+
+fn failing_in_process<N: Naming>(naming: &N, k: usize, process: &ProcessEntry) -> Option<Held>
+    ensures { MatchOption result (AllOfProcess (N.Passes naming.now) process.now)
+        (λ at. OneOfProcess (N.Passes naming.now) k process.now at) }
+{
+    if !may_pass(naming, process.space) {
+        return Some(Held::Space(k));
+    }
+    match first_failing(naming, &process.registers) {
+        Some(i) => Some(Held::Register(k, i)),
+        None => None,
+    }
+}
+
+fn failing_in_processes<N: Naming>(naming: &N, processes: &[ProcessEntry]) -> Option<Held>
+    ensures { MatchOption result (All (AllOfProcess (N.Passes naming.now)) processes.now)
+        (λ at. OneOfProcesses (N.Passes naming.now) processes.now at) }
+{
+    for k in 0..processes.len() {
+        match failing_in_process(naming, k, &processes[k]) {
+            Some(at) => return Some(at),
+            None => {}
+        }
+    }
+    None
+}
+
+fn failing_in_nodes<N: Naming>(naming: &N, nodes: &[NodeEntry]) -> Option<Held>
+    ensures { MatchOption result (All (λ n. AllIn (N.Passes naming.now) n.slots.items) nodes.now)
+        (λ at. OneOfNodes (N.Passes naming.now) nodes.now at) }
+{
+    for k in 0..nodes.len() {
+        if let Some(i) = first_failing(naming, &nodes[k].slots) {
+            return Some(Held::Slot(k, i));
+        }
+    }
+    None
+}
+
+/// Which capability of a description doesn't pass, if there is one.
+pub fn failing<N: Naming>(naming: &N, description: &Description) -> Option<Held>
+    ensures { MatchOption result (AllHave (N.Passes naming.now) description.now)
+        (λ at. OneLacks (N.Passes naming.now) description.now at) }
+{
+    if let Some(at) = failing_in_processes(naming, &description.processes) {
+        return Some(at);
+    }
+    failing_in_nodes(naming, &description.nodes)
+}
