@@ -14,7 +14,7 @@ pub use Rattle.model.specs.declared.object.Content.{Content}
 pub use Rattle.model.specs.declared.object.Object.{Object}
 pub use Rattle.model.specs.declared.object.Root.{Root}
 pub use Rattle.model_laws.proofs.ConfinedRuns.{run_confined}
-pub use Rattle.script.proofs.Fronts.{text_fails, writes_after, writes_fail, wrote_trans}
+pub use Rattle.script.proofs.Fronts.{first_front, second_front, text_fails, writes_after, writes_fail, wrote_trans}
 pub use Rattle.script.specs.Writing.{Writes, Wrote}
 pub use Rattle.std.proofs.Common.{Bool, Err, List, None, Option, Some, Vec, [], add-one, ap, append-nil, append_assoc, arith, codes, decimal, drop, false}
 pub use Rattle.std.proofs.Common.{get_or, inl, inr, is_some, length, length-set, length-take-le, max, nat_eq, not, option_and_then, refl, replicate, reverse}

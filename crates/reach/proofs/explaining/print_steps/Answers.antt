@@ -1,4 +1,4 @@
-use Rattle.reach.proofs.Names.{common_steps, arith, sym, wrote_trans, err_from_is_err_and, writes_fail, step_line}
+use Rattle.reach.proofs.Names.{first_front, second_front, common_steps, arith, sym, wrote_trans, err_from_is_err_and, writes_fail, step_line}
 use Rattle.reach.specs.declared.step.Way.TheVariants as way
 use Rattle.reach.proofs.TextLines.{plain_all, plain_more, plain_split}
 use Rattle.reach.proofs.explaining.print_steps.Goals as goal
@@ -11,9 +11,7 @@ returns-in_err-write_to g c =
     c.loop-step.invariant (rw (← c.line_of_step.ensures.text) c.in_err-write_to.ensures))
 
 pub loop-step-preserved : goal.loop-step-preserved
-loop-step-preserved g c = rw (← sym
-    (plain_more (step_line c.args.objects.now) c.args.steps.now c.loop-step.step-index (record { from = 0; way = way.Annex; to = 0 })
-    c.loop-step-test.true)) (wrote_trans _ _ _ _ _ c.loop-step.invariant (rw (← c.line_of_step.ensures.text) c.in_ok-write_to.ensures))
+loop-step-preserved g c = grind (arith, common_steps, plain_more, wrote_trans)
 
 pub returns : goal.returns
 returns g c = grind (arith, common_steps, plain_all)

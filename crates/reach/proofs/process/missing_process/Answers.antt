@@ -23,10 +23,7 @@ pub returns-then-not-is_process-clause-first : goal.returns-then-not-is_process-
 returns-then-not-is_process-clause-first c = grind (arith, common_steps, find_first)
 
 pub loop-number-preserved : goal.loop-number-preserved
-loop-number-preserved c k d lt = elim (cases_lt k c.loop-number.number-index) [
-  | inl before ↦ c.loop-number.invariant k d before
-  | inr past ↦ grind (arith, nat_tests, get_or_default)
-]
+loop-number-preserved c k d lt = grind (arith, common_steps, cases_lt, get_or_default)
 
 pub returns-clause-first : goal.returns-clause-first
 returns-clause-first c = sym (find_none _ _ (λ k d lt. c.loop-number.invariant k d (omega (arith, lt, c.loop-number-test.false))))

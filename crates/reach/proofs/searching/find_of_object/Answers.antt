@@ -1,4 +1,4 @@
-use Rattle.reach.proofs.Names.{ap, sym, Capability, Content, slots_in}
+use Rattle.reach.proofs.Names.{common_steps, arith, ap, sym, Capability, Content, slots_in}
 use Rattle.std.proofs.Common.{◌∙◌}
 use Rattle.model.specs.declared.object.Content.TheVariants as content
 use Rattle.reach.proofs.Members.{content_is, slots_known}
@@ -29,6 +29,3 @@ pub returns-in-Bank : goal.returns-in-Bank
 returns-in-Bank c =
     let is = content_is c.args.objects.now c.args.number c.index-objects-number.result (content.Bank c.in-Bank.limit) c.requires.known c.in-Bank.is in
     finds_of_bank c.args.objects.now c.args.number c.args.level c.args.levels.now c.find_owned.new.levels c.in-Bank.limit is c.find_owned.ensures
-
-pub returns-in-Root : goal.returns-in-Root
-returns-in-Root c = c.find_of_process.ensures

@@ -1,4 +1,4 @@
-use Rattle.reach.proofs.Names.{ℕ, arith, ap, refl, subst, sym, get_or_default, Object, free, is_free, object_at, FindsBy, IsOwnedBelow}
+use Rattle.reach.proofs.Names.{common_steps, ℕ, arith, ap, refl, subst, sym, get_or_default, Object, free, is_free, object_at, FindsBy, IsOwnedBelow}
 use Rattle.std.proofs.Common.{◌≡◌, ◌∙◌}
 use Rattle.reach.proofs.Finding.{finds_none, owned_next_step, owned_skip}
 use Rattle.reach.proofs.searching.find_owned.Goals as goal
@@ -6,12 +6,6 @@ use Rattle.reach.proofs.searching.find_owned.Goals.{then-is_owned, else-is_owned
 
 pub loop-number-init : goal.loop-number-init
 loop-number-init c = finds_none (IsOwnedBelow c.args.objects.now 0 c.args.bank) c.args.level c.args.levels.now (λ s owned. absurd (omega (arith, owned.2)))
-
-pub add-requires-clause-known : goal.add-requires-clause-known
-add-requires-clause-known c = omega (arith, c.loop-number-test.true, c.requires.count, c.loop-number.invariant.count)
-
-pub add-requires-clause-level : goal.add-requires-clause-level
-add-requires-clause-level c = omega (arith, c.requires.level, c.loop-number.invariant.later)
 
 pub loop-number-preserved : goal.loop-number-preserved
 loop-number-preserved c =
@@ -28,8 +22,3 @@ loop-number-preserved c =
           let reported = c.is_owned.ensures.1 (sym (ap (λ (p : Object). is_free p.content) is) ∙ free, sym (ap (λ (p : Object). p.owner) is) ∙ owned) in
           let wrong = w.if-is_owned.false in cc) c.loop-number.invariant)
     ]
-
-pub returns : goal.returns
-returns c =
-    subst (λ (n : ℕ). FindsBy (IsOwnedBelow c.args.objects.now n c.args.bank) c.args.level c.args.levels.now c.loop-number.levels)
-    (omega (arith, c.loop-number.auto.number-end, c.loop-number-test.false)) c.loop-number.invariant

@@ -1,4 +1,4 @@
-use Rattle.reach.proofs.Names.{common_steps, ℕ, arith, subst, sym, FindsBy, IsFromLevel}
+use Rattle.reach.proofs.Names.{rules, common_steps, ℕ, arith, subst, sym, FindsBy, IsFromLevel}
 use Rattle.std.proofs.Common.{◌+◌}
 use Rattle.reach.proofs.Finding.{finds_none}
 use Rattle.reach.proofs.Searches.{level_next, level_skip}
@@ -8,9 +8,6 @@ use Rattle.reach.proofs.searching.follow_level.Goals.{then-is_at, else-is_at}
 pub loop-number-init : goal.loop-number-init
 loop-number-init c = grind (arith, common_steps, finds_none)
 
-pub find_of_object-requires-clause-level : goal.find_of_object-requires-clause-level
-find_of_object-requires-clause-level c = omega (arith, c.requires.level, c.loop-number.invariant.later)
-
 pub loop-number-preserved : goal.loop-number-preserved
 loop-number-preserved c =
     let os = c.args.objects.now in
@@ -19,8 +16,3 @@ loop-number-preserved c =
       | then-is_at w ↦ rw (w.levels-is) (level_next os _ _ _ i c.loop-number.invariant _ (sym w.if-is_at.ensures) w.find_of_object.ensures)
       | else-is_at w ↦ rw (w.levels-is) (level_skip os _ _ _ i c.loop-number.invariant (sym w.if-is_at.ensures))
     ]
-
-pub returns : goal.returns
-returns c =
-    subst (λ (n : ℕ). FindsBy (IsFromLevel c.args.objects.now c.args.levels.now c.args.level n) (c.args.level + 1) c.args.levels.now c.loop-number.levels)
-    (omega (arith, c.loop-number.auto.number-end, c.loop-number-test.false)) c.loop-number.invariant
