@@ -49,7 +49,3 @@ added_more app ss i d old sub new inside is adds is_sub = rw (subcommands_more a
 pub has_all : (app : App) (xs : List Argument) (rs : List Rule) (i : ℕ) (command : Command) → i ≡ length xs → map argument_rule xs ≡ rs →
     IsCommand (with_rules app (map argument_rule (take i xs))) command → IsCommand (with_rules app rs) command
 has_all app xs rs i command all same is = grind (arith, nat_tests, take-length)
-
-pub has_each : (app : App) (ss : List Subcommand) (i : ℕ) (command : Command) → i ≡ length ss → IsCommand (with_subcommands app (take i ss)) command →
-    IsCommand (with_subcommands app ss) command
-has_each app ss i command all is = rw (← ap (λ (n : ℕ). take n ss) all ∙ take-length ss) is

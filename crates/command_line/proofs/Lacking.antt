@@ -3,9 +3,10 @@ use Rattle.command_line.proofs.Names.{nat_tests, ap, refl, subst, sym, Bool, ℕ
 use Rattle.command_line.proofs.Names.{true≢false, inl, inr, codes, ⊤, cond, find, nat_lt, option_and_then, slice_get, unwrap_or, All, list_all, list_any}
 use Rattle.command_line.proofs.Names.{slice_index_or, option_map_or, bytes_eq, eqb-true, AllPass-from_list_all, bytes_eq-Decides, parser_of_value, Shape, built}
 use Rattle.command_line.proofs.Names.{label_of, values_pass, accepts, answers_to, arg_by_id, is_empty, IsUnsignedIn, Row, Rule, Text, all_of, first_of}
-use Rattle.command_line.proofs.Names.{ValueParser, Unsigned, accepts-Accepts, both, GivesNoNumber, has_all, is_whole, subcommand_named, eros_app, IsNoJob}
-use Rattle.command_line.proofs.Names.{IsSameTwice, Found, Bor, first_value, rows_of}
-use Rattle.std.proofs.Common.{◌≡◌, ◌∙◌, ◌&&◌, ◌||◌, ◌⊎◌, ◌∷◌}
+use Rattle.command_line.proofs.Names.{ValueParser, Unsigned, accepts-Accepts, both, GivesNoNumber, has_all, is_whole, subcommand_named, subcommand_name}
+use Rattle.command_line.proofs.Names.{subcommands, eros_app, IsNoJob, IsSameTwice, Found, Bor, first_value, rows_of, drop}
+use Rattle.std.proofs.Common.{◌≡◌, ◌≢◌, ◌<◌, ◌∙◌, ◌&&◌, ◌||◌, ◌⊎◌, ◌∷◌}
+use Rattle.command_line.specs.declared.subcommands.Subcommand.TheVariants as sub
 use Rattle.command_line.proofs.Getters.{missing}
 
 -- what is found passes its test, and each test that all pass
@@ -101,7 +102,7 @@ pub same_twice : (rows : List Row) (one other : Text) → first_of (codes "OLD")
 same_twice rows one other one_is other_is same has = inr (refl, one, one_is, other_is ∙ ap Some (sym same))
 
 -- the name is none of these
-abbrev pub DiffersFrom : Text → List Shape → Type 0
+abbrev DiffersFrom : Text → List Shape → Type 0
 DiffersFrom name [] = ⊤
 DiffersFrom name (s ∷ rest) = (name ≡ s.name → ⊥) × DiffersFrom name rest
 
@@ -117,9 +118,19 @@ not_found name (s ∷ rest) differs plain = go (bytes_eq s.name name) refl s.ali
     go false e (x ∷ xs) none more = let bad : suc (length xs) ≡ 0 = eqb-true _ _ none in absurd (omega arith)
 
 -- nor does a name that is none of the subcommands'
-pub unknown : (name : Text) (rows : List Row) → ((name ≡ codes "help" → ⊥) → DiffersFrom name (built eros_app).subs) → IsNoJob name rows
-unknown name rows differs has = go (bytes_eq name (codes "help")) refl
+pub unknown : (name : Text) (rows : List Row) → All (λ s. name ≢ subcommand_name s) subcommands → IsNoJob name rows
+unknown name rows each has = go (bytes_eq name (codes "help")) refl
   where
+    at : (i : ℕ) → i < 10 → name ≢ subcommand_name (slice_index_or subcommands i sub.Build)
+    at i inside = each i sub.Build inside
+
+    differs : (name ≡ codes "help" → ⊥) → DiffersFrom name (built eros_app).subs
+    differs help =
+        let shapes : List Shape = (built eros_app).subs in
+        let last : DiffersFrom name (drop 7 shapes) = (at 7 (omega arith), (at 8 (omega arith), (at 9 (omega arith), (help, tt)))) in
+        let more : DiffersFrom name (drop 4 shapes) = (at 4 (omega arith), (at 5 (omega arith), (at 6 (omega arith), last))) in
+        (at 0 (omega arith), (at 1 (omega arith), (at 2 (omega arith), (at 3 (omega arith), more))))
+
     none_found : (o : Option Shape) → o ≡ None → option_map_or (λ s. is_whole s.rules rows) o false ≡ true → ⊥
     none_found None e h = true≢false (sym h)
     none_found (Some s) e h = let bad : Some s ≡ None = e in cc

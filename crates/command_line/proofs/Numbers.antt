@@ -1,7 +1,7 @@
 -- Words that write numbers, one after the other.
-use Rattle.command_line.proofs.Names.{ap, ap₂, sym, subst, ℕ, List, [], length, take, map, get_or, Bor, All, get_or-map, length-map, map-append, take_all}
-use Rattle.command_line.proofs.Names.{take_more, All-get_or, All-more, IsUnsignedIn, Text, IsNumber, number_of, texts_of, greatest_number}
-use Rattle.std.proofs.Common.{◌≡◌, ◌∙◌, ◌<◌, ◌≤◌, ◌+◌, ◌∷◌, ◌++◌}
+use Rattle.command_line.proofs.Names.{ap, ap₂, sym, subst, ℕ, List, [], length, take, map, get_or, Bor, All, get_or-map, length-map, map-append, take_more}
+use Rattle.command_line.proofs.Names.{All-get_or, All-more, IsUnsignedIn, Text, IsNumber, number_of, texts_of, greatest_number}
+use Rattle.std.proofs.Common.{◌≡◌, ◌∙◌, ◌<◌, ◌+◌, ◌∷◌, ◌++◌}
 
 -- what stands for a word where there is none
 abbrev pub no_word : Bor Text
@@ -32,9 +32,3 @@ module _ (words : List (Bor Text)) (i : ℕ) (d : Bor Text) (lt : i < length wor
 
   pub numbers_bad : (IsUnsignedIn 0 greatest_number word.now → ⊥) → All (IsUnsignedIn 0 greatest_number) (texts_of words) → ⊥
   numbers_bad bad all = bad (subst (IsUnsignedIn 0 greatest_number) text_here (All-get_or (IsUnsignedIn 0 greatest_number) _ i _ within all))
-
-pub numbers_all : (words : List (Bor Text)) (i : ℕ) (numbers : List ℕ) → length words ≤ i → NumbersBefore words i numbers
-    → (numbers ≡ map number_of (texts_of words)) × All (IsUnsignedIn 0 greatest_number) (texts_of words)
-numbers_all words i numbers le before =
-    let whole : take i (texts_of words) ≡ texts_of words = take_all i (texts_of words) (rw (length-map words (λ (w : Bor Text). w.now)) le) in
-    (before.0 ∙ ap (map number_of) whole, rw (← whole) before.1)

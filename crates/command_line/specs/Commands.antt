@@ -15,11 +15,6 @@ use Rattle.command_line.specs.declared.subcommands.Subcommand.TheVariants as sub
 abbrev pub file_rule : Text → Rule
 file_rule name = record (new_rule name) { required = true }
 
--- eros build DESCRIPTION IMAGE
-abbrev pub build_app : App
-build_app = with_rule (with_rule (new_app (codes "build")) (file_rule (codes "DESCRIPTION")))
-    (file_rule (codes "IMAGE"))
-
 -- how many objects a cache may hold: a number from 8 to 8192
 abbrev pub capacity_parser : ValueParser
 capacity_parser = Unsigned 8 8192
@@ -53,81 +48,7 @@ processes_rule = record (new_rule (codes "P")) {
 abbrev pub flag_rule : Text → Rule
 flag_rule name = record (new_rule name) { long = Some name; action = Some SetTrue }
 
--- eros run IMAGE SCRIPT
-abbrev pub run_files_app : App
-run_files_app = with_rule (with_rule (new_app (codes "run")) (file_rule (codes "IMAGE"))) (file_rule (codes "SCRIPT"))
-
--- eros run [--cache C] [--trace] [--strict] [--stop-after K] IMAGE SCRIPT
-abbrev pub run_app : App
-run_app = with_rule (with_rule (with_rule (with_rule run_files_app cache_rule) (flag_rule (codes "trace")))
-    (flag_rule (codes "strict"))) (number_rule (codes "stop-after"))
-
--- eros NAME IMAGE
-abbrev pub reading_app : Text → App
-reading_app name = with_rule (new_app name) (file_rule (codes "IMAGE"))
-
--- eros shell [--cache C] IMAGE
-abbrev pub shell_app : App
-shell_app = with_rule (reading_app (codes "shell")) cache_rule
-
--- eros check IMAGE
-abbrev pub check_app : App
-check_app = reading_app (codes "check")
-
--- eros explain FILE
-abbrev pub explain_app : App
-explain_app = with_rule (new_app (codes "explain")) (file_rule (codes "FILE"))
-
--- eros info IMAGE
-abbrev pub info_app : App
-info_app = reading_app (codes "info")
-
--- eros reach [--shows O] IMAGE P [P ..]
-abbrev pub reach_app : App
-reach_app = with_rule (with_rule (reading_app (codes "reach")) processes_rule) (number_rule (codes "shows"))
-
--- eros upgrade OLD NEW
-abbrev pub upgrade_app : App
-upgrade_app = with_rule (with_rule (new_app (codes "upgrade")) (file_rule (codes "OLD"))) (file_rule (codes "NEW"))
-
--- eros describe [--nodes N] [--pages P] [--log R] IMAGE
-abbrev pub describe_app : App
-describe_app = with_rule
-    (with_rule (with_rule (reading_app (codes "describe")) (number_rule (codes "nodes"))) (number_rule (codes "pages")))
-    (number_rule (codes "log"))
-
--- eros draw [--from P] [--to O] IMAGE
-abbrev pub draw_app : App
-draw_app = with_rule (with_rule (reading_app (codes "draw")) (number_rule (codes "from"))) (number_rule (codes "to"))
-
--- the name alone, which has a version, and wants a subcommand
-abbrev pub bare_app : App
-bare_app = record {
-  top = record ((new_app (codes "eros")).top) { subcommand_required = true; has_version = true };
-  subs = [];
-}
-
--- the name and the subcommands that make and change images
-abbrev pub changing_app : App
-changing_app = with_subcommand (with_subcommand (with_subcommand bare_app build_app.top) run_app.top) shell_app.top
-
--- and those that check images
-abbrev pub checking_app : App
-checking_app = with_subcommand
-    (with_subcommand (with_subcommand (with_subcommand changing_app check_app.top) explain_app.top) info_app.top)
-    reach_app.top
-
--- all subcommands; one of them has to be named
-abbrev pub eros_app : App
-eros_app = with_subcommand (with_subcommand (with_subcommand checking_app upgrade_app.top) describe_app.top)
-    draw_app.top
-
--- a parse reads the command as this one, with no argument that holds for subcommands too
-abbrev pub IsCommand : App → Command → Type 0
-IsCommand app c = (app_of c ≡ app) × ((out-Command c).has_globals ≡ false)
-
--- Arguments and subcommands as the program names them.
-
+-- the rule of an argument
 abbrev pub argument_rule : Argument → Rule
 argument_rule (argument.File name help) = file_rule name.now
 argument_rule argument.Cache = cache_rule
@@ -135,6 +56,7 @@ argument_rule argument.Processes = processes_rule
 argument_rule (argument.Number name value help) = number_rule name.now
 argument_rule (argument.Flag name help) = flag_rule name.now
 
+-- the word that names a subcommand
 abbrev pub subcommand_name : Subcommand → Text
 subcommand_name sub.Build = codes "build"
 subcommand_name sub.Run = codes "run"
@@ -147,6 +69,7 @@ subcommand_name sub.Upgrade = codes "upgrade"
 subcommand_name sub.Describe = codes "describe"
 subcommand_name sub.Draw = codes "draw"
 
+-- the arguments and options of each subcommand, in order
 abbrev pub rules_of : Subcommand → List Rule
 rules_of sub.Build = file_rule (codes "DESCRIPTION") ∷ file_rule (codes "IMAGE") ∷ []
 rules_of sub.Run = file_rule (codes "IMAGE") ∷ file_rule (codes "SCRIPT") ∷ cache_rule ∷ flag_rule (codes "trace")
@@ -166,6 +89,7 @@ abbrev pub with_rules : App → List Rule → App
 with_rules app [] = app
 with_rules app (r ∷ rs) = with_rules (with_rule app r) rs
 
+-- a subcommand as a command of its own
 abbrev pub subcommand_app : Subcommand → App
 subcommand_app s = with_rules (new_app (subcommand_name s)) (rules_of s)
 
@@ -179,3 +103,18 @@ abbrev pub subcommands : List Subcommand
 subcommands =
     sub.Build ∷ sub.Run ∷ sub.Shell ∷ sub.Check ∷ sub.Explain ∷ sub.Info ∷ sub.Reach ∷ sub.Upgrade
     ∷ sub.Describe ∷ sub.Draw ∷ []
+
+-- the name alone, which has a version, and wants a subcommand
+abbrev pub bare_app : App
+bare_app = record {
+  top = record ((new_app (codes "eros")).top) { subcommand_required = true; has_version = true };
+  subs = [];
+}
+
+-- the program with its subcommands, one of which has to be named
+abbrev pub eros_app : App
+eros_app = with_subcommands bare_app subcommands
+
+-- a parse reads the command as this one, with no argument that holds for subcommands too
+abbrev pub IsCommand : App → Command → Type 0
+IsCommand app c = (app_of c ≡ app) × ((out-Command c).has_globals ≡ false)

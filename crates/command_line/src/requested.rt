@@ -1,16 +1,16 @@
 // Which job the words name.
-ghost use Rattle.std.specs.Prelude.{◌≡◌, ◌≢◌, ◌⊎◌, IfErr, IfOk, IfSome, IsNone, codes, map};
+ghost use Rattle.std.specs.Prelude.{◌≡◌, ◌⊎◌, IfErr, IfOk, IfSome, IsNone, codes, map};
 ghost use Rattle.clap.specs.Words.{found_of, kind_of, rows_of, subcommand_of, subcommand_rows_of};
 ghost use Rattle.clap.specs.declared.error.kind.ErrorKind.TheVariants.{OutOfMemory};
 ghost use Rattle.command_line.specs.Arguments.{AreNumbers, GivesNoNumber, IsNumberOption};
-ghost use Rattle.command_line.specs.Commands.{IsCommand, eros_app, greatest_number};
+ghost use Rattle.command_line.specs.Commands.{IsCommand, eros_app, greatest_number, subcommand_name};
 ghost use Rattle.command_line.specs.Jobs.{AreSizes, IsCache, IsJob, IsNoJob, IsScript, NamesJob, NamesNone};
 ghost use Rattle.command_line.specs.Refusals.{Explains};
 
 use crate::arguments::{flag_of, numbers_in, option_of};
 use crate::subcommands::{
     CACHE, DESCRIPTION, FILE, FROM, IMAGE, LOG, NEW, NODES, OLD, PAGES, PROCESS, SCRIPT, SHOWS,
-    STOP_AFTER, STRICT, TO, TRACE,
+    STOP_AFTER, STRICT, Subcommand, TO, TRACE,
 };
 use cache_entries::{GREATEST_CAPACITY, LEAST_CAPACITY};
 use clap::error::ErrorKind;
@@ -281,36 +281,31 @@ fn draw_of<'a>(inner: &ArgMatches<'a>) -> Option<Job<'a>>
     Some(Job::Draw { image, from, to })
 }
 
-// The job of a subcommand that needs no memory, or `None`.
-fn plain_job_of<'a>(name: &str, inner: &ArgMatches<'a>) -> Option<Job<'a>>
-    ensures named { IfSome result (IsJob name.now (rows_of (found_of inner.now))) }
-    ensures none { IsNone result → name.now ≢ codes "reach" → IsNoJob name.now (rows_of (found_of inner.now)) }
+// The job of a subcommand with its matches, or `None`. Fails where memory runs out.
+fn job_of<'a>(
+    alloc: Global,
+    subcommand: Subcommand,
+    inner: &ArgMatches<'a>,
+) -> Result<Option<Job<'a>>, AllocError>
+    ensures named { IfOk result (λ o. IfSome o (IsJob (subcommand_name subcommand) (rows_of (found_of inner.now)))) }
+    ensures none { IfOk result (λ o. IsNone o → IsNoJob (subcommand_name subcommand) (rows_of (found_of inner.now))) }
 {
-    if name == "build" {
-        build_of(inner)
-    } else if name == "run" {
-        run_of(inner)
-    } else if name == "shell" {
-        shell_of(inner)
-    } else if name == "check" {
-        check_of(inner)
-    } else if name == "explain" {
-        explain_of(inner)
-    } else if name == "info" {
-        info_of(inner)
-    } else if name == "upgrade" {
-        upgrade_of(inner)
-    } else if name == "describe" {
-        describe_of(inner)
-    } else if name == "draw" {
-        draw_of(inner)
-    } else {
-        None
+    match subcommand {
+        Subcommand::Build => Ok(build_of(inner)),
+        Subcommand::Run => Ok(run_of(inner)),
+        Subcommand::Shell => Ok(shell_of(inner)),
+        Subcommand::Check => Ok(check_of(inner)),
+        Subcommand::Explain => Ok(explain_of(inner)),
+        Subcommand::Info => Ok(info_of(inner)),
+        Subcommand::Reach => reach_of(alloc, inner),
+        Subcommand::Upgrade => Ok(upgrade_of(inner)),
+        Subcommand::Describe => Ok(describe_of(inner)),
+        Subcommand::Draw => Ok(draw_of(inner)),
     }
 }
 
-// The job of a subcommand with its matches, or `None`. Fails where memory runs out.
-fn job_of<'a>(
+// The job of a subcommand of this name, or `None`. Fails where memory runs out.
+fn job_named<'a>(
     alloc: Global,
     name: &str,
     inner: &ArgMatches<'a>,
@@ -318,10 +313,9 @@ fn job_of<'a>(
     ensures named { IfOk result (λ o. IfSome o (IsJob name.now (rows_of (found_of inner.now)))) }
     ensures none { IfOk result (λ o. IsNone o → IsNoJob name.now (rows_of (found_of inner.now))) }
 {
-    if name == "reach" {
-        reach_of(alloc, inner)
-    } else {
-        Ok(plain_job_of(name, inner))
+    match Subcommand::of(name) {
+        Some(subcommand) => job_of(alloc, subcommand, inner),
+        None => Ok(None),
     }
 }
 
@@ -331,7 +325,7 @@ fn requested<'a>(alloc: Global, matches: ArgMatches<'a>) -> Result<Option<Job<'a
     ensures none { IfOk result (λ o. IsNone o → NamesNone (subcommand_rows_of matches.entry)) }
 {
     match matches.subcommand() {
-        Some((name, inner)) => job_of(alloc, name, inner),
+        Some((name, inner)) => job_named(alloc, name, inner),
         None => Ok(None),
     }
 }

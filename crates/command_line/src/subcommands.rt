@@ -1,8 +1,9 @@
 // The command that clap takes the words by.
-ghost use Rattle.std.specs.Prelude.{◌≡◌, IfOk, false, map};
+ghost use Rattle.std.specs.Prelude.{◌≡◌, ◌≢◌, IfOk, MatchOption, false, map};
+ghost use Rattle.std.specs.List.{All};
 ghost use Rattle.clap.specs.Words.{new_app, rule_of};
 ghost use Rattle.command_line.specs.Commands.{IsCommand, argument_rule, bare_app, eros_app, rules_of, subcommand_app};
-ghost use Rattle.command_line.specs.Commands.{subcommand_name, with_rules, with_subcommands};
+ghost use Rattle.command_line.specs.Commands.{subcommand_name, subcommands, with_rules, with_subcommands};
 
 use cache_entries::{GREATEST_CAPACITY, LEAST_CAPACITY};
 use clap::builder::ValueParser;
@@ -176,7 +177,7 @@ const DRAW: &[Argument<'static>] = &[
 
 /// A subcommand of `eros`.
 #[derive(Clone, Copy)]
-enum Subcommand {
+pub(crate) enum Subcommand {
     Build,
     Run,
     Shell,
@@ -190,6 +191,19 @@ enum Subcommand {
 }
 
 impl Subcommand {
+    /// The subcommand of this name, or `None`.
+    pub(crate) fn of(name: &str) -> Option<Subcommand>
+        ensures { MatchOption result (All (λ s. name.now ≢ subcommand_name s) subcommands)
+            (λ s. name.now ≡ subcommand_name s) }
+    {
+        for candidate in SUBCOMMANDS {
+            if name == candidate.name() {
+                return Some(*candidate);
+            }
+        }
+        None
+    }
+
     fn name<'a>(self) -> &'a str
         ensures { result.now ≡ subcommand_name self }
     {
