@@ -1,5 +1,5 @@
 -- A description as a graph in DOT: boxes, owners and arrows.
-use Rattle.image_describer.specs.Names.{ℕ, Option, None, Some, List, [], map, codes, decimal, unwrap_or, flat_map}
+use Rattle.image_describer.specs.Names.{ℕ, Bool, true, false, Option, None, Some, List, [], map, codes, decimal, unwrap_or, flat_map}
 use Rattle.image_describer.specs.Names.{Capability, Void, Number, Space, Start, Resume, Discrim, State, access_bits}
 use Rattle.image_describer.specs.Names.{named, capability_text, line_of, spaced, state_text, BankEntry, Description}
 use Rattle.image_describer.specs.Names.{NodeEntry, PageEntry, ProcessEntry, SlotEntry}
@@ -32,6 +32,11 @@ arrow_to holder at c (Some target) = record { holder = holder; place = at; capab
 
 abbrev pub arrow_of : ℕ → Place → Capability → List Arrow
 arrow_of holder at c = arrow_to holder at c (named c)
+
+-- the place of a slot of a node, or of a register of a process
+abbrev pub place_in : Bool → ℕ → Place
+place_in true index = place.Slot index
+place_in false index = place.Register index
 
 -- those of registers and of slots
 abbrev pub arrows_at : ℕ → (ℕ → Place) → List SlotEntry → List Arrow

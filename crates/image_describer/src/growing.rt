@@ -1,5 +1,5 @@
 // A description, renumbered for an image of other sizes.
-ghost use Rattle.std.specs.Prelude.{◌≡◌, ◌+◌, ◌≤◌, ◌<◌, ◌↔◌, map, IfErr, IfOk, IsTrue, OnErr, OnOk};
+ghost use Rattle.std.specs.Prelude.{◌≡◌, ℕ, ◌+◌, ◌≤◌, ◌<◌, ◌↔◌, map, IfErr, IfOk, IsTrue, OnErr, OnOk};
 ghost use Rattle.std.specs.List.{All, AllZip};
 ghost use Rattle.layout.specs.Superblock.{IsGeometry};
 ghost use Rattle.model.specs.Sound.{object_count};
@@ -77,72 +77,67 @@ fn moved_held(old: Geometry, new: Geometry, capability: Option<Capability>) -> O
     }
 }
 
+// An entry that is renumbered.
+trait Renumbered {
+    /// What it becomes, by the new number of each object.
+    ghost IsMoved: { (ℕ → ℕ) → Self → Self → Type 0 };
+
+    /// Renumbers it, or the capabilities that it holds.
+    fn renumber(&mut self, old: Geometry, new: Geometry)
+        requires old { object_count old ≤ 8192 }
+        requires new { new.nodes ≤ 4096 }
+        ensures { IsMoved (moved old new) self.old self.new };
+}
+
+fn renumber_all<T: Renumbered>(old: Geometry, new: Geometry, entries: &mut [T])
+    requires old { object_count old ≤ 8192 }
+    requires new { new.nodes ≤ 4096 }
+    ensures { AllZip (T.IsMoved (moved old new)) entries.old entries.new }
+{
+    for entry in entries.iter_mut() {
+        entry.renumber(old, new);
+    }
+}
+
+impl Renumbered for SlotEntry {
+    ghost IsMoved = { λ at slot moved. moved ≡ moved_slot at slot };
+
+    fn renumber(&mut self, old: Geometry, new: Geometry) {
+        self.capability = moved_held(old, new, self.capability);
+    }
+}
+
 // Renumbers the capabilities of slots.
 fn move_slots(old: Geometry, new: Geometry, slots: &mut [SlotEntry])
     requires old { object_count old ≤ 8192 }
     requires new { new.nodes ≤ 4096 }
     ensures { slots.new ≡ map (moved_slot (moved old new)) slots.old }
 {
-    for slot in slots.iter_mut() {
-        slot.capability = moved_held(old, new, slot.capability);
+    renumber_all(old, new, slots);
+}
+
+impl Renumbered for ProcessEntry {
+    ghost IsMoved = { IsMovedProcess };
+
+    fn renumber(&mut self, old: Geometry, new: Geometry) {
+        self.space = moved_held(old, new, self.space);
+        move_slots(old, new, self.registers.as_mut_slice());
     }
 }
 
-// Renumbers the capabilities of a process.
-fn move_process(old: Geometry, new: Geometry, process: &mut ProcessEntry)
-    requires old { object_count old ≤ 8192 }
-    requires new { new.nodes ≤ 4096 }
-    ensures { IsMovedProcess (moved old new) process.old process.new }
-{
-    process.space = moved_held(old, new, process.space);
-    move_slots(old, new, process.registers.as_mut_slice());
-}
+impl Renumbered for NodeEntry {
+    ghost IsMoved = { IsMovedNode };
 
-fn move_processes(old: Geometry, new: Geometry, processes: &mut [ProcessEntry])
-    requires old { object_count old ≤ 8192 }
-    requires new { new.nodes ≤ 4096 }
-    ensures { AllZip (IsMovedProcess (moved old new)) processes.old processes.new }
-{
-    for process in processes.iter_mut() {
-        move_process(old, new, process);
+    fn renumber(&mut self, old: Geometry, new: Geometry) {
+        move_slots(old, new, self.slots.as_mut_slice());
     }
 }
 
-// Renumbers the capabilities of a node.
-fn move_node(old: Geometry, new: Geometry, node: &mut NodeEntry)
-    requires old { object_count old ≤ 8192 }
-    requires new { new.nodes ≤ 4096 }
-    ensures { IsMovedNode (moved old new) node.old node.new }
-{
-    move_slots(old, new, node.slots.as_mut_slice());
-}
+impl Renumbered for PageEntry {
+    ghost IsMoved = { IsMovedPage };
 
-fn move_nodes(old: Geometry, new: Geometry, nodes: &mut [NodeEntry])
-    requires old { object_count old ≤ 8192 }
-    requires new { new.nodes ≤ 4096 }
-    ensures { AllZip (IsMovedNode (moved old new)) nodes.old nodes.new }
-{
-    for node in nodes.iter_mut() {
-        move_node(old, new, node);
-    }
-}
-
-// Renumbers a page.
-fn move_page(old: Geometry, new: Geometry, page: &mut PageEntry)
-    requires old { object_count old ≤ 8192 }
-    requires new { new.nodes ≤ 4096 }
-    ensures { IsMovedPage (moved old new) page.old page.new }
-{
-    page.number = moved(old, new, page.number);
-}
-
-fn move_pages(old: Geometry, new: Geometry, pages: &mut [PageEntry])
-    requires old { object_count old ≤ 8192 }
-    requires new { new.nodes ≤ 4096 }
-    ensures { AllZip (IsMovedPage (moved old new)) pages.old pages.new }
-{
-    for page in pages.iter_mut() {
-        move_page(old, new, page);
+    fn renumber(&mut self, old: Geometry, new: Geometry) {
+        self.number = moved(old, new, self.number);
     }
 }
 
@@ -253,8 +248,8 @@ pub fn grow(
     check_sizes(description, geometry, &ranges)?;
     description.ranges = ranges;
     description.geometry = geometry;
-    move_processes(old, geometry, description.processes.as_mut_slice());
-    move_nodes(old, geometry, description.nodes.as_mut_slice());
-    move_pages(old, geometry, description.pages.as_mut_slice());
+    renumber_all(old, geometry, description.processes.as_mut_slice());
+    renumber_all(old, geometry, description.nodes.as_mut_slice());
+    renumber_all(old, geometry, description.pages.as_mut_slice());
     Ok(())
 }

@@ -38,6 +38,7 @@ impl Lines for BankEntry {
 
     ghost MayBePut = { λ _. Unit {0} };
 
+    #[tactic(auto, using(std::proofs::Common::append_assoc))]
     fn put(&self, text: &mut String) -> Result<(), AllocError> {
         put_header(text, "bank")?;
         put_number(text, "number", self.number)?;

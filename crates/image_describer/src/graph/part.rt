@@ -11,7 +11,7 @@ ghost use Rattle.image_describer.specs.declared.graph.arrow.Arrow.{Arrow};
 use crate::graph::arrow::{Place, draw_arrow};
 use crate::graph::lines::begin;
 use crate::graph::owner::draw_owner;
-use crate::graph::slots::{draw_plain_slots, draw_registers, draw_slots, held};
+use crate::graph::slots::{draw_plain_slots, draw_slots, held};
 use description::{BankEntry, NodeEntry, PageEntry, ProcessEntry};
 use model::State;
 use script::{LineText, Output, RunFault, state_word};
@@ -116,7 +116,7 @@ impl Part for ProcessEntry {
 
     fn draw_arrows<W: Output>(&self, writer: &mut W) -> Result<(), RunFault> {
         draw_arrow(self.root, Place::Space, held(self.space), writer)?;
-        draw_registers(self.root, self.registers.as_slice(), writer)
+        draw_slots(self.root, false, self.registers.as_slice(), writer)
     }
 }
 
@@ -150,7 +150,7 @@ impl Part for NodeEntry {
     }
 
     fn draw_arrows<W: Output>(&self, writer: &mut W) -> Result<(), RunFault> {
-        draw_slots(self.number, self.slots.as_slice(), writer)
+        draw_slots(self.number, true, self.slots.as_slice(), writer)
     }
 }
 

@@ -1,5 +1,5 @@
 // The part of a description that is drawn.
-ghost use Rattle.std.specs.Prelude.{◌≡◌, None, Some};
+ghost use Rattle.std.specs.Prelude.{◌≡◌, ℕ, Bool, None, Some};
 ghost use Rattle.std.specs.List.{AllZip, filter};
 ghost use Rattle.collections.specs.Marks.{is_marked};
 ghost use Rattle.image_describer.specs.Part.{IsPart, IsPartOfNode, IsPartOfProcess, leads_inside, space_inside};
@@ -47,32 +47,38 @@ fn restrict_slots(inside: &NumberSet, slots: &mut Vec<SlotEntry>)
     slots.retain(|slot| leads_inside(inside, slot.capability));
 }
 
-fn restrict_process(inside: &NumberSet, process: &mut ProcessEntry)
-    ensures { IsPartOfProcess (is_marked inside.now) process.old process.new }
-{
-    process.space = space_inside(inside, process.space);
-    restrict_slots(inside, &mut process.registers);
+// An entry that is restricted.
+trait Restricted {
+    /// What it becomes, by whether a number is in the set.
+    ghost IsPartOf: { (ℕ → Bool) → Self → Self → Type 0 };
+
+    /// Leaves what it holds of a set.
+    fn restrict(&mut self, inside: &NumberSet)
+        ensures { IsPartOf (is_marked inside.now) self.old self.new };
 }
 
-fn restrict_processes(inside: &NumberSet, processes: &mut [ProcessEntry])
-    ensures { AllZip (IsPartOfProcess (is_marked inside.now)) processes.old processes.new }
-{
-    for process in processes.iter_mut() {
-        restrict_process(inside, process);
+impl Restricted for ProcessEntry {
+    ghost IsPartOf = { IsPartOfProcess };
+
+    fn restrict(&mut self, inside: &NumberSet) {
+        self.space = space_inside(inside, self.space);
+        restrict_slots(inside, &mut self.registers);
     }
 }
 
-fn restrict_node(inside: &NumberSet, node: &mut NodeEntry)
-    ensures { IsPartOfNode (is_marked inside.now) node.old node.new }
-{
-    restrict_slots(inside, &mut node.slots);
+impl Restricted for NodeEntry {
+    ghost IsPartOf = { IsPartOfNode };
+
+    fn restrict(&mut self, inside: &NumberSet) {
+        restrict_slots(inside, &mut self.slots);
+    }
 }
 
-fn restrict_nodes(inside: &NumberSet, nodes: &mut [NodeEntry])
-    ensures { AllZip (IsPartOfNode (is_marked inside.now)) nodes.old nodes.new }
+fn restrict_all<T: Restricted>(inside: &NumberSet, entries: &mut [T])
+    ensures { AllZip (T.IsPartOf (is_marked inside.now)) entries.old entries.new }
 {
-    for node in nodes.iter_mut() {
-        restrict_node(inside, node);
+    for entry in entries.iter_mut() {
+        entry.restrict(inside);
     }
 }
 
@@ -111,6 +117,6 @@ pub fn restrict(description: &mut Description, inside: &NumberSet)
     keep_processes(inside, &mut description.processes);
     keep_nodes(inside, &mut description.nodes);
     keep_pages(inside, &mut description.pages);
-    restrict_processes(inside, description.processes.as_mut_slice());
-    restrict_nodes(inside, description.nodes.as_mut_slice());
+    restrict_all(inside, description.processes.as_mut_slice());
+    restrict_all(inside, description.nodes.as_mut_slice());
 }

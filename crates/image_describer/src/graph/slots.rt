@@ -3,8 +3,7 @@ ghost use Rattle.std.specs.Prelude.{◌≡◌, ◌≤◌, length, unwrap_or};
 ghost use Rattle.std.specs.List.{flat_map};
 ghost use Rattle.model.specs.declared.capability.Capability.TheVariants.{Void};
 ghost use Rattle.script.specs.Writing.{Writes};
-ghost use Rattle.image_describer.specs.Graph.{arrow_line, arrows_at, plain_line, plain_lines};
-ghost use Rattle.image_describer.specs.declared.graph.arrow.Place.TheVariants as place;
+ghost use Rattle.image_describer.specs.Graph.{arrow_line, arrows_at, place_in, plain_line, plain_lines};
 
 use crate::graph::arrow::{Place, draw_arrow};
 use crate::graph::lines::push_number;
@@ -61,37 +60,30 @@ pub(crate) fn draw_plain_slots<W: Output>(
     Ok(())
 }
 
-/// Writes the arrows of the registers of a process.
-pub(crate) fn draw_registers<W: Output>(
-    root: u64,
-    registers: &[SlotEntry],
-    writer: &mut W,
-) -> Result<(), RunFault>
-    ensures { Writes (W.written writer.old) (W.written writer.new) result
-        (flat_map arrow_line (arrows_at root place.Register registers.now)) }
+// The place of a slot of a node, or of a register of a process.
+fn place_in(is_node: bool, index: u64) -> Place
+    ensures { result ≡ place_in is_node index }
 {
-    for slot in registers {
-        draw_arrow(
-            root,
-            Place::Register(slot.index),
-            held(slot.capability),
-            writer,
-        )?;
+    if is_node {
+        Place::Slot(index)
+    } else {
+        Place::Register(index)
     }
-    Ok(())
 }
 
-/// Writes the arrows of the slots of a node.
+/// Writes the arrows of the slots of a node, or of the registers of a process.
 pub(crate) fn draw_slots<W: Output>(
-    node: u64,
+    holder: u64,
+    is_node: bool,
     slots: &[SlotEntry],
     writer: &mut W,
 ) -> Result<(), RunFault>
     ensures { Writes (W.written writer.old) (W.written writer.new) result
-        (flat_map arrow_line (arrows_at node place.Slot slots.now)) }
+        (flat_map arrow_line (arrows_at holder (place_in is_node) slots.now)) }
 {
     for slot in slots {
-        draw_arrow(node, Place::Slot(slot.index), held(slot.capability), writer)?;
+        let place = place_in(is_node, slot.index);
+        draw_arrow(holder, place, held(slot.capability), writer)?;
     }
     Ok(())
 }

@@ -16,4 +16,4 @@ returns g c =
     two_written _ _ _ _ _ _ _
     (flat_map-append arrow_line (arrow_of c.args.self.now.root place.Space (unwrap_or c.args.self.now.space Void))
     (arrows_at c.args.self.now.root place.Register c.args.self.now.registers.items))
-    (rw c.held.ensures at c.in_ok-draw_arrow.ensures) (rw c.as_slice.ensures.value at c.draw_registers.ensures)
+    (rw c.held.ensures at c.in_ok-draw_arrow.ensures) (rw c.as_slice.ensures.value at c.draw_slots.ensures)
