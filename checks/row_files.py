@@ -11,8 +11,8 @@ ROW, IMAGE, BYTES = b"# Row: ", b"# Image: ", b"# Bytes: "
 # What names bytes of the image; and what ends a run, and how the image is changed or looked at then.
 PLACED = (b"# Poke: ", b"# Length: ", BYTES)
 ENDS = (*PLACED, b"# Check", b"# Again", b"# Fresh")
-# How many calls of the device the next line makes where all objects are in memory, for `checks/stops`.
-CALLS = b"# Calls: "
+# How many calls of the device the next line makes where all objects are in memory, and with a cache of 8, for `checks/stops`.
+CALLS, CACHED = b"# Calls: ", b"# Cached: "
 # A key of a description, which stands before its tables.
 LAYOUT = b"layout = "
 
@@ -38,11 +38,15 @@ def names_places(lines):
 
 
 def calls_of(lines):
-    """How many calls of the device each line of a run makes, or None where it isn't said of any. One of which it isn't said makes
-    none."""
-    if not any(it.startswith(CALLS) for it in lines):
-        return None
-    return [int(before[len(CALLS) :]) if before.startswith(CALLS) else 0 for before in [b"", *lines[:-1]]]
+    """How many calls of the device each line of a run makes where all objects are in memory, by the numbers of the lines. If it is
+    said of some lines, the others make none."""
+    said = {number: int(it[len(CALLS) :]) for number, it in enumerate(lines, 1) if it.startswith(CALLS)}
+    return said and {number: said.get(number, 0) for number in range(len(lines))}
+
+
+def cached_calls_of(lines):
+    """The same with a cache of 8, where it is said."""
+    return {number: int(it[len(CACHED) :]) for number, it in enumerate(lines, 1) if it.startswith(CACHED)}
 
 
 def description_of(file, begin):

@@ -1,2 +1,0 @@
-mod Loads
-mod Rigs
