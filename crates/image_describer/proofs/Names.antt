@@ -107,8 +107,8 @@ pub use Rattle.image_describer.specs.DescribedEntry.{MayName, MayTell, TellAll, 
 pub use Rattle.image_describer.specs.Describes.{AreBriefSlots, AreBriefWords, AreRising, Describes, IsBrief, Names, NamesSlots, NamesWords, plain_frame}
 unfoldable pub use Rattle.image_describer.specs.Describes.{plain_frames}
 pub use Rattle.image_describer.specs.Graph.{arrow_lines, arrow_of, arrow_to, arrows, arrows_at, box_line, box_lines, boxes, head_lines, joined, kind_text}
-pub use Rattle.image_describer.specs.Graph.{next_line, node_arrows, owner_lines, owners, place_in, place_text, plain_line, plain_lines, process_arrows, style_text}
-pub use Rattle.image_describer.specs.Graph.{word_of_state}
+pub use Rattle.image_describer.specs.Graph.{next_line, node_arrows, owner_lines, owners, place_in, place_text, plain_line, plain_lines, process_arrows}
+pub use Rattle.image_describer.specs.Graph.{style_text, word_of_state}
 unfoldable pub use Rattle.image_describer.specs.Graph.{arrow_line, bank_box, graph_text, node_box, owner_line, page_box, process_box}
 pub use Rattle.image_describer.specs.GraphLaws.{ArrowsAreHeld, BoxesAreObjects, HasBox, Holds, IsArrow, IsOnce, IsOwner, OwnersAreOwners}
 pub use Rattle.image_describer.specs.Grown.{IsGrown, IsMovedNode, IsMovedPage, IsMovedProcess, IsNotRenumbered, IsRenumbered, IsUnsuited, NamesNodes}

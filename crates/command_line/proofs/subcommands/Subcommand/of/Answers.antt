@@ -11,5 +11,5 @@ loop-candidate-preserved c = All-more (λ (s : Subcommand). c.args.name.now ≢ 
     c.loop-candidate-test.true c.loop-candidate.invariant (differs c.args.name.now c.name.result.now _ c.name.ensures (search rules))
 
 pub returns : goal.returns
-returns c = subst (All (λ (s : Subcommand). c.args.name.now ≢ subcommand_name s)) (take_all c.loop-candidate.candidate-index subcommands c.loop-candidate-test.false)
-    c.loop-candidate.invariant
+returns c = subst (All (λ (s : Subcommand). c.args.name.now ≢ subcommand_name s))
+    (take_all c.loop-candidate.candidate-index subcommands c.loop-candidate-test.false) c.loop-candidate.invariant

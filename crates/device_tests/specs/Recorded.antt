@@ -1,9 +1,9 @@
 -- The calls of a recorded file.
 use Rattle.std.specs.Prelude.{List, map, Option, Some}
 use Rattle.devices.specs.OpeningCalls.{OpeningCall, opened, locked, synced, measured, got, resized, listed}
-use Rattle.durable_tests.specs.declared.recorded.Made.{Made}
-use Rattle.durable_tests.specs.declared.recorded.Made.TheVariants.{Opened, Locked, Synced, Measured, Got, Resized}
-use Rattle.durable_tests.specs.declared.recorded.Made.TheVariants.{Listed}
+use Rattle.device_tests.specs.declared.recorded.Made.{Made}
+use Rattle.device_tests.specs.declared.recorded.Made.TheVariants.{Opened, Locked, Synced, Measured, Got, Resized}
+use Rattle.device_tests.specs.declared.recorded.Made.TheVariants.{Listed}
 
 -- a call that was recorded
 abbrev pub call_of : Made → OpeningCall

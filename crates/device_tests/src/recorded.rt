@@ -1,6 +1,6 @@
 // A file of the system, whose calls are known.
 ghost use Rattle.std.specs.Prelude.{◌≡◌, [], ◌∷◌, ◌++◌, Some, OnOk, OnErr};
-ghost use Rattle.durable_tests.specs.Recorded.{calls_of};
+ghost use Rattle.device_tests.specs.Recorded.{calls_of};
 
 use devices::{Access, Lock, LockAnswer, Openable, RawFile};
 use std::alloc::Global;
