@@ -1,5 +1,5 @@
 //! Worlds on a device and kernels over them, and the tests of what no script over an image shows: readers and
-//! writers that give and take little, stop or fail, values that no image has, and builds on devices that no file is.
+//! writers that give and take little, are interrupted or fail, and builds on devices that no file is.
 //! `checks/stops` tries devices that stop or lose power, and the rows of checks/rows all else.
 #![tactic(auto)]
 
@@ -9,8 +9,6 @@ mod images;
 mod kernels;
 #[cfg(test)]
 mod readers;
-#[cfg(test)]
-mod values;
 #[cfg(test)]
 mod world_runs;
 mod worlds;

@@ -23,13 +23,6 @@ impl Worlds {
         }
     }
 
-    /// A device in memory that holds the second world, written over the first one at a greater age.
-    pub fn rewritten(&self) -> Result<Memory, Fail> {
-        let device = Memory::new(self.alloc, 399, 4000, Outcome::Drop)?;
-        let device = written(device, self.first_world()?, 9)?;
-        written(device, self.second_world()?, 0)
-    }
-
     /// How a run over a device ends.
     pub fn run_over<D: Device, R: Script, W: Output>(
         &self,

@@ -1,9 +1,9 @@
 // Answers to writers that take little, are interrupted, or fail.
 use crate::Worlds;
 use crate::world_runs::World;
-use model::{Answer, Content, Description, Object, Shown, Words};
+use device::Device;
 use runs::ScriptReader;
-use script::{BufferedOutput, CountedWriter, RunFault, print_answer};
+use script::{BufferedOutput, CountedWriter, RunFault};
 use std::alloc::Global;
 use std::io;
 use std::io::{BufWriter, ErrorKind, Write};
@@ -53,69 +53,46 @@ impl Write for Narrow {
     }
 }
 
-// A writer with this capacity took all of a text, or there was a fault and it took what fits.
-fn has_taken(
-    rt: &impl Abort,
-    writer: &Narrow,
-    room: usize,
-    text: &[u8],
-    outcome: Result<(), RunFault>,
-) {
-    let expected = if room < text.len() {
+// The answers to a script over a device are written to a writer. With too little room it has taken those that
+// fit, and there was a fault.
+fn is_written<D: Device>(
+    rt: &(impl Abort + AllocGlobal),
+    device: D,
+    writer: Narrow,
+    script: &[u8],
+    expected: &[u8],
+) -> Result<(), Fail> {
+    let room = writer.room;
+    let mut reader = ScriptReader::new(script);
+    let mut writer = CountedWriter::new(writer);
+    let outcome = Worlds::new(rt.alloc()).run_over(device, &mut reader, &mut writer)?;
+    let ends = if room < expected.len() {
         Err(RunFault::Write)
     } else {
         Ok(())
     };
-    assert_eq!(rt; outcome, expected, "room for {room}");
-    assert_eq!(rt; writer.taken.as_slice(), &text[..room.min(text.len())]);
-}
-
-// An answer is written to writers with more and more capacity, which take `width` bytes at a time.
-fn is_written(rt: &(impl Abort + AllocGlobal), answer: &Answer, text: &[u8], width: usize) {
-    for fails in [false, true] {
-        for room in 0..text.len() + 2 {
-            let mut writer = CountedWriter::new(Narrow::new(rt.alloc(), width, room, fails));
-            let outcome = print_answer(answer, &mut writer);
-            has_taken(rt, writer.get_ref(), room, text, outcome);
-        }
-    }
-}
-
-#[test]
-fn narrow_writers_take_an_answer(rt: HostRuntime) -> Result<(), Fail> {
-    let at = Answer::At {
-        generation: 12,
-        age: 345,
-    };
-    is_written(&rt, &at, b"at 12 345\n", 1);
-    let mut words = Words::new(rt.alloc())?;
-    words.set(0, 42);
-    let page = Description {
-        number: 16,
-        object: Object {
-            owner: 0,
-            content: Content::Page(words),
-        },
-        registers: None,
-        used: 0,
-    };
-    let shown = Answer::Shown(Shown::new(rt.alloc(), page)?);
-    is_written(&rt, &shown, b"page 16 owner 0\nword 0 42\nend\n", 7);
+    assert!(rt; outcome == ends, "room for {room}");
+    assert_eq!(rt;
+        writer.get_ref().taken.as_slice(),
+        &expected[..room.min(expected.len())]
+    );
     Ok(())
 }
 
-// A script over the first world is written so to a writer with this capacity.
-fn is_answered(
+// The same with more and more room, where `width` bytes are taken at a time.
+fn are_written(
     rt: &(impl Abort + AllocGlobal),
+    width: usize,
     script: &[u8],
     expected: &[u8],
-    room: usize,
 ) -> Result<(), Fail> {
-    let worlds = Worlds::new(rt.alloc());
-    let mut reader = ScriptReader::new(script);
-    let mut writer = CountedWriter::new(Narrow::new(rt.alloc(), 4096, room, true));
-    let outcome = worlds.run_over(worlds.device_of(World::First)?, &mut reader, &mut writer)?;
-    has_taken(rt, writer.get_ref(), room, expected, outcome);
+    for fails in [false, true] {
+        for room in 0..expected.len() + 2 {
+            let device = Worlds::new(rt.alloc()).device_of(World::First)?;
+            let writer = Narrow::new(rt.alloc(), width, room, fails);
+            is_written(rt, device, writer, script, expected)?;
+        }
+    }
     Ok(())
 }
 
@@ -124,24 +101,34 @@ fn is_answered(
 fn a_failing_writer_ends_the_run(rt: HostRuntime) -> Result<(), Fail> {
     let script = b"show 5\nshow 01\nshow 16\n";
     let expected = b"node 5 owner 0\nend\nbad line\npage 16 owner 0\nend\n";
-    for room in 0..=expected.len() {
-        is_answered(&rt, script, expected, room)?;
+    for width in [1, 7, 4096] {
+        are_written(&rt, width, script, expected)?;
     }
+    Ok(())
+}
+
+// The 19 bytes of an answer are buffered and passed on to a writer with this room, and the run ends so.
+fn is_passed_on<D: Device>(
+    rt: &(impl Abort + AllocGlobal),
+    device: D,
+    room: usize,
+    ends: Result<(), RunFault>,
+) -> Result<(), Fail> {
+    let buffer = BufWriter::new(rt.alloc(), Narrow::new(rt.alloc(), 4096, room, true))?;
+    let mut writer = BufferedOutput::new(buffer);
+    let mut reader = ScriptReader::new(b"show 5\n".as_slice());
+    let outcome = Worlds::new(rt.alloc()).run_over(device, &mut reader, &mut writer)?;
+    assert!(rt; outcome == ends);
+    assert_eq!(rt; writer.get_ref().taken.len(), room);
     Ok(())
 }
 
 // What was answered is passed on, or the run fails.
 #[test]
 fn what_is_not_passed_on_ends_the_run(rt: HostRuntime) -> Result<(), Fail> {
-    let alloc = rt.alloc();
-    let worlds = Worlds::new(alloc);
     for (room, ends) in [(19, Ok(())), (18, Err(RunFault::Write))] {
-        let buffer = BufWriter::new(alloc, Narrow::new(alloc, 4096, room, true))?;
-        let mut writer = BufferedOutput::new(buffer);
-        let mut reader = ScriptReader::new(b"show 5\n".as_slice());
-        let outcome = worlds.run_over(worlds.device_of(World::First)?, &mut reader, &mut writer)?;
-        assert_eq!(rt; outcome, ends);
-        assert_eq!(rt; writer.get_ref().taken.len(), room);
+        let device = Worlds::new(rt.alloc()).device_of(World::First)?;
+        is_passed_on(&rt, device, room, ends)?;
     }
     Ok(())
 }

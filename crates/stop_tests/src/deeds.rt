@@ -1,22 +1,51 @@
 // What is done again and again, over devices that stop after more and more calls.
 use crate::task::{Deed, Task, outcome_of};
+use device::Device;
 use devices::Outcome;
 use object_cache::{BoundedCache, PlainStore};
 use std::io::Write;
 
 impl Task<'_> {
-    // Upgrades the image to a device that holds the sectors in `script`, where the devices pass
-    // some calls.
-    fn upgrade_once(
+    // Upgrades the image of a device to a device that holds the sectors in `script` and passes some calls.
+    fn upgrade_to<D: Device>(
         &self,
-        old_calls: u64,
-        new_calls: u64,
+        old: D,
+        calls: u64,
         outcome: Outcome,
         reported: &mut Vec<u8>,
     ) -> anyhow::Result<bool> {
-        let old = self.device_with(self.image, Outcome::Drop, old_calls)?;
-        let new = self.device_with(self.script, outcome, new_calls)?;
-        Ok(self.run_upgrade(old, new, reported)?)
+        let new = self.device_with(self.script, outcome, calls)?;
+        Ok(self.run_upgrade::<_, _, PlainStore<_>, PlainStore<_>>(old, new, (), (), reported)?)
+    }
+
+    // Does a deed once, over a device with the image, and answers whether a device stopped. A new device
+    // passes some calls if it is the one that stops.
+    fn do_over<D: Device>(
+        &self,
+        deed: &Deed,
+        device: D,
+        calls: u64,
+        outcome: Outcome,
+        reported: &mut Vec<u8>,
+    ) -> anyhow::Result<bool> {
+        match deed {
+            Deed::Run(None) => self.run_script::<_, PlainStore<_>, PlainStore<_>>(
+                device,
+                (),
+                (),
+                calls,
+                reported,
+            ),
+            Deed::Run(Some(capacity)) => self.run_script::<_, BoundedCache<_>, PlainStore<_>>(
+                device,
+                *capacity,
+                (),
+                calls,
+                reported,
+            ),
+            Deed::StopOld => self.upgrade_to(device, u64::MAX, outcome, reported),
+            Deed::StopNew => self.upgrade_to(device, calls, outcome, reported),
+        }
     }
 
     // Does a deed once, over devices that pass some calls, and answers whether one stopped.
@@ -27,18 +56,13 @@ impl Task<'_> {
         outcome: Outcome,
         reported: &mut Vec<u8>,
     ) -> anyhow::Result<bool> {
-        match deed {
-            Deed::Run(None) => {
-                let device = self.device_with(self.image, outcome, calls)?;
-                self.run_script::<_, PlainStore<_>>(device, (), calls, reported)
-            }
-            Deed::Run(Some(capacity)) => {
-                let device = self.device_with(self.image, outcome, calls)?;
-                self.run_script::<_, BoundedCache<_>>(device, *capacity, calls, reported)
-            }
-            Deed::StopOld => self.upgrade_once(calls, u64::MAX, outcome, reported),
-            Deed::StopNew => self.upgrade_once(u64::MAX, calls, outcome, reported),
-        }
+        let (first_calls, first_outcome) = match deed {
+            Deed::Run(_) => (calls, outcome),
+            Deed::StopOld => (calls, Outcome::Drop),
+            Deed::StopNew => (u64::MAX, Outcome::Drop),
+        };
+        let device = self.device_with(self.image, first_outcome, first_calls)?;
+        self.do_over(deed, device, calls, outcome, reported)
     }
 
     // Does a deed once, writes its result, and answers whether a device stopped.

@@ -3,7 +3,6 @@ use crate::task::Task;
 use checkpoint::{Checkpoint, ObjectStore, OpenFault};
 use device::Device;
 use kernel::Kernel;
-use object_cache::PlainStore;
 use runs::{ScriptReader, run};
 use script::{CountedWriter, RunFault};
 use std::io::Write;
@@ -90,44 +89,47 @@ impl Task<'_> {
     }
 
     /// Reports what a power cut leaves of a device, and what a kernel that opens it answers.
-    pub(crate) fn tell_left<D: Device>(
+    pub(crate) fn tell_left<D: Device, P: ObjectStore<D>>(
         &self,
         device: D,
+        setting: P::Setting,
         reported: &mut Vec<u8>,
     ) -> Result<(), RunFault> {
         let mut device = device;
         device.power_cut();
-        self.tell_opened::<D, PlainStore<D>>(device, (), reported)
+        self.tell_opened::<D, P>(device, setting, reported)
     }
 
     // Runs the script over a kernel, reports what it answers and what its device then holds, and
     // returns whether the device stopped.
-    fn tell_all<D: Device, S: ObjectStore<D>>(
+    fn tell_all<D: Device, S: ObjectStore<D>, P: ObjectStore<D>>(
         &self,
         kernel: Kernel<D, S>,
+        last: P::Setting,
         reported: &mut Vec<u8>,
     ) -> Result<bool, RunFault> {
         let mut kernel = kernel;
         let stop = self.tell_to_fault(&mut kernel, reported)?;
         tell_stop(stop, reported)?;
         tell_standing(&mut kernel, self.tail, reported)?;
-        self.tell_left(kernel.into_device(), reported)?;
+        self.tell_left::<D, P>(kernel.into_device(), last, reported)?;
         Ok(stop.is_some())
     }
 
     /// Runs the script over a device that passes some calls, and returns whether it stopped. If it
-    /// stopped before it was opened, nothing is printed.
-    pub(crate) fn run_script<D: Device, S: ObjectStore<D>>(
+    /// stopped before it was opened, nothing is printed. The last kernel has a store of the second kind.
+    pub(crate) fn run_script<D: Device, S: ObjectStore<D>, P: ObjectStore<D>>(
         &self,
         device: D,
         setting: S::Setting,
+        last: P::Setting,
         calls: u64,
         reported: &mut Vec<u8>,
     ) -> anyhow::Result<bool> {
         match Kernel::<D, S>::open(self.alloc, device, setting) {
             Ok(kernel) => {
                 writeln!(reported, "= calls {calls}")?;
-                Ok(self.tell_all(kernel, reported)?)
+                Ok(self.tell_all::<D, S, P>(kernel, last, reported)?)
             }
             Err(refused) => match refused.fault {
                 OpenFault::Failed => Ok(true),

@@ -1,8 +1,9 @@
 // Upgrades of an image over devices that stop.
 use crate::task::Task;
+use checkpoint::ObjectStore;
 use device::Device;
 use image_builder::{UpgradeFault, upgrade};
-use object_cache::PlainStore;
+use migrator::WholeStore;
 use script::RunFault;
 use std::io::Write;
 
@@ -17,16 +18,18 @@ fn tell_outcome(outcome: Result<(), UpgradeFault>, reported: &mut Vec<u8>) -> Re
 impl Task<'_> {
     /// Upgrades the image of one device to another one. Reports its outcome and what a power cut
     /// leaves of the new one, and answers whether a device stopped.
-    pub(crate) fn run_upgrade<D: Device, E: Device>(
+    pub(crate) fn run_upgrade<D: Device, E: Device, S: WholeStore<D>, P: ObjectStore<E>>(
         &self,
         old: D,
         new: E,
+        setting: S::Setting,
+        last: P::Setting,
         reported: &mut Vec<u8>,
     ) -> Result<bool, RunFault> {
         let mut new = new;
-        let outcome = upgrade::<_, _, PlainStore<_>>(self.alloc, old, (), &mut new);
+        let outcome = upgrade::<_, _, S>(self.alloc, old, setting, &mut new);
         tell_outcome(outcome, reported)?;
-        self.tell_left(new, reported)?;
+        self.tell_left::<E, P>(new, last, reported)?;
         Ok(outcome.is_err())
     }
 }
