@@ -114,6 +114,7 @@ fn explain_sectors<D: Device>(
 ///
 /// The device is given back, and nothing was written to it, at no moment. `Failed` exactly if the device failed, and
 /// `NoMemory` if memory ran out; never `Bad`.
+#[tactic(auto, using(crate::proofs::Refused::bad_still))]
 pub fn explain<D: Device, S: WholeStore<D>>(
     alloc: Global,
     device: D,

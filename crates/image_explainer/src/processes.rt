@@ -102,6 +102,7 @@ fn find_annex<F: Frames>(store: &F, notes: &[Option<Noted>]) -> Option<Unmatched
 }
 
 /// A root and an annex that don't belong together: roots come first, by number, and then annexes.
+#[tactic(auto, using(crate::proofs::Matching::matches))]
 pub(crate) fn find_unmatched<F: Frames>(store: &F, notes: &[Option<Noted>]) -> Option<Unmatched>
     requires { AreNoted (frames_of (F.parts store.now)) notes.now }
     ensures { MatchesOr (frames_of (F.parts store.now)) result }

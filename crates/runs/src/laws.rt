@@ -8,6 +8,7 @@ use device::Device;
 /// If the machine is up and the device doesn't fail, the machine at the start and the script settle
 /// what is written: every store, and every device, writes the same. Memory must not run out at a
 /// `show`, `restart` or `cut`; no other command can be answered `NoMemory`.
+#[tactic(auto, using(crate::proofs::Agreeing::runs_agree))]
 pub fn steady_runs_agree()
     ensures { SteadyRunsAgree }
 {}

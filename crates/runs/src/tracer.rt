@@ -194,12 +194,14 @@ impl<V: Output> Observer for Tracer<V> {
         true
     }
 
+    #[tactic(auto, using(crate::proofs::Tracing::bad_seen))]
     fn bad(&mut self, text: Option<&[u8]>) -> bool {
         let place = self.next();
         let fault = fault_of(text);
         self.note(place, bad_trace(place, fault), Some(Cause::BadLine(fault)))
     }
 
+    #[tactic(auto, using(crate::proofs::Tracing::answer_seen))]
     fn answer(&mut self, command: &Command, answer: &Answer, code: Option<ResultCode>) -> bool {
         let place = self.next();
         let cause = cause_of(answer, code);

@@ -1,11 +1,12 @@
 -- A capability is read from its words, and from no others.
-use Rattle.script.proofs.Names.{bytes_eq, nat_tests, ℕ, List, [], Option, None, Some, codes, decimal, inl, append-nil, refl, sym, ap, subst, arith, IfSome}
-use Rattle.script.proofs.Names.{bytes_eq-Decides, lt-ltb, le-leb, Access, Capability, IsAccess, IsWellFormed, named, Kind, kind_name, access_words}
-use Rattle.script.proofs.Names.{capability_words, access_in, access_at, height_at, key_at, one_of, object_of, capability_at, Words, number_at}
-use Rattle.std.proofs.Common.{if◌then◌else◌, ◌≡◌, ◌≢◌, ◌≤◌, ◌<◌, ◌^◌, ◌∷◌, ◌++◌, ◌∙◌}
+use Rattle.script.proofs.Names.{nat_tests, ℕ, List, [], Option, None, Some, decimal, inl, append-nil, refl, sym, ap, subst, arith, IfSome, bytes_eq-Decides}
+use Rattle.script.proofs.Names.{lt-ltb, le-leb, Access, Capability, IsAccess, IsWellFormed, named, Kind, kind_name, access_words, capability_words, access_in}
+use Rattle.script.proofs.Names.{access_at, height_at, key_at, object_of, capability_at, Words, number_at}
+use Rattle.std.proofs.Common.{◌≡◌, ◌≢◌, ◌≤◌, ◌<◌, ◌^◌, ◌∷◌, ◌++◌, ◌∙◌}
 use Rattle.model.specs.declared.capability.Capability.TheVariants as capability
 use Rattle.script.specs.declared.named.Kind.TheVariants as kind
-use Rattle.script.proofs.Commands.{bind_some, guard_some, both, some_is, number_again, number_takes}
+use Rattle.script.proofs.Commands.{bind_some, guard_some, both, some_is, number_again, number_takes, one_takes}
+use Rattle.script.proofs.Tables.{every_kind, first_named}
 
 -- ---- what is spelt is read
 
@@ -82,14 +83,6 @@ key_takes words p e = grind (arith, nat_tests, bind_some, guard_some, number_tak
 abbrev IsReadFrom : Kind → Words → Capability × Words → Type 0
 IsReadFrom k words p = HasText p.0 × (kind_name k ∷ words ≡ capability_words p.0 ++ p.1)
 
-one_takes : (make : ℕ → Capability) (words : Words) (p : Capability × Words) → one_of make words ≡ Some p
-    → (n : ℕ) × (n < 2 ^ 64) × (p.0 ≡ make n) × (words ≡ decimal n ∷ p.1)
-one_takes make words p e =
-    let b = bind_some (number_at words) (λ (n : ℕ × Words). Some (make n.0, n.1)) p e in
-    let t = number_takes words b.0 b.1 in
-    let is = some_is _ _ b.2 in
-    (b.0.0, t.0, sym (ap (λ (q : Capability × Words). q.0) is), t.1 ∙ ap (λ (q : Capability × Words). decimal b.0.0 ∷ q.1) is)
-
 object_takes : (make : ℕ → Access → Capability) (words : Words) (p : Capability × Words) → object_of make words ≡ Some p
     → (o : ℕ) × (a : Access) × (o < 2 ^ 64) × IsAccess a × (p.0 ≡ make o a) × (words ≡ decimal o ∷ (access_words a ++ p.1))
 object_takes make words p e =
@@ -103,9 +96,11 @@ one_read : (k : Kind) (words : Words) (p : Capability × Words) (c : Capability)
     IsReadFrom k words p
 one_read k words p c is has whole = rw is (has, whole)
 
-space_takes : (words : Words) (p : Capability × Words) → capability_at kind.Space words ≡ Some p → IsReadFrom kind.Space words p
+capability_takes : (k : Kind) (words : Words) (p : Capability × Words) → capability_at k words ≡ Some p → IsReadFrom k words p
 unfolding capability_at capability_words
-space_takes words p e =
+capability_takes kind.Page words p e = grind (arith, nat_tests, object_takes, one_read)
+capability_takes kind.Node words p e = grind (arith, nat_tests, object_takes, one_read)
+capability_takes kind.Space words p e =
     let one = bind_some (number_at words) _ p e in
     let two = bind_some (height_at one.0.1) _ p one.2 in
     let three = bind_some (access_at two.0.1) _ p two.2 in
@@ -113,40 +108,18 @@ space_takes words p e =
     let u = height_takes one.0.1 two.0 two.1 in
     let v = access_takes two.0.1 three.0 three.1 in
     grind (arith, nat_tests, some_is)
-
-start_takes : (words : Words) (p : Capability × Words) → capability_at kind.Start words ≡ Some p → IsReadFrom kind.Start words p
-unfolding capability_at capability_words
-start_takes words p e =
+capability_takes kind.Start words p e =
     let one = bind_some (number_at words) _ p e in
     let two = bind_some (key_at one.0.1) _ p one.2 in
     let t = number_takes words one.0 one.1 in
     let u = key_takes one.0.1 two.0 two.1 in
-    rw (← some_is _ _ two.2) ((u.0, t.0), ap (λ (w : Words). codes "start" ∷ w) (t.1 ∙ ap (λ (w : Words). decimal one.0.0 ∷ w) u.1))
-
-capability_takes : (k : Kind) (words : Words) (p : Capability × Words) → capability_at k words ≡ Some p → IsReadFrom k words p
-unfolding capability_at capability_words
-capability_takes kind.Void words p e = subst (IsReadFrom kind.Void words) (some_is _ _ e) ((tt, tt), refl)
-capability_takes kind.Page words p e = grind (arith, nat_tests, object_takes, one_read)
-capability_takes kind.Node words p e = grind (arith, nat_tests, object_takes, one_read)
-capability_takes kind.Space words p e = space_takes words p e
-capability_takes kind.Start words p e = start_takes words p e
-capability_takes kind.Discrim words p e = subst (IsReadFrom kind.Discrim words) (some_is _ _ e) ((tt, tt), refl)
-capability_takes k words p e = grind (arith, nat_tests, one_takes, one_read)
+    grind (arith, nat_tests, some_is)
+capability_takes k words p e = grind (arith, nat_tests, one_takes, one_read, some_is)
 
 -- ---- the kind of a word
 
 kind_at : List ℕ → Option Kind
-kind_at word =
-    if bytes_eq word (codes "void") then Some kind.Void else
-    (if bytes_eq word (codes "number") then Some kind.Number else
-    (if bytes_eq word (codes "page") then Some kind.Page else
-    (if bytes_eq word (codes "node") then Some kind.Node else
-    (if bytes_eq word (codes "space") then Some kind.Space else
-    (if bytes_eq word (codes "process") then Some kind.Process else
-    (if bytes_eq word (codes "start") then Some kind.Start else
-    (if bytes_eq word (codes "resume") then Some kind.Resume else
-    (if bytes_eq word (codes "bank") then Some kind.Bank else
-    (if bytes_eq word (codes "discrim") then Some kind.Discrim else None)))))))))
+kind_at word = first_named kind_name word every_kind
 
 kind_at_name : (k : Kind) → kind_at (kind_name k) ≡ Some k
 unfolding kind_at
@@ -182,5 +155,4 @@ pub words_left_over : (words rest left : Words) (word : List ℕ) (k : Kind) (d 
     → left ≢ [] → (c : Capability) → HasText c → words ≢ capability_words c
 words_left_over words rest left word k d split is read some c has whole =
     let other = arguments_are words rest word k c split is has whole in
-    let same : (d, left) ≡ (c, []) = some_is _ _ (sym read ∙ other) in
-    some (ap (λ (q : Capability × Words). q.1) same)
+    some (ap (λ (q : Capability × Words). q.1) (some_is _ _ (sym read ∙ other)))

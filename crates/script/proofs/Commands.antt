@@ -1,13 +1,13 @@
 -- A command is read from its words, and from no others.
-use Rattle.script.proofs.Names.{Call, Return, Send, nat_tests, ℕ, Bool, true, cond, List, [], map, Option, None, Some, length, decimal, codes, append-nil}
-use Rattle.script.proofs.Names.{append_assoc, refl, sym, ap, subst, arith, IfSome, IfNone, All, bytes_eq, digits_value, bytes_eq-Decides, lt-ltb, Command}
-use Rattle.script.proofs.Names.{Operation, Fits, command_words, Keyword, keyword_name, Words, Gives, number_in, number_at, register_at, numbers_at}
-use Rattle.script.proofs.Names.{registers_at, invocation_at, one_at, arguments_at}
-use Rattle.std.proofs.Common.{if◌then◌else◌, ◌≡◌, ◌≢◌, ◌<◌, ◌^◌, ◌&&◌, ◌∷◌, ◌++◌, ◌∙◌}
+use Rattle.script.proofs.Names.{nat_tests, ℕ, Bool, true, cond, List, [], map, Option, None, Some, length, decimal, append-nil, append_assoc, refl, sym, ap}
+use Rattle.script.proofs.Names.{subst, arith, IfSome, IfNone, All, bytes_eq, digits_value, bytes_eq-Decides, lt-ltb, Command, Operation, Fits, command_words}
+use Rattle.script.proofs.Names.{Keyword, keyword_name, Words, Gives, number_in, number_at, register_at, numbers_at, registers_at, invocation_at, arguments_at}
+use Rattle.std.proofs.Common.{◌≡◌, ◌≢◌, ◌<◌, ◌^◌, ◌&&◌, ◌∷◌, ◌++◌, ◌∙◌}
 use Rattle.script.specs.Reading.{◌>>=◌}
 use Rattle.model.specs.declared.command.Command.TheVariants as command
 use Rattle.script.specs.declared.keyword.Keyword.TheVariants as keyword
 use Rattle.script.proofs.Numbers.{decimal_is_digits}
+use Rattle.script.proofs.Tables.{every_keyword, first_named}
 
 -- the value of a step that did not fail
 pub bind_some : {A B : Type 0} (r : Option A) (f : A → Option B) (y : B) → (r >>= f) ≡ Some y → (x : A) × (r ≡ Some x) × (f x ≡ Some y)
@@ -164,13 +164,13 @@ command_again c fits = ([], refl, refl)
 
 -- ---- the words of what was read
 
-one_takes : (make : ℕ → Command) (words : Words) (p : Command × Words) → one_at make words ≡ Some p
+pub one_takes : {A : Type 0} (make : ℕ → A) (words : Words) (p : A × Words) → (number_at words >>= (λ (n : ℕ × Words). Some (make n.0, n.1))) ≡ Some p
     → (n : ℕ) × (n < 2 ^ 64) × (p.0 ≡ make n) × (words ≡ decimal n ∷ p.1)
-one_takes make words p e =
+one_takes {A} make words p e =
     let b = bind_some (number_at words) (λ (n : ℕ × Words). Some (make n.0, n.1)) p e in
     let t = number_takes words b.0 b.1 in
     let is = some_is _ _ b.2 in
-    (b.0.0, t.0, sym (ap (λ (q : Command × Words). q.0) is), t.1 ∙ ap (λ (q : Command × Words). decimal b.0.0 ∷ q.1) is)
+    (b.0.0, t.0, sym (ap (λ (q : A × Words). q.0) is), t.1 ∙ ap (λ (q : A × Words). decimal b.0.0 ∷ q.1) is)
 
 abbrev IsReadFrom : Keyword → Words → Command × Words → Type 0
 IsReadFrom k words p = Fits p.0 × (keyword_name k ∷ words ≡ command_words p.0 ++ p.1)
@@ -212,8 +212,7 @@ arguments_takes keyword.Load words p e =
     let two = bind_some (number_at one.0.1) _ p one.2 in
     let a = number_takes words one.0 one.1 in
     let b = number_takes one.0.1 two.0 two.1 in
-    subst (IsReadFrom keyword.Load words) (some_is _ _ two.2)
-    ((a.0, b.0), ap (λ (w : Words). codes "load" ∷ w) (a.1 ∙ ap (λ (w : Words). decimal one.0.0 ∷ w) b.1))
+    grind (arith, nat_tests, some_is)
 arguments_takes keyword.Store words p e =
     let one = bind_some (number_at words) _ p e in
     let two = bind_some (number_at one.0.1) _ p one.2 in
@@ -222,30 +221,12 @@ arguments_takes keyword.Store words p e =
     let b = number_takes one.0.1 two.0 two.1 in
     let c = number_takes two.0.1 three.0 three.1 in
     grind (arith, nat_tests, some_is)
-arguments_takes keyword.Checkpoint words p e = subst (IsReadFrom keyword.Checkpoint words) (some_is _ _ e) (tt, refl)
-arguments_takes keyword.Commit words p e = subst (IsReadFrom keyword.Commit words) (some_is _ _ e) (tt, refl)
-arguments_takes keyword.Restart words p e = subst (IsReadFrom keyword.Restart words) (some_is _ _ e) (tt, refl)
-arguments_takes keyword.Cut words p e = subst (IsReadFrom keyword.Cut words) (some_is _ _ e) (tt, refl)
-arguments_takes k words p e = grind (arith, nat_tests, one_takes, one_read)
+arguments_takes k words p e = grind (arith, nat_tests, one_takes, one_read, some_is)
 
 -- ---- the keyword of a word
 
 keyword_at : List ℕ → Option Keyword
-keyword_at word =
-    if bytes_eq word (codes "call") then Some (keyword.Invoke Call) else
-    (if bytes_eq word (codes "return") then Some (keyword.Invoke Return) else
-    (if bytes_eq word (codes "send") then Some (keyword.Invoke Send) else
-    (if bytes_eq word (codes "load") then Some keyword.Load else
-    (if bytes_eq word (codes "store") then Some keyword.Store else
-    (if bytes_eq word (codes "show") then Some keyword.Show else
-    (if bytes_eq word (codes "evict") then Some keyword.Evict else
-    (if bytes_eq word (codes "checkpoint") then Some keyword.Checkpoint else
-    (if bytes_eq word (codes "stabilize") then Some keyword.Stabilize else
-    (if bytes_eq word (codes "commit") then Some keyword.Commit else
-    (if bytes_eq word (codes "migrate") then Some keyword.Migrate else
-    (if bytes_eq word (codes "journal") then Some keyword.Journal else
-    (if bytes_eq word (codes "restart") then Some keyword.Restart else
-    (if bytes_eq word (codes "cut") then Some keyword.Cut else None)))))))))))))
+keyword_at word = first_named keyword_name word every_keyword
 
 keyword_at_name : (k : Keyword) → keyword_at (keyword_name k) ≡ Some k
 unfolding keyword_at
@@ -277,5 +258,4 @@ pub words_left_over : (words rest left : Words) (word : List ℕ) (k : Keyword) 
     → left ≢ [] → (c : Command) → Fits c → words ≢ command_words c
 words_left_over words rest left word k d split named read some c fits whole =
     let other = arguments_are words rest word k c split named fits whole in
-    let same : (d, left) ≡ (c, []) = some_is _ _ (sym read ∙ other) in
-    some (ap (λ (q : Command × Words). q.1) same)
+    some (ap (λ (q : Command × Words). q.1) (some_is _ _ (sym read ∙ other)))

@@ -2,7 +2,7 @@
 use Rattle.script.proofs.Names.{ℕ, zero, suc, Bool, true, false, List, [], None, Some, length, take, get_or, decimal, codes, refl, sym, ap, subst, arith}
 use Rattle.script.proofs.Names.{append_assoc, append-nil, map, slice_get, All, nat_tests, take_all, IsInRange, decimal_digit, digits_more, digit_value_digit}
 use Rattle.script.proofs.Names.{AllDigits, digits_value, Command, Fits, Says, command_words, spelling_from_words, Keyword, LineFault, keyword_name, AreOperands}
-use Rattle.script.proofs.Names.{HasWord, IsFaultOf, IsOperand, IsWordFault, Names, are_registers, Words, number_at}
+use Rattle.script.proofs.Names.{HasWord, IsFaultOf, IsOperand, IsWordFault, Names, are_registers, Words, number_at, nil_from_length}
 use Rattle.std.proofs.Common.{◌≡◌, ◌≢◌, ◌+◌, ◌<◌, ◌≤◌, ◌^◌, if◌then◌else◌, ◌==◌, ◌∷◌, ◌++◌, ◌∙◌}
 use Rattle.model.specs.declared.command.Command.TheVariants as command
 use Rattle.model.specs.declared.line.Line.TheVariants as line
@@ -51,8 +51,7 @@ pub word_fault_here : (is_register : Bool) (old rest : Words) (word : List ℕ) 
 word_fault_here is_register old rest word place why is faulty = (word, rest, is, faulty is_register)
 
 pub empty_list : (word : List ℕ) → (length word == 0) ≡ true → word ≡ []
-empty_list [] none = refl
-empty_list (b ∷ bs) none = let zero_long : length (b ∷ bs) ≡ 0 = grind (arith, nat_tests) in absurd (omega (arith, zero_long))
+empty_list word none = grind (arith, nat_tests, nil_from_length)
 
 -- ---- words, one after another
 
@@ -129,7 +128,6 @@ word_is_fault k all left rest count place word why lt taken is at faulty line na
         ap Some is.1,
     is.2,
   )
-  go fault.Long is = absurd is
   go other is = absurd is
 
 -- no word is wanting

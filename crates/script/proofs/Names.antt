@@ -27,7 +27,8 @@ pub use Rattle.std.proofs.lemmas.Bool.Decides.{nat_tests}
 pub use Rattle.std.proofs.lemmas.Fmt.{decimal-digits_value, decimal_digit, decimal_nonempty, decimal_step, digits_decimal, digits_value-decimal, first_decimal}
 pub use Rattle.std.proofs.lemmas.Grind.{common_steps, flat_map-append}
 pub use Rattle.std.proofs.lemmas.Int.Digits.{digits_more, digits_value_more}
-pub use Rattle.std.proofs.lemmas.List.{drop-drop, get_or-drop, get_or-take, length-drop, length-take-le, take-append-drop, take-take, take_all, take_more}
+pub use Rattle.std.proofs.lemmas.List.{drop-drop, get_or-drop, get_or-take, length-drop, length-take-le, nil_from_length, take-append-drop, take-take, take_all}
+pub use Rattle.std.proofs.lemmas.List.{take_more}
 pub use Rattle.std.proofs.lemmas.List.Elements.{All-cons, All-nil, All-weaker}
 pub use Rattle.std.proofs.lemmas.List.Folds.{flat_map-map}
 pub use Rattle.std.proofs.lemmas.List.Quantifiers.{position-Some}
@@ -48,9 +49,9 @@ pub use Rattle.std.specs.Str.{bytes_eq}
 pub use Rattle.std.specs.Str.Parse.{AllDigits, digits_value}
 pub use Rattle.script.specs.Keywords.{keyword_name}
 pub use Rattle.script.specs.LineFaults.{AreOperands, HasWord, IsFaultOf, IsOperand, IsWordFault, Names, are_registers}
-pub use Rattle.script.specs.Named.{access_words, kind_name, object_of, one_of}
+pub use Rattle.script.specs.Named.{access_words, kind_name, object_of}
 unfoldable pub use Rattle.script.specs.Named.{access_at, access_in, capability_at, capability_words, height_at, key_at}
-pub use Rattle.script.specs.Reading.{Gives, Words, first_end, first_word, one_at, words_left, words_of}
+pub use Rattle.script.specs.Reading.{Gives, Words, first_end, first_word, words_left, words_of}
 unfoldable pub use Rattle.script.specs.Reading.{arguments_at, invocation_at, number_at, number_in, numbers_at, register_at, registers_at}
 pub use Rattle.script.specs.Writing.{AppendsFront, Writes, Written, Wrote, WroteFront}
 pub use Rattle.script.specs.declared.fault.RunFault.{RunFault}

@@ -1,9 +1,14 @@
 -- Every keyword, every kind and every state has a place in the table of words.
 use Rattle.script.proofs.Names.{nat_tests, ℕ, List, [], get_or, arith, Call, Return, Send, State, Available, Running, Waiting, state_text, Keyword, Kind}
-use Rattle.script.proofs.Names.{Discrim, keyword_name, kind_name, Number, Page, Node, Space, Process, Start, Resume, Bank}
-use Rattle.std.proofs.Common.{◌≢◌, ◌<◌, ◌∷◌}
+use Rattle.script.proofs.Names.{Discrim, keyword_name, kind_name, Number, Page, Node, Space, Process, Start, Resume, Bank, Option, None, Some, bytes_eq}
+use Rattle.std.proofs.Common.{◌≢◌, ◌<◌, ◌∷◌, if◌then◌else◌}
 use Rattle.script.specs.declared.named.Kind.TheVariants.{Void}
 use Rattle.script.specs.declared.keyword.Keyword.TheVariants as keyword
+
+-- the first of a list that has this name
+abbrev pub first_named : {A : Type 0} → (A → List ℕ) → List ℕ → List A → Option A
+first_named name word [] = None
+first_named name word (x ∷ xs) = if bytes_eq word (name x) then Some x else first_named name word xs
 
 abbrev pub every_keyword : List Keyword
 every_keyword =
@@ -13,35 +18,14 @@ every_keyword =
 -- a word that is the name of none in the table is the name of none
 pub no_keyword_left : (word : List ℕ) → ((i : ℕ) → i < 14 → word ≢ keyword_name (get_or every_keyword i (keyword.Invoke Send))) → (k : Keyword) →
     word ≢ keyword_name k
-no_keyword_left word none keyword.Show = none 0 (omega arith)
-no_keyword_left word none keyword.Journal = none 1 (omega arith)
-no_keyword_left word none keyword.Evict = none 2 (omega arith)
-no_keyword_left word none keyword.Checkpoint = none 3 (omega arith)
-no_keyword_left word none keyword.Stabilize = none 4 (omega arith)
-no_keyword_left word none keyword.Commit = none 5 (omega arith)
-no_keyword_left word none keyword.Migrate = none 6 (omega arith)
-no_keyword_left word none keyword.Restart = none 7 (omega arith)
-no_keyword_left word none keyword.Cut = none 8 (omega arith)
-no_keyword_left word none keyword.Load = none 9 (omega arith)
-no_keyword_left word none keyword.Store = none 10 (omega arith)
-no_keyword_left word none (keyword.Invoke Call) = none 11 (omega arith)
-no_keyword_left word none (keyword.Invoke Return) = none 12 (omega arith)
-no_keyword_left word none (keyword.Invoke Send) = none 13 (omega arith)
+no_keyword_left word none k =
+    grind (arith, nat_tests, none 0, none 1, none 2, none 3, none 4, none 5, none 6, none 7, none 8, none 9, none 10, none 11, none 12, none 13)
 
 abbrev pub every_kind : List Kind
 every_kind = Void ∷ Number ∷ Page ∷ Node ∷ Space ∷ Process ∷ Start ∷ Resume ∷ Bank ∷ Discrim ∷ []
 
 pub no_kind_left : (word : List ℕ) → ((i : ℕ) → i < 10 → word ≢ kind_name (get_or every_kind i Discrim)) → (k : Kind) → word ≢ kind_name k
-no_kind_left word none Void = none 0 (omega arith)
-no_kind_left word none Number = none 1 (omega arith)
-no_kind_left word none Page = none 2 (omega arith)
-no_kind_left word none Node = none 3 (omega arith)
-no_kind_left word none Space = none 4 (omega arith)
-no_kind_left word none Process = none 5 (omega arith)
-no_kind_left word none Start = none 6 (omega arith)
-no_kind_left word none Resume = none 7 (omega arith)
-no_kind_left word none Bank = none 8 (omega arith)
-no_kind_left word none Discrim = none 9 (omega arith)
+no_kind_left word none k = grind (arith, nat_tests, none 0, none 1, none 2, none 3, none 4, none 5, none 6, none 7, none 8, none 9)
 
 abbrev pub every_state : List State
 every_state = Available ∷ Running ∷ Waiting ∷ []

@@ -19,6 +19,7 @@ pub(crate) fn number_at(bytes: &[u8], at: usize) -> u64
 }
 
 /// The bytes of `count` sectors of an image from sector `at` on, from its copy `bytes`.
+#[tactic(auto, using(crate::proofs::SectorCopies::sectors_in))]
 pub(crate) fn sectors(bytes: &[u8], at: u64, count: usize) -> &[u8]
     requires inside { 512 * (at + count) ≤ length bytes.now }
     ensures size { length result.now ≡ 512 * count }
