@@ -337,8 +337,3 @@ bytes_home p number {at} {n} {s} {bytes} image place shape size written = grind 
 pub zeros_in : {T E : Type 0} (result : Result T E) (p : Plan) (first : ℕ) (there bytes : List ℕ) → OnOk result (there ≡ bytes) → EndsInZeros p first bytes →
     OnOk result (EndsInZeros p first there)
 zeros_in {T} {E} result p first there bytes written zeros = grind (arith, nat_tests)
-
-pub zeros_home : {T E : Type 0} (result : Result T E) (p : Plan) (first : ℕ) (new : Image) (bytes : List ℕ) → shape_of p first ≡ Packed 0 →
-    OnOk result (sectors_from new (home_place p first) (place_length p first) ≡ bytes)
-    → EndsInZeros p first bytes → OnOk result (EndsInZeros p first (sectors_from new (home_place p first) 8))
-zeros_home {T} {E} result p first new bytes shape written zeros = grind (arith, nat_tests)

@@ -48,6 +48,7 @@ impl<'a> Home<'a> {
     /// are all of its sectors. Touches these alone: a crash at any moment leaves all other sectors
     /// as they could have been left before. It is refused exactly where the device fails, and the
     /// sectors of the home may then hold any bytes.
+    #[tactic(auto, using(crate::proofs::Places::home_held, crate::proofs::Places::bytes_home))]
     pub fn write_frame<D: Device>(
         &self,
         device: &mut D,

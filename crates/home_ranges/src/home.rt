@@ -61,6 +61,7 @@ impl<'a> Home<'a> {
     }
 
     /// The first sector of the home of an object: of its own frame, or of the cluster that has it.
+    #[tactic(auto, using(crate::proofs::Places::no_range))]
     pub fn place(&self, number: u64) -> u64
         requires object { IsObject self.now.geometry number }
         ensures plan { IsPlan self.now }
@@ -86,6 +87,7 @@ impl<'a> Home<'a> {
 
     /// How many numbers from this one on have its home: up to five nodes of one cluster, else the
     /// number alone.
+    #[tactic(auto, using(crate::proofs::Places::cluster_shared, crate::proofs::Places::itself_alone))]
     pub fn sharers(&self, number: u64) -> u64
         requires object { IsObject self.now.geometry number }
         ensures all { HaveHome self.now number result }

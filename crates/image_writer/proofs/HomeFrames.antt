@@ -1,8 +1,8 @@
 -- Homes are written one after the other.
-use Rattle.image_writer.proofs.Names.{nat_tests, ℕ, Result, List, length, refl, arith, OnOk, cases_eq, cases_lt, get_or_read, Cap, Frame, ObjectHeader, Content}
-use Rattle.image_writer.proofs.Names.{frame_at, frames_in, header_at, object_count, Image, Elsewhere, Shape, Node, Packed, Page, frame_bytes, home_place}
-use Rattle.image_writer.proofs.Names.{place_length, shape_of, bytes_at, Plan, IsPlan, same_shaped, IsObject, IsOwn, alone, one_before, places_within}
-use Rattle.image_writer.proofs.Names.{places_apart, IsHome, LieAt, frames_before, slice_index_or}
+use Rattle.image_writer.proofs.Names.{ℕ, List, length, refl, arith, cases_eq, cases_lt, get_or_read, Cap, Frame, ObjectHeader, Content, frame_at, frames_in}
+use Rattle.image_writer.proofs.Names.{header_at, object_count, Image, Elsewhere, Shape, Node, Packed, Page, frame_bytes, home_place, place_length, shape_of}
+use Rattle.image_writer.proofs.Names.{bytes_at, Plan, IsPlan, same_shaped, IsObject, IsOwn, alone, one_before, places_within, places_apart, LieAt}
+use Rattle.image_writer.proofs.Names.{frames_before, slice_index_or}
 use Rattle.std.proofs.Common.{◌≡◌, ◌+◌, ◌-◌, ◌<◌, ◌≤◌}
 use Rattle.capability.proofs.FrameLists.{frame_in}
 
@@ -22,7 +22,7 @@ module _ (old mid new : Image) (p : Plan) (n : ℕ) (fits : IsPlan p) (lt : n < 
   other_stays a is differ = search (arith, same_shaped, places_apart)
 
   -- so one more is home
-  pub one_more : (frames : List Frame) → AreHomeTo p frames n mid → IsHome p frames n new → AreHomeTo p frames (n + 1) new
+  pub one_more : (frames : List Frame) → AreHomeTo p frames n mid → LieAt p frames n (home_place p n) new → AreHomeTo p frames (n + 1) new
   one_more frames so_far here a b is below same = search (arith, cases_eq, cases_lt, other_stays)
 
 -- what has the home of the number before is home
@@ -44,13 +44,6 @@ pub own_at : (p : Plan) (hs : List ObjectHeader) (cs : List (Content Cap)) (n at
     → c ≡ slice_index_or cs n c → IsOwn (shape_of p n) → bytes_at image at p n ≡ frame_bytes p.geometry n (record { header = header_at hs n; content = c }) →
     LieAt p (frames_in hs cs) n at image
 own_at p hs cs n at c image fits is size same_size held own written a is_a same = search (arith, alone, frame_there)
-
-pub own_written : {T E : Type 0} (result : Result T E) (p : Plan) (hs : List ObjectHeader) (cs : List (Content Cap)) (n : ℕ) (c : Content Cap) (image : Image) →
-    IsPlan p → IsObject p.geometry n → length hs ≡ object_count p.geometry
-    → length cs ≡ object_count p.geometry → c ≡ slice_index_or cs n c → IsOwn (shape_of p n) →
-    OnOk result (bytes_at image (home_place p n) p n ≡ frame_bytes p.geometry n (record { header = header_at hs n; content = c }))
-    → OnOk result (IsHome p (frames_in hs cs) n image)
-own_written {T} {E} result p hs cs n c image fits is size same_size held own written = grind (arith, nat_tests, own_at)
 
 some_by : (rank : ℕ) → (rank ≡ 0 → ⊥) → 1 ≤ rank
 some_by rank not_first = search arith

@@ -56,7 +56,7 @@ pub use Rattle.std.proofs.lemmas.List.{append-nil, drop_all, drop_more, get_or_r
 pub use Rattle.std.proofs.lemmas.Result.{on_ok_weaker}
 pub use Rattle.std.specs.List.{All}
 pub use Rattle.std.specs.Prelude.{OnOk}
-pub use Rattle.image_writer.specs.Homes.{AreFramesOf, IsHome, LieAt, frames_before}
+pub use Rattle.image_writer.specs.Homes.{AreFramesOf, LieAt, frames_before}
 pub use Rattle.image_writer.specs.Laid.{MayBeLaid, half_length, numbers_of, placed, plan_from, sectors_of}
 unfoldable pub use Rattle.image_writer.specs.Laid.{behind, laid}
 pub use Rattle.image_writer.specs.Laws.{KeptHoldsTheSame, NoneIsHeld}

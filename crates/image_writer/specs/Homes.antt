@@ -18,8 +18,3 @@ AreFramesOf p frames number bytes = (a : ℕ) → IsObject p.geometry a → home
 abbrev pub LieAt : Plan → List Frame → ℕ → ℕ → Image → Type 0
 LieAt p frames number at image = (a : ℕ) → IsObject p.geometry a → home_place p a ≡ home_place p number →
     bytes_at image at p a ≡ frame_bytes p.geometry a (frame_at frames a)
-
--- or at that home
-abbrev pub IsHome : Plan → List Frame → ℕ → Image → Type 0
-IsHome p frames number image = (a : ℕ) → IsObject p.geometry a → home_place p a ≡ home_place p number →
-    bytes_at image (home_place p a) p a ≡ frame_bytes p.geometry a (frame_at frames a)

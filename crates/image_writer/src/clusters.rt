@@ -1,18 +1,27 @@
-// The bytes of clusters.
-ghost use Rattle.std.specs.Prelude.{◌≡◌, ◌<◌, ℕ, length};
+// The frames that share a home: the bytes of a cluster, and frames that are written to any sectors.
+ghost use Rattle.std.specs.Prelude.{◌≡◌, ◌+◌, ◌-◌, ◌<◌, ◌≤◌, ℕ, length, OnOk};
+ghost use Rattle.device.specs.Calls.{Counts};
 ghost use Rattle.layout.specs.declared.shape.Shape.TheVariants as shape;
 ghost use Rattle.layout.specs.Frame.{frame_bytes};
-ghost use Rattle.layout.specs.Homes.{shape_of};
+ghost use Rattle.layout.specs.Homes.{place_length, shape_of};
+ghost use Rattle.layout.specs.Image.{sectors_from};
+ghost use Rattle.layout.specs.Superblock.{IsPlan};
+ghost use Rattle.layout.specs.Calls.{WritesAt};
 ghost use Rattle.layout.specs.Shape.{shape_bytes};
 ghost use Rattle.layout.specs.Frames.{IsObject};
 ghost use Rattle.model.specs.Frame.{frames_in};
 ghost use Rattle.model.specs.Sound.{object_count};
 ghost use Rattle.home_ranges.specs.Home.{EndsInZeros};
-ghost use Rattle.image_writer.specs.Homes.{AreFramesOf};
+ghost use Rattle.image_writer.specs.Homes.{AreFramesOf, LieAt};
 
+use device::{Device, Failed};
 use home_ranges::Home;
-use layout::{NODE_FRAME_BYTES, encode_frame, pack_node};
+use layout::{
+    CLUSTER_BYTES, NODE_FRAME_BYTES, Shape, encode_frame, pack_node, write_frame, write_sectors,
+};
 use model::{Cap, Content, Geometry, ObjectHeader};
+
+const CLUSTER_SECTORS: usize = 8;
 
 // Puts the frame of a node's number into the place of a rank. Those of the other ranks stay.
 #[tactic(auto, using(layout::proofs::Clusters::node_end))]
@@ -39,9 +48,10 @@ fn put_node(
     pack_node(&node, rank as usize, cluster);
 }
 
-/// Fills the 4096 bytes of the cluster whose first node is `number`: with the frame of each of its
-/// nodes, from the header and the content of its number, and with zeros behind them.
-pub(crate) fn fill_cluster(
+// Fills the 4096 bytes of the cluster whose first node is `number`: with the frame of each of its
+// nodes, from the header and the content of its number, and with zeros behind them.
+#[tactic(auto, using(crate::proofs::Ranks::shares_node))]
+fn fill_cluster(
     home: &Home,
     number: u64,
     headers: &[ObjectHeader],
@@ -71,4 +81,65 @@ pub(crate) fn fill_cluster(
         );
     }
     home.blank_rest(number, cluster);
+}
+
+// Writes the cluster of a node with this rank into the sectors from `at` on: the frames of all its nodes, and zeros
+// behind them.
+#[tactic(auto, using(home_ranges::proofs::Places::zeros_in))]
+fn write_cluster<D: Device>(
+    device: &mut D,
+    home: &Home,
+    at: u64,
+    number: u64,
+    rank: u64,
+    headers: &[ObjectHeader],
+    contents: &[Content<Cap>],
+) -> Result<(), Failed>
+    requires plan { IsPlan home.now }
+    requires object { IsObject home.now.geometry number }
+    requires shape { shape_of home.now number ≡ shape.Packed rank }
+    requires headers { length headers.now ≡ object_count home.now.geometry }
+    requires contents { length contents.now ≡ object_count home.now.geometry }
+    requires inside { at + 8 ≤ (D.disk device.old).sectors }
+    ensures written { OnOk result (LieAt home.now (frames_in headers.now contents.now) number at
+        (D.disk device.new).seen) }
+    ensures zeros { OnOk result (EndsInZeros home.now (number - rank)
+        (sectors_from (D.disk device.new).seen at 8)) }
+    ensures writes { WritesAt at 8 (D.disk device.old) (D.disk device.new) }
+    ensures cause { Counts (D.disk device.old) (D.disk device.new) result }
+{
+    let mut cluster = [0; CLUSTER_BYTES];
+    fill_cluster(home, number - rank, headers, contents, &mut cluster);
+    write_sectors(device, at, CLUSTER_SECTORS, &cluster)
+}
+
+/// Writes the frames of all that have the home of an object into the sectors from `at` on, as they lie at home.
+#[tactic(auto, using(crate::proofs::SlotFrames::own_written_at))]
+pub(crate) fn write_shared<D: Device>(
+    device: &mut D,
+    home: &Home,
+    at: u64,
+    number: u64,
+    headers: &[ObjectHeader],
+    contents: &[Content<Cap>],
+) -> Result<(), Failed>
+    requires plan { IsPlan home.now }
+    requires object { IsObject home.now.geometry number }
+    requires headers { length headers.now ≡ object_count home.now.geometry }
+    requires contents { length contents.now ≡ object_count home.now.geometry }
+    requires inside { at + place_length home.now number ≤ (D.disk device.old).sectors }
+    ensures written { OnOk result (LieAt home.now (frames_in headers.now contents.now) number at
+        (D.disk device.new).seen) }
+    ensures writes { WritesAt at (place_length home.now number) (D.disk device.old) (D.disk device.new) }
+    ensures cause { Counts (D.disk device.old) (D.disk device.new) result }
+{
+    let shape = home.shape(number);
+    match shape {
+        Shape::Node | Shape::Page => {
+            let header = headers[number as usize];
+            let content = contents[number as usize].as_ref();
+            write_frame(device, at, shape, home.geometry(), number, header, content)
+        }
+        Shape::Packed(rank) => write_cluster(device, home, at, number, rank, headers, contents),
+    }
 }

@@ -27,6 +27,7 @@ use model::{Cap, Content, Geometry, ObjectHeader};
 
 // Writes the homes of all `count` objects, and the half of the log of a
 // generation. The gates of both headers are closed, and a crash at any moment leaves them so.
+#[tactic(auto, using(crate::proofs::SlotFrames::log_between))]
 fn write_frames<D: Device>(
     device: &mut D,
     superblock: &Superblock,
@@ -121,6 +122,7 @@ fn write_parts<D: Device>(
 ///
 /// The device has at least as many sectors as the superblock says, header and directory fit it and
 /// one another, and each frame can be kept at the header's age.
+#[tactic(auto, using(crate::proofs::FreshImages::denotes, crate::proofs::FreshImages::not_yet))]
 pub fn write_saved<D: Device>(
     device: &mut D,
     superblock: &Superblock,
@@ -168,6 +170,7 @@ pub fn write_saved<D: Device>(
 ///
 /// The device has at least as many sectors as the superblock says, and each frame can be kept at
 /// the age, which is at most `MAX_AGE`.
+#[tactic(auto, using(crate::proofs::FreshImages::header_fits, crate::proofs::FreshImages::no_directory))]
 pub fn write_image<D: Device>(
     device: &mut D,
     superblock: &Superblock,

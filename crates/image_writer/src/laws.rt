@@ -4,6 +4,7 @@
 ghost use Rattle.image_writer.specs.Laws.{KeptHoldsTheSame, NoneIsHeld, SecondTakesFewMore};
 
 /// An image takes by version 2 at most 8 sectors for each of its ranges more than by version 1.
+#[tactic(auto, using(crate::proofs::LaidPlans::second_total))]
 pub fn second_takes_few_more()
     ensures { SecondTakesFewMore }
 {}
@@ -15,6 +16,7 @@ pub fn kept_holds_the_same()
 {}
 
 /// An image without a committed header holds no saved frames: it isn't opened.
+#[tactic(auto, using(crate::proofs::OldImages::none_is_held))]
 pub fn none_is_held()
     ensures { NoneIsHeld }
 {}

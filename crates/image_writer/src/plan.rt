@@ -22,6 +22,7 @@ const UNUSED: HomeRange = HomeRange {
 };
 
 // Lays ranges one behind the other, and answers the sector behind them.
+#[tactic(auto, using(crate::proofs::Laying::all_laid, crate::proofs::Laying::end_laid))]
 fn lay_ranges(
     version: Version,
     geometry: Geometry,

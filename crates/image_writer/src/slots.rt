@@ -2,105 +2,24 @@
 ghost use Rattle.std.specs.Prelude.{◌≡◌, ◌-◌, ◌*◌, ◌<◌, ◌≤◌, length, OnOk};
 ghost use Rattle.device.specs.Calls.{Counts, Elsewhere};
 ghost use Rattle.device.specs.Moments.{LeavesOnly};
-ghost use Rattle.layout.specs.declared.shape.Shape.TheVariants as shape;
 ghost use Rattle.layout.specs.Directory.{IsDirectory, directory_bytes};
-ghost use Rattle.layout.specs.Homes.{place_length, shape_of};
-ghost use Rattle.layout.specs.Image.{directory_in, half_sector, sectors_from, slot_sector};
+ghost use Rattle.layout.specs.Image.{directory_in, half_sector};
 ghost use Rattle.layout.specs.Superblock.{IsPlan, half_extent};
-ghost use Rattle.layout.specs.Calls.{WritesAt};
-ghost use Rattle.layout.specs.Frames.{IsObject};
 ghost use Rattle.model.specs.Frame.{frames_in};
 ghost use Rattle.model.specs.Sound.{object_count};
 ghost use Rattle.ckpt_log.specs.Closing.{AreClosed};
-ghost use Rattle.home_ranges.specs.Home.{EndsInZeros};
-ghost use Rattle.image_writer.specs.Homes.{LieAt};
 ghost use Rattle.image_writer.specs.Written.{AreInSlots, LeavesClosed};
 
-use crate::clusters::fill_cluster;
+use crate::clusters::write_shared;
 use ckpt_log::Log;
 use device::{Device, Failed};
 use home_ranges::Home;
-use layout::{CLUSTER_BYTES, Entry, Shape, write_sectors};
+use layout::Entry;
 use model::{Cap, Content, ObjectHeader};
-
-const CLUSTER_SECTORS: usize = 8;
-
-// Writes the slot of an entry whose node has this rank in its cluster: the frames of all nodes of the
-// cluster, and zeros behind them.
-fn write_cluster<D: Device>(
-    device: &mut D,
-    log: &Log,
-    home: &Home,
-    generation: u64,
-    entry: Entry,
-    rank: u64,
-    headers: &[ObjectHeader],
-    contents: &[Content<Cap>],
-) -> Result<(), Failed>
-    requires plan { IsPlan home.now }
-    requires same { log.now ≡ home.now }
-    requires object { IsObject home.now.geometry entry.object }
-    requires slot { entry.slot < home.now.geometry.log }
-    requires shape { shape_of home.now entry.object ≡ shape.Packed rank }
-    requires headers { length headers.now ≡ object_count home.now.geometry }
-    requires contents { length contents.now ≡ object_count home.now.geometry }
-    requires inside { home.now.total ≤ (D.disk device.old).sectors }
-    ensures written { OnOk result (LieAt home.now (frames_in headers.now contents.now) entry.object
-        (slot_sector home.now generation entry.slot) (D.disk device.new).seen) }
-    ensures zeros { OnOk result (EndsInZeros home.now (entry.object - rank)
-        (sectors_from (D.disk device.new).seen (slot_sector home.now generation entry.slot) 8)) }
-    ensures writes { WritesAt (slot_sector home.now generation entry.slot)
-        (place_length home.now entry.object) (D.disk device.old) (D.disk device.new) }
-    ensures cause { Counts (D.disk device.old) (D.disk device.new) result }
-{
-    let mut cluster = [0; CLUSTER_BYTES];
-    fill_cluster(home, entry.object - rank, headers, contents, &mut cluster);
-    let at = log.slot_sector(generation, entry.slot);
-    write_sectors(device, at, CLUSTER_SECTORS, &cluster)
-}
-
-// Writes the slot of an entry: the frame of its object, and with it those of all that have its home.
-fn write_entry<D: Device>(
-    device: &mut D,
-    log: &Log,
-    home: &Home,
-    generation: u64,
-    entry: Entry,
-    headers: &[ObjectHeader],
-    contents: &[Content<Cap>],
-) -> Result<(), Failed>
-    requires plan { IsPlan home.now }
-    requires same { log.now ≡ home.now }
-    requires object { IsObject home.now.geometry entry.object }
-    requires slot { entry.slot < home.now.geometry.log }
-    requires headers { length headers.now ≡ object_count home.now.geometry }
-    requires contents { length contents.now ≡ object_count home.now.geometry }
-    requires inside { home.now.total ≤ (D.disk device.old).sectors }
-    ensures written { OnOk result (LieAt home.now (frames_in headers.now contents.now) entry.object
-        (slot_sector home.now generation entry.slot) (D.disk device.new).seen) }
-    ensures writes { WritesAt (slot_sector home.now generation entry.slot)
-        (place_length home.now entry.object) (D.disk device.old) (D.disk device.new) }
-    ensures cause { Counts (D.disk device.old) (D.disk device.new) result }
-{
-    let Entry { object, slot } = entry;
-    let at = object as usize;
-    match home.shape(object) {
-        Shape::Packed(rank) => write_cluster(
-            device, log, home, generation, entry, rank, headers, contents,
-        ),
-        Shape::Node | Shape::Page => log.write_slot(
-            device,
-            generation,
-            slot,
-            object,
-            headers[at],
-            contents[at].as_ref(),
-        ),
-    }
-}
 
 // Writes the slots of all entries of a directory. The gates of both headers are closed, and a crash
 // at any moment leaves them so.
+#[tactic(auto, using(crate::proofs::SlotFrames::stays_in_half))]
 fn write_slots<D: Device>(
     device: &mut D,
     log: &Log,
@@ -127,15 +46,9 @@ fn write_slots<D: Device>(
     ensures cause { Counts (D.disk device.old) (D.disk device.new) result }
 {
     for index in 0..entries.len() {
-        write_entry(
-            device,
-            log,
-            home,
-            generation,
-            entries[index],
-            headers,
-            contents,
-        )?;
+        let entry = entries[index];
+        let at = log.slot_sector(generation, entry.slot);
+        write_shared(device, home, at, entry.object, headers, contents)?;
     }
     Ok(())
 }

@@ -3,7 +3,7 @@ use Rattle.layout.proofs.Names.{nat_tests, [], ℕ, Bool, true, false, List, len
 use Rattle.layout.proofs.Names.{replicate, cases_lt, false≢true, take_more, take_more_set, take_at, append-nil, length-append, get_or-replicate}
 use Rattle.layout.proofs.Names.{length-replicate, get_or_past, take-add, flat_map-append, All-same, All-push, All-nil, All-tail, All-head, Geometry, Entry}
 use Rattle.layout.proofs.Names.{number, directory_bytes, entry_at, IsDirectory, AllFitting}
-use Rattle.std.proofs.Common.{◌≡◌, ◌+◌, ◌-◌, ◌*◌, ◌^◌, ◌<◌, ◌∷◌, ◌++◌, ◌∙◌}
+use Rattle.std.proofs.Common.{◌≡◌, ◌+◌, ◌*◌, ◌^◌, ◌<◌, ◌∷◌, ◌++◌, ◌∙◌}
 use Rattle.layout.proofs.Numbers.{length-number, number_splits}
 
 -- ---- bytes

@@ -8,8 +8,6 @@ use Rattle.layout.proofs.Names.{IsBody, IsNodeFrame, All-replicate, IsTrue, IsKe
 use Rattle.std.proofs.Common.{◌≡◌, ◌+◌, ◌-◌, ◌*◌, ◌^◌, ◌<◌, ◌≤◌, ◌∷◌, ◌++◌, ◌∙◌}
 use borrow.Rule.Slice.PartMut.{put_mid}
 use Rattle.model.specs.declared.object.Content.TheVariants as content
-use Rattle.model.specs.declared.object.Role.TheVariants as role
-use Rattle.layout.specs.declared.body.Body.TheVariants as body
 use Rattle.layout.proofs.Numbers.{stream, AllFit, stream_splits, IsWritten}
 use Rattle.layout.proofs.SlotLists.{slots_bytes-nil, slots_bytes-cons, slots_bytes-append, length-slots, slots_split}
 

@@ -41,7 +41,7 @@ pub use Rattle.std.proofs.lemmas.Slice.{between-put_mid, between_is, drop-put_mi
 pub use Rattle.std.proofs.lemmas.Slice.Eq.{slice_eq-Decides}
 pub use Rattle.std.specs.Int.{from_le_bytes, w32, w64}
 pub use Rattle.std.specs.List.{All, between, flat_map}
-pub use Rattle.std.specs.Prelude.{IfNone, IfSome, IsTrue, OnOk, Option, bit_or, codes, map, nat_eq, replicate, ⊤}
+pub use Rattle.std.specs.Prelude.{IfNone, IfSome, IsTrue, OnOk, Option, bit_or, codes, map, nat_eq, replicate}
 unfoldable pub use Rattle.layout.specs.Bytes.{half_number, number, number_from, short_number, zeros}
 pub use Rattle.layout.specs.Capability.{HeadFits, assembled, head_number, height_of, key_of, number_of}
 unfoldable pub use Rattle.layout.specs.Capability.{capability_bytes, head_bytes}

@@ -1,7 +1,7 @@
 -- Zeros in a cluster.
-use Rattle.layout.proofs.Names.{nat_tests, ℕ, Result, List, length, take, drop, sym, ap, arith, ⊤, OnOk, replicate, drop-replicate, drop-take, drop_at}
+use Rattle.layout.proofs.Names.{nat_tests, ℕ, Result, List, length, take, drop, sym, ap, arith, OnOk, replicate, drop-replicate, drop-take, drop_at}
 use Rattle.layout.proofs.Names.{length-drop, length-take-le, take-replicate, take_rest, replicate-append-replicate, take-put_mid_below, Image, Packed, zeros}
-use Rattle.layout.proofs.Names.{sectors_from, shaped_at, shape_bytes, IsAlone, IsBlankBehind}
+use Rattle.layout.proofs.Names.{sectors_from, shape_bytes, IsAlone, IsBlankBehind}
 use Rattle.std.proofs.Common.{◌≡◌, ◌+◌, ◌-◌, ◌*◌, ◌<◌, ◌≤◌, ◌++◌, ◌∙◌}
 use borrow.Rule.Slice.PartMut.{put_mid}
 use Rattle.layout.proofs.Pages.{put_last}
@@ -42,11 +42,3 @@ packed_alone rank packed new others stay rest = grind (arith, nat_tests, blank_p
 pub alone_there : {T E : Type 0} (result : Result T E) (image : Image) (at : ℕ) {rank : ℕ} {bytes : List ℕ} → OnOk result (sectors_from image at 8 ≡ bytes) →
     IsAlone rank bytes → OnOk result (IsAlone rank (sectors_from image at 8))
 alone_there result image at written alone = grind (arith, nat_tests)
-
-pub packed_written : {T E : Type 0} (result : Result T E) (image : Image) (at rank : ℕ) (bytes frame : List ℕ) → OnOk result (sectors_from image at 8 ≡ bytes) →
-    shape_bytes (Packed rank) bytes ≡ frame
-    → OnOk result (shaped_at image at (Packed rank) ≡ frame)
-packed_written result image at rank bytes frame written is = grind (arith, nat_tests)
-
-pub ok_any : {T E : Type 0} (result : Result T E) → OnOk result ⊤
-ok_any result = grind (arith, nat_tests)

@@ -13,6 +13,7 @@ pub const CLUSTER_BYTES: usize = 4096;
 const PACKED_BYTES: usize = 800;
 
 /// Copies the 1024 bytes of a node's frame out of the 4096 of its cluster, where it has this rank.
+#[tactic(auto, using(crate::proofs::Clusters::front_long, crate::proofs::Clusters::part_long))]
 pub fn unpack_node(cluster: &[u8], rank: usize, node: &mut [u8])
     requires cluster { length cluster.now ≡ 4096 }
     requires rank { rank < 5 }
@@ -26,6 +27,7 @@ pub fn unpack_node(cluster: &[u8], rank: usize, node: &mut [u8])
 
 /// Copies a node's frame to the place of its rank in the 4096 bytes of a cluster. The frames of the
 /// other ranks stay.
+#[tactic(auto, using(crate::proofs::Clusters::front_long, crate::proofs::Clusters::packed))]
 pub fn pack_node(node: &[u8], rank: usize, cluster: &mut [u8])
     requires node { length node.now ≡ 1024 }
     requires end { drop 800 node.now ≡ zeros 224 }

@@ -64,6 +64,7 @@ fn is_directory(geometry: Geometry, entries: &[Entry]) -> bool
 }
 
 /// Writes a directory, 16 bytes for each entry.
+#[tactic(auto, using(crate::proofs::Directories::no_entry))]
 pub fn encode_directory(entries: &[Entry], into: &mut [u8])
     requires { length into.old ≡ 16 * length entries.now }
     ensures { into.new ≡ directory_bytes entries.now }
@@ -92,6 +93,7 @@ fn read_entries(bytes: &[u8], into: &mut [Entry])
 /// Reads a directory of as many entries as `into` has, 16 bytes for each. The numbers of the
 /// objects have to rise and be on the device, and no slot may come twice or be outside a log half.
 /// All that is no spelling of such a directory is a `BadDirectory`, which leaves any entries.
+#[tactic(auto, using(crate::proofs::Directories::directory_fits, crate::proofs::Directories::one_directory))]
 pub fn decode_directory(
     bytes: &[u8],
     geometry: Geometry,

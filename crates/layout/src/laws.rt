@@ -3,6 +3,7 @@ ghost use Rattle.layout.specs.Laws.{SpellOneCapability, SpellOneGate, SpellOneHe
 ghost use Rattle.layout.specs.Laws.{SpellOneSuperblock, SpeltIsRead, DenoteOneState};
 
 /// Given bytes spell at most one value of each structure. It does nothing: its contract is the law.
+#[tactic(auto, using(crate::proofs::Capabilities::one_capability, crate::proofs::Superblocks::one_plan))]
 pub fn spell_one_value()
     ensures capability { SpellOneCapability }
     ensures gate { SpellOneGate }

@@ -103,6 +103,7 @@ fn body_in(role: u64, slots: &[Cap]) -> Body
     }
 }
 
+#[tactic(auto, using(crate::proofs::Frames::root_tail))]
 fn is_root(root: &Root<Cap>, slots: &[Cap]) -> bool
     requires { length slots.now ≡ 32 }
     ensures { IsTrue result ↔ ((slots.now ≡ slots_of (content.Root root.now))

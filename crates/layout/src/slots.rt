@@ -34,6 +34,7 @@ pub fn are_held(caps: &[Cap], slots: &[Cap]) -> bool
 }
 
 /// Writes capabilities one after the other.
+#[tactic(auto, using(crate::proofs::SlotLists::slot_written))]
 pub fn encode_slots(caps: &[Cap], into: &mut [u8])
     requires { length into.old ≡ 24 * length caps.now }
     ensures { into.new ≡ slots_bytes caps.now }

@@ -73,6 +73,7 @@ fn do_cover(geometry: Geometry, ranges: &[HomeRange]) -> bool
     next == end
 }
 
+#[tactic(auto, using(crate::proofs::Extents::ranges_within))]
 fn is_plan(
     version: Version,
     geometry: Geometry,
@@ -265,6 +266,7 @@ fn read_ranges(bytes: &[u8], into: &mut [HomeRange])
     }
 }
 
+#[tactic(auto, using(crate::proofs::Superblocks::no_range))]
 fn write_ranges(ranges: &[HomeRange], into: &mut [u8])
     requires { length into.old ≡ 24 * length ranges.now }
     ensures { into.new ≡ ranges_bytes ranges.now }

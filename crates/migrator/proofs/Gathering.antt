@@ -1,7 +1,7 @@
 -- The saved frames of a cluster's nodes are put together.
-use Rattle.migrator.proofs.Names.{nat_tests, ℕ, Option, Some, Result, List, length, take, drop, sym, ap, subst, arith, OnOk, drop_at, Image, Disk, Entry, Shape}
-use Rattle.migrator.proofs.Names.{Packed, zeros, home_place, place_length, shape_of, frame_in, frame_slot_in, sector_or, sectors_from, shaped_at, slot_in}
-use Rattle.migrator.proofs.Names.{slot_sector, bytes_at, shape_bytes, Plan, IsPlan, length-zeros, ReadsOnly, WritesAt, IsObject, EndsInZeros, HaveHome}
+use Rattle.migrator.proofs.Names.{nat_tests, ℕ, Option, Some, Result, List, length, take, drop, sym, ap, subst, arith, OnOk, on_ok_weaker, drop_at, Image, Disk}
+use Rattle.migrator.proofs.Names.{Entry, Shape, Packed, zeros, home_place, place_length, shape_of, frame_in, frame_slot_in, sector_or, sectors_from, shaped_at}
+use Rattle.migrator.proofs.Names.{slot_in, slot_sector, bytes_at, shape_bytes, Plan, IsPlan, length-zeros, ReadsOnly, WritesAt, IsObject, EndsInZeros, HaveHome}
 use Rattle.migrator.proofs.Names.{HoldsHome, IsOwn, alone, ranked, HasZerosAt, IsGathered, IsCopied, Touches}
 use Rattle.std.proofs.Common.{◌≡◌, ◌+◌, ◌-◌, ◌*◌, ◌<◌, ◌++◌, ◌∙◌}
 use Rattle.std.proofs.lemmas.List.{length-append}
@@ -52,16 +52,16 @@ all_in image {p} generation es {number} {n} cluster fits is first have so_far a 
 -- ---- a home
 
 -- of a number whose home is its own only that one is copied
-own_copied : (old new : Image) {p : Plan} (generation : ℕ) (es : List Entry) {number slot : ℕ} → IsPlan p → IsObject p.geometry number →
-    IsOwn (shape_of p number) → slot_in es number ≡ Some slot
-    → bytes_at new (home_place p number) p number ≡ bytes_at old (slot_sector p generation slot) p number → IsCopied old new p generation es number
-own_copied old new {p} generation es {number} {slot} fits is own has copied = grind (arith, nat_tests, alone, in_slot)
-
--- the home is written in two ways, `p` and `q`
-pub copied_own : (old new : Image) {p : Plan} (generation : ℕ) (es : List Entry) {number slot from to : ℕ} {s : Shape} → IsPlan p → IsObject p.geometry number →
-    IsOwn s → s ≡ shape_of p number → slot_in es number ≡ Some slot
-    → from ≡ slot_sector p generation slot → to ≡ home_place p number → shaped_at new to s ≡ shaped_at old from s → IsCopied old new p generation es number
-copied_own old new {p} generation es {number} {slot} {from} {to} {s} fits is own shape has from_is to_is copied = grind (arith, nat_tests, own_copied)
+pub own_copied : {T E : Type 0} (result : Result T E) (old new : Image) {p : Plan} (generation : ℕ) (es : List Entry) {number slot : ℕ} → IsPlan p →
+    IsObject p.geometry number → IsOwn (shape_of p number) → slot_in es number ≡ Some slot →
+    OnOk result (sectors_from new (home_place p number) (place_length p number) ≡ sectors_from old (slot_sector p generation slot) (place_length p number)) →
+    OnOk result (IsCopied old new p generation es number)
+own_copied result old new {p} generation es {number} {slot} fits is own has copied =
+    on_ok_weaker result
+    (λ same.
+    let shaped : bytes_at new (home_place p number) p number ≡ bytes_at old (slot_sector p generation slot) p number = ap (shape_bytes (shape_of p number)) same
+    in
+    grind (arith, nat_tests, alone, in_slot)) copied
 
 -- ---- what a write after reads does
 
@@ -76,11 +76,6 @@ same_rank same = cc
 
 pub zeros_at : {p : Plan} (n : ℕ) {rank : ℕ} (bytes : List ℕ) → shape_of p n ≡ Packed rank → EndsInZeros p (n - rank) bytes → HasZerosAt p n bytes
 zeros_at {p} n {rank} bytes shape zeros other is = subst (λ (r : ℕ). EndsInZeros p (n - r) bytes) (same_rank (sym shape ∙ is)) zeros
-
--- a number whose home is its own lies in no cluster
-pub no_cluster : {T E : Type 0} (result : Result T E) (p : Plan) (n : ℕ) {s : Shape} (bytes : List ℕ) → IsOwn s → s ≡ shape_of p n →
-    OnOk result (HasZerosAt p n bytes)
-no_cluster {T} {E} result p n {s} bytes own shape = grind (arith, nat_tests)
 
 -- what was gathered is copied, though the rest of the cluster was made zeros
 pub copied_blank : {T E : Type 0} (result : Result T E) (old new : Image) (p : Plan) (generation : ℕ) (es : List Entry) (first : ℕ) (gathered blank : List ℕ) →

@@ -103,6 +103,7 @@ impl Books {
 
     /// Writes the frame of an object into a slot of its own, in the half of the log that nothing saved or frozen lies
     /// in. After `Failed` the slot may hold any bytes.
+    #[tactic(auto, using(crate::proofs::PutFrames::working_room))]
     pub(crate) fn put_working<D: Device>(
         &mut self,
         device: &mut D,
@@ -181,6 +182,7 @@ impl Books {
 
     /// Writes the frame of an object for the checkpoint on its way, which writes `size` objects, into a slot of its
     /// own in the half of the log that nothing saved lies in. After `Failed` the slot may hold any bytes.
+    #[tactic(auto, using(crate::proofs::PutFrames::puts_none, crate::proofs::PutFrames::may_put_torn))]
     pub(crate) fn put_running<D: Device>(
         &mut self,
         device: &mut D,

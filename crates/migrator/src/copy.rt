@@ -1,5 +1,5 @@
 // Copying frames home.
-ghost use Rattle.std.specs.Prelude.{◌≡◌, ◌+◌, ◌<◌, ◌≤◌, Some, OnOk};
+ghost use Rattle.std.specs.Prelude.{◌≡◌, ◌+◌, ◌*◌, ◌<◌, ◌≤◌, length, Some, OnOk};
 ghost use Rattle.device.specs.Calls.{Counts};
 ghost use Rattle.layout.specs.declared.shape.Shape.TheVariants as shape;
 ghost use Rattle.layout.specs.Directory.{IsDirectory};
@@ -12,43 +12,31 @@ ghost use Rattle.migrator.specs.Spared.{Touches};
 
 use crate::gather::gather;
 use ckpt_log::Log;
-use device::{Device, Failed};
+use device::{Device, Failed, SECTOR_SIZE};
 use home_ranges::Home;
 use layout::{
-    CLUSTER_BYTES, Entry, NODE_FRAME_BYTES, PAGE_FRAME_BYTES, Shape, Superblock, read_sectors,
-    write_sectors,
+    CLUSTER_BYTES, Entry, PAGE_FRAME_BYTES, Shape, Superblock, read_sectors, write_sectors,
 };
 
-// Copies 2 sectors.
-fn copy_node<D: Device>(device: &mut D, from: u64, to: u64) -> Result<(), Failed>
-    requires from { from + 2 ≤ (D.disk device.old).sectors }
-    requires to { to + 2 ≤ (D.disk device.old).sectors }
-    ensures copied { OnOk result (sectors_from (D.disk device.new).seen to 2
-        ≡ sectors_from (D.disk device.old).seen from 2) }
-    ensures touches { Touches to 2 (D.disk device.old) (D.disk device.new) }
-    ensures cause { Counts (D.disk device.old) (D.disk device.new) result }
-{
-    let mut node = [0; NODE_FRAME_BYTES];
-    read_sectors(device, from, 2, &mut node)?;
-    write_sectors(device, to, 2, &node)
-}
-
-// Copies 9 sectors through a buffer.
-fn copy_page<D: Device>(
+// Copies a run of sectors through a part of a buffer.
+fn copy_run<D: Device>(
     device: &mut D,
     from: u64,
     to: u64,
-    buffer: &mut [u8; PAGE_FRAME_BYTES],
+    sectors: usize,
+    buffer: &mut [u8],
 ) -> Result<(), Failed>
-    requires from { from + 9 ≤ (D.disk device.old).sectors }
-    requires to { to + 9 ≤ (D.disk device.old).sectors }
-    ensures copied { OnOk result (sectors_from (D.disk device.new).seen to 9
-        ≡ sectors_from (D.disk device.old).seen from 9) }
-    ensures touches { Touches to 9 (D.disk device.old) (D.disk device.new) }
+    requires few { 512 * sectors ≤ length buffer.old }
+    requires from { from + sectors ≤ (D.disk device.old).sectors }
+    requires to { to + sectors ≤ (D.disk device.old).sectors }
+    ensures copied { OnOk result (sectors_from (D.disk device.new).seen to sectors
+        ≡ sectors_from (D.disk device.old).seen from sectors) }
+    ensures touches { Touches to sectors (D.disk device.old) (D.disk device.new) }
     ensures cause { Counts (D.disk device.old) (D.disk device.new) result }
 {
-    read_sectors(device, from, 9, buffer)?;
-    write_sectors(device, to, 9, buffer)
+    let part = &mut buffer[..SECTOR_SIZE * sectors];
+    read_sectors(device, from, sectors, part)?;
+    write_sectors(device, to, sectors, part)
 }
 
 // Writes the home of the cluster whose first node is `first`: the saved frames of all its nodes,
@@ -106,11 +94,11 @@ pub(crate) fn copy_home<D: Device>(
     let log = Log::new(plan);
     let from = log.slot_sector(generation, entry.slot);
     let to = home.place(entry.object);
-    match plan.shape(entry.object) {
-        Shape::Node => copy_node(device, from, to),
+    let shape = plan.shape(entry.object);
+    match shape {
+        Shape::Node | Shape::Page => copy_run(device, from, to, shape.length() as usize, buffer),
         Shape::Packed(rank) => {
             copy_cluster(device, plan, generation, directory, entry.object - rank)
         }
-        Shape::Page => copy_page(device, from, to, buffer),
     }
 }

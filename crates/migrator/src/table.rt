@@ -113,6 +113,7 @@ fn clear_places(places: &mut [Place], held: &mut NumberSet, taken: u64)
 }
 
 // The entry of the first object from a number on that has a slot.
+#[tactic(auto, using(crate::proofs::Tables::next_held))]
 fn next_entry(places: &[Place], held: &NumberSet, from: usize) -> Option<Entry>
     requires held { held.now ≡ map is_held places.now }
     ensures some { IfSome result (λ entry. entries_from from (drop from places.now)

@@ -1,13 +1,13 @@
 // The frame of an object at a sector of any device.
-ghost use Rattle.std.specs.Prelude.{◌≡◌, ◌+◌, ◌<◌, ◌≤◌, length, IfOk, IfErr, OnOk};
+ghost use Rattle.std.specs.Prelude.{◌≡◌, ◌+◌, ◌*◌, ◌<◌, ◌≤◌, length, IfOk, IfErr, OnOk};
 ghost use Rattle.model.specs.declared.object.Content.TheVariants as content;
 ghost use Rattle.device.specs.Calls.{Counts};
 ghost use Rattle.layout.specs.declared.shape.Shape.TheVariants as shape;
-ghost use Rattle.layout.specs.Frame.{IsFrameOf, frame_bytes, frame_of, page_frame_bytes};
+ghost use Rattle.layout.specs.Frame.{IsFrameOf, frame_bytes, frame_length, frame_of, page_frame_bytes};
 ghost use Rattle.layout.specs.Image.{sectors_from, shaped_at};
 ghost use Rattle.layout.specs.Shape.{IsShapeFor, shape_length};
 ghost use Rattle.layout.specs.Calls.{ReadsOnly, WritesAt};
-ghost use Rattle.layout.specs.Clusters.{HasZerosBeside, IsAlone};
+ghost use Rattle.layout.specs.Clusters.{HasZerosBeside};
 ghost use Rattle.layout.specs.Fault.{CountsOpen};
 ghost use Rattle.layout.specs.Frames.{IsHeaderAt, IsObject, IsRefused};
 ghost use Rattle.model.specs.Frame.{content_behind};
@@ -24,30 +24,6 @@ use model::{Cap, ContentRef, Geometry, ObjectHeader};
 
 // The places for nodes in a cluster.
 const PLACES: u64 = 5;
-
-// Reads the frame of a node's number in 2 sectors of its own.
-fn read_node_frame<D: Device>(
-    device: &mut D,
-    at: u64,
-    geometry: Geometry,
-    number: u64,
-    age: u64,
-    scratch: &mut Scratch,
-) -> Result<(ObjectHeader, Body), OpenFault>
-    requires node { number < geometry.nodes }
-    requires inside { at + 2 ≤ (D.disk device.old).sectors }
-    ensures found { IfOk result (λ read. IsFrameOf geometry age number
-        (sectors_from (D.disk device.new).seen at 2) (frame_of read scratch.new)) }
-    ensures refused { IfErr result (λ e. IsRefused geometry age number
-        (sectors_from (D.disk device.new).seen at 2) e) }
-    ensures reads { ReadsOnly (D.disk device.old) (D.disk device.new) }
-    ensures cause { CountsOpen (D.disk device.old) (D.disk device.new) result }
-{
-    let mut node = [0; NODE_FRAME_BYTES];
-    read_sectors(device, at, 2, &mut node)?;
-    let read = decode_frame(&node, geometry, number, age, scratch)?;
-    Ok(read)
-}
 
 /// Fills the 1024 bytes of `node` with the frame of a rank in the cluster of 8 sectors from `at` on.
 /// It returns `Failed` exactly where the device failed; then `node` may hold any bytes.
@@ -72,54 +48,34 @@ pub fn read_packed<D: Device>(
     Ok(())
 }
 
-// Reads the frame of a node's number in a cluster.
-fn read_packed_frame<D: Device>(
+// Reads the frame of an object of this shape by way of a buffer of the frame's size.
+fn read_buffered<D: Device>(
     device: &mut D,
     at: u64,
-    rank: u64,
+    shape: Shape,
     geometry: Geometry,
     number: u64,
     age: u64,
     scratch: &mut Scratch,
+    buffer: &mut [u8],
 ) -> Result<(ObjectHeader, Body), OpenFault>
-    requires node { number < geometry.nodes }
-    requires rank { rank < 5 }
-    requires inside { at + 8 ≤ (D.disk device.old).sectors }
-    ensures found { IfOk result (λ read. IsFrameOf geometry age number
-        (shaped_at (D.disk device.new).seen at (shape.Packed rank)) (frame_of read scratch.new)) }
-    ensures refused { IfErr result (λ e. IsRefused geometry age number
-        (shaped_at (D.disk device.new).seen at (shape.Packed rank)) e) }
-    ensures reads { ReadsOnly (D.disk device.old) (D.disk device.new) }
-    ensures cause { CountsOpen (D.disk device.old) (D.disk device.new) result }
-{
-    let mut node = [0; NODE_FRAME_BYTES];
-    read_packed(device, at, rank, &mut node)?;
-    let read = decode_frame(&node, geometry, number, age, scratch)?;
-    Ok(read)
-}
-
-// Reads the frame of a page's number: 9 sectors.
-fn read_page_frame<D: Device>(
-    device: &mut D,
-    at: u64,
-    geometry: Geometry,
-    number: u64,
-    age: u64,
-    scratch: &mut Scratch,
-) -> Result<(ObjectHeader, Body), OpenFault>
-    requires page { geometry.nodes ≤ number }
     requires object { IsObject geometry number }
-    requires inside { at + 9 ≤ (D.disk device.old).sectors }
+    requires shape { IsShapeFor geometry number shape }
+    requires size { length buffer.old ≡ 512 * frame_length geometry number }
+    requires inside { at + shape_length shape ≤ (D.disk device.old).sectors }
     ensures found { IfOk result (λ read. IsFrameOf geometry age number
-        (sectors_from (D.disk device.new).seen at 9) (frame_of read scratch.new)) }
+        (shaped_at (D.disk device.new).seen at shape) (frame_of read scratch.new)) }
     ensures refused { IfErr result (λ e. IsRefused geometry age number
-        (sectors_from (D.disk device.new).seen at 9) e) }
+        (shaped_at (D.disk device.new).seen at shape) e) }
     ensures reads { ReadsOnly (D.disk device.old) (D.disk device.new) }
     ensures cause { CountsOpen (D.disk device.old) (D.disk device.new) result }
 {
-    let mut page = [0; PAGE_FRAME_BYTES];
-    read_sectors(device, at, 9, &mut page)?;
-    let read = decode_frame(&page, geometry, number, age, scratch)?;
+    let filled = match shape {
+        Shape::Node | Shape::Page => read_sectors(device, at, shape.length() as usize, buffer),
+        Shape::Packed(rank) => read_packed(device, at, rank, buffer),
+    };
+    filled?;
+    let read = decode_frame(buffer, geometry, number, age, scratch)?;
     Ok(read)
 }
 
@@ -148,10 +104,12 @@ pub fn read_frame<D: Device>(
     ensures reads { ReadsOnly (D.disk device.old) (D.disk device.new) }
     ensures cause { CountsOpen (D.disk device.old) (D.disk device.new) result }
 {
-    match shape {
-        Shape::Node => read_node_frame(device, at, geometry, number, age, scratch),
-        Shape::Packed(rank) => read_packed_frame(device, at, rank, geometry, number, age, scratch),
-        Shape::Page => read_page_frame(device, at, geometry, number, age, scratch),
+    if number < geometry.nodes {
+        let node = &mut [0; NODE_FRAME_BYTES];
+        read_buffered(device, at, shape, geometry, number, age, scratch, node)
+    } else {
+        let page = &mut [0; PAGE_FRAME_BYTES];
+        read_buffered(device, at, shape, geometry, number, age, scratch, page)
     }
 }
 
@@ -168,75 +126,6 @@ pub fn read_header<D: Device>(device: &mut D, at: u64) -> Result<ObjectHeader, F
     let mut first = [0; SECTOR_SIZE];
     read_sectors(device, at, 1, &mut first)?;
     Ok(header_in(&first))
-}
-
-// Writes the frame of a node's number into 2 sectors of its own.
-fn write_node_frame<D: Device>(
-    device: &mut D,
-    at: u64,
-    geometry: Geometry,
-    number: u64,
-    header: ObjectHeader,
-    content: ContentRef<'_>,
-) -> Result<(), Failed>
-    requires node { number < geometry.nodes }
-    requires inside { at + 2 ≤ (D.disk device.old).sectors }
-    ensures written { OnOk result (sectors_from (D.disk device.new).seen at 2
-        ≡ frame_bytes geometry number (record { header = header; content = content_behind content.entry })) }
-    ensures writes { WritesAt at 2 (D.disk device.old) (D.disk device.new) }
-    ensures cause { Counts (D.disk device.old) (D.disk device.new) result }
-{
-    let mut node = [0; NODE_FRAME_BYTES];
-    encode_frame(geometry, number, header, content, &mut node);
-    write_sectors(device, at, 2, &node)
-}
-
-// Writes the frame of a node's number into the 8 sectors of a cluster, with zeros beside it.
-fn write_packed_frame<D: Device>(
-    device: &mut D,
-    at: u64,
-    rank: u64,
-    geometry: Geometry,
-    number: u64,
-    header: ObjectHeader,
-    content: ContentRef<'_>,
-) -> Result<(), Failed>
-    requires node { number < geometry.nodes }
-    requires rank { rank < 5 }
-    requires inside { at + 8 ≤ (D.disk device.old).sectors }
-    ensures written { OnOk result (shaped_at (D.disk device.new).seen at (shape.Packed rank)
-        ≡ frame_bytes geometry number (record { header = header; content = content_behind content.entry })) }
-    ensures alone { OnOk result (IsAlone rank (sectors_from (D.disk device.new).seen at 8)) }
-    ensures writes { WritesAt at 8 (D.disk device.old) (D.disk device.new) }
-    ensures cause { Counts (D.disk device.old) (D.disk device.new) result }
-{
-    let mut node = [0; NODE_FRAME_BYTES];
-    encode_frame(geometry, number, header, content, &mut node);
-    let mut cluster = [0; CLUSTER_BYTES];
-    pack_node(&node, rank as usize, &mut cluster);
-    blank_behind(&mut cluster, PLACES);
-    write_sectors(device, at, 8, &cluster)
-}
-
-// Writes the frame of a page's number: 9 sectors.
-fn write_page_frame<D: Device>(
-    device: &mut D,
-    at: u64,
-    geometry: Geometry,
-    number: u64,
-    header: ObjectHeader,
-    content: ContentRef<'_>,
-) -> Result<(), Failed>
-    requires page { geometry.nodes ≤ number }
-    requires inside { at + 9 ≤ (D.disk device.old).sectors }
-    ensures written { OnOk result (sectors_from (D.disk device.new).seen at 9
-        ≡ frame_bytes geometry number (record { header = header; content = content_behind content.entry })) }
-    ensures writes { WritesAt at 9 (D.disk device.old) (D.disk device.new) }
-    ensures cause { Counts (D.disk device.old) (D.disk device.new) result }
-{
-    let mut page = [0; PAGE_FRAME_BYTES];
-    encode_frame(geometry, number, header, content, &mut page);
-    write_sectors(device, at, 9, &page)
 }
 
 /// Writes the frame of a page with these words into the 9 sectors from `at` on, and touches those
@@ -261,6 +150,39 @@ pub fn write_page<D: Device>(
     write_sectors(device, at, 9, &bytes)
 }
 
+// Writes the frame of an object of this shape by way of a buffer of the frame's size.
+fn write_buffered<D: Device>(
+    device: &mut D,
+    at: u64,
+    shape: Shape,
+    geometry: Geometry,
+    number: u64,
+    header: ObjectHeader,
+    content: ContentRef<'_>,
+    buffer: &mut [u8],
+) -> Result<(), Failed>
+    requires shape { IsShapeFor geometry number shape }
+    requires size { length buffer.old ≡ 512 * frame_length geometry number }
+    requires inside { at + shape_length shape ≤ (D.disk device.old).sectors }
+    ensures written { OnOk result (shaped_at (D.disk device.new).seen at shape
+        ≡ frame_bytes geometry number (record { header = header; content = content_behind content.entry })) }
+    ensures beside { OnOk result (HasZerosBeside shape
+        (sectors_from (D.disk device.new).seen at (shape_length shape))) }
+    ensures writes { WritesAt at (shape_length shape) (D.disk device.old) (D.disk device.new) }
+    ensures cause { Counts (D.disk device.old) (D.disk device.new) result }
+{
+    encode_frame(geometry, number, header, content, buffer);
+    match shape {
+        Shape::Node | Shape::Page => write_sectors(device, at, shape.length() as usize, buffer),
+        Shape::Packed(rank) => {
+            let mut cluster = [0; CLUSTER_BYTES];
+            pack_node(buffer, rank as usize, &mut cluster);
+            blank_behind(&mut cluster, PLACES);
+            write_sectors(device, at, 8, &cluster)
+        }
+    }
+}
+
 /// Writes the frame of an object of this shape into the sectors from `at` on, and touches those
 /// alone: a crash at any moment leaves all other sectors as they could have been left before. In a
 /// cluster all bytes beside the frame are 0. It is refused exactly where the device fails,
@@ -283,11 +205,11 @@ pub fn write_frame<D: Device>(
     ensures writes { WritesAt at (shape_length shape) (D.disk device.old) (D.disk device.new) }
     ensures cause { Counts (D.disk device.old) (D.disk device.new) result }
 {
-    match shape {
-        Shape::Node => write_node_frame(device, at, geometry, number, header, content),
-        Shape::Packed(rank) => {
-            write_packed_frame(device, at, rank, geometry, number, header, content)
-        }
-        Shape::Page => write_page_frame(device, at, geometry, number, header, content),
+    if number < geometry.nodes {
+        let node = &mut [0; NODE_FRAME_BYTES];
+        write_buffered(device, at, shape, geometry, number, header, content, node)
+    } else {
+        let page = &mut [0; PAGE_FRAME_BYTES];
+        write_buffered(device, at, shape, geometry, number, header, content, page)
     }
 }

@@ -15,6 +15,7 @@ use layout::{CheckpointHeader, PAGE_FRAME_BYTES};
 
 impl Books {
     // Copies the next saved frame home, where it didn't go there with the one before it.
+    #[tactic(auto, using(crate::proofs::Moving::moved_on))]
     fn move_next<D: Device>(
         &mut self,
         device: &mut D,
@@ -41,6 +42,7 @@ impl Books {
     }
 
     // Publishes that all that is saved is home.
+    #[tactic(auto, using(crate::proofs::Moving::finished_stored, crate::proofs::Publishing::publishes_as))]
     fn finish<D: Device>(&mut self, device: &mut D, spare: &mut Directory) -> Result<(), Failed>
         requires { MayFinish (D.disk device.old) self.old }
         ensures { Publishes (D.disk device.old) (D.disk device.new) self.old self.new
@@ -101,6 +103,7 @@ impl Books {
 
     /// Copies `count` of the saved frames home, in the order of their numbers, and returns how many are left. Once none
     /// is, it makes them durable and publishes a header that says so.
+    #[tactic(auto, using(crate::proofs::Moving::left_number))]
     pub(crate) fn migrate<D: Device>(
         &mut self,
         device: &mut D,

@@ -181,6 +181,7 @@ fn read_into<D: Device, I: Intake>(
 }
 
 // Reads it with a scratch buffer, and with what takes the frames.
+#[tactic(auto, using(crate::proofs::Opening::reads_none))]
 fn read_with_sink<D: Device, I: Intake>(
     alloc: Global,
     device: &mut D,

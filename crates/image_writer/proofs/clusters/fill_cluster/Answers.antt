@@ -1,6 +1,6 @@
 use Rattle.image_writer.proofs.Names.{nat_tests, arith, frames_in}
 use Rattle.image_writer.proofs.HomeFrames.{frame_there}
-use Rattle.image_writer.proofs.Ranks.{all_in, blank_in, one_more, shares_node}
+use Rattle.image_writer.proofs.Ranks.{all_in, blank_in, one_more}
 use Rattle.image_writer.proofs.clusters.fill_cluster.Goals as goal
 
 pub returns-clause-frames : goal.returns-clause-frames
@@ -13,6 +13,3 @@ returns-clause-frames c =
 
 pub loop-rank-preserved : goal.loop-rank-preserved
 loop-rank-preserved c = grind (arith, nat_tests, one_more, frame_there)
-
-pub put_node-requires-clause-node : goal.put_node-requires-clause-node
-put_node-requires-clause-node c = grind (arith, nat_tests, shares_node)

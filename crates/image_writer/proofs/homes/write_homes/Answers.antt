@@ -3,10 +3,7 @@ use Rattle.std.proofs.Common.{◌≡◌, ◌<◌, ◌∙◌}
 use Rattle.image_writer.proofs.ClosedGates.{closed_on, leaves_closed}
 use Rattle.image_writer.proofs.HomeFrames.{is_there, later, one_more, stays_between}
 use Rattle.image_writer.proofs.homes.write_homes.Goals as goal
-use Rattle.image_writer.proofs.homes.write_homes.Goals.{then-is_first+in_ok-write_home, else-is_first}
-
-pub returns-in_err-write_home-clause-elsewhere : goal.returns-in_err-write_home-clause-elsewhere
-returns-in_err-write_home-clause-elsewhere g c = grind (arith, nat_tests, stays_between)
+use Rattle.image_writer.proofs.homes.write_homes.Goals.{then-is_first+in_ok-write_shared, else-is_first}
 
 pub loop-number-preserved : goal.loop-number-preserved
 loop-number-preserved g c =
@@ -16,23 +13,22 @@ loop-number-preserved g c =
     let n = c.loop-number.number in
     let frames = frames_in c.args.headers.now c.args.contents.now in
     elim c.if-is_first.branch [
-      | then-is_first+in_ok-write_home w ↦
-          let same : (g.D.Device.disk w.write_home.new.device).failures ≡ (g.D.Device.disk c.loop-number.device).failures = search rules in
+      | then-is_first+in_ok-write_shared w ↦
+          let writes = rw w.place-at.ensures.value at w.write_shared.ensures.writes in
+          let same : (g.D.Device.disk w.write_shared.new.device).failures ≡ (g.D.Device.disk c.loop-number.device).failures = search rules in
           rw w.device-is (
-            one_more (g.D.Device.disk c.args.device.now).seen (g.D.Device.disk c.loop-number.device).seen (g.D.Device.disk w.write_home.new.device).seen p n
-                c.requires.plan lt w.write_home.ensures.writes.elsewhere
-                frames c.loop-number.invariant.0 w.in_ok-write_home.ensures.written,
-            stays_between (g.D.Device.disk c.args.device.now).seen (g.D.Device.disk c.loop-number.device).seen (g.D.Device.disk w.write_home.new.device).seen p
-                n c.requires.plan lt w.write_home.ensures.writes.elsewhere
-                c.loop-number.invariant.1,
-            w.write_home.ensures.writes.size ∙ c.loop-number.invariant.2,
+            one_more (g.D.Device.disk c.args.device.now).seen (g.D.Device.disk c.loop-number.device).seen (g.D.Device.disk w.write_shared.new.device).seen
+                p n c.requires.plan lt writes.elsewhere frames c.loop-number.invariant.0 (rw w.place-at.ensures.value at w.in_ok-write_shared.ensures.written),
+            stays_between (g.D.Device.disk c.args.device.now).seen (g.D.Device.disk c.loop-number.device).seen (g.D.Device.disk w.write_shared.new.device).seen
+                p n c.requires.plan lt writes.elsewhere c.loop-number.invariant.1,
+            writes.size ∙ c.loop-number.invariant.2,
             same ∙ c.loop-number.invariant.3,
-            leaves_closed (home_place p n) (place_length p n) {old = g.D.Device.disk c.loop-number.device} {new = g.D.Device.disk w.write_home.new.device}
-                (inr (places_within p n c.requires.plan lt).0) c.loop-number.invariant.4 w.write_home.ensures.writes,
+            leaves_closed (home_place p n) (place_length p n) {old = g.D.Device.disk c.loop-number.device} {new = g.D.Device.disk w.write_shared.new.device}
+                (inr (places_within p n c.requires.plan lt).0) c.loop-number.invariant.4 writes,
             closed_on (home_place p n)
                 (place_length p n) {old = g.D.Device.disk c.args.device.now} {mid = g.D.Device.disk c.loop-number.device} {new = g.D.Device.disk
-                w.write_home.new.device}
-                c.loop-number.invariant.5 (inr (places_within p n c.requires.plan lt).0) c.loop-number.invariant.4 w.write_home.ensures.writes,
+                w.write_shared.new.device}
+                c.loop-number.invariant.5 (inr (places_within p n c.requires.plan lt).0) c.loop-number.invariant.4 writes,
           )
       | else-is_first w ↦
           let not_first : frames_before (shape_of c.args.home.now c.loop-number.number) ≡ 0 → ⊥ = search rules in
@@ -47,8 +43,8 @@ loop-number-preserved g c =
           )
     ]
 
-pub returns-in_err-write_home-clause-closed : goal.returns-in_err-write_home-clause-closed
-returns-in_err-write_home-clause-closed g c = grind (arith, nat_tests, leaves_closed, places_within)
+pub returns-in_err-write_shared-clause-closed : goal.returns-in_err-write_shared-clause-closed
+returns-in_err-write_shared-clause-closed g c = grind (arith, nat_tests, leaves_closed, places_within)
 
-pub returns-in_err-write_home-clause-any_moment : goal.returns-in_err-write_home-clause-any_moment
-returns-in_err-write_home-clause-any_moment g c = grind (arith, nat_tests, closed_on, places_within)
+pub returns-in_err-write_shared-clause-any_moment : goal.returns-in_err-write_shared-clause-any_moment
+returns-in_err-write_shared-clause-any_moment g c = grind (arith, nat_tests, closed_on, places_within)

@@ -1,12 +1,5 @@
 use Rattle.image_writer.proofs.Names.{refl, frames_in, first_state, on_ok_weaker}
-use Rattle.image_writer.proofs.FreshImages.{header_fits, no_directory}
 use Rattle.image_writer.proofs.image.write_image.Goals as goal
-
-pub write_saved-requires-clause-header : goal.write_saved-requires-clause-header
-write_saved-requires-clause-header g c = header_fits c.args.superblock.now.geometry.log c.args.age c.requires.age
-
-pub write_saved-requires-clause-directory : goal.write_saved-requires-clause-directory
-write_saved-requires-clause-directory g c = no_directory c.args.superblock.now.geometry
 
 pub returns-clause-holds : goal.returns-clause-holds
 returns-clause-holds g c =

@@ -1,10 +1,7 @@
-use Rattle.image_writer.proofs.Names.{rules, nat_tests, ap, arith, Image, elsewhere_on, is_open, Encodes, frames_in, state_of, on_ok_weaker}
+use Rattle.image_writer.proofs.Names.{nat_tests, ap, arith, Image, elsewhere_on, is_open, Encodes, frames_in, state_of, on_ok_weaker}
 use Rattle.std.proofs.Common.{◌∙◌}
-use Rattle.image_writer.proofs.FreshImages.{denotes, durable_is, five, not_yet, opening_run, widened}
+use Rattle.image_writer.proofs.FreshImages.{denotes, durable_is, five, opening_run, widened}
 use Rattle.image_writer.proofs.image.write_saved.Goals as goal
-
-pub returns-clause-denotes : goal.returns-clause-denotes
-returns-clause-denotes g c = grind (arith, nat_tests, on_ok_weaker, denotes)
 
 pub returns-clause-crash : goal.returns-clause-crash
 returns-clause-crash g c =
@@ -24,9 +21,6 @@ returns-clause-crash g c =
 
 pub returns-clause-elsewhere : goal.returns-clause-elsewhere
 returns-clause-elsewhere g c = grind (arith, nat_tests, five, elsewhere_on, widened)
-
-pub returns-in_err-write_parts-clause-any_moment : goal.returns-in_err-write_parts-clause-any_moment
-returns-in_err-write_parts-clause-any_moment g c = search (rules, not_yet)
 
 pub returns-clause-any_moment : goal.returns-clause-any_moment
 returns-clause-any_moment g c =

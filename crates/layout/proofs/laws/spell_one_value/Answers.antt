@@ -1,12 +1,7 @@
-use Rattle.layout.proofs.Capabilities.{one_capability}
 use Rattle.layout.proofs.Headers.{one_header}
 use Rattle.layout.proofs.Directories.{one_directory, directory_fits}
 use Rattle.layout.proofs.Images.{one_frame}
-use Rattle.layout.proofs.Superblocks.{one_plan}
 use Rattle.layout.proofs.laws.spell_one_value.Goals as goal
-
-pub returns-clause-capability : goal.returns-clause-capability
-returns-clause-capability c = one_capability
 
 pub returns-clause-header : goal.returns-clause-header
 returns-clause-header c = one_header
@@ -16,6 +11,3 @@ returns-clause-directory c = λ g ds es fd fe e. one_directory ds es (directory_
 
 pub returns-clause-frame : goal.returns-clause-frame
 returns-clause-frame c = one_frame
-
-pub returns-clause-superblock : goal.returns-clause-superblock
-returns-clause-superblock c = one_plan

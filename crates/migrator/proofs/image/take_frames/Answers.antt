@@ -50,9 +50,6 @@ take_frame-requires-clause-room g c =
     let size = length-until (g.D.Device.disk c.args.device.now).seen c.args.plan.now c.args.header.generation c.args.directory.now c.loop-number.number in
     (until, c.loop-number.invariant.3, omega (arith, size, lt, c.loop-number.invariant.4))
 
-pub returns-in_err-take_frame-clause-reads : goal.returns-in_err-take_frame-clause-reads
-returns-in_err-take_frame-clause-reads g c = reads_more c.loop-number.invariant.0 c.take_frame.ensures.reads
-
 pub returns-in_err-take_frame-clause-refused : goal.returns-in_err-take_frame-clause-refused
 returns-in_err-take_frame-clause-refused g c =
     let below : c.loop-number.number < c.geometry-geometry.result.nodes + c.geometry-geometry.result.pages = search rules in

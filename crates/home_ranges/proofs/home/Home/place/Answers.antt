@@ -1,5 +1,5 @@
 use Rattle.home_ranges.proofs.Names.{arith, nat_tests}
-use Rattle.home_ranges.proofs.Places.{range_of, no_range, place_lies}
+use Rattle.home_ranges.proofs.Places.{range_of, place_lies}
 use Rattle.home_ranges.proofs.home.Home.place.Goals as goal
 
 pub place_in-requires-clause-sector : goal.place_in-requires-clause-sector
@@ -11,6 +11,3 @@ returns-in-Some c =
     let made = rw (c.version-version.ensures.value, c.geometry.ensures.value, c.self.view_is) at c.place_in.ensures in
     let is = place_lies (rw c.self.view_is at c.version-version.ensures.fits) c.requires.object (rw c.self.view_is at c.in-Some.ensures.value) made in
     grind (arith, nat_tests)
-
-pub returns-in-None : goal.returns-in-None
-returns-in-None c = grind (arith, nat_tests, no_range)

@@ -1,8 +1,5 @@
-use Rattle.migrator.proofs.PutFrames.{working_puts, working_room}
+use Rattle.migrator.proofs.PutFrames.{working_puts}
 use Rattle.migrator.proofs.books.Books.put_working.Goals as goal
-
-pub put_frame-requires-clause-room : goal.put_frame-requires-clause-room
-put_frame-requires-clause-room g c = working_room c.requires.stands c.requires.object c.requires.room
 
 pub returns : goal.returns
 returns g c =
