@@ -7,6 +7,7 @@ pub mod Parts
 pub mod Types
 pub mod DescribedOnce
 pub mod Entries
+pub mod FieldFlaws
 pub mod KeptFrames
 pub mod LaidFrames
 pub mod Lists

@@ -1,9 +1,8 @@
 -- Distinct numbers, and writes at them.
-use Rattle.description.proofs.Names.{ℕ, zero, suc, inl, inr, List, [], map, length, replicate, Some, slice_get, drop, take, slice_index_or, slice_set, refl}
-use Rattle.description.proofs.Names.{sym, ap, subst, arith, All, Any, Contains, cases_eq, nat_tests, get_or-set_same, get_or-set_other, length-drop, length-set}
-use Rattle.description.proofs.Names.{drop_all, drop_more, take_all, All-head, All-set, All-tail, Contains-get_or, AreDistinct, first_named, set_each, is_marked}
-use Rattle.description.proofs.Names.{true, false, true≢false, Bool}
-use Rattle.std.proofs.Common.{◌≡◌, ◌≢◌, ◌⊎◌, ◌+◌, ◌<◌, ◌≤◌, ◌∷◌, ◌++◌, ◌-◌, ◌∙◌}
+use Rattle.description.proofs.Names.{ℕ, zero, suc, inl, inr, List, [], map, length, replicate, Some, slice_get, drop, slice_index_or, slice_set, refl, sym, ap}
+use Rattle.description.proofs.Names.{subst, arith, All, Contains, cases_eq, nat_tests, get_or-set_same, get_or-set_other, length-set, drop_all, drop_more}
+use Rattle.description.proofs.Names.{All-head, All-set, All-tail, Contains-get_or, AreDistinct, first_named, set_each, is_marked, true, false, true≢false, Bool}
+use Rattle.std.proofs.Common.{◌≡◌, ◌≢◌, ◌⊎◌, ◌+◌, ◌<◌, ◌≤◌, ◌∷◌, ◌++◌, ◌∙◌}
 use Rattle.std.specs.Prelude.{◌↔◌}
 
 pub contains_here : {X : Type 0} → (x : X) (xs : List X) → Contains (x ∷ xs) x
@@ -111,10 +110,6 @@ module _ {E V : Type 0} (index : E → ℕ) (value : E → V) where
   each_holds P [] xs old new = old
   each_holds P (e ∷ es) xs old new = each_holds P es _ (All-set P xs _ _ (All-head (λ f. P (value f)) e es new) old) (All-tail (λ f. P (value f)) e es new)
 
--- a slice from an index on is what is left from there
-pub rest_is : {X : Type 0} → (xs : List X) (k : ℕ) → take (length xs - k) (drop k xs) ≡ drop k xs
-rest_is xs k = take_all (length xs - k) (drop k xs) (omega (arith, length-drop k xs))
-
 -- Numbers that are gone through in order, with those before marked.
 
 none_marked : (count m : ℕ) → is_marked (replicate count false) m ≡ false
@@ -161,14 +156,7 @@ still_new ns marks i lt within unmarked was = search (arith, drop_more, next_new
 pub ended_new : (ns : List ℕ) (marks : List Bool) (i : ℕ) → length ns ≤ i → (AreDistinct ns ↔ AreNew marks (drop i ns)) → AreDistinct ns
 ended_new ns marks i done was = was.1 (rw (drop_all i ns done) (record { distinct = tt; unmarked = λ m h. absurd (contains_none m h) }))
 
--- The same of the indexes of entries.
 module _ {E : Type 0} (index : E → ℕ) where
-  pub any_index : (es : List E) (n : ℕ) → Any (λ e. index e ≡ n) es → Contains (map index es) n
-  any_index es n h = subst (Contains (map index es)) h.4 (contains_map index h.1 es (h.0, h.2, h.3))
-
-  pub index_any : (es : List E) (n : ℕ) → Contains (map index es) n → Any (λ e. index e ≡ n) es
-  index_any es n h = let found = map_contains index n es h in (found.1.0, found.0, found.1.1, found.1.2, found.2)
-
   -- where the entries differ, those with the same index are the same
   pub same_entry : (es : List E) (e f : E) → AreDistinct (map index es) → Contains es e → Contains es f → index e ≡ index f → e ≡ f
   same_entry [] e f distinct he hf same = absurd (contains_none e he)
@@ -182,21 +170,6 @@ module _ {E : Type 0} (index : E → ℕ) where
       | inr q ↦ same_entry es e f distinct.1 r q same
     ]
   ]
-
-  pub index_twice : (es : List E) (i : ℕ) (d : E) → i < length es → (AreDistinct (map index es) ↔ AreDistinct (map index (drop i es)))
-      → Any (λ e. index e ≡ index (slice_index_or es i d)) (take (length es - (i + 1)) (drop (i + 1) es)) → AreDistinct (map index es) → ⊥
-  index_twice es i d lt was found distinct = grind (arith, nat_tests, rest_is, drop_more, any_index)
-
-  pub index_apart : (es : List E) (i : ℕ) (d : E) → i < length es → (AreDistinct (map index es) ↔ AreDistinct (map index (drop i es)))
-      → (Any (λ e. index e ≡ index (slice_index_or es i d)) (take (length es - (i + 1)) (drop (i + 1) es)) → ⊥) →
-      AreDistinct (map index es) ↔ AreDistinct (map index (drop (i + 1) es))
-  index_apart es i d lt was apart = (
-    λ distinct. (rw (drop_more es i d lt) at (was.0 distinct)).1,
-    λ rest. was.1 (rw (drop_more es i d lt) ((λ h. apart (rw (rest_is es _) (index_any _ _ h))), rest)),
-  )
-
-  pub index_done : (es : List E) (i : ℕ) → length es ≤ i → (AreDistinct (map index es) ↔ AreDistinct (map index (drop i es))) → AreDistinct (map index es)
-  index_done es i done was = was.1 (subst (λ (t : List E). AreDistinct (map index t)) (sym (drop_all i es done)) tt)
 
 -- one more is written
 pub each_wrote : {E V : Type 0} → (index : E → ℕ) (value : E → V) (es : List E) (now next all : List V) (i : ℕ) (d : E) (v : V) → i < length es

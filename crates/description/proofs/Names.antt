@@ -30,8 +30,8 @@ pub use Rattle.recovery.specs.Consistency.{role_at}
 pub use Rattle.script.proofs.CapabilityTexts.{text_once}
 pub use Rattle.std.proofs.Common.{Bool, Bor, Err, Global, IfNone, IfSome, IsErrAnd, IsSomeAnd, List, MatchOption, None, Ok, Option, Result, Some, Vec, [], ap}
 pub use Rattle.std.proofs.Common.{arith, codes, drop, false, get_or, inl, inr, is_eq, is_ok, is_some, length, map, nat_cmp, nat_eq, negsuc, pos, refl}
-pub use Rattle.std.proofs.Common.{replicate, rules, slice_get, slice_index_or, slice_set, subst, suc, sym, take, true, true≢false, unwrap_or, vec_len, zero, ℕ}
-pub use Rattle.std.proofs.Common.{ℤ}
+pub use Rattle.std.proofs.Common.{replicate, rules, slice_get, slice_index, slice_index_or, slice_set, subst, suc, sym, take, true, true≢false, unwrap_or}
+pub use Rattle.std.proofs.Common.{vec_len, zero, ℕ, ℤ}
 pub use Rattle.std.proofs.Math.ListN.{get_or-map}
 pub use Rattle.std.proofs.iter.runs.Made.{chains}
 pub use Rattle.std.proofs.lemmas.Bool.{cases_eq, cases_lt, false≢true}
@@ -39,15 +39,14 @@ pub use Rattle.std.proofs.lemmas.Bool.Decides.{nat_tests}
 pub use Rattle.std.proofs.lemmas.Cmp.{same_from_slice_cmp}
 pub use Rattle.std.proofs.lemmas.Grind.{common_steps}
 pub use Rattle.std.proofs.lemmas.Int.{to_z-of_z}
-pub use Rattle.std.proofs.lemmas.List.{drop_all, drop_more, ext_get_or, get_or-set_other, get_or-set_same, length-drop, length-replicate, length-set, take_all}
-pub use Rattle.std.proofs.lemmas.List.{take_more}
+pub use Rattle.std.proofs.lemmas.List.{drop_all, drop_more, ext_get_or, get_or-set_other, get_or-set_same, length-replicate, length-set, take_all, take_more}
 pub use Rattle.std.proofs.lemmas.List.Elements.{All-append, All-cons, All-contains, All-head, All-map, All-more, All-nil, All-replicate, All-set, All-tail}
 pub use Rattle.std.proofs.lemmas.List.Elements.{Contains-append_cases, Contains-append_left, Contains-append_right, Contains-get_or}
 pub use Rattle.std.proofs.lemmas.Map.Made.{Contains-tail}
-pub use Rattle.std.proofs.lemmas.Option.{get_or_from_slice_get, none-some, same_Some, slice_get-get_or}
+pub use Rattle.std.proofs.lemmas.Option.{get_or_from_slice_get, none-some, same_Some, slice_get-get_or, slice_get_within}
 pub use Rattle.std.specs.Cmp.Lexicographic.{pointwise, slice_cmp}
 pub use Rattle.std.specs.Int.{is_negative}
-pub use Rattle.std.specs.List.{All, Any, Contains, list_any}
+pub use Rattle.std.specs.List.{All, Contains, list_any}
 pub use Rattle.std.specs.Prelude.{IsTrue, unsigned_abs}
 pub use Rattle.std.specs.Str.{bytes_eq}
 pub use Rattle.std.specs.Vec.{with_item}
@@ -58,6 +57,8 @@ pub use Rattle.toml.specs.declared.value.Value.{Value}
 pub use Rattle.description.specs.Described.{AreDistinct, AreSlots, AreWords, HasFields, HasNamedWords, HasNumbers, HoldsNamed, IsDescribed, IsDescribedAnnex}
 pub use Rattle.description.specs.Described.{IsDescribedNode, IsDescribedPage, IsDescribedRoot, IsProcessEntry, IsSomeCapability, IsSpaceEntry, first_frame}
 pub use Rattle.description.specs.Described.{first_named, node_numbers, page_numbers}
+pub use Rattle.description.specs.FieldFlaws.{BreaksField, IsTwice}
+unfoldable pub use Rattle.description.specs.FieldFlaws.{BreaksIndexed, BreaksSlots}
 pub use Rattle.description.specs.Laid.{AreLaid, AreTargets, Entry, Fits, HasProcessTargets, HasTargets, IsLaid, IsPut, OfAnnex, OfBank, OfNode, OfPage, OfRoot}
 pub use Rattle.description.specs.Laid.{entries, frame_of, frames_of, number_of, set_each, slot_held}
 unfoldable pub use Rattle.description.specs.Laid.{laid, slots_of, words_of}
@@ -75,5 +76,8 @@ pub use Rattle.description.specs.declared.entry.PageEntry.{PageEntry}
 pub use Rattle.description.specs.declared.entry.ProcessEntry.{ProcessEntry}
 pub use Rattle.description.specs.declared.entry.SlotEntry.{SlotEntry}
 pub use Rattle.description.specs.declared.entry.WordEntry.{WordEntry}
+pub use Rattle.description.specs.declared.flaw.Indexed.{Indexed}
+pub use Rattle.description.specs.declared.flaw.Part.{Part}
+pub use Rattle.description.specs.declared.flaw.SlotFlaw.{SlotFlaw}
 pub use Rattle.description.specs.declared.object.ProcessFields.{ProcessFields}
 pub use Rattle.description.specs.declared.world.World.{World}

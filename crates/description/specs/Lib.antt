@@ -3,6 +3,7 @@ pub mod Laws
 pub mod Outcomes
 pub mod Reading
 pub mod Described
+pub mod FieldFlaws
 pub mod Laid
 pub mod Rules
 pub mod Wholeness

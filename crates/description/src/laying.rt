@@ -8,7 +8,7 @@ ghost use Rattle.description.specs.Described.{HasFields, HasNumbers, IsDescribed
 ghost use Rattle.description.specs.Laid.{HasTargets};
 
 use crate::Description;
-use crate::fields::has_fields;
+use crate::fields::misfilled;
 use crate::numbers::has_numbers;
 use crate::objects::{lay_annexes, lay_banks, lay_nodes, lay_pages, lay_roots};
 use crate::targets::has_targets;
@@ -17,6 +17,7 @@ use image_writer::BuildFault;
 use std::alloc::{AllocError, Global};
 
 // Why a description names no world, if it names none.
+#[tactic(auto, using(crate::proofs::NamedTargets::named_targets, crate::proofs::FieldFlaws::field_refuted))]
 fn check(alloc: Global, description: &Description) -> Result<(), BuildFault>
     requires { IsGeometry description.now.geometry }
     ensures numbers { OnOk result (HasNumbers description.now) }
@@ -28,7 +29,7 @@ fn check(alloc: Global, description: &Description) -> Result<(), BuildFault>
     if !numbered {
         return Err(BuildFault::Number);
     }
-    if !has_fields(description) {
+    if misfilled(description).is_some() {
         return Err(BuildFault::Field);
     }
     if !has_targets(description.geometry, description) {

@@ -4,6 +4,8 @@
 
 mod entry;
 mod fields;
+mod flaw;
+mod indexed;
 pub mod laws;
 mod laying;
 mod list;
@@ -18,7 +20,9 @@ mod wholeness;
 mod world;
 
 pub use entry::{BankEntry, Description, NodeEntry, PageEntry, ProcessEntry, SlotEntry, WordEntry};
-pub use fields::{KEYS, is_capability, is_space};
+pub use fields::{is_capability, misfilled};
+pub use flaw::{Indexed, Part, SlotFlaw};
+pub use indexed::{Numbers, find_outside, find_twice};
 pub use laying::{lay_described, lay_world};
 pub use list::{FromValue, four_or_zeros, list_or_empty, may_have_list};
 pub use numbers::{node_numbers, page_numbers};

@@ -157,6 +157,7 @@ fn range_of(value: &Value) -> Result<NumberRange, BuildFault>
 impl FromValue for SlotEntry {
     ghost IsSaid = { IsSlot };
 
+    #[tactic(auto, using(crate::proofs::Decisions::read_or_not))]
     fn is_said(value: &Value) -> bool {
         slot_of(value).is_ok()
     }
@@ -169,6 +170,7 @@ impl FromValue for SlotEntry {
 impl FromValue for WordEntry {
     ghost IsSaid = { IsWord };
 
+    #[tactic(auto, using(crate::proofs::Decisions::read_or_not))]
     fn is_said(value: &Value) -> bool {
         word_of(value).is_ok()
     }
@@ -181,6 +183,7 @@ impl FromValue for WordEntry {
 impl FromValue for NumberRange {
     ghost IsSaid = { IsRange };
 
+    #[tactic(auto, using(crate::proofs::Decisions::read_or_not))]
     fn is_said(value: &Value) -> bool {
         range_of(value).is_ok()
     }

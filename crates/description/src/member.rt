@@ -74,6 +74,7 @@ pub fn wide_number(table: &Table, key: &str) -> Result<u64, BuildFault>
 }
 
 /// The number at a key, or the default if the key is missing. `Shape` if another value is there.
+#[tactic(auto, using(crate::proofs::Keyed::defaulted))]
 pub fn number_or(table: &Table, key: &str, default: u64) -> Result<u64, BuildFault>
     ensures { Finds (AtOr default key.now IsNumber (table_view table.now)) result }
 {
@@ -84,6 +85,7 @@ pub fn number_or(table: &Table, key: &str, default: u64) -> Result<u64, BuildFau
 }
 
 /// Whether a number is at a key.
+#[tactic(auto, using(crate::proofs::Decisions::read_or_not))]
 pub fn has_number(table: &Table, key: &str) -> bool
     ensures { IsTrue result ↔ ((n : ℕ) × At key.now IsNumber (table_view table.now) n) }
 {
@@ -109,6 +111,7 @@ pub fn state(table: &Table, key: &str) -> Result<Option<State>, BuildFault>
 
 /// The capability at a key, void if the key is missing, or nothing for a text that is that of no capability. `Shape` if
 /// another value is there.
+#[tactic(auto, using(crate::proofs::Keyed::defaulted))]
 pub fn capability_or_void(table: &Table, key: &str) -> Result<Option<Capability>, BuildFault>
     ensures { Finds (AtOr (Some Void) key.now IsCapability (table_view table.now)) result }
 {

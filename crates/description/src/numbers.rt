@@ -53,6 +53,7 @@ fn are_of_pages(geometry: Geometry, numbers: &[u64]) -> bool
 }
 
 // Whether no number comes twice. Fails only if memory runs out.
+#[tactic(auto, using(crate::proofs::Lists::not_new))]
 fn are_distinct(alloc: Global, numbers: &[u64], count: usize) -> Result<bool, AllocError>
     requires { All (λ n. n < count) numbers.now }
     ensures { IfOk result (λ distinct. IsTrue distinct ↔ AreDistinct numbers.now) }

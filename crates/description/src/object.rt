@@ -106,6 +106,7 @@ fn is_numbered<T: FromValue>(table: &Table, list: &str) -> bool
 impl FromValue for BankEntry {
     ghost IsSaid = { IsTable IsBank };
 
+    #[tactic(auto, using(crate::proofs::Decisions::read_or_not, crate::proofs::Decisions::table_said))]
     fn is_said(value: &Value) -> bool {
         match table_of(value) {
             Ok(table) => read_bank(table).is_ok(),

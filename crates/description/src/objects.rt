@@ -26,6 +26,7 @@ fn slot_held(slot: &SlotEntry) -> Cap
 }
 
 // Slots with those that are named, the others void.
+#[tactic(auto, using(crate::proofs::Lists::each_wrote))]
 fn slots_of(alloc: Global, entries: &[SlotEntry]) -> Result<Slots<Cap>, AllocError>
     requires { All (λ s. s.index < 32) entries.now }
     ensures { IfOk result (λ slots. slots ≡ slots_of entries.now) }
@@ -81,6 +82,7 @@ fn bank_of(limit: u64) -> Content<Cap>
     Content::Bank { limit }
 }
 
+#[tactic(auto, using(crate::proofs::LaidFrames::none_laid, crate::proofs::LaidFrames::all_laid))]
 pub(crate) fn lay_banks(world: &mut World, banks: &[BankEntry])
     requires even { vec_len world.old.contents ≡ vec_len world.old.headers }
     requires within { All (λ b. b.number < vec_len world.old.headers) banks.now }
@@ -91,6 +93,7 @@ pub(crate) fn lay_banks(world: &mut World, banks: &[BankEntry])
     }
 }
 
+#[tactic(auto, using(crate::proofs::LaidFrames::none_laid, crate::proofs::LaidFrames::still_within))]
 pub(crate) fn lay_roots(world: &mut World, processes: &[ProcessEntry])
     requires even { vec_len world.old.contents ≡ vec_len world.old.headers }
     requires within { All (λ p. p.root < vec_len world.old.headers) processes.now }
@@ -103,6 +106,7 @@ pub(crate) fn lay_roots(world: &mut World, processes: &[ProcessEntry])
 }
 
 // Fails only where memory runs out, as those below.
+#[tactic(auto, using(crate::proofs::LaidFrames::none_laid, crate::proofs::LaidFrames::still_within))]
 pub(crate) fn lay_annexes(
     alloc: Global,
     world: &mut World,
@@ -120,6 +124,7 @@ pub(crate) fn lay_annexes(
     Ok(())
 }
 
+#[tactic(auto, using(crate::proofs::LaidFrames::none_laid, crate::proofs::LaidFrames::still_within))]
 pub(crate) fn lay_nodes(
     alloc: Global,
     world: &mut World,
@@ -137,6 +142,7 @@ pub(crate) fn lay_nodes(
     Ok(())
 }
 
+#[tactic(auto, using(crate::proofs::LaidFrames::none_laid, crate::proofs::LaidFrames::still_within))]
 pub(crate) fn lay_pages(
     alloc: Global,
     world: &mut World,

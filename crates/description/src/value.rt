@@ -25,6 +25,7 @@ fn large_number(capability: Option<Capability>) -> Option<u64>
 }
 
 // The number that a text says, as that of a capability.
+#[tactic(auto, using(crate::proofs::Types::wide_text, crate::proofs::Parts::missed, crate::proofs::Types::text_said))]
 fn number_in_text(value: &Value) -> Result<u64, BuildFault>
     requires { as_integer (view value.now) ≡ None }
     ensures { Finds (IsWideNumber (view value.now)) result }
@@ -37,6 +38,7 @@ fn number_in_text(value: &Value) -> Result<u64, BuildFault>
 }
 
 // A number that isn't negative.
+#[tactic(auto, using(crate::proofs::Types::natural))]
 pub(crate) fn number_of(value: &Value) -> Result<u64, BuildFault>
     ensures { Finds (IsNumber (view value.now)) result }
 {
@@ -52,6 +54,7 @@ pub(crate) fn number_of(value: &Value) -> Result<u64, BuildFault>
 }
 
 // A number of 64 bits: a text says it from 2^63 on.
+#[tactic(auto, using(crate::proofs::Types::wide_read))]
 pub(crate) fn wide_number_of(value: &Value) -> Result<u64, BuildFault>
     ensures { Finds (IsWideNumber (view value.now)) result }
 {
@@ -63,6 +66,7 @@ pub(crate) fn wide_number_of(value: &Value) -> Result<u64, BuildFault>
 }
 
 // The capability that a text is of.
+#[tactic(auto, using(crate::proofs::Types::capability_reported))]
 pub(crate) fn capability_at(value: &Value) -> Result<Option<Capability>, BuildFault>
     ensures { Finds (IsCapability (view value.now)) result }
 {
@@ -73,6 +77,7 @@ pub(crate) fn capability_at(value: &Value) -> Result<Option<Capability>, BuildFa
 }
 
 // The state that a text is of.
+#[tactic(auto, using(crate::proofs::Types::state_reported))]
 pub(crate) fn state_at(value: &Value) -> Result<Option<State>, BuildFault>
     ensures { Finds (IsState (view value.now)) result }
 {

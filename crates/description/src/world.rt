@@ -35,6 +35,7 @@ impl World {
     }
 
     // Puts an object of a bank at a number, one that was never given up.
+    #[tactic(auto, using(crate::proofs::Worlds::put_there))]
     pub(crate) fn put(&mut self, number: u64, owner: u64, content: Content<Cap>)
         requires within { number < vec_len self.old.headers }
         requires even { vec_len self.old.contents ≡ vec_len self.old.headers }

@@ -2,14 +2,12 @@
 use Rattle.description_explainer.proofs.Names.{ℕ, List, subst, Frame, Unbanked, AreNamed, IsUnbanked, NamesItsRole, unbanked_refuted, Description, HasFields}
 use Rattle.description_explainer.proofs.Names.{HasNumbers, IsDescribed, IsTarget, described_once, IsFirstBroken, IsWithinLimits, Refuses, field_broken}
 use Rattle.description_explainer.proofs.Names.{limits_broken, number_broken, owner_broken, target_broken, Held, Limit, Misnumbered, Part, BreaksField}
-use Rattle.description_explainer.proofs.Names.{BreaksLimit, BreaksNumber, BreaksTarget, AllHave, BreaksIt, OneLacks}
-use Rattle.description_explainer.proofs.NamedCapabilities.{all_named, kind_broken, role_broken}
-use Rattle.description_explainer.proofs.Names.{ExplainsDescription, IfNone, IfSome, MatchOption, Members, IsDescription, Rule}
-use Rattle.description_explainer.proofs.NamedCapabilities.{target_refuted}
-use Rattle.description_explainer.proofs.Refuted.{field_refuted}
-use Rattle.description_explainer.proofs.Names.{rule_fault, arith, none-some, same_Some}
+use Rattle.description_explainer.proofs.Names.{BreaksLimit, BreaksNumber, BreaksTarget, AllHave, BreaksIt, OneLacks, ExplainsDescription, IfNone, IfSome}
+use Rattle.description_explainer.proofs.Names.{MatchOption, Members, IsDescription, Rule, field_refuted, rule_fault, arith, none-some, same_Some}
 use Rattle.std.proofs.Common.{◌≡◌}
 use Rattle.std.specs.Prelude.{Option, Some, None}
+use Rattle.description_explainer.proofs.NamedCapabilities.{all_named, kind_broken, role_broken}
+use Rattle.description_explainer.proofs.NamedCapabilities.{target_refuted}
 use Rattle.description_explainer.specs.declared.place.Rule.TheVariants as rule
 use Rattle.description_explainer.proofs.Sizes.{limit_refuted}
 

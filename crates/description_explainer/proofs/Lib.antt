@@ -1,11 +1,8 @@
 mod Names
 mod Explanations
-mod FaultElements
 mod Flaws
 mod Joined
 mod NamedCapabilities
 mod NumberPlaces
 mod Ranges
-mod Refuted
 mod Sizes
-mod Slots

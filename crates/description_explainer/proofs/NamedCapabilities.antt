@@ -5,10 +5,9 @@ use Rattle.description_explainer.proofs.Names.{frame_at, caps_in, fresh_cap, Are
 use Rattle.description_explainer.proofs.Names.{HasFields, HasNumbers, HoldsNamed, IsDescribed, IsProcessEntry, named_at, Entry, HasTargets, OfAnnex, OfBank}
 use Rattle.description_explainer.proofs.Names.{OfNode, OfPage, OfRoot, IsTarget, Held, BreaksTarget, AllHave, AllIn, AllOfProcess, IfNamed, OneLacks}
 use Rattle.description_explainer.proofs.Names.{described_once, IsFrameOf, IsOf, described_cases, described_of, all_from, all_got, first_beyond, first_of}
-use Rattle.description_explainer.proofs.Names.{first_there, never_raised, role_target}
+use Rattle.description_explainer.proofs.Names.{first_there, never_raised, role_target, all_refuted}
 use Rattle.std.proofs.Common.{◌≡◌, ◌<◌, ◌≤◌, ◌∷◌, ◌∙◌}
 use Rattle.description_explainer.specs.declared.faults.place.Held.TheVariants as held
-use Rattle.description_explainer.proofs.Refuted.{all_refuted}
 
 -- a property of what is named, or of nothing
 or_void : (P : Capability → Type 0) (o : Option Capability) → P Void → IfNamed P o → P (unwrap_or o Void)

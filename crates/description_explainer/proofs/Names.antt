@@ -3,12 +3,14 @@ pub use Rattle.capability.specs.Plain.{fresh_cap}
 pub use Rattle.description.proofs.Decisions.{as_list, read_or_not, vec_of}
 pub use Rattle.description.proofs.DescribedOnce.{described_once}
 pub use Rattle.description.proofs.Entries.{IsFrameOf, IsOf, described_cases, described_of}
+pub use Rattle.description.proofs.FieldFlaws.{all_refuted, field_refuted, twice_refuted}
 pub use Rattle.description.proofs.Lists.{all_from, all_got, first_beyond, first_of, first_there}
 pub use Rattle.description.proofs.NamedTargets.{never_raised, role_target}
 pub use Rattle.description.proofs.Rules.{field_broken, limits_broken, number_broken, owner_broken, target_broken}
 pub use Rattle.description.proofs.Taken.{all_taken, one_more}
-pub use Rattle.description.specs.Described.{AreDistinct, AreSlots, AreWords, HasFields, HasNumbers, HoldsNamed, IsDescribed, IsProcessEntry, IsSomeCapability}
-pub use Rattle.description.specs.Described.{named_at, node_numbers, page_numbers}
+pub use Rattle.description.specs.Described.{AreDistinct, AreSlots, HasFields, HasNumbers, HoldsNamed, IsDescribed, IsProcessEntry, named_at, node_numbers}
+pub use Rattle.description.specs.Described.{page_numbers}
+pub use Rattle.description.specs.FieldFlaws.{BreaksField, IsOutside, IsTwice}
 pub use Rattle.description.specs.Laid.{Entry, HasTargets, OfAnnex, OfBank, OfNode, OfPage, OfRoot}
 pub use Rattle.description.specs.Reading.{AreFour, At, AtOr, HasList, IsBank, IsCapability, IsDescription, IsList, IsNode, IsPage, IsProcess, IsRange, IsSlot}
 pub use Rattle.description.specs.Reading.{IsState, IsTable, IsWord, has_only}
@@ -16,9 +18,8 @@ unfoldable pub use Rattle.description.specs.Reading.{IsWideNumber}
 pub use Rattle.description.specs.Rules.{IsFirstBroken, IsWithinLimits, Refuses}
 pub use Rattle.description.specs.declared.entry.Description.{Description}
 pub use Rattle.description.specs.declared.entry.NodeEntry.{NodeEntry}
-pub use Rattle.description.specs.declared.entry.PageEntry.{PageEntry}
 pub use Rattle.description.specs.declared.entry.SlotEntry.{SlotEntry}
-pub use Rattle.description.specs.declared.entry.WordEntry.{WordEntry}
+pub use Rattle.description.specs.declared.flaw.Part.{Part}
 pub use Rattle.image_writer.specs.Faults.{fault_number}
 pub use Rattle.image_writer.specs.Laid.{MayBeLaid, placed}
 pub use Rattle.image_writer.specs.declared.fault.BuildFault.{BuildFault}
@@ -37,14 +38,13 @@ pub use Rattle.recovery.proofs.BankFaults.{unbanked_refuted}
 pub use Rattle.recovery.specs.Consistency.{AreNamed, IsNamed, IsUnbanked, NamesItsRole}
 pub use Rattle.recovery.specs.declared.consistency.reason.Unbanked.{Unbanked}
 pub use Rattle.std.proofs.Common.{Err, Global, IsSomeAnd, List, None, Ok, Option, Result, Some, String, Vec, [], ap, arith, codes, decimal, drop, get_or, inl}
-pub use Rattle.std.proofs.Common.{inr, length, map, option_map, refl, slice_get, slice_index, slice_index_or, string_bytes, subst, suc, sym, take, unwrap_or}
-pub use Rattle.std.proofs.Common.{zero, ℕ}
+pub use Rattle.std.proofs.Common.{inr, length, map, option_map, refl, slice_get, string_bytes, subst, suc, sym, take, unwrap_or, zero, ℕ}
 pub use Rattle.std.proofs.lemmas.Bool.{cases_eq, false≢true}
 pub use Rattle.std.proofs.lemmas.Bool.Decides.{nat_tests}
 pub use Rattle.std.proofs.lemmas.Grind.{common_steps}
 pub use Rattle.std.proofs.lemmas.List.{append_assoc, drop_more, get_or_default, length-append, length-map, take_more}
-pub use Rattle.std.proofs.lemmas.List.Elements.{All-cons, All-contains, All-head, All-map, All-more, All-tail}
-pub use Rattle.std.proofs.lemmas.Option.{get_or_from_slice_get, none-some, same_Some, slice_get-map, slice_get_within}
+pub use Rattle.std.proofs.lemmas.List.Elements.{All-cons, All-contains, All-head, All-more, All-tail}
+pub use Rattle.std.proofs.lemmas.Option.{get_or_from_slice_get, none-some, same_Some, slice_get-map}
 pub use Rattle.std.proofs.lemmas.Result.{IfOk-weaker}
 pub use Rattle.std.specs.Borrow.{Bor}
 pub use Rattle.std.specs.List.{All, Contains}
@@ -52,8 +52,8 @@ pub use Rattle.std.specs.Prelude.{IfNone, IfSome, IsTrue, MatchOption, OnOk}
 pub use Rattle.toml.specs.Data.{Data, Items, Members, array, get_item, get_member, table}
 pub use Rattle.toml.specs.View.{items_view, table_view, view}
 pub use Rattle.toml.specs.declared.value.Value.{Value}
-pub use Rattle.description_explainer.specs.Broken.{BreaksField, BreaksGeometry, BreaksIndexed, BreaksLimit, BreaksNumber, BreaksRanges, BreaksSlots}
-pub use Rattle.description_explainer.specs.Broken.{BreaksTarget, GoesOn, IsOfItsKind, IsOutside, IsTwice, count_in, number_at}
+pub use Rattle.description_explainer.specs.Broken.{BreaksGeometry, BreaksLimit, BreaksNumber, BreaksRanges, BreaksTarget, GoesOn, IsOfItsKind, count_in}
+pub use Rattle.description_explainer.specs.Broken.{number_at}
 pub use Rattle.description_explainer.specs.Explained.{ExplainsDescription}
 pub use Rattle.description_explainer.specs.FaultOutcomes.{AllHave, AllIn, AllOfProcess, BreaksIt, HasBadItem, HasItemAs, IfNamed, IsBadAt, IsFlawAt, IsTableOf}
 pub use Rattle.description_explainer.specs.FaultOutcomes.{IsWholeItem, OneLacks, place_of}
@@ -68,11 +68,8 @@ pub use Rattle.description_explainer.specs.declared.faults.key.Key.TheVariants.{
 pub use Rattle.description_explainer.specs.declared.faults.place.Flaw.{Flaw}
 pub use Rattle.description_explainer.specs.declared.faults.place.Flaw.TheVariants.{Item}
 pub use Rattle.description_explainer.specs.declared.faults.place.Held.{Held}
-pub use Rattle.description_explainer.specs.declared.faults.place.Indexed.{Indexed}
 pub use Rattle.description_explainer.specs.declared.faults.place.Limit.{Limit}
 pub use Rattle.description_explainer.specs.declared.faults.place.Misnumbered.{Misnumbered}
 pub use Rattle.description_explainer.specs.declared.faults.place.Named.{Named}
-pub use Rattle.description_explainer.specs.declared.faults.place.Part.{Part}
-pub use Rattle.description_explainer.specs.declared.faults.place.SlotFlaw.{SlotFlaw}
 pub use Rattle.description_explainer.specs.declared.faults.place.TableName.{TableName}
 pub use Rattle.description_explainer.specs.declared.place.Rule.{Rule}

@@ -2,11 +2,10 @@
 use Rattle.description_explainer.proofs.Names.{nat_tests, ℕ, zero, suc, List, [], length, map, Option, None, Some, option_map, slice_get, IsSomeAnd, refl, sym}
 use Rattle.description_explainer.proofs.Names.{ap, subst, arith, All, length-append, length-map, slice_get-map, Geometry, object_count, Description}
 use Rattle.description_explainer.proofs.Names.{AreDistinct, HasNumbers, node_numbers, page_numbers, Named, BreaksNumber, IsOfItsKind, IsOutside, IsTwice}
-use Rattle.description_explainer.proofs.Names.{number_at, BreaksIt, place_of}
+use Rattle.description_explainer.proofs.Names.{number_at, BreaksIt, place_of, all_refuted, twice_refuted}
 use Rattle.std.proofs.Common.{◌≡◌, ◌+◌, ◌-◌, ◌<◌, ◌≤◌, ◌∷◌, ◌++◌, ◌∙◌}
 use Rattle.description_explainer.specs.declared.faults.place.Misnumbered.TheVariants as misnumbered
 use Rattle.description_explainer.specs.declared.faults.place.Named.TheVariants as named
-use Rattle.description_explainer.proofs.Refuted.{all_refuted, twice_refuted}
 
 front : {A : Type 0} (xs ys : List A) (i : ℕ) → i < length xs → slice_get (xs ++ ys) i ≡ slice_get xs i
 front [] ys i lt = absurd (omega arith)

@@ -1,9 +1,26 @@
 -- A size that no image has isn't that of a description within the limits.
-use Rattle.description_explainer.proofs.Names.{List, Option, None, Some, subst, arith, MatchOption, version_number, Version, MayBeLaid, NumberRange}
-use Rattle.description_explainer.proofs.Names.{IsWithinLimits, Description, Limit, BreaksGeometry, BreaksLimit, BreaksRanges}
-use Rattle.description_explainer.proofs.Refuted.{ranges_refuted}
-use Rattle.std.proofs.Common.{◌≡◌, ◌≤◌, ◌^◌}
+use Rattle.description_explainer.proofs.Names.{nat_tests, ℕ, zero, suc, List, [], length, map, take, Option, None, Some, slice_get, subst, arith, MatchOption}
+use Rattle.description_explainer.proofs.Names.{none-some, same_Some, Geometry, object_count, Cover, placed, version_number, Version, MayBeLaid, NumberRange}
+use Rattle.description_explainer.proofs.Names.{IsWithinLimits, Description, Limit, BreaksGeometry, BreaksLimit, BreaksRanges, GoesOn, count_in}
+use Rattle.std.proofs.Common.{◌≡◌, ◌+◌, ◌≤◌, ◌∷◌, ◌^◌}
 use Rattle.description_explainer.specs.declared.faults.place.Limit.TheVariants as limit
+
+-- ranges that cover all numbers go on from one to the next
+module _ (g : Geometry) where
+  cover_count : (n : ℕ) (rs : List NumberRange) → Cover g n (map (placed 0) rs) → n + count_in rs ≡ object_count g
+  cover_count n [] covers = omega (arith, covers)
+  cover_count n (r ∷ rs) covers = omega (arith, cover_count (n + r.count) rs covers.1)
+
+  cover_at : (n : ℕ) (rs : List NumberRange) (i : ℕ) (r : NumberRange) → Cover g n (map (placed 0) rs) → slice_get rs i ≡ Some r →
+      GoesOn g r (n + count_in (take i rs))
+  cover_at n [] i r covers is = absurd (none-some r is)
+  cover_at n (s ∷ rs) zero r covers is = grind (arith, nat_tests, same_Some, cover_count)
+  cover_at n (s ∷ rs) (suc i) r covers is =
+      let place : n + s.count + count_in (take i rs) ≡ n + (s.count + count_in (take i rs)) = omega arith in
+      subst (λ m. GoesOn g r m) place (cover_at (n + s.count) rs i r covers.1 is)
+
+  ranges_refuted : (rs : List NumberRange) (l : Limit) → BreaksRanges g rs l → (1 ≤ length rs) × (length rs ≤ 8) → Cover g 0 (map (placed 0) rs) → ⊥
+  ranges_refuted rs l broken few covers = grind (arith, nat_tests, cover_at, cover_count)
 
 pub limit_refuted : (d : Description) (l : Limit) → BreaksLimit d l → IsWithinLimits d → ⊥
 limit_refuted d limit.Nodes broken within = broken (within.laid.geometry.least_nodes, within.laid.geometry.most_nodes)

@@ -7,18 +7,12 @@ use Rattle.description_explainer.specs.Names.{IsSpaceEntry}
 use Rattle.std.specs.Prelude.{◌≡◌, ◌≢◌, ◌+◌, ◌^◌, ◌<◌, ◌≤◌, ◌∷◌}
 use Rattle.description_explainer.specs.declared.faults.place.Held.{Held}
 use Rattle.description_explainer.specs.declared.faults.place.Held.TheVariants as held
-use Rattle.description_explainer.specs.declared.faults.place.Indexed.{Indexed}
-use Rattle.description_explainer.specs.declared.faults.place.Indexed.TheVariants as indexed
 use Rattle.description_explainer.specs.declared.faults.place.Limit.{Limit}
 use Rattle.description_explainer.specs.declared.faults.place.Limit.TheVariants as limit
 use Rattle.description_explainer.specs.declared.faults.place.Misnumbered.{Misnumbered}
 use Rattle.description_explainer.specs.declared.faults.place.Misnumbered.TheVariants as misnumbered
 use Rattle.description_explainer.specs.declared.faults.place.Named.{Named}
 use Rattle.description_explainer.specs.declared.faults.place.Named.TheVariants as named
-use Rattle.description_explainer.specs.declared.faults.place.Part.{Part}
-use Rattle.description_explainer.specs.declared.faults.place.Part.TheVariants as part
-use Rattle.description_explainer.specs.declared.faults.place.SlotFlaw.{SlotFlaw}
-use Rattle.description_explainer.specs.declared.faults.place.SlotFlaw.TheVariants as slot
 
 -- Sizes.
 
@@ -55,13 +49,6 @@ BreaksLimit d l = BreaksRanges d.geometry d.ranges.items l
 
 -- Numbers.
 
--- the number at a place is outside a range, or is also at a later place
-abbrev pub IsOutside : ℕ → ℕ → List ℕ → ℕ → Type 0
-IsOutside first end ns i = IsSomeAnd (slice_get ns i) (λ n. (first ≤ n) × (n < end) → ⊥)
-
-abbrev pub IsTwice : List ℕ → ℕ → ℕ → Type 0
-IsTwice ns i j = (i < j) × (n : ℕ) × (slice_get ns i ≡ Some n) × (slice_get ns j ≡ Some n)
-
 -- the number of an object
 abbrev pub number_at : Description → Named → Option ℕ
 number_at d (named.Bank k) = option_map (λ b. b.number) (slice_get d.banks.items k)
@@ -79,26 +66,6 @@ abbrev pub BreaksNumber : Description → Misnumbered → Type 0
 BreaksNumber d (misnumbered.OutOfRange who) = (n : ℕ) × (number_at d who ≡ Some n) × (IsOfItsKind d.geometry who n → ⊥)
 BreaksNumber d (misnumbered.Twice who other) = (who ≢ other) × (n : ℕ) × (number_at d who ≡ Some n) ×
     (number_at d other ≡ Some n)
-
--- Fields.
-
-abbrev pub BreaksIndexed : ℕ → ℕ → List ℕ → Indexed → Type 0
-BreaksIndexed first end indexes (indexed.OutOfRange i) = IsOutside first end indexes i
-BreaksIndexed first end indexes (indexed.Twice i j) = IsTwice indexes i j
-
-abbrev pub BreaksSlots : ℕ → List SlotEntry → SlotFlaw → Type 0
-BreaksSlots first slots (slot.Index i) = BreaksIndexed first 32 (map (λ s. s.index) slots) i
-BreaksSlots first slots (slot.Text i) = IsSomeAnd (slice_get slots i) (λ s. IsSomeCapability s.capability → ⊥)
-
-abbrev pub BreaksField : Description → Part → Type 0
-BreaksField d (part.State k) = IsSomeAnd (slice_get d.processes.items k) (λ p. p.state ≡ None)
-BreaksField d (part.Key k) = IsSomeAnd (slice_get d.processes.items k) (λ p. 2 ^ 16 ≤ p.key)
-BreaksField d (part.Space k) = IsSomeAnd (slice_get d.processes.items k) (λ p. IsSpaceEntry p.space → ⊥)
-BreaksField d (part.Registers k flaw) = IsSomeAnd (slice_get d.processes.items k)
-    (λ p. BreaksSlots 1 p.registers.items flaw)
-BreaksField d (part.Slots k flaw) = IsSomeAnd (slice_get d.nodes.items k) (λ n. BreaksSlots 0 n.slots.items flaw)
-BreaksField d (part.Words k flaw) = IsSomeAnd (slice_get d.pages.items k)
-    (λ p. BreaksIndexed 0 512 (map (λ w. w.index) p.words.items) flaw)
 
 -- Capabilities.
 

@@ -13,9 +13,7 @@ use Rattle.description_explainer.specs.declared.faults.place.Held.{Held}
 use Rattle.description_explainer.specs.declared.faults.place.Held.TheVariants as held
 use Rattle.description_explainer.specs.declared.faults.place.Named.{Named}
 use Rattle.description_explainer.specs.declared.faults.place.Named.TheVariants as named
-use Rattle.description_explainer.specs.declared.faults.place.Part.{Part}
-use Rattle.description_explainer.specs.declared.faults.place.Part.TheVariants as part
-use Rattle.description_explainer.specs.Broken.{BreaksIndexed, BreaksSlots, HoldsAt}
+use Rattle.description_explainer.specs.Broken.{HoldsAt}
 use Rattle.description_explainer.specs.declared.faults.place.Flaw.{Flaw}
 use Rattle.description_explainer.specs.declared.faults.place.Flaw.TheVariants.{Unknown, Misfit, Item}
 use Rattle.description_explainer.specs.Shapes.{Fits, HasItem, IsItem, IsUnlisted, key_name}
@@ -55,26 +53,6 @@ abbrev pub HasItemAs : Key → ℕ → Data → Members → Type 0
 HasItemAs key i e ms = (ds : Items) × (get_member (key_name key) ms ≡ Some (array ds)) × (get_item i ds ≡ Some e) ×
     (IsWholeItem key e → ⊥)
 
--- the part that is named of a process, and of one in a list, breaks the rule for fields
-abbrev pub BreaksProcess : ℕ → ProcessEntry → Part → Type 0
-BreaksProcess k p (part.State j) = (j ≡ k) × (p.state ≡ None)
-BreaksProcess k p (part.Key j) = (j ≡ k) × (2 ^ 16 ≤ p.key)
-BreaksProcess k p (part.Space j) = (j ≡ k) × (IsSpaceEntry p.space → ⊥)
-BreaksProcess k p (part.Registers j flaw) = (j ≡ k) × BreaksSlots 1 p.registers.items flaw
-BreaksProcess k p _ = ⊥
-
-abbrev pub BreaksProcesses : List ProcessEntry → Part → Type 0
-BreaksProcesses ps part = (k : ℕ) × IsSomeAnd (slice_get ps k) (λ p. BreaksProcess k p part)
-
-abbrev pub BreaksNodes : List NodeEntry → Part → Type 0
-BreaksNodes ns (part.Slots k flaw) = IsSomeAnd (slice_get ns k) (λ n. BreaksSlots 0 n.slots.items flaw)
-BreaksNodes ns _ = ⊥
-
-abbrev pub BreaksPages : List PageEntry → Part → Type 0
-BreaksPages ps (part.Words k flaw) = IsSomeAnd (slice_get ps k)
-    (λ p. BreaksIndexed 0 512 (map (λ w. w.index) p.words.items) flaw)
-BreaksPages ps _ = ⊥
-
 -- a capability that is named has a property, or lacks it
 abbrev pub IfNamed : (Capability → Type 0) → Option Capability → Type 0
 IfNamed P None = Unit {0}
@@ -94,13 +72,10 @@ OneOf P slots i = IsSomeAnd (slice_get slots i) (λ s. LacksIt P s.capability)
 abbrev pub AllOfProcess : (Capability → Type 0) → ProcessEntry → Type 0
 AllOfProcess P p = IfNamed P p.space × AllIn P p.registers.items
 
-abbrev pub OneOfProcess : (Capability → Type 0) → ℕ → ProcessEntry → Held → Type 0
+unfoldable pub OneOfProcess : (Capability → Type 0) → ℕ → ProcessEntry → Held → Type 0
 OneOfProcess P k p (held.Space j) = (j ≡ k) × LacksIt P p.space
 OneOfProcess P k p (held.Register j i) = (j ≡ k) × OneOf P p.registers.items i
 OneOfProcess P k p _ = ⊥
-
-abbrev pub OneOfProcesses : (Capability → Type 0) → List ProcessEntry → Held → Type 0
-OneOfProcesses P ps at = (k : ℕ) × IsSomeAnd (slice_get ps k) (λ p. OneOfProcess P k p at)
 
 abbrev pub OneOfNodes : (Capability → Type 0) → List NodeEntry → Held → Type 0
 OneOfNodes P ns (held.Slot k i) = IsSomeAnd (slice_get ns k) (λ n. OneOf P n.slots.items i)

@@ -1,5 +1,6 @@
 -- The names of other crates that the definitions here cite.
 pub use Rattle.description.specs.Described.{IsDescribed, IsSomeCapability, IsSpaceEntry, node_numbers}
+pub use Rattle.description.specs.FieldFlaws.{BreaksField}
 pub use Rattle.description.specs.Reading.{AreFour, At, AtOr, HasList, IsBank, IsCapability, IsDescription, IsNode}
 pub use Rattle.description.specs.Reading.{IsNumber, IsPage, IsProcess, IsRange, IsSlot, IsState, IsTable, IsWord}
 pub use Rattle.description.specs.Reading.{has_key}
@@ -12,6 +13,9 @@ pub use Rattle.description.specs.declared.entry.PageEntry.{PageEntry}
 pub use Rattle.description.specs.declared.entry.ProcessEntry.{ProcessEntry}
 pub use Rattle.description.specs.declared.entry.SlotEntry.{SlotEntry}
 pub use Rattle.description.specs.declared.entry.WordEntry.{WordEntry}
+pub use Rattle.description.specs.declared.flaw.Indexed.{Indexed}
+pub use Rattle.description.specs.declared.flaw.Part.{Part}
+pub use Rattle.description.specs.declared.flaw.SlotFlaw.{SlotFlaw}
 pub use Rattle.image_writer.specs.Faults.{fault_number}
 pub use Rattle.image_writer.specs.Laid.{placed}
 pub use Rattle.image_writer.specs.declared.fault.BuildFault.{BuildFault}

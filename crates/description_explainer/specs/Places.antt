@@ -1,13 +1,13 @@
 -- Why the image of a table isn't built, and where.
 use Rattle.description_explainer.specs.Names.{ℕ, Option, None, Some, Members, Description, IsDescription, BuildFault}
-use Rattle.description_explainer.specs.Names.{IsAccepted, Refuses, plan_for}
+use Rattle.description_explainer.specs.Names.{IsAccepted, Refuses, plan_for, BreaksField}
 use Rattle.std.specs.Prelude.{◌≤◌}
 use Rattle.image_writer.specs.declared.fault.BuildFault.TheVariants as fault
 use Rattle.description_explainer.specs.declared.place.Place.{Place}
 use Rattle.description_explainer.specs.declared.place.Place.TheVariants as place
 use Rattle.description_explainer.specs.declared.place.Rule.{Rule}
 use Rattle.description_explainer.specs.declared.place.Rule.TheVariants as rule
-use Rattle.description_explainer.specs.Broken.{BreaksField, BreaksLimit, BreaksNumber, BreaksOwner, BreaksTarget}
+use Rattle.description_explainer.specs.Broken.{BreaksLimit, BreaksNumber, BreaksOwner, BreaksTarget}
 use Rattle.description_explainer.specs.Shapes.{BreaksShape}
 
 -- the fault that `build` answers

@@ -1,6 +1,7 @@
 -- The text of a place, and what an explanation says.
 use Rattle.description_explainer.specs.Names.{ℕ, List, [], Option, None, Some, IfSome, codes, decimal, position}
 use Rattle.description_explainer.specs.Names.{unwrap_or, debug_str, list_any, Unbanked, Description, fault_number}
+use Rattle.description_explainer.specs.Names.{Indexed, Part, SlotFlaw}
 use Rattle.std.specs.Prelude.{◌≡◌, ◌==◌, ◌||◌, if◌then◌else◌, ◌++◌}
 use Rattle.recovery.specs.declared.consistency.reason.Unbanked.TheVariants as unbanked
 use Rattle.description_explainer.specs.Broken.{number_at}
@@ -9,19 +10,16 @@ use Rattle.description_explainer.specs.declared.faults.place.Flaw.{Flaw}
 use Rattle.description_explainer.specs.declared.faults.place.Flaw.TheVariants as flaw
 use Rattle.description_explainer.specs.declared.faults.place.Held.{Held}
 use Rattle.description_explainer.specs.declared.faults.place.Held.TheVariants as held
-use Rattle.description_explainer.specs.declared.faults.place.Indexed.{Indexed}
-use Rattle.description_explainer.specs.declared.faults.place.Indexed.TheVariants as indexed
+use Rattle.description.specs.declared.flaw.Indexed.TheVariants as indexed
 use Rattle.description_explainer.specs.declared.faults.place.Limit.{Limit}
 use Rattle.description_explainer.specs.declared.faults.place.Limit.TheVariants as limit
 use Rattle.description_explainer.specs.declared.faults.place.Misnumbered.{Misnumbered}
 use Rattle.description_explainer.specs.declared.faults.place.Misnumbered.TheVariants as misnumbered
 use Rattle.description_explainer.specs.declared.faults.place.Named.{Named}
 use Rattle.description_explainer.specs.declared.faults.place.Named.TheVariants as named
-use Rattle.description_explainer.specs.declared.faults.place.Part.{Part}
-use Rattle.description_explainer.specs.declared.faults.place.Part.TheVariants as part
+use Rattle.description.specs.declared.flaw.Part.TheVariants as part
 use Rattle.description_explainer.specs.declared.faults.place.ShapePlace.{ShapePlace}
-use Rattle.description_explainer.specs.declared.faults.place.SlotFlaw.{SlotFlaw}
-use Rattle.description_explainer.specs.declared.faults.place.SlotFlaw.TheVariants as slot
+use Rattle.description.specs.declared.flaw.SlotFlaw.TheVariants as slot
 use Rattle.description_explainer.specs.declared.faults.place.TableName.{TableName}
 use Rattle.description_explainer.specs.declared.faults.place.TableName.TheVariants as name
 use Rattle.description_explainer.specs.declared.place.Place.{Place}

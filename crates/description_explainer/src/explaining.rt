@@ -14,11 +14,11 @@ ghost use Rattle.description.specs.Laid.{AreLaid};
 ghost use Rattle.description_explainer.specs.Explained.{ExplainsDescription};
 ghost use Rattle.description_explainer.specs.Places.{Explains};
 
-use crate::faults::{Held, OfItsKind, OfItsRole, failing, misfilled, misnumbered, misshapen};
+use crate::faults::{Held, OfItsKind, OfItsRole, failing, misnumbered, misshapen};
 use crate::limits::beyond_limits;
 use crate::place::{Place, Rule};
 use capability::Plain;
-use description::{Description, World, lay_described};
+use description::{Description, World, lay_described, misfilled};
 use image_writer::BuildFault;
 use recovery::{Noted, find_unbanked, read_notes};
 use std::alloc::{AllocError, Global};
@@ -107,6 +107,7 @@ fn explain_objects(description: &Description) -> Option<Rule>
 }
 
 // The first rule that a description breaks, if it breaks one.
+#[tactic(auto, using(crate::proofs::Explanations::explains_limit))]
 fn explain_rules(alloc: Global, description: &Description) -> Result<Option<Rule>, AllocError>
     ensures { IfOk result (λ found. ExplainsDescription description.now found) }
 {

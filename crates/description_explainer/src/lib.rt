@@ -11,9 +11,8 @@ mod text;
 
 pub use explaining::explain;
 pub use faults::{
-    Flaw, Held, Indexed, Key, Limit, Misnumbered, Named, Naming, OfItsKind, OfItsRole, Part,
-    ShapePlace, SlotFlaw, TableName, bad_count, bad_ranges, failing, misfilled, misnumbered,
-    misshapen,
+    Flaw, Held, Key, Limit, Misnumbered, Named, Naming, OfItsKind, OfItsRole, ShapePlace,
+    TableName, bad_count, bad_ranges, failing, misnumbered, misshapen,
 };
 pub use place::{Place, Rule};
 pub use text::explanation;

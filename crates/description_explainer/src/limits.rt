@@ -23,6 +23,7 @@ fn bad_layout(description: &Description) -> Option<Limit>
 }
 
 /// Which size of a description no image has, if there is one.
+#[tactic(auto, using(crate::proofs::Sizes::count_broken))]
 pub(crate) fn beyond_limits(description: &Description) -> Option<Limit>
     ensures { MatchOption result (IsWithinLimits description.now)
         (λ limit. BreaksLimit description.now limit) }

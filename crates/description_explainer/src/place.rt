@@ -2,8 +2,8 @@
 ghost use Rattle.std.specs.Prelude.{◌≡◌};
 ghost use Rattle.description_explainer.specs.Places.{fault_of, rule_fault};
 
-use crate::faults::{Held, Limit, Misnumbered, Part, ShapePlace};
-use description::Description;
+use crate::faults::{Held, Limit, Misnumbered, ShapePlace};
+use description::{Description, Part};
 use image_writer::BuildFault;
 use recovery::Unbanked;
 

@@ -4,12 +4,10 @@ ghost use Rattle.description_explainer.specs.Text.{IsFlawText, IsPlaceText, IsSh
 ghost use Rattle.description_explainer.specs.Text.{item_text, limit_text, misnumbered_text, named_text, owner_text};
 ghost use Rattle.description_explainer.specs.Text.{rule_text, slot_entry, table_text, target_text};
 
-use crate::faults::{
-    Flaw, Held, Indexed, Limit, Misnumbered, Named, Part, ShapePlace, SlotFlaw, TableName,
-};
+use crate::faults::{Flaw, Held, Limit, Misnumbered, Named, ShapePlace, TableName};
 use crate::naming::{put_node, put_object, put_page, put_process};
 use crate::place::{Place, Rule};
-use description::Description;
+use description::{Description, Indexed, Part, SlotFlaw};
 use recovery::Unbanked;
 use std::alloc::{AllocError, Global};
 

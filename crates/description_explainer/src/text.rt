@@ -2,14 +2,12 @@
 ghost use Rattle.std.specs.Prelude.{IfOk, string_bytes};
 ghost use Rattle.description_explainer.specs.Text.{IsExplanation};
 
-use crate::faults::{
-    Flaw, Held, Indexed, Key, Limit, Misnumbered, Named, Part, ShapePlace, SlotFlaw, TableName,
-};
+use crate::faults::{Flaw, Held, Key, Limit, Misnumbered, Named, ShapePlace, TableName};
 use crate::naming::listed_number;
 use crate::place::{Place, Rule};
 use crate::place_text::{indexed_entry, list_of, parts_of, place_text};
 use description::member::member;
-use description::{Description, ProcessEntry, SlotEntry, is_capability};
+use description::{Description, Indexed, Part, ProcessEntry, SlotEntry, SlotFlaw, is_capability};
 use image_writer::NumberRange;
 use model::{Capability, Geometry};
 use recovery::Unbanked;

@@ -61,9 +61,9 @@ pub use Rattle.script.proofs.Fronts.{text_fails, writes_after, writes_fail, writ
 pub use Rattle.script.specs.Writing.{Writes, Written, Wrote}
 pub use Rattle.script.specs.declared.fault.RunFault.{RunFault}
 pub use Rattle.std.proofs.Common.{Bool, Equal, Err, Greater, IfSome, IsSomeAnd, Less, List, MatchOption, None, Option, Ordering, Result, Some, [], add-one, ap}
-pub use Rattle.std.proofs.Common.{append-nil, append_assoc, arith, codes, cond, decimal, drop, false, get_or, inl, inr, is_eq, length, map, nat_cmp, nat_lt}
-pub use Rattle.std.proofs.Common.{not, option_and_then, option_map, option_to_list, pos, refl, replicate, rules, slice_index_or, slice_set, string_bytes, subst}
-pub use Rattle.std.proofs.Common.{suc, sym, take, true, zero, ℕ}
+pub use Rattle.std.proofs.Common.{append-nil, append_assoc, arith, codes, decimal, drop, false, get_or, inl, inr, is_eq, length, map, nat_cmp, nat_lt, not}
+pub use Rattle.std.proofs.Common.{option_and_then, option_map, option_to_list, pos, refl, replicate, rules, slice_index_or, slice_set, string_bytes, subst, suc}
+pub use Rattle.std.proofs.Common.{sym, take, true, zero, ℕ}
 pub use Rattle.std.proofs.Math.ListN.{get_or-map}
 pub use Rattle.std.proofs.Math.Seq.{take-suc}
 pub use Rattle.std.proofs.lemmas.Bool.{cases_Bool, cases_eq, cases_lt, true≢false}
@@ -72,12 +72,12 @@ pub use Rattle.std.proofs.lemmas.Cmp.{alike_right, nat_list_cmp_total}
 pub use Rattle.std.proofs.lemmas.Fmt.{decimal_is_IsNumeral}
 pub use Rattle.std.proofs.lemmas.Fn.{filter_same}
 pub use Rattle.std.proofs.lemmas.Grind.{flat_map-append}
-pub use Rattle.std.proofs.lemmas.List.{ext_get_or, get_or-set_other, get_or-set_same, get_or_past, length-map, length-replicate, length-set, map-append}
-pub use Rattle.std.proofs.lemmas.List.{take-append-drop, take_all}
-pub use Rattle.std.proofs.lemmas.List.Elements.{All-append, All-cons, All-contains, All-from_recursion, All-head, All-map, All-nil, All-push, All-tail}
-pub use Rattle.std.proofs.lemmas.List.Elements.{All-weaker, AllZip-get_or, Contains-append_cases, Contains-append_left, Contains-append_right, Contains-push}
-pub use Rattle.std.proofs.lemmas.List.Elements.{filter-append, filter_more, length_all_zip, recursion_from_All}
-pub use Rattle.std.proofs.lemmas.List.Folds.{flat_map-map}
+pub use Rattle.std.proofs.lemmas.List.{ext_get_or, get_or-set_other, get_or-set_same, get_or_past, length-map, length-replicate, length-set, take-append-drop}
+pub use Rattle.std.proofs.lemmas.List.{take_all, take_more}
+pub use Rattle.std.proofs.lemmas.List.Elements.{All-append, All-cons, All-contains, All-filter, All-from_recursion, All-head, All-map, All-nil, All-push}
+pub use Rattle.std.proofs.lemmas.List.Elements.{All-tail, All-weaker, AllZip-get_or, Contains-append_cases, Contains-append_left, Contains-append_right}
+pub use Rattle.std.proofs.lemmas.List.Elements.{Contains-push, filter-append, length_all_zip, recursion_from_All}
+pub use Rattle.std.proofs.lemmas.List.Folds.{flat_map-map, list_any-append}
 pub use Rattle.std.proofs.lemmas.List.FromFn.{get_or-map-range_with_len, length-range_with_len}
 pub use Rattle.std.proofs.lemmas.Option.{get_or_from_slice_get, none-some, same_Some, slice_get-get_or, slice_get-map}
 pub use Rattle.std.proofs.lemmas.Result.{err_from_is_err_and, on_ok_weaker}
@@ -114,8 +114,8 @@ pub use Rattle.image_describer.specs.GraphLaws.{ArrowsAreHeld, BoxesAreObjects, 
 pub use Rattle.image_describer.specs.Grown.{IsGrown, IsMovedNode, IsMovedPage, IsMovedProcess, IsNotRenumbered, IsRenumbered, IsUnsuited, NamesNodes}
 pub use Rattle.image_describer.specs.Grown.{NamesPages, NodesFit, PagesFit, grown_ranges, moved, moved_capability, moved_held, moved_object, moved_slot}
 pub use Rattle.image_describer.specs.Laws.{DescribedHasText, DescribedIsLaid, DescribedIsSame, GrownIsDescribed, GrownToItself, TextIsRead}
-pub use Rattle.image_describer.specs.Part.{Adds, IsPart, IsPartOfNode, IsPartOfProcess, PartIsShown, holding_nodes, holding_processes, holds_in, is_inside}
-pub use Rattle.image_describer.specs.Part.{is_listed, leads_inside, names, space_inside}
+pub use Rattle.image_describer.specs.Part.{Adds, IsPart, IsPartOfNode, IsPartOfProcess, PartIsShown, holding_nodes, holding_processes, is_inside, is_listed}
+pub use Rattle.image_describer.specs.Part.{leads_inside, space_inside}
 pub use Rattle.image_describer.specs.Spelled.{CanBeSpelled, IsShort, IsWide, NamesWide, SpellsBank, SpellsGeometry, SpellsNode, SpellsPage, SpellsProcess}
 pub use Rattle.image_describer.specs.Spelled.{SpellsRange, SpellsSlot, SpellsWord}
 pub use Rattle.image_describer.specs.Text.{Field, are_whole, bank_fields, bank_text, begin_line, field_line, field_lines, held_text, image_fields, is_range}

@@ -8,12 +8,12 @@ ghost use Rattle.description.specs.Described.{AreDistinct, HasNumbers, node_numb
 ghost use Rattle.description_explainer.specs.FaultOutcomes.{BreaksIt, place_of};
 ghost use Rattle.description_explainer.specs.Broken.{BreaksNumber, IsOfItsKind, number_at};
 
-use crate::faults::indexes::{find_outside, find_twice};
 use crate::faults::place::{Misnumbered, Named};
-use description::{Description, node_numbers, page_numbers};
+use description::{Description, find_outside, find_twice, node_numbers, page_numbers};
 use std::alloc::{AllocError, Global};
 
 // The bank, process or node whose number stands at a place among those of banks, roots, annexes and nodes.
+#[tactic(auto, using(crate::proofs::NumberPlaces::annex_number))]
 fn node_named_at(description: &Description, place: usize) -> Named
     ensures number { number_at description.now result ≡ slice_get (node_numbers description.now) place }
     ensures place { place_of description.now result ≡ place }
@@ -50,6 +50,7 @@ fn named_at(description: &Description, nodes: usize, place: usize) -> Named
 }
 
 // Which number of a bank, a process or a node isn't one of a node, if there is one.
+#[tactic(auto, using(crate::proofs::NumberPlaces::node_outside))]
 fn node_out_of_range(description: &Description, numbers: &[u64]) -> Option<Misnumbered>
     requires { numbers.now ≡ node_numbers description.now }
     ensures { MatchOption result
@@ -63,6 +64,7 @@ fn node_out_of_range(description: &Description, numbers: &[u64]) -> Option<Misnu
 }
 
 // Which number of a page isn't one of a page, if there is one.
+#[tactic(auto, using(crate::proofs::NumberPlaces::page_outside))]
 fn page_out_of_range(description: &Description, numbers: &[u64]) -> Option<Misnumbered>
     requires geometry { IsGeometry description.now.geometry }
     requires numbers { numbers.now ≡ page_numbers description.now }
@@ -105,13 +107,11 @@ pub fn misnumbered(
 {
     let nodes = node_numbers(alloc, description)?;
     let pages = page_numbers(alloc, description)?;
-    match node_out_of_range(description, &nodes) {
-        Some(place) => return Ok(Some(place)),
-        None => {}
+    if let Some(place) = node_out_of_range(description, &nodes) {
+        return Ok(Some(place));
     }
-    match page_out_of_range(description, &pages) {
-        Some(place) => return Ok(Some(place)),
-        None => {}
+    if let Some(place) = page_out_of_range(description, &pages) {
+        return Ok(Some(place));
     }
     let count = nodes.len();
     let mut numbers = nodes;

@@ -207,6 +207,7 @@ fn flaw_at<'a>(table: &Table, key: Key) -> Flaw<'a>
 }
 
 // What is wrong in the table of an object that has no other keys than its own.
+#[tactic(auto, using(crate::proofs::Flaws::all_fit))]
 fn misfit_flaw<'a>(table: &Table, name: TableName) -> Flaw<'a>
     requires object { name ≢ TableName.Whole }
     requires known { IsTrue (has_only (map key_name (keys_of name)) (table_view table.now)) }
@@ -254,6 +255,7 @@ fn in_whole(flaw: Flaw<'_>) -> ShapePlace<'_>
 }
 
 // What is wrong in an item of the list at a key, which says no value of its type.
+#[tactic(auto, using(crate::proofs::Flaws::table_refused))]
 fn place_of_item<'a>(key: Key, index: usize, value: &'a Value) -> ShapePlace<'a>
     requires whole { Contains (keys_of TableName.Whole) key }
     requires refused { IsWholeItem key (view value.now) → ⊥ }

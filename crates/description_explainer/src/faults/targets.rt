@@ -1,5 +1,5 @@
 // Which capability of a description names no object of its kind.
-ghost use Rattle.std.specs.Prelude.{◌≡◌, ◌↔◌, false, IsTrue, MatchOption};
+ghost use Rattle.std.specs.Prelude.{◌≡◌, ◌↔◌, false, slice_get, IsSomeAnd, IsTrue, MatchOption};
 ghost use Rattle.std.specs.List.{All};
 ghost use Rattle.model.specs.declared.capability.Capability.{Capability};
 ghost use Rattle.capability.specs.Parts.{frames_of};
@@ -8,8 +8,7 @@ ghost use Rattle.recovery.specs.Consistency.{NamesItsRole};
 ghost use Rattle.recovery.specs.Noted.{AreNoted};
 ghost use Rattle.model.specs.Keepable.{IsTarget};
 ghost use Rattle.description_explainer.specs.FaultOutcomes.{AllHave, AllIn, AllOfProcess, IfNamed, OneLacks, OneOf};
-ghost use Rattle.description_explainer.specs.FaultOutcomes.{OneOfNodes};
-ghost use Rattle.description_explainer.specs.FaultOutcomes.{OneOfProcess, OneOfProcesses, LacksIt};
+ghost use Rattle.description_explainer.specs.FaultOutcomes.{OneOfNodes, OneOfProcess, LacksIt};
 
 use crate::faults::place::Held;
 use capability::Plain;
@@ -111,14 +110,12 @@ fn first_failing<N: Naming>(naming: &N, slots: &[SlotEntry]) -> Option<usize>
     ensures { MatchOption result (AllIn (N.Passes naming.now) slots.now)
         (λ i. OneOf (N.Passes naming.now) slots.now i) }
 {
-    for (i, slot) in slots.iter().enumerate() {
-        if !may_pass(naming, slot.capability) {
-            return Some(i);
-        }
-    }
-    None
+    slots
+        .iter()
+        .position(|slot| !may_pass(naming, slot.capability))
 }
 
+#[tactic(auto, unfolding(crate::specs::FaultOutcomes::OneOfProcess))]
 fn failing_in_process<N: Naming>(naming: &N, k: usize, process: &ProcessEntry) -> Option<Held>
     ensures { MatchOption result (AllOfProcess (N.Passes naming.now) process.now)
         (λ at. OneOfProcess (N.Passes naming.now) k process.now at) }
@@ -132,37 +129,37 @@ fn failing_in_process<N: Naming>(naming: &N, k: usize, process: &ProcessEntry) -
     }
 }
 
-fn failing_in_processes<N: Naming>(naming: &N, processes: &[ProcessEntry]) -> Option<Held>
+// The first process with a capability that doesn't pass, by its index, and where it holds that.
+fn failing_in_processes<N: Naming>(naming: &N, processes: &[ProcessEntry]) -> Option<(usize, Held)>
     ensures { MatchOption result (All (AllOfProcess (N.Passes naming.now)) processes.now)
-        (λ at. OneOfProcesses (N.Passes naming.now) processes.now at) }
+        (λ bad. IsSomeAnd (slice_get processes.now bad.0)
+        (λ p. OneOfProcess (N.Passes naming.now) bad.0 p bad.1)) }
 {
-    for k in 0..processes.len() {
-        match failing_in_process(naming, k, &processes[k]) {
-            Some(at) => return Some(at),
-            None => {}
-        }
-    }
-    None
+    processes.iter().enumerate().find_map(|(k, process)| match failing_in_process(
+        naming, k, process,
+    ) {
+        Some(at) => Some((k, at)),
+        None => None,
+    })
 }
 
 fn failing_in_nodes<N: Naming>(naming: &N, nodes: &[NodeEntry]) -> Option<Held>
     ensures { MatchOption result (All (λ n. AllIn (N.Passes naming.now) n.slots.items) nodes.now)
         (λ at. OneOfNodes (N.Passes naming.now) nodes.now at) }
 {
-    for k in 0..nodes.len() {
-        if let Some(i) = first_failing(naming, &nodes[k].slots) {
-            return Some(Held::Slot(k, i));
-        }
-    }
-    None
+    nodes.iter().enumerate().find_map(|(k, node)| match first_failing(naming, &node.slots) {
+        Some(i) => Some(Held::Slot(k, i)),
+        None => None,
+    })
 }
 
 /// Which capability of a description doesn't pass, if there is one.
+#[tactic(auto, unfolding(crate::specs::FaultOutcomes::OneOfProcess))]
 pub fn failing<N: Naming>(naming: &N, description: &Description) -> Option<Held>
     ensures { MatchOption result (AllHave (N.Passes naming.now) description.now)
         (λ at. OneLacks (N.Passes naming.now) description.now at) }
 {
-    if let Some(at) = failing_in_processes(naming, &description.processes) {
+    if let Some((_, at)) = failing_in_processes(naming, &description.processes) {
         return Some(at);
     }
     failing_in_nodes(naming, &description.nodes)

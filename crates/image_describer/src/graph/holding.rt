@@ -38,29 +38,33 @@ fn holds(object: u64, process: &ProcessEntry) -> bool
     names(object, process.space) || holds_in(object, &process.registers)
 }
 
-// Puts the processes that hold a capability to an object into a set.
-#[tactic(auto, using(crate::proofs::Listed::adds_none))]
-fn mark_processes(inside: &mut NumberSet, object: u64, processes: &[ProcessEntry])
-    requires { All (λ p. p.root < length inside.old) processes.now }
-    ensures { Adds (holding_processes object processes.now) inside.old inside.new }
+// The numbers of the processes that hold a capability to an object. Fails only if memory runs out, as the one below.
+fn holding_processes(
+    alloc: Global,
+    object: u64,
+    processes: &[ProcessEntry],
+) -> Result<Vec<u64>, AllocError>
+    ensures { IfOk result (λ numbers. numbers.items ≡ holding_processes object processes.now) }
 {
-    for process in processes {
-        if holds(object, process) {
-            inside.set(process.root as usize, true);
-        }
-    }
+    let holding = processes.iter().filter(|process| holds(object, process));
+    holding.map(|process| process.root).collect(alloc)
 }
 
-// Puts the nodes that hold a capability to an object into a set.
-#[tactic(auto, using(crate::proofs::Listed::adds_none))]
-fn mark_nodes(inside: &mut NumberSet, object: u64, nodes: &[NodeEntry])
-    requires { All (λ n. n.number < length inside.old) nodes.now }
-    ensures { Adds (holding_nodes object nodes.now) inside.old inside.new }
+fn holding_nodes(alloc: Global, object: u64, nodes: &[NodeEntry]) -> Result<Vec<u64>, AllocError>
+    ensures { IfOk result (λ numbers. numbers.items ≡ holding_nodes object nodes.now) }
 {
-    for node in nodes {
-        if holds_in(object, &node.slots) {
-            inside.set(node.number as usize, true);
-        }
+    let holding = nodes.iter().filter(|node| holds_in(object, &node.slots));
+    holding.map(|node| node.number).collect(alloc)
+}
+
+// Puts numbers into a set.
+#[tactic(auto, using(crate::proofs::Listed::adds_none, crate::proofs::Listed::adds_more))]
+fn mark(inside: &mut NumberSet, numbers: &[u64])
+    requires { All (λ n. n < length inside.old) numbers.now }
+    ensures { Adds numbers.now inside.old inside.new }
+{
+    for number in numbers {
+        inside.set(*number as usize, true);
     }
 }
 
@@ -115,7 +119,9 @@ pub fn holders(
     let count = description.geometry.nodes + description.geometry.pages;
     let mut inside = NumberSet::new(alloc, count as usize)?;
     inside.set(object as usize, true);
-    mark_processes(&mut inside, object, &description.processes);
-    mark_nodes(&mut inside, object, &description.nodes);
+    let mut numbers = holding_processes(alloc, object, &description.processes)?;
+    let nodes = holding_nodes(alloc, object, &description.nodes)?;
+    numbers.extend_from_slice(&nodes)?;
+    mark(&mut inside, &numbers);
     Ok(inside)
 }

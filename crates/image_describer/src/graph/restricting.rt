@@ -5,7 +5,7 @@ ghost use Rattle.collections.specs.Marks.{is_marked};
 ghost use Rattle.image_describer.specs.Part.{IsPart, IsPartOfNode, IsPartOfProcess, leads_inside, space_inside};
 
 use collections::NumberSet;
-use description::{BankEntry, Description, NodeEntry, PageEntry, ProcessEntry, SlotEntry};
+use description::{Description, NodeEntry, ProcessEntry, SlotEntry};
 use model::Capability;
 
 // Whether a number is in a set. One past the set isn't.
@@ -82,41 +82,18 @@ fn restrict_all<T: Restricted>(inside: &NumberSet, entries: &mut [T])
     }
 }
 
-// Leaves the entries with a number of a set.
-fn keep_banks(inside: &NumberSet, banks: &mut Vec<BankEntry>)
-    ensures { banks.new.items ≡ filter (λ b. is_marked inside.now b.number) banks.old.items }
-{
-    banks.retain(|bank| has(inside, bank.number));
-}
-
-fn keep_processes(inside: &NumberSet, processes: &mut Vec<ProcessEntry>)
-    ensures { processes.new.items ≡ filter (λ p. is_marked inside.now p.root) processes.old.items }
-{
-    processes.retain(|process| has(inside, process.root));
-}
-
-fn keep_nodes(inside: &NumberSet, nodes: &mut Vec<NodeEntry>)
-    ensures { nodes.new.items ≡ filter (λ n. is_marked inside.now n.number) nodes.old.items }
-{
-    nodes.retain(|node| has(inside, node.number));
-}
-
-fn keep_pages(inside: &NumberSet, pages: &mut Vec<PageEntry>)
-    ensures { pages.new.items ≡ filter (λ p. is_marked inside.now p.number) pages.old.items }
-{
-    pages.retain(|page| has(inside, page.number));
-}
-
 /// Restricts a description to a set of numbers: it leaves the objects that have one, and of what they
 /// hold the capabilities that name nothing or such an object. In the graph of what is left the boxes
 /// are those of the set, and the arrows those between them.
 pub fn restrict(description: &mut Description, inside: &NumberSet)
     ensures { IsPart (is_marked inside.now) description.old description.new }
 {
-    keep_banks(inside, &mut description.banks);
-    keep_processes(inside, &mut description.processes);
-    keep_nodes(inside, &mut description.nodes);
-    keep_pages(inside, &mut description.pages);
+    description.banks.retain(|bank| has(inside, bank.number));
+    description
+        .processes
+        .retain(|process| has(inside, process.root));
+    description.nodes.retain(|node| has(inside, node.number));
+    description.pages.retain(|page| has(inside, page.number));
     restrict_all(inside, description.processes.as_mut_slice());
     restrict_all(inside, description.nodes.as_mut_slice());
 }

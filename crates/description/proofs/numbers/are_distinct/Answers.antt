@@ -1,7 +1,7 @@
-use Rattle.description.proofs.Names.{common_steps, arith, sym, refl, true, false, slice_index_or, length-replicate, length-set}
+use Rattle.description.proofs.Names.{sym, refl, true, false, slice_index_or, length-replicate, length-set}
 use Rattle.std.proofs.Common.{◌∙◌}
 use Rattle.std.specs.Prelude.{Bool}
-use Rattle.description.proofs.Lists.{all_new, not_new, still_new, ended_new}
+use Rattle.description.proofs.Lists.{all_new, still_new, ended_new}
 use Rattle.description.proofs.numbers.are_distinct.Goals as goal
 
 pub loop-number-init : goal.loop-number-init
@@ -9,9 +9,6 @@ loop-number-init c = rw c.in_ok-seen.ensures (length-replicate {A = Bool} c.args
 
 pub contains-requires : goal.contains-requires
 contains-requires c = rw c.loop-number.invariant.0 (c.requires c.loop-number.number-index 0 c.loop-number-test.true)
-
-pub returns-then-contains : goal.returns-then-contains
-returns-then-contains c = grind (arith, common_steps, not_new)
 
 pub set-requires : goal.set-requires
 set-requires c = rw c.loop-number.invariant.0 (c.requires c.loop-number.number-index 0 c.loop-number-test.true)

@@ -1,10 +1,7 @@
-use Rattle.description.proofs.Names.{rules, sym, slice_index_or, drop_more, OfBank}
-use Rattle.std.proofs.Common.{◌∙◌, ◌<◌, ◌^◌}
-use Rattle.description.proofs.LaidFrames.{all_laid, more_laid, none_laid, put_same, still_within}
+use Rattle.description.proofs.Names.{rules, slice_index_or, drop_more}
+use Rattle.std.proofs.Common.{◌<◌, ◌^◌}
+use Rattle.description.proofs.LaidFrames.{more_laid, put_same, still_within}
 use Rattle.description.proofs.objects.lay_banks.Goals as goal
-
-pub loop-bank-init : goal.loop-bank-init
-loop-bank-init c = none_laid OfBank c.args.banks.now c.args.world.now
 
 pub loop-bank-preserved : goal.loop-bank-preserved
 loop-bank-preserved c = more_laid _ _ _ _ _ _ _ (drop_more _ _ _ c.loop-bank-test.true)
@@ -14,9 +11,3 @@ loop-bank-preserved c = more_laid _ _ _ _ _ _ _ (drop_more _ _ _ c.loop-bank-tes
 pub put-requires-clause-within : goal.put-requires-clause-within
 put-requires-clause-within c = still_within _ _ _ (c.requires.within c.loop-bank.bank-index (record { number = 0; owner = 0; limit = 0 }) c.loop-bank-test.true)
     c.loop-bank.invariant.headers
-
-pub put-requires-clause-even : goal.put-requires-clause-even
-put-requires-clause-even c = c.loop-bank.invariant.contents ∙ c.requires.even ∙ sym c.loop-bank.invariant.headers
-
-pub returns : goal.returns
-returns c = all_laid OfBank c.args.banks.now c.args.world.now c.loop-bank.world c.loop-bank.bank-index c.loop-bank-test.false c.loop-bank.invariant

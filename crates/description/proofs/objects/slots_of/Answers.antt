@@ -1,9 +1,6 @@
-use Rattle.description.proofs.Names.{common_steps, arith, slot_held, slots_of}
-use Rattle.description.proofs.Lists.{each_done, each_wrote}
+use Rattle.description.proofs.Names.{slot_held, slots_of}
+use Rattle.description.proofs.Lists.{each_done}
 use Rattle.description.proofs.objects.slots_of.Goals as goal
-
-pub loop-entry-preserved : goal.loop-entry-preserved
-loop-entry-preserved c = grind (arith, common_steps, each_wrote)
 
 pub returns : goal.returns
 unfolding slots_of

@@ -1,9 +1,6 @@
 use Rattle.description_explainer.proofs.Explanations.{at_some}
-use Rattle.description_explainer.proofs.Explanations.{explains_limit, explains_number}
+use Rattle.description_explainer.proofs.Explanations.{explains_number}
 use Rattle.description_explainer.proofs.explaining.explain_rules.Goals as goal
-
-pub returns-in-Some : goal.returns-in-Some
-returns-in-Some c = explains_limit c.args.description.now c.in-Some.limit c.in-Some.ensures
 
 pub returns-in-Some-found : goal.returns-in-Some-found
 returns-in-Some-found c = explains_number c.args.description.now c.in_default.ensures c.in-Some-found.number

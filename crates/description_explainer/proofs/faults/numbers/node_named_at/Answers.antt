@@ -1,10 +1,7 @@
-use Rattle.description_explainer.proofs.Names.{common_steps, arith, refl}
+use Rattle.description_explainer.proofs.Names.{refl}
 use Rattle.std.proofs.Common.{◌∙◌}
-use Rattle.description_explainer.proofs.NumberPlaces.{annex_number, node_number}
+use Rattle.description_explainer.proofs.NumberPlaces.{node_number}
 use Rattle.description_explainer.proofs.faults.numbers.node_named_at.Goals as goal
-
-pub returns-then-annex-processes-clause-number : goal.returns-then-annex-processes-clause-number
-returns-then-annex-processes-clause-number c = grind (arith, common_steps, annex_number)
 
 pub returns-clause-number : goal.returns-clause-number
 returns-clause-number c =

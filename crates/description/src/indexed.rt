@@ -1,0 +1,125 @@
+// Lists of numbers, or of entries with an index: which is outside a range, and which comes twice.
+ghost use Rattle.std.specs.Prelude.{◌≡◌, ◌≢◌, ◌↔◌, ℕ, ◌<◌, ◌≤◌, List, length, map, slice_index, IsTrue, MatchOption};
+ghost use Rattle.std.specs.List.{All};
+ghost use Rattle.description.specs.Described.{AreDistinct};
+ghost use Rattle.description.specs.FieldFlaws.{BreaksIndexed, IsOutside, IsTwice};
+
+use crate::flaw::Indexed;
+use crate::{SlotEntry, WordEntry};
+
+/// Numbers by place.
+pub trait Numbers: Copy {
+    /// The numbers.
+    ghost numbers: { Self → List ℕ };
+
+    /// How many there are.
+    fn count(self) -> usize
+        ensures { result ≡ length (numbers self) };
+
+    /// The number at a place.
+    fn at(self, place: usize) -> u64
+        requires { place < length (numbers self) }
+        ensures { result ≡ slice_index (numbers self) place };
+}
+
+impl Numbers for &[u64] {
+    ghost numbers = { λ ns. ns.now };
+
+    fn count(self) -> usize {
+        self.len()
+    }
+
+    fn at(self, place: usize) -> u64 {
+        self[place]
+    }
+}
+
+/// Their indexes.
+impl Numbers for &[SlotEntry] {
+    ghost numbers = { λ slots. map (λ s. s.index) slots.now };
+
+    fn count(self) -> usize {
+        self.len()
+    }
+
+    fn at(self, place: usize) -> u64 {
+        self[place].index
+    }
+}
+
+/// Their indexes.
+impl Numbers for &[WordEntry] {
+    ghost numbers = { λ words. map (λ w. w.index) words.now };
+
+    fn count(self) -> usize {
+        self.len()
+    }
+
+    fn at(self, place: usize) -> u64 {
+        self[place].index
+    }
+}
+
+// Whether a number is within a range.
+fn is_within(first: u64, end: u64, number: u64) -> bool
+    ensures { IsTrue result ↔ ((first ≤ number) × (number < end)) }
+{
+    first <= number && number < end
+}
+
+/// The first number outside a range, if there is one.
+pub fn find_outside<N: Numbers>(first: u64, end: u64, numbers: N) -> Option<usize>
+    ensures { MatchOption result
+        (All (λ n. (first ≤ n) × (n < end)) (N.numbers numbers))
+        (λ i. IsOutside first end (N.numbers numbers) i) }
+{
+    for i in 0..numbers.count() {
+        if !is_within(first, end, numbers.at(i)) {
+            return Some(i);
+        }
+    }
+    None
+}
+
+// Where a number comes from an index on, if it does.
+fn find_from<N: Numbers>(numbers: N, from: usize, number: u64) -> Option<usize>
+    ensures { MatchOption result
+        ((j : ℕ) → from ≤ j → j < length (N.numbers numbers) → slice_index (N.numbers numbers) j ≢ number)
+        (λ j. (from ≤ j) × (j < length (N.numbers numbers)) × (slice_index (N.numbers numbers) j ≡ number)) }
+{
+    for i in from..numbers.count() {
+        if numbers.at(i) == number {
+            return Some(i);
+        }
+    }
+    None
+}
+
+/// Two places of one number, if one comes twice.
+pub fn find_twice<N: Numbers>(numbers: N) -> Option<(usize, usize)>
+    ensures { MatchOption result (AreDistinct (N.numbers numbers))
+        (λ p. IsTwice (N.numbers numbers) p.0 p.1) }
+{
+    for i in 0..numbers.count() {
+        if let Some(j) = find_from(numbers, i + 1, numbers.at(i)) {
+            return Some((i, j));
+        }
+    }
+    None
+}
+
+// What is wrong in a list of entries with an index, if anything is.
+#[tactic(auto, unfolding(crate::specs::FieldFlaws::BreaksIndexed))]
+pub(crate) fn find_indexed<N: Numbers>(first: u64, end: u64, entries: N) -> Option<Indexed>
+    ensures { MatchOption result
+        (All (λ n. (first ≤ n) × (n < end)) (N.numbers entries) × AreDistinct (N.numbers entries))
+        (λ x. BreaksIndexed first end (N.numbers entries) x) }
+{
+    if let Some(i) = find_outside(first, end, entries) {
+        return Some(Indexed::OutOfRange(i));
+    }
+    match find_twice(entries) {
+        Some((i, j)) => Some(Indexed::Twice(i, j)),
+        None => None,
+    }
+}
