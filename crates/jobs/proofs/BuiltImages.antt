@@ -1,6 +1,6 @@
 -- The outcome of the command that builds.
-use Rattle.jobs.proofs.Names.{Written, ℕ, Ok, Err, ap, subst, IsErrOf, Wrote, Members, line_of, Disk, Description, IsDescription, BuildFault, Failed}
-use Rattle.jobs.proofs.Names.{BuildsFrom, IsWithinLimits, plan_for, WroteFront, BuildsImage, built_text, TellsTotal}
+use Rattle.jobs.proofs.Names.{ℕ, Err, ap, subst, IsErrOf, Members, line_of, Disk, Description, IsDescription, BuildFault, Failed, BuildsFrom, IsWithinLimits}
+use Rattle.jobs.proofs.Names.{plan_for, built_text, TellsTotal}
 use Rattle.std.proofs.Common.{◌≡◌}
 use Rattle.std.specs.Prelude.{◌↔◌, List, Result}
 use Rattle.jobs.specs.declared.fault.Fault.TheVariants as fault

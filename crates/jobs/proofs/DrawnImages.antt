@@ -1,36 +1,25 @@
 -- The outcome of the command that draws.
-use Rattle.jobs.proofs.Names.{Written, List, Result, Ok, Err, sym, subst, arith, Geometry, Object, object_count, Disk, Description, HasNumbers, AreSoundObjects}
-use Rattle.jobs.proofs.Names.{Focus, Fault, Whole, DrawsImage, DrawsPart, IsHeldTo, KeepsPart, KeepsReached, OfWhole, DescribesSaved, HoldsOfSaved}
+use Rattle.jobs.proofs.Names.{Written, List, Result, Ok, Err, sym, subst, arith, Geometry, Object, object_count, objects_of, Disk, Description, SavedState}
+use Rattle.jobs.proofs.Names.{Focus, Fault, DrawsImage, DrawsPart, IsHeldTo, KeepsPart, KeepsReached, IsDescriptionOf, ReadsSaved}
 use Rattle.std.proofs.Common.{◌≡◌, ◌<◌, ◌^◌}
 use Rattle.layout.specs.declared.open_fault.OpenFault.TheVariants as opening
 use Rattle.jobs.specs.declared.fault.Fault.TheVariants as fault
-use Rattle.jobs.proofs.ReachedImages.{objects_sound}
+use Rattle.jobs.proofs.DescribedImages.{no_memory}
 
-module _ {D : Type 0} (disk : D → Disk) (device back : D) (whole : Whole)
-    (opened : DescribesSaved disk device back whole.description × HoldsOfSaved disk device back (λ os. whole.objects.items ≡ os)) where
-  pub few : object_count whole.description.geometry < 2 ^ 64
+module _ {D : Type 0} {disk : D → Disk} {device back : D} {s : SavedState} (reads : ReadsSaved disk device back s) (d : Description)
+    (us : List Object) (is : IsDescriptionOf s.plan s.header.age s.frames d × (us ≡ objects_of s.frames)) where
+  pub few : object_count d.geometry < 2 ^ 64
   few =
-      let saved = opened.0 in
-      let limits = saved.encodes.plan.fits.geometry in
-      let below : object_count saved.state.plan.geometry < 2 ^ 64 = omega (arith, limits.most_nodes, limits.most_pages) in
-      subst (λ (g : Geometry). object_count g < 2 ^ 64) (sym saved.whole.describes.geometry) below
+      let limits = reads.encodes.plan.fits.geometry in
+      let below : object_count s.plan.geometry < 2 ^ 64 = omega (arith, limits.most_nodes, limits.most_pages) in
+      subst (λ (g : Geometry). object_count g < 2 ^ 64) (sym is.0.describes.geometry) below
 
-  pub sound : AreSoundObjects whole.objects.items
-  sound = objects_sound disk device back whole.objects.items opened.1
-
-  module _ (focus : Focus) (output output_left : Written) where
-    of_whole : (outcome : Result (Unit {0}) Fault) → DrawsPart whole.objects.items focus whole.description output output_left outcome
-        → OfWhole disk device back (λ os d. DrawsPart os focus d output output_left outcome)
-    of_whole outcome draws = record { description = whole.description; saved = opened.0; objects = whole.objects.items; read = opened.1; reported = draws }
-
-    pub draws_image : (outcome : Result (Unit {0}) Fault) → DrawsPart whole.objects.items focus whole.description output output_left outcome →
-        DrawsImage disk focus device back output output_left outcome
-    draws_image (Ok a) draws = of_whole (Ok a) draws
-    draws_image (Err fault.CannotWriteOutput) draws = of_whole (Err fault.CannotWriteOutput) draws
-    draws_image (Err (fault.NoObject o)) draws = of_whole (Err (fault.NoObject o)) draws
-    draws_image (Err (fault.NoProcess p)) draws = of_whole (Err (fault.NoProcess p)) draws
-    draws_image (Err (fault.Open opening.NoMemory)) draws = (record { is_why = opened.0.failures; only_reads = opened.0.only_reads }, draws)
-    draws_image outcome draws = absurd draws.0
+  pub draws_image : (focus : Focus) (output output_left : Written) (outcome : Result (Unit {0}) Fault) →
+      DrawsPart us focus d output output_left outcome → DrawsImage disk focus device back output output_left outcome
+  draws_image focus output output_left (Err (fault.Open opening.NoMemory)) draws = (no_memory disk device back reads, draws)
+  draws_image focus output output_left (Err (fault.Open why)) draws = absurd draws.0
+  draws_image focus output output_left outcome draws =
+      (s, reads, (d, is.0, subst (λ (os : List Object). DrawsPart os focus d output output_left outcome) is.1 draws))
 
 -- A description is restricted twice.
 pub keeps_both : (os : List Object) (focus : Focus) (d m e : Description) → IsHeldTo focus.to d m → (outcome : Result (Unit {0}) Fault) →

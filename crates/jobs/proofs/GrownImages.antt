@@ -1,14 +1,15 @@
 -- What a description for other sizes is built as.
-use Rattle.jobs.proofs.Names.{Written, ℕ, List, Result, Ok, Err, map, sym, ap, subst, arith, Wrote, nat_tests, same_Some, Members, Frame, Geometry, Object}
-use Rattle.jobs.proofs.Names.{IsSoundFrames, world_at, Saved, IsSound, World, Disk, Holds, SavedFrames, NumberRange, MayBeLaid, numbers_of, first_saved}
-use Rattle.jobs.proofs.Names.{may_be_laid, Description, IsDescription, IsSame, description_once, HasFields, described_once, GrowthFault, Sizes, Describes}
-use Rattle.jobs.proofs.Names.{plain_frames, IsGrown, IsNotRenumbered, grown_geometry, grown_ranges, CanBeSpelled, brief_grown, fields_grown, not_suited}
-use Rattle.jobs.proofs.Names.{grown_is_described, grown_to_itself, grown_spelled, objects_plain, same_described, WroteFront, Fault, IsGrownFrom}
-use Rattle.jobs.proofs.Names.{TellsDescription, TellsGrown, TellsText, DescribesImage, DescribesSaved, IsDescribedIn, ReadsSaved, RefusesSizes, TellsWhole}
-use Rattle.jobs.proofs.Names.{GrownIsDenoted, UnsizedIsWhole}
+use Rattle.jobs.proofs.Names.{IsDescriptionOf, SavedState, described_has_text, Written, ℕ, List, Result, Ok, Err, map, sym, ap, subst, arith, Wrote, nat_tests}
+use Rattle.jobs.proofs.Names.{same_Some, Members, Frame, Geometry, Object, IsSoundFrames, world_at, Saved, IsSound, World, Disk, Holds, SavedFrames}
+use Rattle.jobs.proofs.Names.{NumberRange, MayBeLaid, numbers_of, first_saved, may_be_laid, Description, IsDescription, IsSame, description_once, HasFields}
+use Rattle.jobs.proofs.Names.{described_once, Sizes, Describes, plain_frames, IsGrown, IsNotRenumbered, grown_geometry, grown_ranges, CanBeSpelled, brief_grown}
+use Rattle.jobs.proofs.Names.{fields_grown, not_suited, grown_is_described, grown_to_itself, grown_spelled, objects_plain, same_described, WroteFront, Fault}
+use Rattle.jobs.proofs.Names.{IsGrownFrom, TellsDescription, TellsGrown, TellsText, DescribesImage, IsDescribedIn, ReadsSaved, TellsWhole, GrownIsDenoted}
+use Rattle.jobs.proofs.Names.{UnsizedIsWhole}
 use Rattle.std.proofs.Common.{◌≡◌, ◌∙◌}
 use Rattle.layout.specs.declared.open_fault.OpenFault.TheVariants as opening
 use Rattle.jobs.specs.declared.fault.Fault.TheVariants as fault
+use Rattle.jobs.proofs.DescribedImages.{no_memory}
 
 pub grown_is_denoted : GrownIsDenoted
 grown_is_denoted p g age frames text table e saved size c reported read said built holds =
@@ -54,76 +55,75 @@ unsized_is_whole p age frames text sound reported =
     }
 
 -- A description of what is saved, renumbered.
-module _ {D : Type 0} (disk : D → Disk) (device back : D) (d : Description) (sizes : Sizes) (saved : DescribesSaved disk device back d) where
+module _ {D : Type 0} {disk : D → Disk} {device back : D} {s : SavedState} (reads : ReadsSaved disk device back s) (d : Description)
+    (whole : IsDescriptionOf s.plan s.header.age s.frames d) (sizes : Sizes) where
   abbrev g : Geometry
-  g = saved.state.plan.geometry
+  g = s.plan.geometry
 
   abbrev w : World
-  w = world_at saved.state.header.age saved.state.frames
+  w = world_at s.header.age s.frames
 
   geometry_is : d.geometry ≡ g
-  geometry_is = saved.whole.describes.geometry
+  geometry_is = whole.describes.geometry
 
-  pub reads : ReadsSaved disk device back saved.state
-  reads = record { encodes = saved.encodes; sound = saved.sound; failures = saved.failures; only_reads = saved.only_reads }
+  pub has_text : CanBeSpelled d
+  has_text = described_has_text s.plan s.header.age s.frames d reads.encodes.plan.fits reads.sound whole.describes whole.ranges whole.layout
 
   pub laid : MayBeLaid d.geometry d.ranges.items
   laid = subst (λ (h : Geometry). MayBeLaid h d.ranges.items) (sym geometry_is)
-      (subst (λ (rs : List NumberRange). MayBeLaid g rs) (sym saved.whole.ranges) (may_be_laid saved.state.plan saved.encodes.plan.fits))
+      (subst (λ (rs : List NumberRange). MayBeLaid g rs) (sym whole.ranges) (may_be_laid s.plan reads.encodes.plan.fits))
 
   module _ (e : Description) (grown : IsGrownFrom sizes d e) where
     new_is : e.geometry ≡ grown_geometry g sizes
     new_is = grown.geometry ∙ ap (λ (h : Geometry). grown_geometry h sizes) geometry_is
 
-    in_it : IsDescribedIn saved.state.plan (grown_geometry g sizes) saved.state.header.age saved.state.frames e
+    in_it : IsDescribedIn s.plan (grown_geometry g sizes) s.header.age s.frames e
     in_it =
-        let described = grown_is_described w d e (subst (λ (h : Geometry). IsSound h w) (sym geometry_is) saved.sound.sound)
-        (subst (λ (h : Geometry). Describes h w d) (sym geometry_is) saved.whole.describes) grown.same grown.nodes grown.pages in
+        let described = grown_is_described w d e (subst (λ (h : Geometry). IsSound h w) (sym geometry_is) reads.sound.sound)
+        (subst (λ (h : Geometry). Describes h w d) (sym geometry_is) whole.describes) grown.same grown.nodes grown.pages in
         let v : World = described.0 in
         record {
           world = v;
           grown = subst (λ (h : Geometry). IsGrown g h w v) new_is (subst (λ (h : Geometry). IsGrown h e.geometry w v) geometry_is described.1);
           describes = subst (λ (h : Geometry). Describes h v e) new_is described.2;
-          brief = brief_grown d e grown.same saved.whole.describes.numbers saved.whole.brief;
+          brief = brief_grown d e grown.same whole.describes.numbers whole.brief;
           ranges = grown.same.ranges ∙ ap (λ (h : Geometry). grown_ranges h e.geometry d.ranges.items) geometry_is
               ∙ ap (λ (h : Geometry). grown_ranges g h d.ranges.items) new_is
-              ∙ ap (λ (rs : List NumberRange). grown_ranges g (grown_geometry g sizes) rs) saved.whole.ranges;
-          layout = grown.same.layout ∙ saved.whole.layout;
+              ∙ ap (λ (rs : List NumberRange). grown_ranges g (grown_geometry g sizes) rs) whole.ranges;
+          layout = grown.same.layout ∙ whole.layout;
         }
 
-    pub tells_grown : (Reported : List ℕ → Type 0) → TellsText e Reported → TellsWhole disk sizes device back Reported
-    tells_grown Reported reported = record {
-      state = saved.state;
-      saved = reads;
-      text = reported.0;
-      whole = record {
+    tells_grown : (Reported : List ℕ → Type 0) → TellsText e Reported → TellsWhole sizes s Reported
+    tells_grown Reported reported = (
+      reported.0,
+      record {
         table = reported.1.table;
         read = reported.1.read;
         description = e;
         said = reported.1.said;
         spelled = reported.1.spelled;
         whole = in_it;
-      };
-      reported = reported.2;
-    }
-
-  pub refuses_sizes : (why : GrowthFault) → IsNotRenumbered d (grown_geometry d.geometry sizes) why → RefusesSizes disk sizes device back why
-  refuses_sizes why broken = (
-    saved.state,
-    reads,
-    not_suited g (grown_geometry g sizes) d w saved.whole.describes why
-        (subst (λ (h : Geometry). IsNotRenumbered d (grown_geometry h sizes) why) geometry_is broken),
-  )
+      },
+      reported.2,
+    )
 
   -- what is reported of it
-  module _ (output output_left : Written) where
-    pub describes_image : (outcome : Result (Unit {0}) Fault) → TellsGrown d sizes output output_left outcome →
-        DescribesImage disk sizes device back output output_left outcome
-    describes_image (Ok a) tells = tells_grown tells.0 tells.1 (Wrote output output_left) tells.2
-    describes_image (Err fault.CannotWriteOutput) tells = tells_grown tells.0 tells.1 (WroteFront output output_left) tells.2
-    describes_image (Err (fault.Open opening.NoMemory)) tells = (record { is_why = saved.failures; only_reads = saved.only_reads }, tells)
-    describes_image (Err (fault.Sizes why)) tells = (refuses_sizes why tells.0, tells.1)
-    describes_image outcome tells = absurd tells
+  pub describes_image : (output output_left : Written) (outcome : Result (Unit {0}) Fault) → TellsGrown d sizes output output_left outcome →
+      DescribesImage disk sizes device back output output_left outcome
+  describes_image output output_left (Ok a) tells = (s, reads, tells_grown tells.0 tells.1 (Wrote output output_left) tells.2)
+  describes_image output output_left (Err fault.CannotWriteOutput) tells =
+      (s, reads, tells_grown tells.0 tells.1 (WroteFront output output_left) tells.2)
+  describes_image output output_left (Err (fault.Open opening.NoMemory)) tells = (no_memory disk device back reads, tells)
+  describes_image output output_left (Err (fault.Sizes why)) tells = (
+    s,
+    reads,
+    (
+      not_suited g (grown_geometry g sizes) d w whole.describes why
+          (subst (λ (h : Geometry). IsNotRenumbered d (grown_geometry h sizes) why) geometry_is tells.0),
+      tells.1,
+    ),
+  )
+  describes_image output output_left outcome tells = absurd tells
 
 -- The text of a description that was renumbered.
 module _ (sizes : Sizes) (d e : Description) (grown : IsGrownFrom sizes d e) where

@@ -1,7 +1,7 @@
 -- What an observer made of a run, and how the command ends.
-use Rattle.jobs.proofs.Names.{Written, ℕ, Bool, true, false, List, [], Option, None, Some, Result, Ok, Err, refl, sym, subst, ⊎_elim, Geometry, Up, opened}
-use Rattle.jobs.proofs.Names.{Turn, Disk, Parts, OpenFault, View, Stop, Tracer, AreSeen, Ends, Sees, RunFault, Fault, HasStop, IsRunEnd, OpensAndRuns}
-use Rattle.jobs.proofs.Names.{OpensAndSees, RunsImage, SeesImage}
+use Rattle.jobs.proofs.Names.{Written, ℕ, Bool, true, false, List, [], Option, None, Some, Result, Ok, Err, refl, sym, ⊎_elim, Geometry, Up, opened, Turn, Disk}
+use Rattle.jobs.proofs.Names.{Parts, OpenFault, View, Stop, Tracer, AreSeen, Ends, Sees, RunFault, Fault, HasStop, IsRunEnd, OpensAndRuns, OpensAndSees}
+use Rattle.jobs.proofs.Names.{RunsImage, SeesImage}
 use Rattle.std.proofs.Common.{◌≡◌, ◌∷◌, ◌∙◌}
 use Rattle.script.specs.declared.fault.RunFault.TheVariants as run
 

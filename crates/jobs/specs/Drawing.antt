@@ -1,14 +1,13 @@
 -- What the command that draws says of an image.
 use Rattle.jobs.specs.Names.{Written, ℕ, Bool, true, false, Option, None, Some, List, [], Result, Ok, Err, Wrote}
-use Rattle.jobs.specs.Names.{Object, is_process, Disk, RefusesToOpen, WroteFront, Description, boxes, graph_text}
-use Rattle.jobs.specs.Names.{IsPart, holders, is_listed, IsReach}
+use Rattle.jobs.specs.Names.{Object, objects_of, is_process, Disk, WroteFront, Description, boxes, graph_text, IsPart}
+use Rattle.jobs.specs.Names.{holders, is_listed, IsReach}
 use Rattle.std.specs.Prelude.{◌≡◌, ◌∷◌}
 use Rattle.layout.specs.declared.open_fault.OpenFault.TheVariants as opening
 use Rattle.jobs.specs.declared.drawing.Focus.{Focus}
 use Rattle.jobs.specs.declared.fault.Fault.{Fault}
 use Rattle.jobs.specs.declared.fault.Fault.TheVariants as fault
-use Rattle.jobs.specs.Images.{DescribesSaved}
-use Rattle.jobs.specs.Reaching.{HoldsOfSaved}
+use Rattle.jobs.specs.Images.{IsDescriptionOf, TellsImage}
 
 -- a description is restricted to an object, which has a box, and to its holders, if one is named
 abbrev pub IsHeldTo : Option ℕ → Description → Description → Type 0
@@ -63,21 +62,10 @@ DrawsPart os focus d output output_left (Err fault.CannotWriteOutput) = TellsPar
 DrawsPart os focus d output output_left (Err (fault.Open opening.NoMemory)) = output_left ≡ output
 DrawsPart os focus d output output_left (Err why) = IsNoFocus os focus d why × (output_left ≡ output)
 
--- a device was opened with no failure, nothing was written to it at any moment, and `Reported` holds of the description
--- and the objects that are saved on it
-pub record OfWhole {D : Type 0} (disk : D → Disk) (device back : D) (Reported : List Object → Description → Type 0) :
-    Type 0 where
-  pub description : Description
-  pub saved : DescribesSaved disk device back description
-  pub objects : List Object
-  pub read : HoldsOfSaved disk device back (λ os. objects ≡ os)
-  pub reported : Reported objects description
-
 -- the graph of a part of what is saved was written; or not whole; or a number of the focus is wrong; or
 -- the device wasn't opened, or memory ran out
 abbrev pub DrawsImage : {D : Type 0} → (D → Disk) → Focus → D → D → Written → Written →
     Result (Unit {0}) Fault → Type 0
-DrawsImage disk focus device back output output_left (Err (fault.Open why)) = RefusesToOpen disk device back why ×
-    (output_left ≡ output)
-DrawsImage disk focus device back output output_left outcome = OfWhole disk device back
-    (λ os d. DrawsPart os focus d output output_left outcome)
+DrawsImage disk focus device back output output_left outcome = TellsImage disk device back output output_left
+    (λ s o. (d : Description) × IsDescriptionOf s.plan s.header.age s.frames d
+    × DrawsPart (objects_of s.frames) focus d output output_left o) outcome

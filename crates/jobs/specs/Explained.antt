@@ -1,6 +1,6 @@
 -- The explanation of the description in a text.
-use Rattle.jobs.specs.Names.{Written, nat_lt, take, ℕ, Bool, true, false, not, List, [], length, codes, decimal}
-use Rattle.jobs.specs.Names.{None, Some, Result, Ok, Err, Wrote, Members, parse_document, line_of, Place, Explains}
+use Rattle.jobs.specs.Names.{Written, nat_lt, take, ℕ, Bool, true, false, not, List, [], length, codes, decimal, None}
+use Rattle.jobs.specs.Names.{Some, Result, Ok, Err, Wrote, Members, parse_document, line_of, Place, Explains}
 use Rattle.jobs.specs.Names.{IsExplanation, WroteFront}
 use Rattle.std.specs.Prelude.{◌+◌, if◌then◌else◌, ◌≡◌, ◌==◌, ◌||◌, ◌≤◌, ◌++◌, ◌∷◌}
 use Rattle.jobs.specs.declared.fault.Fault.{Fault}

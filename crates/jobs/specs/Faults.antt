@@ -68,6 +68,11 @@ IsRunEnd (Ok (Err run.Stopped)) None end = ⊥
 IsRunEnd (Ok (Err run.Stopped)) (Some stop) end = end ≡ Err (fault.Stopped stop)
 IsRunEnd (Err why) stop end = end ≡ Err (fault.Open why)
 
+-- the outcome of a command that ends with a write
+abbrev pub after_write : Result (Unit {0}) RunFault → Result (Unit {0}) Fault
+after_write (Ok a) = Ok a
+after_write (Err e) = Err fault.CannotWriteOutput
+
 -- the status of a command
 abbrev pub status_of : Result (Unit {0}) Fault → ℕ
 status_of (Ok a) = 0

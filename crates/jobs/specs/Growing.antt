@@ -1,7 +1,7 @@
 -- A description of an image, renumbered for other sizes.
-use Rattle.jobs.specs.Names.{Written, ℕ, List, Some, Result, Ok, Err, Wrote, Members, parse_document}
-use Rattle.jobs.specs.Names.{IsGeometry, WroteFront, Description, IsDescription, Sizes, IsNotRenumbered, IsRenumbered}
-use Rattle.jobs.specs.Names.{NamesNodes, NamesPages, grown_geometry, description_text}
+use Rattle.jobs.specs.Names.{Written, ℕ, List, Some, Result, Ok, Err, Wrote, Members, parse_document, IsGeometry}
+use Rattle.jobs.specs.Names.{WroteFront, Description, IsDescription, Sizes, IsNotRenumbered, IsRenumbered, NamesNodes}
+use Rattle.jobs.specs.Names.{NamesPages, grown_geometry, description_text}
 use Rattle.std.specs.Prelude.{◌≡◌}
 use Rattle.layout.specs.declared.open_fault.OpenFault.TheVariants as opening
 use Rattle.jobs.specs.declared.fault.Fault.{Fault}

@@ -3,8 +3,8 @@ use Rattle.jobs.specs.Names.{Written, ℕ, List, [], codes, decimal, Bool, map, 
 use Rattle.jobs.specs.Names.{Members, parse_document, Frame, Geometry, IsSoundFrames, world_at, Saved, World, Turn}
 use Rattle.jobs.specs.Names.{line_of, spaced, Disk, Encodes, SavedState, Plan, version_number, Two, OnlyReads}
 use Rattle.jobs.specs.Names.{OpenFault, laid_again, numbers_of, Parts, View, Power, RefusesToOpen, Opens, Denotes}
-use Rattle.jobs.specs.Names.{IsDeviceOf, Description, IsDescription, BuildsFrom, Refuses, plan_for, GrowthFault, Sizes}
-use Rattle.jobs.specs.Names.{Describes, IsBrief, IsGrown, IsUnsuited, grown_geometry, grown_ranges, description_text}
+use Rattle.jobs.specs.Names.{IsDeviceOf, Description, IsDescription, BuildsFrom, Refuses, plan_for, Sizes, Describes}
+use Rattle.jobs.specs.Names.{IsBrief, IsGrown, IsUnsuited, grown_geometry, grown_ranges, description_text}
 use Rattle.jobs.specs.Names.{IsNotUpgraded, Upgrades, Stop, RunsOver, RunsSeen, RunFault, WroteFront}
 use Rattle.std.specs.Prelude.{◌≡◌, ◌≢◌, ◌↔◌, ◌<◌, ◌∷◌}
 use Rattle.layout.specs.declared.open_fault.OpenFault.TheVariants as opening
@@ -113,6 +113,26 @@ module _ {D S : Type 0} (disk : D → Disk) (view : S → View D) (parts : S →
       × (input_left ≡ input) × (output_left ≡ output)
   RunsImage device back input input_left output output_left (Err _) = ⊥
 
+-- a device was opened with no failure, nothing was written to it at any moment, and this is what it saves
+pub record ReadsSaved {D : Type 0} (disk : D → Disk) (device back : D) (state : SavedState) : Type 0 where
+  pub encodes : Encodes (disk device).seen (disk device).sectors state
+  pub sound : IsSoundFrames state.plan.geometry state.header.age state.frames
+  pub failures : (disk back).failures ≡ (disk device).failures
+  pub only_reads : OnlyReads (disk device) (disk back)
+
+-- a device was opened so, and this part of what it saves was read
+abbrev pub IsReadFrom : {D T : Type 0} → (D → Disk) → (SavedState → T → Type 0) → D → D → T → Type 0
+IsReadFrom disk Is device back x = (s : SavedState) × ReadsSaved disk device back s × Is s x
+
+-- The outcome of a command that reads an image: `Tells` holds of it and of what is saved; or the device wasn't opened
+-- or memory ran out, and nothing was written.
+abbrev pub TellsImage : {D : Type 0} → (D → Disk) → D → D → Written → Written →
+    (SavedState → Result (Unit {0}) Fault → Type 0) → Result (Unit {0}) Fault → Type 0
+TellsImage disk device back output output_left Tells (Err (fault.Open why)) = RefusesToOpen disk device back why ×
+    (output_left ≡ output)
+TellsImage disk device back output output_left Tells outcome = (s : SavedState) × ReadsSaved disk device back s ×
+    Tells s outcome
+
 -- a device was opened with no failure, nothing was written to it at any moment, and `Reported` holds of what is saved
 -- on it
 abbrev pub TellsSaved : {D : Type 0} → (D → Disk) → D → D → (List ℕ → Type 0) → Type 0
@@ -138,16 +158,6 @@ pub record IsDescriptionOf (p : Plan) (age : ℕ) (frames : List Frame) (descrip
   pub brief : IsBrief description
   pub ranges : description.ranges.items ≡ map numbers_of p.ranges
   pub layout : description.layout ≡ version_number p.version
-
--- a device was opened with no failure, nothing was written to it at any moment, and this is the description of all that
--- is saved on it
-pub record DescribesSaved {D : Type 0} (disk : D → Disk) (device back : D) (description : Description) : Type 0 where
-  pub state : SavedState
-  pub encodes : Encodes (disk device).seen (disk device).sectors state
-  pub sound : IsSoundFrames state.plan.geometry state.header.age state.frames
-  pub whole : IsDescriptionOf state.plan state.header.age state.frames description
-  pub failures : (disk back).failures ≡ (disk device).failures
-  pub only_reads : OnlyReads (disk device) (disk back)
 
 -- A description has each object that frames stand for, at their age, in an image of these sizes, and nothing else:
 -- nothing at its default, numbers in order, the home ranges there, and the version of a plan.
@@ -183,38 +193,22 @@ pub record IsTextOf (p : Plan) (age : ℕ) (frames : List Frame) (text : List �
   pub ranges : description.ranges.items ≡ map numbers_of p.ranges
   pub layout : description.layout ≡ version_number p.version
 
--- a device was opened with no failure, nothing was written to it at any moment, and this is what it saves
-pub record ReadsSaved {D : Type 0} (disk : D → Disk) (device back : D) (state : SavedState) : Type 0 where
-  pub encodes : Encodes (disk device).seen (disk device).sectors state
-  pub sound : IsSoundFrames state.plan.geometry state.header.age state.frames
-  pub failures : (disk back).failures ≡ (disk device).failures
-  pub only_reads : OnlyReads (disk device) (disk back)
+-- the text of the description of all that is saved, in an image of these sizes, was written
+abbrev pub TellsWhole : Sizes → SavedState → (List ℕ → Type 0) → Type 0
+TellsWhole sizes s Reported = (text : List ℕ)
+    × IsTextIn s.plan (grown_geometry s.plan.geometry sizes) s.header.age s.frames text × Reported text
 
--- so it was, and the description of all that is saved was written for an image of these sizes
-pub record TellsWhole {D : Type 0} (disk : D → Disk) (sizes : Sizes) (device back : D) (Reported : List ℕ → Type 0) :
-    Type 0 where
-  pub state : SavedState
-  pub saved : ReadsSaved disk device back state
-  pub text : List ℕ
-  pub whole : IsTextIn state.plan (grown_geometry state.plan.geometry sizes) state.header.age state.frames text
-  pub reported : Reported text
+-- all was written; or not all of it; or there is no image of these sizes for it
+abbrev pub TellsGrownState : Sizes → SavedState → Written → Written → Result (Unit {0}) Fault → Type 0
+TellsGrownState sizes s output output_left (Ok a) = TellsWhole sizes s (Wrote output output_left)
+TellsGrownState sizes s output output_left (Err fault.CannotWriteOutput) = TellsWhole sizes s
+    (WroteFront output output_left)
+TellsGrownState sizes s output output_left (Err (fault.Sizes why)) =
+    IsUnsuited s.plan.geometry (grown_geometry s.plan.geometry sizes) (world_at s.header.age s.frames) why
+    × (output_left ≡ output)
+TellsGrownState sizes s output output_left (Err _) = ⊥
 
--- so it was, and there is no image of these sizes for it
-abbrev pub RefusesSizes : {D : Type 0} → (D → Disk) → Sizes → D → D → GrowthFault → Type 0
-RefusesSizes disk sizes device back why =
-    (state : SavedState) × ReadsSaved disk device back state
-    × IsUnsuited state.plan.geometry (grown_geometry state.plan.geometry sizes) (world_at state.header.age state.frames)
-    why
-
--- all was written; or not all of it; or there is no such image; or the device wasn't opened, or memory ran out
 abbrev pub DescribesImage : {D : Type 0} → (D → Disk) → Sizes → D → D → Written → Written →
     Result (Unit {0}) Fault → Type 0
-DescribesImage disk sizes device back output output_left (Ok a) = TellsWhole disk sizes device back
-    (Wrote output output_left)
-DescribesImage disk sizes device back output output_left (Err fault.CannotWriteOutput) = TellsWhole disk sizes device
-    back (WroteFront output output_left)
-DescribesImage disk sizes device back output output_left (Err (fault.Sizes why)) = RefusesSizes disk sizes device back
-    why × (output_left ≡ output)
-DescribesImage disk sizes device back output output_left (Err (fault.Open why)) = RefusesToOpen disk device back why ×
-    (output_left ≡ output)
-DescribesImage disk sizes device back output output_left (Err _) = ⊥
+DescribesImage disk sizes device back output output_left outcome = TellsImage disk device back output output_left
+    (λ s o. TellsGrownState sizes s output output_left o) outcome

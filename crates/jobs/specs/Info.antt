@@ -1,22 +1,18 @@
 -- What is printed about an image.
-use Rattle.jobs.specs.Names.{Written, ℕ, Bool, List, [], codes, decimal, map, Result, Ok, Err, Wrote, count_by}
-use Rattle.jobs.specs.Names.{flat_map, Cap, Content, Role, IsSoundFrames, Saved, role_number, role_of, line_of, spaced}
-use Rattle.jobs.specs.Names.{World, Disk, HomeRange, Encodes, SavedState, Plan, version_number, Checkpoint, OnlyReads}
-use Rattle.jobs.specs.Names.{kept_of, saved_of, RefusesToOpen, WroteFront}
-use Rattle.std.specs.Prelude.{◌≡◌, ◌==◌, ◌∷◌, ◌++◌}
+use Rattle.jobs.specs.Names.{Written, ℕ, List, [], codes, decimal, map, Result, Ok, Err, Wrote, count_by, flat_map}
+use Rattle.jobs.specs.Names.{ObjectHeader, Role, Saved, role_number, role_of, line_of, spaced, World, Disk, HomeRange}
+use Rattle.jobs.specs.Names.{SavedState, Plan, version_number, Checkpoint, kept_of, saved_of, WroteFront}
+use Rattle.std.specs.Prelude.{◌==◌, ◌∷◌, ◌++◌}
 use Rattle.model.specs.declared.object.Role.TheVariants as role
 use Rattle.jobs.specs.declared.fault.Fault.{Fault}
 use Rattle.jobs.specs.declared.fault.Fault.TheVariants as fault
+use Rattle.jobs.specs.Images.{TellsImage}
 use Rattle.jobs.specs.declared.info.InfoLine.{InfoLine}
 use Rattle.jobs.specs.declared.info.InfoLine.TheVariants as line
 
--- whether a content has a role
-abbrev pub has_role : {C : Type 0} → Role → Content C → Bool
-has_role r c = role_number (role_of c) == role_number r
-
 -- how many objects of a world have a role
 abbrev pub objects_with : Role → World → ℕ
-objects_with r w = count_by (λ o. has_role r o.content) w.objects
+objects_with r w = count_by (λ o. role_number (role_of o.content) == role_number r) w.objects
 
 -- a line is a key and its numbers
 abbrev pub info_line : InfoLine → List ℕ
@@ -51,9 +47,9 @@ lines_with p saved count =
     ∷ line.Free (count role.Free) ∷ line.PageObjects (count role.Page) ∷ line.NodeObjects (count role.Node)
     ∷ line.Processes (count role.Root) ∷ line.Banks (count role.Bank) ∷ []
 
--- with as many as there are contents of each
-abbrev pub lines_over : Plan → Checkpoint → List (Content Cap) → List InfoLine
-lines_over p saved contents = lines_with p saved (λ r. count_by (λ c. has_role r c) contents)
+-- with as many as there are headers of each
+abbrev pub headers_with : Role → List ObjectHeader → ℕ
+headers_with r hs = count_by (λ h. role_number h.role == role_number r) hs
 
 -- The lines about the image of a plan with a saved part: the superblock, the home ranges, the checkpoint, and how many
 -- objects of each kind its world has. A process is counted by its root.
@@ -62,26 +58,15 @@ info_lines p saved = lines_with p
     (record { generation = saved.generation; age = saved.world.age; entries = saved.entries })
     (λ r. objects_with r saved.world)
 
--- a device was opened with no failure, nothing was written to it at any moment, and these are the lines about the image
--- that it denotes
-pub record InfoOf {D : Type 0} (disk : D → Disk) (device back : D) (lines : List InfoLine) : Type 0 where
-  pub state : SavedState
-  pub encodes : Encodes (disk device).seen (disk device).sectors state
-  pub sound : IsSoundFrames state.plan.geometry state.header.age state.frames
-  pub lines_are : lines ≡ info_lines state.plan (saved_of (kept_of state))
-  pub failures : (disk back).failures ≡ (disk device).failures
-  pub only_reads : OnlyReads (disk device) (disk back)
+-- the lines about what is saved were written; or couldn't be written whole
+abbrev pub TellsInfo : SavedState → Written → Written → Result (Unit {0}) Fault → Type 0
+TellsInfo s output output_left (Ok a) = Wrote output output_left
+    (info_text (info_lines s.plan (saved_of (kept_of s))))
+TellsInfo s output output_left (Err fault.CannotWriteOutput) = WroteFront output output_left
+    (info_text (info_lines s.plan (saved_of (kept_of s))))
+TellsInfo s output output_left (Err _) = ⊥
 
-abbrev pub TellsInfo : {D : Type 0} → (D → Disk) → D → D → (List ℕ → Type 0) → Type 0
-TellsInfo disk device back Reported = (lines : List InfoLine) × InfoOf disk device back lines × Reported
-    (info_text lines)
-
--- the lines were written; or couldn't be written whole; or the device wasn't opened
 abbrev pub InspectsImage : {D : Type 0} → (D → Disk) → D → D → Written → Written →
     Result (Unit {0}) Fault → Type 0
-InspectsImage disk device back output output_left (Ok a) = TellsInfo disk device back (Wrote output output_left)
-InspectsImage disk device back output output_left (Err fault.CannotWriteOutput) = TellsInfo disk device back
-    (WroteFront output output_left)
-InspectsImage disk device back output output_left (Err (fault.Open why)) = RefusesToOpen disk device back why ×
-    (output_left ≡ output)
-InspectsImage disk device back output output_left (Err _) = ⊥
+InspectsImage disk device back output output_left outcome = TellsImage disk device back output output_left
+    (λ s o. TellsInfo s output output_left o) outcome

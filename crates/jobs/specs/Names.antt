@@ -47,10 +47,9 @@ pub use Rattle.model.specs.Object.{role_number, role_of}
 pub use Rattle.model.specs.Run.{Turn}
 pub use Rattle.model.specs.Text.{line_of, spaced}
 pub use Rattle.model.specs.World.{World, is_process}
-pub use Rattle.model.specs.declared.capability.Cap.{Cap}
 pub use Rattle.model.specs.declared.frame.Frame.{Frame}
+pub use Rattle.model.specs.declared.frame.ObjectHeader.{ObjectHeader}
 pub use Rattle.model.specs.declared.geometry.Geometry.{Geometry}
-pub use Rattle.model.specs.declared.object.Content.{Content}
 pub use Rattle.model.specs.declared.object.Object.{Object}
 pub use Rattle.model.specs.declared.object.Role.{Role}
 pub use Rattle.reach.specs.Chain.{IsShortestIfAny}

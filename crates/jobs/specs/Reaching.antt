@@ -1,12 +1,12 @@
 -- What the command says of the objects that some processes can ever change.
 use Rattle.jobs.specs.Names.{Written, ℕ, Bool, not, Option, None, Some, List, Vec, Result, Ok, Err, IsTrue, is_some}
-use Rattle.jobs.specs.Names.{Wrote, All, find, Global, is_marked, Object, objects_of, IsSoundFrames, is_process, Disk}
-use Rattle.jobs.specs.Names.{Encodes, SavedState, OnlyReads, RefusesToOpen, WroteFront, Step, IsShortestIfAny}
-use Rattle.jobs.specs.Names.{chain_text, reach_text, BoundsRuns, IsReach}
+use Rattle.jobs.specs.Names.{Wrote, All, find, Global, is_marked, Object, objects_of, is_process, Disk, WroteFront}
+use Rattle.jobs.specs.Names.{Step, IsShortestIfAny, chain_text, reach_text, BoundsRuns, IsReach}
 use Rattle.std.specs.Prelude.{◌≡◌}
 use Rattle.layout.specs.declared.open_fault.OpenFault.TheVariants as opening
 use Rattle.jobs.specs.declared.fault.Fault.{Fault}
 use Rattle.jobs.specs.declared.fault.Fault.TheVariants as fault
+use Rattle.jobs.specs.Images.{TellsImage}
 
 abbrev pub AreProcesses : List Object → List ℕ → Type 0
 AreProcesses os numbers = All (λ n. IsTrue (is_process os n)) numbers
@@ -45,20 +45,8 @@ TellsReach os starts shows output output_left (Err (fault.NoProcess p)) =
 TellsReach os starts shows output output_left (Err (fault.Open opening.NoMemory)) = output_left ≡ output
 TellsReach os starts shows output output_left (Err _) = ⊥
 
--- a device was opened with no failure, nothing was written to it at any moment, and this holds of the objects saved on
--- it
-pub record HoldsOfSaved {D : Type 0} (disk : D → Disk) (device back : D) (Holds : List Object → Type 0) : Type 0 where
-  pub state : SavedState
-  pub encodes : Encodes (disk device).seen (disk device).sectors state
-  pub sound : IsSoundFrames state.plan.geometry state.header.age state.frames
-  pub holds : Holds (objects_of state.frames)
-  pub failures : (disk back).failures ≡ (disk device).failures
-  pub only_reads : OnlyReads (disk device) (disk back)
-
 -- what processes can ever change was written; or a fault; or the device wasn't opened, or memory ran out
 abbrev pub ReachesImage : {D : Type 0} → (D → Disk) → List ℕ → Option ℕ → D → D → Written → Written →
     Result (Unit {0}) Fault → Type 0
-ReachesImage disk starts shows device back output output_left (Err (fault.Open why)) = RefusesToOpen disk device back
-    why × (output_left ≡ output)
-ReachesImage disk starts shows device back output output_left outcome =
-    HoldsOfSaved disk device back (λ os. TellsReach os starts shows output output_left outcome)
+ReachesImage disk starts shows device back output output_left outcome = TellsImage disk device back output output_left
+    (λ s o. TellsReach (objects_of s.frames) starts shows output output_left o) outcome

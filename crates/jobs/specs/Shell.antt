@@ -1,6 +1,6 @@
 -- What a shell writes beside the answers.
-use Rattle.jobs.specs.Names.{Written, ℕ, Bool, true, false, List, length, codes, Result, line_of, Piece}
-use Rattle.jobs.specs.Names.{Unsaved, RunFault, Writes}
+use Rattle.jobs.specs.Names.{Written, ℕ, Bool, true, false, List, length, codes, Result, line_of, Piece, Unsaved}
+use Rattle.jobs.specs.Names.{RunFault, Writes}
 use Rattle.std.specs.Prelude.{◌≡◌, ◌||◌}
 use Rattle.runs.specs.declared.script_pieces.Piece.TheVariants as piece
 

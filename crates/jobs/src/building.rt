@@ -7,7 +7,7 @@ ghost use Rattle.image_builder.specs.Built.{IsLeftOf};
 ghost use Rattle.jobs.specs.Faults.{IsReported, status_of};
 ghost use Rattle.jobs.specs.Images.{BuildsImage};
 
-use crate::fault::{Fault, status};
+use crate::fault::{Fault, of_write, status};
 use device::Device;
 use image_builder::Blueprint;
 use script::{LineText, Output};
@@ -33,10 +33,7 @@ fn build_and_tell<D: Device, W: Output>(
     }
     let mut line = LineText::numbered(b"built", blueprint.sectors());
     line.word(b"sectors");
-    match line.write_to(writer) {
-        Ok(()) => Ok(()),
-        Err(_) => Err(Fault::CannotWriteOutput),
-    }
+    of_write(line.write_to(writer))
 }
 
 /// Builds the image of a description that was read, whichever its table is, on a device, and writes

@@ -4,10 +4,10 @@ ghost use Rattle.jobs.specs.Faults.{IsReported, status_of};
 ghost use Rattle.jobs.specs.Images.{ChecksImage, checked_text};
 
 use crate::done::Done;
-use crate::fault::{Fault, status};
+use crate::fault::{Fault, of_write};
 use checkpoint::{Checkpoint, ObjectStore};
 use device::Device;
-use kernel::Kernel;
+use recovery::recover;
 use script::{LineText, Output};
 use std::alloc::Global;
 
@@ -20,30 +20,6 @@ fn checked_line(saved: Checkpoint) -> LineText
     line.named(b"age", saved.age);
     line.named(b"entries", saved.entries);
     line
-}
-
-// Opens a device, reports what checkpoint it holds, and gives it back.
-fn open_and_tell<D: Device, S: ObjectStore<D>, W: Output>(
-    alloc: Global,
-    device: D,
-    setting: S::Setting,
-    writer: &mut W,
-) -> (Result<(), Fault>, D)
-    ensures { ChecksImage D.disk device result.1 (W.written writer.old) (W.written writer.new) result.0 }
-{
-    let kernel = match Kernel::<D, S>::open(alloc, device, setting) {
-        Ok(kernel) => kernel,
-        Err(refused) => return (Err(Fault::Open(refused.fault)), refused.device),
-    };
-    let saved = match kernel.saved() {
-        Some(saved) => saved,
-        None => unreachable!(),
-    };
-    let device = kernel.into_device();
-    match checked_line(saved).write_to(writer) {
-        Ok(()) => (Ok(()), device),
-        Err(_) => (Err(Fault::CannotWriteOutput), device),
-    }
 }
 
 /// Opens a device as a run does, and writes `ok generation G age A entries E` of the checkpoint
@@ -63,9 +39,16 @@ pub fn check_image<D: Device, S: ObjectStore<D>, W: Output, V: Output>(
         × IsReported outcome (V.written errors.old) (V.written errors.new)
         × ChecksImage D.disk device result.device (W.written writer.old) (W.written writer.new) outcome }
 {
-    let (outcome, device) = open_and_tell::<D, S, W>(alloc, device, setting, writer);
-    Done {
-        status: status(outcome, errors),
-        device,
-    }
+    let live = match recover::<D, S>(alloc, device, setting) {
+        Ok(live) => live,
+        Err(refused) => {
+            let outcome = Err(Fault::Open(refused.fault));
+            return Done::report(outcome, refused.device, errors);
+        }
+    };
+    let store = live.store;
+    let line = checked_line(store.saved());
+    let device = store.into_device();
+    let outcome = of_write(line.write_to(writer));
+    Done::report(outcome, device, errors)
 }

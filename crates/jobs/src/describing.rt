@@ -8,14 +8,13 @@ ghost use Rattle.jobs.specs.Growing.{GrowsDescription, TellsDescription, TellsGr
 ghost use Rattle.jobs.specs.Images.{DescribesImage};
 
 use crate::done::Done;
-use crate::fault::{Fault, status};
-use crate::saved::description_in;
+use crate::fault::{Fault, of_write};
+use crate::saved::read_saved;
 use checkpoint::OpenFault;
 use description::Description;
 use device::Device;
 use image_describer::{GrowthFault, Sizes, grow, text_of};
 use migrator::WholeStore;
-use recovery::recover;
 use script::Output;
 use std::alloc::Global;
 
@@ -30,10 +29,7 @@ fn tell_description<W: Output>(
     ensures { TellsDescription description.now (W.written writer.old) (W.written writer.new) result }
 {
     match text_of(alloc, description) {
-        Ok(text) => match writer.write_fully(text.as_bytes()) {
-            Ok(()) => Ok(()),
-            Err(_) => Err(Fault::CannotWriteOutput),
-        },
+        Ok(text) => of_write(writer.write_fully(text.as_bytes())),
         Err(_) => Err(Fault::Open(OpenFault::NoMemory)),
     }
 }
@@ -69,30 +65,6 @@ fn tell_grown<W: Output>(
     }
 }
 
-// Opens a device, describes all that it saves, renumbered for other sizes, and gives it back.
-fn describe_and_tell<D: Device, S: WholeStore<D>, W: Output>(
-    alloc: Global,
-    device: D,
-    setting: S::Setting,
-    sizes: Sizes,
-    writer: &mut W,
-) -> (Result<(), Fault>, D)
-    ensures { DescribesImage D.disk sizes device result.1 (W.written writer.old) (W.written writer.new) result.0 }
-{
-    let live = match recover::<D, S>(alloc, device, setting) {
-        Ok(live) => live,
-        Err(refused) => return (Err(Fault::Open(refused.fault)), refused.device),
-    };
-    let mut store = live.store;
-    let age = store.saved().age;
-    let described = description_in::<D, S>(alloc, &mut store, age);
-    let device = store.into_device();
-    match described {
-        Ok(description) => (tell_grown(alloc, description, sizes, writer), device),
-        Err(_) => (Err(Fault::Open(OpenFault::NoMemory)), device),
-    }
-}
-
 /// Opens a device as a run does, and writes the description of all that the checkpoint that it holds
 /// saves, renumbered for an image of other sizes: what is built of this text holds the same world, each
 /// object at its number there. Then the status is 0. With no sizes all numbers stay.
@@ -115,9 +87,11 @@ pub fn describe_image<D: Device, S: WholeStore<D>, W: Output, V: Output>(
         × IsReported outcome (V.written errors.old) (V.written errors.new)
         × DescribesImage D.disk sizes device result.device (W.written writer.old) (W.written writer.new) outcome }
 {
-    let (outcome, device) = describe_and_tell::<D, S, W>(alloc, device, setting, sizes, writer);
-    Done {
-        status: status(outcome, errors),
-        device,
+    match read_saved::<Description, D, S>(alloc, device, setting) {
+        Ok((description, device)) => {
+            let outcome = tell_grown(alloc, description, sizes, writer);
+            Done::report(outcome, device, errors)
+        }
+        Err(refused) => Done::report(Err(Fault::Open(refused.fault)), refused.device, errors),
     }
 }

@@ -1,16 +1,14 @@
 // The command that draws what an image holds.
 ghost use Rattle.std.specs.Prelude.{◌≡◌, ◌<◌, ◌^◌, Result};
-ghost use Rattle.script.specs.Writing.{Writes};
 ghost use Rattle.model.specs.Sound.{object_count};
 ghost use Rattle.description.specs.Described.{HasNumbers};
-ghost use Rattle.image_describer.specs.Graph.{graph_text};
 ghost use Rattle.reach.specs.Reached.{AreSoundObjects};
 ghost use Rattle.jobs.specs.Drawing.{DrawsImage, DrawsPart, KeepsHolders, KeepsPart, KeepsReached};
 ghost use Rattle.jobs.specs.Faults.{IsReported, status_of};
 
 use crate::done::Done;
-use crate::fault::{Fault, status};
-use crate::saved::{Whole, whole_in};
+use crate::fault::{Fault, of_write};
+use crate::saved::read_saved;
 use checkpoint::OpenFault;
 use collections::NumberSet;
 use description::Description;
@@ -19,8 +17,7 @@ use image_describer::{draw, has_box, holders, restrict};
 use migrator::WholeStore;
 use model::Object;
 use reach::{missing_process, reach};
-use recovery::recover;
-use script::{Output, RunFault};
+use script::Output;
 use std::alloc::Global;
 
 /// Which part of what an image saves is drawn. All of it, if both are `None`; with both, what both name.
@@ -30,14 +27,6 @@ pub struct Focus {
     pub from: Option<u64>,
     /// Only this object, and the processes and nodes that hold a capability to it.
     pub to: Option<u64>,
-}
-
-// Draws a description, and lets it go.
-fn draw_whole<W: Output>(description: Description, writer: &mut W) -> Result<(), RunFault>
-    ensures { Writes (W.written writer.old) (W.written writer.new) result
-        (graph_text description) }
-{
-    draw(&description, writer)
 }
 
 // Restricts a description to an object and its holders, if one is named.
@@ -107,51 +96,20 @@ fn keep_part(
 // Draws a part of what is saved, and lets it go.
 fn draw_part<W: Output>(
     alloc: Global,
-    whole: Whole,
+    whole: (Description, Vec<Object>),
     focus: Focus,
     writer: &mut W,
 ) -> Result<(), Fault>
-    requires few { object_count whole.description.geometry < 2 ^ 64 }
-    requires numbers { HasNumbers whole.description }
-    requires sound { AreSoundObjects whole.objects.items }
-    ensures { DrawsPart whole.objects.items focus whole.description (W.written writer.old) (W.written writer.new)
-        result }
+    requires few { object_count whole.0.geometry < 2 ^ 64 }
+    requires numbers { HasNumbers whole.0 }
+    requires sound { AreSoundObjects whole.1.items }
+    ensures { DrawsPart whole.1.items focus whole.0 (W.written writer.old) (W.written writer.new) result }
 {
-    let Whole {
-        description,
-        objects,
-    } = whole;
+    let (description, objects) = whole;
     let mut description = description;
     match keep_part(alloc, &objects, focus, &mut description) {
-        Ok(()) => match draw_whole(description, writer) {
-            Ok(()) => Ok(()),
-            Err(_) => Err(Fault::CannotWriteOutput),
-        },
+        Ok(()) => of_write(draw(&description, writer)),
         Err(fault) => Err(fault),
-    }
-}
-
-// Opens a device, draws a part of all that is saved on it, and gives it back.
-fn draw_and_tell<D: Device, S: WholeStore<D>, W: Output>(
-    alloc: Global,
-    device: D,
-    setting: S::Setting,
-    focus: Focus,
-    writer: &mut W,
-) -> (Result<(), Fault>, D)
-    ensures { DrawsImage D.disk focus device result.1 (W.written writer.old) (W.written writer.new) result.0 }
-{
-    let live = match recover::<D, S>(alloc, device, setting) {
-        Ok(live) => live,
-        Err(refused) => return (Err(Fault::Open(refused.fault)), refused.device),
-    };
-    let mut store = live.store;
-    let age = store.saved().age;
-    let read = whole_in::<D, S>(alloc, &mut store, age);
-    let device = store.into_device();
-    match read {
-        Ok(whole) => (draw_part(alloc, whole, focus, writer), device),
-        Err(_) => (Err(Fault::Open(OpenFault::NoMemory)), device),
     }
 }
 
@@ -177,9 +135,11 @@ pub fn draw_image<D: Device, S: WholeStore<D>, W: Output, V: Output>(
         × IsReported outcome (V.written errors.old) (V.written errors.new)
         × DrawsImage D.disk focus device result.device (W.written writer.old) (W.written writer.new) outcome }
 {
-    let (outcome, device) = draw_and_tell::<D, S, W>(alloc, device, setting, focus, writer);
-    Done {
-        status: status(outcome, errors),
-        device,
+    match read_saved::<(Description, Vec<Object>), D, S>(alloc, device, setting) {
+        Ok((whole, device)) => {
+            let outcome = draw_part(alloc, whole, focus, writer);
+            Done::report(outcome, device, errors)
+        }
+        Err(refused) => Done::report(Err(Fault::Open(refused.fault)), refused.device, errors),
     }
 }

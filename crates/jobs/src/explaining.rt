@@ -5,7 +5,7 @@ ghost use Rattle.jobs.specs.Explained.{ExplainsText, IsSyntaxLine, TellsLine, Te
 ghost use Rattle.jobs.specs.Explained.{without_answer};
 ghost use Rattle.jobs.specs.Faults.{IsReported};
 
-use crate::fault::{Fault, status};
+use crate::fault::{Fault, of_write, status};
 use description_explainer::{explain, explanation};
 use script::Output;
 use std::alloc::{AllocError, Global};
@@ -76,10 +76,7 @@ fn tell_line<W: Output>(line: String, writer: &mut W) -> Result<(), Fault>
     if line.push_str("\n").is_err() {
         return Err(Fault::NoMemory);
     }
-    match writer.write_fully(line.as_bytes()) {
-        Ok(()) => Ok(()),
-        Err(_) => Err(Fault::CannotWriteOutput),
-    }
+    of_write(writer.write_fully(line.as_bytes()))
 }
 
 // Writes the line about a description, and answers whether the description is accepted.

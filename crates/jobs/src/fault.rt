@@ -2,7 +2,7 @@
 ghost use Rattle.std.specs.Prelude.{◌≡◌, ◌≤◌, length};
 ghost use Rattle.model.specs.Text.{line_of};
 ghost use Rattle.script.specs.Writing.{Writes};
-ghost use Rattle.jobs.specs.Faults.{HasStop, IsRunEnd, IsReported, build_text, fault_text, open_text};
+ghost use Rattle.jobs.specs.Faults.{HasStop, IsRunEnd, IsReported, after_write, build_text, fault_text, open_text};
 ghost use Rattle.jobs.specs.Faults.{sizes_text, status_of, stop_text, upgrade_text};
 
 use checkpoint::OpenFault;
@@ -63,6 +63,16 @@ pub(crate) fn of_run(
             None => unreachable!(),
         },
         Err(fault) => Err(Fault::Open(fault)),
+    }
+}
+
+/// The outcome of a command that ends with this write.
+pub(crate) fn of_write(wrote: Result<(), RunFault>) -> Result<(), Fault>
+    ensures { result ≡ after_write wrote }
+{
+    match wrote {
+        Ok(()) => Ok(()),
+        Err(_) => Err(Fault::CannotWriteOutput),
     }
 }
 

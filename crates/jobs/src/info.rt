@@ -1,13 +1,12 @@
 // The lines about an image.
 ghost use Rattle.std.specs.Prelude.{◌≡◌, ◌≤◌, ◌++◌, length, map, IfOk, OnOk};
-ghost use Rattle.std.specs.List.{count_by};
 ghost use Rattle.model.specs.Text.{line_of};
 ghost use Rattle.script.specs.Writing.{Writes};
-ghost use Rattle.jobs.specs.Info.{has_role, info_line, info_text, lines_over, range_line};
+ghost use Rattle.jobs.specs.Info.{headers_with, info_line, info_text, lines_with, range_line};
 
 use checkpoint::Checkpoint;
 use layout::{HomeRange, Superblock};
-use model::{Cap, Content, Role};
+use model::{ObjectHeader, Role};
 use script::{LineText, Output, RunFault};
 use std::alloc::{AllocError, Global};
 
@@ -90,14 +89,14 @@ pub(crate) fn print_lines<W: Output>(lines: &[InfoLine], writer: &mut W) -> Resu
     Ok(())
 }
 
-// How many contents have a role.
-fn count_role(contents: &[Content<Cap>], role: Role) -> u64
-    ensures { result ≡ count_by (λ c. has_role role c) contents.now }
+// How many headers have a role.
+fn count_role(headers: &[ObjectHeader], role: Role) -> u64
+    ensures { result ≡ headers_with role headers.now }
 {
     let number = role.number();
-    let found = contents
+    let found = headers
         .iter()
-        .filter(|content| content.role().number() == number)
+        .filter(|header| header.role.number() == number)
         .count();
     found as u64
 }
@@ -115,16 +114,16 @@ fn push_ranges(lines: &mut Vec<InfoLine>, ranges: &[HomeRange]) -> Result<(), Al
     Ok(())
 }
 
-/// The lines about an image with this superblock, this checkpoint and these contents of its
+/// The lines about an image with this superblock, this checkpoint and these headers of its
 /// objects. Fails only where memory runs out.
 pub(crate) fn lines_about(
     alloc: Global,
     superblock: &Superblock,
     saved: Checkpoint,
-    contents: &[Content<Cap>],
+    headers: &[ObjectHeader],
 ) -> Result<Vec<InfoLine>, AllocError>
     ensures { IfOk result (λ lines. lines.items
-        ≡ lines_over superblock.now saved contents.now) }
+        ≡ lines_with superblock.now saved (λ r. headers_with r headers.now)) }
 {
     let geometry = superblock.geometry();
     let first = [
@@ -138,11 +137,11 @@ pub(crate) fn lines_about(
         InfoLine::Generation(saved.generation),
         InfoLine::Age(saved.age),
         InfoLine::Entries(saved.entries),
-        InfoLine::Free(count_role(contents, Role::Free)),
-        InfoLine::PageObjects(count_role(contents, Role::Page)),
-        InfoLine::NodeObjects(count_role(contents, Role::Node)),
-        InfoLine::Processes(count_role(contents, Role::Root)),
-        InfoLine::Banks(count_role(contents, Role::Bank)),
+        InfoLine::Free(count_role(headers, Role::Free)),
+        InfoLine::PageObjects(count_role(headers, Role::Page)),
+        InfoLine::NodeObjects(count_role(headers, Role::Node)),
+        InfoLine::Processes(count_role(headers, Role::Root)),
+        InfoLine::Banks(count_role(headers, Role::Bank)),
     ];
     let mut lines = Vec::new(alloc);
     lines.extend_from_slice(&first)?;

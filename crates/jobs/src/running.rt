@@ -9,7 +9,7 @@ ghost use Rattle.runs.specs.declared.unsaved.Unsaved.{Unsaved};
 ghost use Rattle.script.specs.Writing.{Written};
 
 use crate::done::Done;
-use crate::fault::{Fault, of_run, status};
+use crate::fault::{Fault, of_run};
 use crate::shell::tell_unsaved;
 use checkpoint::{ObjectStore, OpenFault};
 use device::Device;
@@ -67,10 +67,7 @@ pub fn run_image<D: Device, S: ObjectStore<D>, R: Script, W: Output, V: Output>(
         writer,
         &mut observer,
     );
-    Done {
-        status: status(of_run(outcome, None), errors),
-        device,
-    }
+    Done::report(of_run(outcome, None), device, errors)
 }
 
 /// Runs a script as `run_image` does, and traces it. Where the run is strict it ends at the first
@@ -97,10 +94,7 @@ pub fn run_traced<D: Device, S: ObjectStore<D>, R: Script, W: Output, T: Output,
     let (outcome, device) = open_and_run::<D, S, R, W, Tracer<T>>(
         alloc, device, setting, reader, writer, tracer,
     );
-    Done {
-        status: status(of_run(outcome, tracer.stop()), errors),
-        device,
-    }
+    Done::report(of_run(outcome, tracer.stop()), device, errors)
 }
 
 /// Runs what a shell is given as `run_image` does. If a process did something that isn't committed,
@@ -130,8 +124,5 @@ pub fn run_shell<D: Device, S: ObjectStore<D>, R: Script, W: Output, V: Output>(
         &mut observer,
     );
     tell_unsaved(&observer, errors);
-    Done {
-        status: status(of_run(outcome, None), errors),
-        device,
-    }
+    Done::report(of_run(outcome, None), device, errors)
 }

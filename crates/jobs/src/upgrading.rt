@@ -7,7 +7,7 @@ ghost use Rattle.script.specs.Writing.{Wrote, WroteFront};
 ghost use Rattle.jobs.specs.Faults.{IsReported, status_of};
 ghost use Rattle.jobs.specs.Images.{UpgradesImage, old_failed, upgraded_text};
 
-use crate::fault::{Fault, status};
+use crate::fault::{Fault, of_write, status};
 use device::Device;
 use image_builder::{ClosableDevice, OldImage};
 use migrator::WholeStore;
@@ -24,10 +24,7 @@ fn tell_total<W: Output>(total: u64, writer: &mut W) -> Result<(), Fault>
 {
     let mut line = LineText::numbered(b"upgraded", total);
     line.word(b"sectors");
-    match line.write_to(writer) {
-        Ok(()) => Ok(()),
-        Err(_) => Err(Fault::CannotWriteOutput),
-    }
+    of_write(line.write_to(writer))
 }
 
 // Writes what an old image saves to a new device, and reports how many sectors the new image has.

@@ -6,7 +6,7 @@ ghost use Rattle.devices.specs.FileDevice.{file_disk};
 
 use checkpoint::ObjectStore;
 use command_line::{Job, JobFault, Script, job};
-use device::{Device, MAX_SECTORS};
+use device::MAX_SECTORS;
 use devices::{FileDevice, FileFault, Fuse};
 use image_builder::{Blueprint, OldImage};
 use jobs::{
@@ -152,6 +152,9 @@ fn build(
     Ok(build_image(rt.alloc(), &blueprint, &mut device, writer, errors))
 }
 
+// The device that a script runs over: it may be made to fail from some call on.
+type FileFuse = Fuse<FileDevice>;
+
 // How a script is run.
 #[derive(Clone, Copy)]
 enum Mode {
@@ -161,9 +164,9 @@ enum Mode {
 }
 
 // Runs a script over the image on a device, by a store of this kind, traces it, and gives the status.
-fn trace_by<D: Device + Drop, S: ObjectStore<D>, R: Read + Drop>(
+fn trace_by<S: ObjectStore<FileFuse>, R: Read + Drop>(
     rt: &HostRuntime,
-    device: D,
+    device: FileFuse,
     setting: S::Setting,
     script: R,
     options: TraceOptions,
@@ -172,7 +175,7 @@ fn trace_by<D: Device + Drop, S: ObjectStore<D>, R: Read + Drop>(
 ) -> u8 {
     let mut script = ScriptReader::new(script);
     let mut tracer = Tracer::new(errors_of(rt), options);
-    let done = run_traced::<D, S, _, _, _, _>(
+    let done = run_traced::<_, S, _, _, _, _>(
         rt.alloc(),
         device,
         setting,
@@ -186,9 +189,9 @@ fn trace_by<D: Device + Drop, S: ObjectStore<D>, R: Read + Drop>(
 
 // Runs the lines that a shell is given over the image on a device, and gives the status. It prompts
 // if standard input and standard error are a terminal.
-fn shell_by<D: Device + Drop, S: ObjectStore<D>, R: Read + Drop>(
+fn shell_by<S: ObjectStore<FileFuse>, R: Read + Drop>(
     rt: &HostRuntime,
-    device: D,
+    device: FileFuse,
     setting: S::Setting,
     lines: R,
     writer: &mut StandardOutput,
@@ -196,14 +199,14 @@ fn shell_by<D: Device + Drop, S: ObjectStore<D>, R: Read + Drop>(
 ) -> u8 {
     let is_prompting = rt.stdin().is_terminal() && rt.stderr().is_terminal();
     let mut input = ShellInput::new(lines, errors_of(rt), is_prompting);
-    let done = run_shell::<D, S, _, _, _>(rt.alloc(), device, setting, &mut input, writer, errors);
+    let done = run_shell::<_, S, _, _, _>(rt.alloc(), device, setting, &mut input, writer, errors);
     done.status
 }
 
 // Runs a script over the image on a device, by a store of this kind, and gives the status.
-fn run_by<D: Device + Drop, S: ObjectStore<D>, R: Read + Drop>(
+fn run_by<S: ObjectStore<FileFuse>, R: Read + Drop>(
     rt: &HostRuntime,
-    device: D,
+    device: FileFuse,
     setting: S::Setting,
     script: R,
     mode: Mode,
@@ -213,19 +216,19 @@ fn run_by<D: Device + Drop, S: ObjectStore<D>, R: Read + Drop>(
     match mode {
         Mode::Plain => {
             let (alloc, mut script) = (rt.alloc(), ScriptReader::new(script));
-            run_image::<D, S, _, _, _>(alloc, device, setting, &mut script, writer, errors).status
+            run_image::<_, S, _, _, _>(alloc, device, setting, &mut script, writer, errors).status
         }
         Mode::Traced(options) => {
-            trace_by::<D, S, R>(rt, device, setting, script, options, writer, errors)
+            trace_by::<S, _>(rt, device, setting, script, options, writer, errors)
         }
-        Mode::Shell => shell_by::<D, S, R>(rt, device, setting, script, writer, errors),
+        Mode::Shell => shell_by::<S, _>(rt, device, setting, script, writer, errors),
     }
 }
 
 // Runs a script over the image on a device, with a bounded cache where it has a capacity, and gives the status.
-fn run_on<D: Device + Drop, R: Read + Drop>(
+fn run_on<R: Read + Drop>(
     rt: &HostRuntime,
-    device: D,
+    device: FileFuse,
     cache: Option<Capacity>,
     script: R,
     mode: Mode,
@@ -234,16 +237,16 @@ fn run_on<D: Device + Drop, R: Read + Drop>(
 ) -> u8 {
     match cache {
         Some(capacity) => {
-            run_by::<D, BoundedCache<D>, R>(rt, device, capacity, script, mode, writer, errors)
+            run_by::<BoundedCache<_>, _>(rt, device, capacity, script, mode, writer, errors)
         }
-        None => run_by::<D, PlainStore<D>, R>(rt, device, (), script, mode, writer, errors),
+        None => run_by::<PlainStore<_>, _>(rt, device, (), script, mode, writer, errors),
     }
 }
 
 // Opens a script, runs it over the image on a device, and gives the status.
-fn run_script<D: Device + Drop>(
+fn run_script(
     rt: &HostRuntime,
-    device: D,
+    device: FileFuse,
     script: &Script<'_>,
     cache: Option<Capacity>,
     mode: Mode,
@@ -271,13 +274,11 @@ fn run(
     errors: &mut StandardError,
 ) -> Result<u8, Fault> {
     let device = open(rt, image)?;
-    match stop_after {
-        Some(calls) => {
-            let device = Fuse::new(device, calls);
-            run_script(rt, device, script, cache, mode, writer, errors)
-        }
-        None => run_script(rt, device, script, cache, mode, writer, errors),
-    }
+    let device = match stop_after {
+        Some(calls) => Fuse::new(device, calls),
+        None => Fuse::mended(device),
+    };
+    run_script(rt, device, script, cache, mode, writer, errors)
 }
 
 // Checks an image, and gives the status.

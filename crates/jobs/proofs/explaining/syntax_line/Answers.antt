@@ -1,5 +1,5 @@
-use Rattle.jobs.proofs.Names.{ℕ, List, ap, arith, codes, length, string_bytes, take, String, IfOk-weaker, IsSyntaxLine, position_from, position_text}
-use Rattle.std.proofs.Common.{◌≡◌, ◌∙◌, ◌≤◌, ◌++◌, Global}
+use Rattle.jobs.proofs.Names.{ℕ, List, ap, arith, codes, length, string_bytes, take, String, IfOk-weaker, IsSyntaxLine, position_from, position_text, Global}
+use Rattle.std.proofs.Common.{◌≡◌, ◌∙◌, ◌≤◌, ◌++◌}
 use Rattle.jobs.proofs.explaining.syntax_line.Goals as goal
 
 pub returns : goal.returns

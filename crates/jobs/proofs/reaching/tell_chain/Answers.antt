@@ -1,25 +1,16 @@
-use Rattle.jobs.proofs.Names.{refl, chain_text, processes_known}
+use Rattle.jobs.proofs.Names.{refl, Some, chain_text, processes_known, TellsReach, IsChainText}
+use Rattle.jobs.proofs.DescribedImages.{text_written}
 use Rattle.jobs.proofs.reaching.tell_chain.Goals as goal
 
 pub shortest_chain-requires-clause-known : goal.shortest_chain-requires-clause-known
 shortest_chain-requires-clause-known g c = processes_known c.args.objects.now c.args.processes.now c.requires.processes
 
-pub returns-in-Ok-print_found : goal.returns-in-Ok-print_found
-returns-in-Ok-print_found g c = (
-  c.requires.processes,
-  (
-    chain_text c.args.objects.now c.args.object c.in-Ok.chain,
-    record { chain = c.in-Ok.chain; shortest = c.in-Ok.ensures.shortest; reach = c.in-Ok.ensures.reach; spelled = refl },
-    c.in-Ok-print_found.ensures,
-  ),
-)
-
-pub returns-in-Err-print_found : goal.returns-in-Err-print_found
-returns-in-Err-print_found g c = (
-  c.requires.processes,
-  (
-    chain_text c.args.objects.now c.args.object c.in-Ok.chain,
-    record { chain = c.in-Ok.chain; shortest = c.in-Ok.ensures.shortest; reach = c.in-Ok.ensures.reach; spelled = refl },
-    c.in-Err-print_found.ensures.1,
-  ),
-)
+pub returns-in-Ok : goal.returns-in-Ok
+returns-in-Ok g c =
+    let old = g.W.Output.written c.args.writer.now in
+    let new = g.W.Output.written c.print_chain.new.writer in
+    let text = chain_text c.args.objects.now c.args.object c.in-Ok.chain in
+    let is : IsChainText c.args.objects.now c.args.processes.now c.args.object text =
+    record { chain = c.in-Ok.chain; shortest = c.in-Ok.ensures.shortest; reach = c.in-Ok.ensures.reach; spelled = refl } in
+    rw c.of_write.ensures (text_written old new text (TellsReach c.args.objects.now c.args.processes.now (Some c.args.object) old new)
+    (λ a wrote. (c.requires.processes, (text, is, wrote))) (λ front. (c.requires.processes, (text, is, front))) c.print_chain.result c.print_chain.ensures)

@@ -1,25 +1,16 @@
-use Rattle.jobs.proofs.Names.{refl, reach_text, processes_known}
+use Rattle.jobs.proofs.Names.{refl, None, reach_text, processes_known, TellsReach, IsSetText}
+use Rattle.jobs.proofs.DescribedImages.{text_written}
 use Rattle.jobs.proofs.reaching.tell_set.Goals as goal
 
 pub reach-requires-clause-known : goal.reach-requires-clause-known
 reach-requires-clause-known g c = processes_known c.args.objects.now c.args.processes.now c.requires.processes
 
-pub returns-in-Ok-print_set : goal.returns-in-Ok-print_set
-returns-in-Ok-print_set g c = (
-  c.requires.processes,
-  (
-    reach_text c.args.objects.now c.in-Ok.inside,
-    record { marks = c.in-Ok.inside; reach = c.in-Ok.ensures.reach; bounds = c.in-Ok.ensures.bounds; spelled = refl },
-    c.in-Ok-print_set.ensures,
-  ),
-)
-
-pub returns-in-Err-print_set : goal.returns-in-Err-print_set
-returns-in-Err-print_set g c = (
-  c.requires.processes,
-  (
-    reach_text c.args.objects.now c.in-Ok.inside,
-    record { marks = c.in-Ok.inside; reach = c.in-Ok.ensures.reach; bounds = c.in-Ok.ensures.bounds; spelled = refl },
-    c.in-Err-print_set.ensures.1,
-  ),
-)
+pub returns-in-Ok : goal.returns-in-Ok
+returns-in-Ok g c =
+    let old = g.W.Output.written c.args.writer.now in
+    let new = g.W.Output.written c.print_reach.new.writer in
+    let text = reach_text c.args.objects.now c.in-Ok.inside in
+    let is : IsSetText c.args.objects.now c.args.processes.now text =
+    record { marks = c.in-Ok.inside; reach = c.in-Ok.ensures.reach; bounds = c.in-Ok.ensures.bounds; spelled = refl } in
+    rw c.of_write.ensures (text_written old new text (TellsReach c.args.objects.now c.args.processes.now None old new)
+    (λ a wrote. (c.requires.processes, (text, is, wrote))) (λ front. (c.requires.processes, (text, is, front))) c.print_reach.result c.print_reach.ensures)

@@ -12,11 +12,11 @@ of_run-requires g c =
 pub returns : goal.returns
 returns g c = (
   c.of_run.result,
-  c.status.ensures.status,
-  c.status.ensures.reported,
-  runs_unseen g.D.Device.disk g.S.ObjectStore.view g.S.Frames.parts c.args.device c.open_and_run-outcome.result.1 (λ g t old new on. on ≡ true)
-      c.open_and_run-outcome.new.observer c.open_and_run-outcome.new.observer
+  c.report.ensures.status,
+  c.report.ensures.reported,
+  rw c.report.ensures.device (runs_unseen g.D.Device.disk g.S.ObjectStore.view g.S.Frames.parts c.args.device c.open_and_run-outcome.result.1
+      (λ g t old new on. on ≡ true) c.open_and_run-outcome.new.observer c.open_and_run-outcome.new.observer
       (g.R.Script.unread c.args.reader.now) (g.R.Script.unread c.open_and_run-outcome.new.reader) (g.W.Output.written c.args.writer.now)
       (g.W.Output.written c.open_and_run-outcome.new.writer) c.open_and_run-outcome.result.0 c.of_run.result c.of_run.ensures
-      c.open_and_run-outcome.ensures,
+      c.open_and_run-outcome.ensures),
 )

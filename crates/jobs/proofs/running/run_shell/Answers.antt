@@ -15,9 +15,9 @@ returns g c = (
   g.V.Output.written c.tell_unsaved.new.errors,
   c.new-observer.result,
   c.open_and_run-outcome.new.observer,
-  c.status.ensures.status,
+  c.report.ensures.status,
   c.new-observer.ensures,
   c.tell_unsaved.ensures,
-  c.status.ensures.reported,
-  (c.open_and_run-outcome.result.0, c.of_run.ensures, c.open_and_run-outcome.ensures),
+  c.report.ensures.reported,
+  rw c.report.ensures.device (c.open_and_run-outcome.result.0, c.of_run.ensures, c.open_and_run-outcome.ensures),
 )

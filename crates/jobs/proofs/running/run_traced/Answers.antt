@@ -13,9 +13,9 @@ of_run-requires g c =
 pub returns : goal.returns
 returns g c = (
   c.of_run.result,
-  c.status.ensures.status,
-  c.status.ensures.reported,
-  (
+  c.report.ensures.status,
+  c.report.ensures.reported,
+  rw c.report.ensures.device (
     c.open_and_run-outcome.result.0,
     subst (λ (s : Option Stop). IsRunEnd c.open_and_run-outcome.result.0 s c.of_run.result) c.stop.ensures c.of_run.ensures,
     c.open_and_run-outcome.ensures,
