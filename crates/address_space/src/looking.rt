@@ -19,7 +19,7 @@ pub fn look<F: Frames>(frames: &mut F, number: u64) -> Result<(), Failed>
 }
 
 /// The address space of a process: void where it is stale.
-#[tactic(auto, using(capability::proofs::FrameLists::process_known))]
+#[tactic(auto, using(capability::proofs::FrameLists::process_known, crate::proofs::Known::space_held))]
 pub fn space_of<F: Frames>(frames: &mut F, process: u64) -> Result<Capability, Failed>
     requires sound { AreSound (F.parts frames.old) }
     requires process { IsTrue (is_process (objects_in (F.parts frames.old)) process) }

@@ -127,6 +127,7 @@ fn find<F: Frames>(
 }
 
 // The page with an index in a tree.
+#[tactic(auto, using(crate::proofs::Known::still_sound, crate::proofs::Known::still_held))]
 fn descend<F: Frames>(
     frames: &mut F,
     tree: Tree,

@@ -56,6 +56,7 @@ fn all_places(alloc: Global, most: NonZeroUsize) -> Result<UseList, AllocError>
 }
 
 // Puts all places below `most` back into their first order: place 0 is the one used longest ago.
+#[tactic(auto, using(crate::proofs::Turns::filled_used))]
 fn restore_order(order: &mut UseList, most: usize)
     ensures { (count : ℕ) → IsFilled (keys_of order.old.entries) count → IsFilled (keys_of order.new.entries) count }
 {
@@ -181,6 +182,7 @@ impl Places {
     }
 
     /// Frees the place of a number that has one.
+    #[tactic(auto, using(crate::proofs::Spreads::count_some, crate::proofs::Spreads::some_place))]
     pub(crate) fn remove(&mut self, number: u64)
         requires { IsSome (place_at self.old.places number) }
         ensures { self.new ≡ record {
@@ -196,6 +198,7 @@ impl Places {
     }
 
     /// The number used longest ago. All places must have a number.
+    #[tactic(auto, using(crate::proofs::Spreads::least_number, crate::proofs::Spreads::spread_is))]
     pub(crate) fn least(&self) -> Option<u64>
         requires { self.now.most ≤ length self.now.numbers }
         ensures least { result ≡ used_longest_ago self.now.numbers }

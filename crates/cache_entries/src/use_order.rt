@@ -53,6 +53,7 @@ fn place_of(numbers: &[u64], number: u64) -> Option<usize>
 }
 
 // Moves the number at index `place` to the end, and those behind it one index forward.
+#[tactic(auto, using(crate::proofs::Moves::move_begun))]
 fn shift_to_end(numbers: &mut [u64], place: usize, number: u64)
     requires there { slice_get numbers.old place ≡ Some number }
     requires once { AllDiffer numbers.old }
@@ -179,7 +180,7 @@ impl UseOrder {
     }
 
     /// How many numbers there are.
-    #[tactic(auto, using(crate::proofs::Turns::length_in_turn))]
+    #[tactic(auto, using(crate::proofs::Turns::length_in_turn, crate::proofs::Turns::spread_in_turn))]
     pub(crate) fn len(&self) -> usize
         ensures count { result ≡ length self.now.numbers }
         ensures spread { AreSpread self.now }
@@ -188,7 +189,7 @@ impl UseOrder {
     }
 
     /// Whether all places have a number.
-    #[tactic(auto, using(crate::proofs::Turns::length_in_turn))]
+    #[tactic(auto, using(crate::proofs::Turns::length_in_turn, crate::proofs::Turns::spread_in_turn))]
     pub(crate) fn is_full(&self) -> bool
         ensures full { result ≡ nat_le self.now.most (length self.now.numbers) }
         ensures spread { AreSpread self.now }
@@ -197,6 +198,7 @@ impl UseOrder {
     }
 
     /// Each number in the order has a place, and no two have the same.
+    #[tactic(auto, using(crate::proofs::Turns::spread_in_turn))]
     pub(crate) fn spread(&self)
         ensures { AreSpread self.now }
     {
@@ -212,6 +214,7 @@ impl UseOrder {
     }
 
     /// The place of a number that has one.
+    #[tactic(auto, using(crate::proofs::Turns::spread_in_turn))]
     pub(crate) fn place(&self, number: u64) -> usize
         requires { IsSome (place_at self.now.places number) }
         ensures place { place_at self.now.places number ≡ Some result }
@@ -247,6 +250,7 @@ impl UseOrder {
     }
 
     /// Marks a number of the order as used last.
+    #[tactic(auto, using(crate::proofs::Turns::all_at_end))]
     #[inline(never)]
     pub(crate) fn use_now(&mut self, number: u64)
         requires { is_member self.old.numbers number ≡ true }

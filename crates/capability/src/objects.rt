@@ -16,6 +16,7 @@ use crate::present::{Frames, Fresh, PresentFrames, RootChange};
 use model::{Cap, Capability, ContentRef, Message, Role};
 
 /// The word of a fetched page, or 0 if the object is no page.
+#[tactic(auto, using(crate::proofs::FrameLists::word_there))]
 pub fn word<F: Frames>(store: &F, number: u64, index: usize) -> u64
     requires fetched { F.IsFetched store.now number }
     requires within { index < 512 }
@@ -28,6 +29,7 @@ pub fn word<F: Frames>(store: &F, number: u64, index: usize) -> u64
 }
 
 /// The annex of a process whose root is fetched, or 0 if the object is no root.
+#[tactic(auto, using(crate::proofs::FrameLists::content_there))]
 pub fn annex<F: Frames>(store: &F, process: u64) -> u64
     requires fetched { F.IsFetched store.now process }
     ensures { result ≡ annex_at (objects_in (F.parts store.now)) process }
@@ -54,6 +56,7 @@ fn slots_behind(content: ContentRef<'_>) -> Option<&[Cap]>
 
 /// The capability in a slot of a fetched node, or a register of a fetched annex: void if it is stale,
 /// or if the object is neither.
+#[tactic(auto, using(crate::proofs::FrameLists::no_slot_there))]
 pub fn slot<F: Frames>(store: &F, number: u64, slot: usize) -> Capability
     requires fetched { F.IsFetched store.now number }
     requires within { slot < 32 }
@@ -157,6 +160,7 @@ pub fn set_message<F: PresentFrames>(store: &mut F, process: u64, words: [u64; 4
 
 /// Makes a free number, fetched and announced, a new object of a bank (EROS: a space bank's
 /// allocation). Its body is blank, and its number's counts stay.
+#[tactic(auto, using(crate::proofs::Edits::claim_objects, crate::proofs::Edits::claim_stays_current))]
 pub fn claim<F: PresentFrames>(store: &mut F, number: u64, fresh: Fresh, owner: u64)
     requires fetched { F.IsFetched store.old number }
     requires announced { F.IsAnnounced store.old number }
@@ -176,6 +180,7 @@ pub fn claim<F: PresentFrames>(store: &mut F, number: u64, fresh: Fresh, owner: 
 }
 
 /// Gives an object that is announced another bank as its owner.
+#[tactic(auto, using(crate::proofs::Edits::owner_objects, crate::proofs::Edits::owner_stays_current))]
 pub fn set_owner<F: PresentFrames>(store: &mut F, number: u64, bank: u64)
     requires announced { F.IsAnnounced store.old number }
     ensures objects { let objects = objects_in (F.parts store.old) in
@@ -194,6 +199,7 @@ pub fn set_owner<F: PresentFrames>(store: &mut F, number: u64, bank: u64)
 
 /// Voids every resume capability to a process, whose root is announced (EROS: a resume capability
 /// works at most once).
+#[tactic(auto, using(crate::proofs::Counts::objects_called, crate::proofs::Counts::current_called))]
 pub fn consume<F: PresentFrames>(store: &mut F, process: u64)
     requires announced { F.IsAnnounced store.old process }
     requires calls { (header_at (F.parts store.old).headers process).calls < u64.MAX }

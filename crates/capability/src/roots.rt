@@ -13,6 +13,7 @@ use crate::present::{Frames, PresentFrames, RootChange};
 use model::{Cap, Capability, ContentRef, Role, Root, State};
 
 /// Whether a number is that of a process, by its role in the table: it needn't be fetched.
+#[tactic(auto, using(crate::proofs::Roles::process_by_role, crate::proofs::Roles::role_there))]
 pub fn is_process<F: Frames>(store: &F, number: u64) -> bool
     requires { HaveTheirRoles (frames_of (F.parts store.now)) }
     ensures { result ≡ is_process (objects_in (F.parts store.now)) number }

@@ -66,6 +66,7 @@ pub fn object<F: Frames>(alloc: Global, store: &F, number: u64) -> Result<Object
 
 /// The registers in an annex that is fetched, stale capabilities void. Fails only where memory runs
 /// out.
+#[tactic(auto, using(crate::proofs::FrameLists::content_there))]
 pub fn registers<F: Frames>(
     alloc: Global,
     store: &F,

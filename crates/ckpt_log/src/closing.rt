@@ -29,6 +29,7 @@ fn lesser_slot<D: Device>(device: &mut D) -> Result<HeaderSlot, Failed>
 }
 
 // Closes the gate of a slot and then the other, where all is durable.
+#[tactic(auto, using(crate::proofs::Sectors::seen_has))]
 fn close_in_turn<D: Device>(device: &mut D, slot: HeaderSlot) -> Result<(), Failed>
     requires inside { 5 ≤ (D.disk device.old).sectors }
     requires lesser { IsLesser (D.disk device.old).seen slot }
@@ -52,6 +53,7 @@ fn close_in_turn<D: Device>(device: &mut D, slot: HeaderSlot) -> Result<(), Fail
 /// A crash at any moment leaves the image that it could have left before, with the same committed
 /// header, or one without any: the committed header's gate is the last to be closed, and a gate that
 /// is closed isn't written. `Failed` exactly where the device failed. It takes no memory.
+#[tactic(auto, using(device::proofs::Images::agrees_is, crate::proofs::Closings::keeps_same))]
 pub fn close_gates<D: Device>(device: &mut D) -> Result<(), Failed>
     requires inside { 5 ≤ (D.disk device.old).sectors }
 

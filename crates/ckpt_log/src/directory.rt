@@ -77,6 +77,7 @@ impl<'a> Log<'a> {
     /// last entry of its last sector are 0. It is refused exactly where the device fails, and the
     /// sectors may then hold any bytes. It takes no memory, and where there are no entries it makes
     /// no call of the device.
+    #[tactic(auto, using(crate::proofs::Directories::no_entries, crate::proofs::Directories::none_behind))]
     pub fn write_directory<D: Device>(
         &self,
         device: &mut D,
@@ -112,6 +113,7 @@ impl<'a> Log<'a> {
     ///
     /// It is refused by `Failed` exactly where the device failed, and by `BadImage::BadDirectory`
     /// exactly where the sectors spell no directory of this length. Either leaves any entries.
+    #[tactic(auto, using(crate::proofs::Directories::no_entries, crate::proofs::Directories::few_bytes))]
     pub fn read_directory<D: Device>(
         &self,
         device: &mut D,

@@ -50,6 +50,7 @@ impl<'a> Log<'a> {
     }
 
     // The first sector of the half of a generation.
+    #[tactic(auto, using(layout::proofs::Halves::half_within))]
     fn half_sector(&self, generation: u64) -> u64
         ensures value { result ≡ half_sector self.now generation }
         ensures within { IsWithin self.now.total

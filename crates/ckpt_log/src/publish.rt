@@ -46,6 +46,7 @@ pub(crate) fn close_gate<D: Device>(device: &mut D, at: u64) -> Result<(), Faile
 
 // Closes the gate of a header where it is open, and writes the header under it. A crash at any
 // moment leaves the committed header that there is.
+#[tactic(auto, using(crate::proofs::Commits::closing_keeps, crate::proofs::Commits::gate_is))]
 fn prepare<D: Device>(device: &mut D, header: CheckpointHeader) -> Result<(), Failed>
     requires inside { 5 ≤ (D.disk device.old).sectors }
     requires durable { Only (D.disk device.old).seen (D.disk device.old) }
@@ -71,6 +72,7 @@ fn prepare<D: Device>(device: &mut D, header: CheckpointHeader) -> Result<(), Fa
 
 // Opens the gate of a header that is written and durable. A crash at any moment leaves the
 // committed header that there was, or this one.
+#[tactic(auto, using(crate::proofs::Commits::gate_is, crate::proofs::Commits::opened_new))]
 fn open_gate<D: Device>(device: &mut D, header: CheckpointHeader) -> Result<(), Failed>
     requires inside { 5 ≤ (D.disk device.old).sectors }
     requires durable { Only (D.disk device.old).seen (D.disk device.old) }
@@ -108,6 +110,7 @@ impl<'a> Log<'a> {
     ///
     /// Only the header's own slot is written: its gate with 0 and zeros, where it is open, then the
     /// header, and then the gate with 1 and zeros, each durable before the next.
+    #[tactic(auto, using(crate::proofs::Runs::sync_order, crate::proofs::Runs::sync_run))]
     pub fn publish<D: Device>(&self, device: &mut D, header: CheckpointHeader) -> Result<(), Failed>
         requires spelt { IsHeader self.now.geometry.log header }
         requires inside { 5 ≤ (D.disk device.old).sectors }

@@ -8,6 +8,7 @@ use device::{Device, Failed, write_durably};
 use layout::read_sectors;
 
 /// Reads a sector.
+#[tactic(auto, using(crate::proofs::Sectors::read_is))]
 pub(crate) fn read_sector<D: Device>(device: &mut D, at: u64, into: &mut [u8]) -> Result<(), Failed>
     requires one { length into.old ≡ 512 }
     requires inside { at < (D.disk device.old).sectors }
@@ -20,6 +21,7 @@ pub(crate) fn read_sector<D: Device>(device: &mut D, at: u64, into: &mut [u8]) -
 
 /// Writes a sector and makes it durable. At `Failed` it may hold any bytes, and no other is
 /// touched.
+#[tactic(auto, using(crate::proofs::Sectors::one_sector, crate::proofs::Sectors::seen_has))]
 pub(crate) fn put_sector<D: Device>(device: &mut D, at: u64, bytes: &[u8]) -> Result<(), Failed>
     requires one { length bytes.now ≡ 512 }
     requires inside { at < (D.disk device.old).sectors }

@@ -8,6 +8,7 @@ ghost use Rattle.collections.specs.Bits.{SumsUp, bit_of, digit};
 pub(crate) const WORD_BITS: usize = 64;
 
 /// Whether the bit of a number is set.
+#[tactic(auto, using(crate::proofs::Marks::read_bit))]
 pub(crate) fn has_bit(words: &[u64], number: usize) -> bool
     requires { number / 64 < length words.now }
     ensures { bit_of words.now number ≡ digit result }
@@ -27,6 +28,7 @@ pub(crate) fn put_bit(words: &mut [u64], number: usize, set: bool) -> u64
 }
 
 /// A word with one bit set or cleared.
+#[tactic(auto, using(crate::proofs::Marks::set_here, crate::proofs::Marks::clear_here))]
 fn with_bit(word: u64, bit: usize, set: bool) -> u64
     requires { bit < 64 }
     ensures here { bit_at result bit ≡ digit set }
@@ -41,6 +43,7 @@ fn with_bit(word: u64, bit: usize, set: bool) -> u64
 }
 
 /// The lowest bit of a word that is set, from a bit on.
+#[tactic(auto, using(crate::proofs::Marks::none_from, crate::proofs::Marks::lowest_from))]
 fn first_bit(word: u64, from: usize) -> Option<usize>
     requires { from < 64 }
     ensures some { IfSome result (λ bit. IsLowestFrom word from bit) }
@@ -55,6 +58,7 @@ fn first_bit(word: u64, from: usize) -> Option<usize>
 }
 
 /// The least number from a number on whose bit is set, word by word.
+#[tactic(auto, using(crate::proofs::Marks::none_by_word, crate::proofs::Marks::none_past_all))]
 fn first_set(words: &[u64], from: usize) -> Option<usize>
     requires { 64 * length words.now ≤ 2 ^ 64 }
     ensures some { IfSome result (λ number. IsFirstSet words.now from number) }
@@ -70,6 +74,7 @@ fn first_set(words: &[u64], from: usize) -> Option<usize>
 }
 
 /// The least number from a number on whose bit is set, by a summary of the words that aren't 0.
+#[tactic(auto, using(crate::proofs::Marks::none_past_words, crate::proofs::Marks::later_fits))]
 pub(crate) fn first_summed(words: &[u64], summary: &[u64], from: usize) -> Option<usize>
     requires few { 64 * length words.now ≤ 2 ^ 64 }
     requires few_summed { 64 * length summary.now ≤ 2 ^ 64 }
@@ -89,6 +94,7 @@ pub(crate) fn first_summed(words: &[u64], summary: &[u64], from: usize) -> Optio
 }
 
 /// The least number from a number on whose bit is clear, word by word.
+#[tactic(auto, using(crate::proofs::Marks::full_by_word))]
 pub(crate) fn first_clear(words: &[u64], from: usize) -> Option<usize>
     requires { 64 * length words.now ≤ 2 ^ 64 }
     ensures some { IfSome result (λ number. IsFirstClear words.now from number) }

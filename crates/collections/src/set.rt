@@ -32,6 +32,7 @@ impl Model for NumberSet {
 
 impl NumberSet {
     /// An empty set of numbers below `count`. Fails only if memory runs out.
+    #[tactic(auto, using(crate::proofs::Marks::fresh, crate::proofs::Marks::zeros_summed))]
     pub fn new(alloc: Global, count: usize) -> Result<NumberSet, AllocError>
         ensures { IfOk result (λ numbers. numbers ≡ replicate count false) }
     {
@@ -47,6 +48,7 @@ impl NumberSet {
     }
 
     /// Whether a number is in the set.
+    #[tactic(auto, using(crate::proofs::Marks::has_word))]
     pub fn contains(&self, number: usize) -> bool
         requires { number < length self.now }
         ensures { result ≡ slice_index_or self.now number false }
@@ -55,6 +57,7 @@ impl NumberSet {
     }
 
     /// Puts a number into the set, or takes it out.
+    #[tactic(auto, using(crate::proofs::Marks::has_word, crate::proofs::Marks::has_word_above))]
     pub fn set(&mut self, number: usize, is_in: bool)
         requires { number < length self.old }
         ensures { self.new ≡ slice_set self.old number is_in }
@@ -64,6 +67,7 @@ impl NumberSet {
     }
 
     /// Takes all numbers out.
+    #[tactic(auto, using(crate::proofs::Marks::cleared))]
     pub fn clear(&mut self)
         ensures { self.new ≡ replicate (length self.old) false }
     {
@@ -72,6 +76,7 @@ impl NumberSet {
     }
 
     /// The least number of the set from a number on.
+    #[tactic(auto, using(crate::proofs::Marks::next_is_marked, crate::proofs::Marks::none_is_marked))]
     pub fn next(&self, from: usize) -> Option<usize>
         ensures some { IfSome result (λ number. IsNextMarked self.now from number) }
         ensures none { result ≡ None → HasNoneMarked self.now from }
@@ -81,6 +86,7 @@ impl NumberSet {
     }
 
     /// The least number from a number on that isn't in the set. Goes over words of 64 numbers.
+    #[tactic(auto, using(crate::proofs::Marks::all_are_marked, crate::proofs::Marks::words_hold))]
     pub fn next_missing(&self, from: usize) -> Option<usize>
         ensures some { IfSome result (λ number. IsNextUnmarked self.now from number) }
         ensures none { result ≡ None → HasAllMarked self.now from }

@@ -34,6 +34,7 @@ impl<T: Drop> SparseVec<T> {
     ghost use Rattle.collections.specs.contracts.sparse_vec.SparseVec.{the_row};
 
     /// `most` places without an item, and memory for an item at each. Fails only if memory runs out.
+    #[tactic(auto, using(crate::proofs::Positions::filled, crate::proofs::Positions::none_in))]
     pub fn new(alloc: Global, most: usize) -> Result<SparseVec<T>, AllocError>
         ensures { IfOk result (λ made. made ≡ replicate most None) }
     {
@@ -44,6 +45,7 @@ impl<T: Drop> SparseVec<T> {
     }
 
     /// The number of places.
+    #[tactic(auto, using(crate::proofs::Positions::length_items))]
     pub fn len(&self) -> usize
         ensures { result ≡ length self.now }
     {
@@ -51,6 +53,7 @@ impl<T: Drop> SparseVec<T> {
     }
 
     /// Whether a place has an item.
+    #[tactic(auto, using(crate::proofs::Positions::placed, crate::proofs::Positions::has_is))]
     pub fn has(&self, place: usize) -> bool
         requires { place < length self.now }
         ensures { result ≡ is_some (item_at self.now place) }
@@ -59,6 +62,7 @@ impl<T: Drop> SparseVec<T> {
     }
 
     /// The item of a place that has one.
+    #[tactic(auto, using(crate::proofs::Positions::has_place, crate::proofs::Positions::inside_at))]
     pub fn item(&self, place: usize) -> &T
         requires { IsSome (item_at self.now place) }
         ensures { item_at self.now place ≡ Some result.now }
@@ -68,6 +72,7 @@ impl<T: Drop> SparseVec<T> {
     }
 
     /// Lends the item of a place that has one.
+    #[tactic(auto, using(crate::proofs::Positions::has_place, crate::proofs::Positions::inside_at))]
     pub fn item_mut(&mut self, place: usize) -> &mut T
         requires { IsSome (item_at self.old place) }
         ensures* writes_back { sem 𝓛 (Lends (the_row T.row) T.row self.entry result
@@ -79,6 +84,7 @@ impl<T: Drop> SparseVec<T> {
     }
 
     /// Gives a place an item that has none.
+    #[tactic(auto, using(crate::proofs::Positions::placed, crate::proofs::Positions::room))]
     pub fn add(&mut self, place: usize, item: T)
         requires within { place < length self.old }
         requires absent { is_some (item_at self.old place) ≡ false }

@@ -111,7 +111,7 @@ bare_app = record {
   subs = [];
 }
 
--- the program with its subcommands, one of which has to be named
+-- the program, which needs one of its subcommands
 abbrev pub eros_app : App
 eros_app = with_subcommands bare_app subcommands
 

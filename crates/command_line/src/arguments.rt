@@ -21,6 +21,7 @@ fn number_in(word: &str, least: u64, most: u64) -> Option<u64>
 
 // The number that an option gives: `Some(None)` where the option is left out, and `None` where its word
 // writes no number from `least` to `most`.
+#[tactic(auto, using(crate::proofs::Getters::missing))]
 pub(crate) fn option_of(
     inner: &ArgMatches<'_>,
     name: &str,
@@ -57,6 +58,7 @@ pub(crate) fn numbers_in(alloc: Global, words: &[&str]) -> Result<Option<Vec<u64
 }
 
 // Whether a flag is given.
+#[tactic(auto, using(crate::proofs::Getters::missing, crate::proofs::Getters::unflagged))]
 pub(crate) fn flag_of(inner: &ArgMatches<'_>, name: &str) -> bool
     ensures { IsFlag (rows_of (found_of inner.now)) name.now result }
 {

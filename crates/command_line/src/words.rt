@@ -15,6 +15,7 @@ use std::convert::AsStr;
 ///
 /// `BadWords` with an error of clap if the command doesn't take the words, also if they request help.
 /// `BadWords` with a `ValueValidation` if an upgrade has one word twice. `NoMemory` if memory runs out.
+#[tactic(auto, using(crate::proofs::Refused::refused))]
 pub fn job<'a, S: AsStr>(alloc: Global, words: &'a [S]) -> Result<Job<'a>, JobFault>
     ensures named { IfOk result (NamesJob (subcommand_of eros_app (map S.text words.entry.now))) }
     ensures refused { IfErr result (IsRefused (map S.text words.entry.now)) }

@@ -32,6 +32,7 @@ impl<F: SectorFile> CopiedFile<F> {
     ghost use Rattle.devices.specs.FileDevice.{file_disk};
 
     /// A device in this file, which holds the bytes of `copy`. Nothing has been done to the file.
+    #[tactic(auto, using(crate::proofs::Copies::fresh_only))]
     pub fn new(copy: SectorCopy, file: F) -> CopiedFile<F>
         requires few { sectors_of copy ≤ 131072 }
         requires first { F.first file ≡ copy }
@@ -111,6 +112,7 @@ impl<F: SectorFile> Device for CopiedFile<F> {
         answer
     }
 
+    #[tactic(auto, using(crate::proofs::Copies::synced_only))]
     fn sync(&mut self) -> Result<(), Failed> {
         self.file.sync()
     }

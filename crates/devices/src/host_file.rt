@@ -24,6 +24,7 @@ pub struct HostFile<F: RawFile> {
 }
 
 // Writes all of the bytes at the byte `at`. A call that was interrupted is made again.
+#[tactic(auto, using(crate::proofs::Deeds::takes_none))]
 fn put_fully<F: RawFile>(file: &mut F, at: u64, from: &[u8]) -> Result<(), Failed>
     requires { at ≤ 512 * 131072 }
     ensures { OnOk result (Takes at (F.calls file.old) (F.calls file.new) from.now) }
@@ -63,6 +64,7 @@ fn sync_all<F: RawFile>(file: &mut F) -> Result<(), Failed>
 
 // The history of a file that holds these sectors, and to which nothing has been done. It takes no
 // bytes: the loop is there because no slice has them all.
+#[tactic(auto, using(crate::proofs::Histories::all_held))]
 fn history_of(copy: &SectorCopy) -> History
     ensures { result ≡ fresh copy.now }
 {

@@ -65,6 +65,7 @@ impl Mirror {
     }
 
     /// Writes these sectors from `at` on. The record needs space for an entry each.
+    #[tactic(auto, using(crate::proofs::Entries::length_written, crate::proofs::Entries::past_written))]
     pub fn write(&mut self, at: u64, from: &[u8])
         requires whole { length from.now % 512 ≡ 0 }
         requires inside { at + sectors_of from.now ≤ self.old.sectors }
@@ -83,6 +84,7 @@ impl Mirror {
     }
 
     /// Makes all of it durable. The record needs space for an entry.
+    #[tactic(auto, using(crate::proofs::Entries::past_synced))]
     pub fn sync(&mut self)
         requires room { vec_len self.old.entries + 1 ≤ vec_capacity self.old.entries }
         ensures past { past_of self.new ≡ past_of self.old ++ synced ∷ [] }
@@ -101,6 +103,7 @@ impl Mirror {
     }
 
     /// The power goes and comes back.
+    #[tactic(auto, using(crate::proofs::Entries::past_cut))]
     pub fn power_cut(&mut self, outcome: Outcome)
         ensures past { EndsCut outcome (past_of self.old) (past_of self.new) }
         ensures left { Agrees (state_of self.new).present (left_by outcome (state_of self.old)) }

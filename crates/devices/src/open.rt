@@ -31,6 +31,7 @@ fn whole_sectors(bytes: u64) -> Result<u64, FileFault>
 const READ_SECTORS: usize = 128;
 
 // Fills `into` with the bytes of the file from `at` on. An interrupted call is made again.
+#[tactic(auto, using(crate::proofs::Openings::gets_none, crate::proofs::Openings::keeps_length))]
 fn get_fully<F: Openable>(file: &mut F, at: usize, into: &mut [u8]) -> Result<(), FileFault>
     requires { at ≤ 512 * 131072 }
     ensures bytes { OnOk result (GetsFrom at (F.opening file.old) (F.opening file.new) into.new) }
@@ -136,6 +137,7 @@ fn take_lock<F: Openable>(file: &mut F, lock: Lock) -> Result<(), FileFault>
 }
 
 // Locks the file, makes it durable and reads it. At `Held` the only call was for the lock.
+#[tactic(auto, using(crate::proofs::Openings::keeps_synced))]
 fn load_locked<F: Openable>(
     alloc: Global,
     file: &mut F,

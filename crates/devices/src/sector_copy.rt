@@ -99,6 +99,7 @@ impl SectorCopy {
     }
 
     /// The bytes of a sector.
+    #[tactic(auto, using(crate::proofs::Stored::zeros_are_there))]
     pub fn sector(&self, at: usize) -> &[u8]
         requires { 512 * (at + 1) ≤ length self.now }
         ensures { result.now ≡ image_of self.now at }
@@ -111,6 +112,7 @@ impl SectorCopy {
     }
 
     /// Reads whole sectors from `at` on.
+    #[tactic(auto, using(crate::proofs::Stored::image_size, crate::proofs::Stored::got_more))]
     pub fn get(&self, at: usize, into: &mut [u8])
         requires whole { length into.old % 512 ≡ 0 }
         requires inside { 512 * (at + sectors_of into.old) ≤ length self.now }
@@ -136,6 +138,7 @@ impl SectorCopy {
     }
 
     /// Puts whole sectors in the place of those from `at` on.
+    #[tactic(auto, using(crate::proofs::Stored::part_is, crate::proofs::Stored::put_more))]
     pub fn put(&mut self, at: usize, from: &[u8])
         requires whole { length from.now % 512 ≡ 0 }
         requires inside { 512 * (at + sectors_of from.now) ≤ length self.old }

@@ -38,6 +38,7 @@ fn copy_sector(into: &mut [u8], from: &[u8], action: &Action)
 }
 
 /// Copies each sector that one of these entries wrote.
+#[tactic(auto, using(crate::proofs::Patches::names_at))]
 pub(crate) fn copy_written(into: &mut [u8], from: &[u8], entries: &[RecordEntry])
     requires same_size { length from.now ≡ length into.old }
     requires inside { (i : ℕ) → names entries.now i ≡ true → 512 * (i + 1) ≤ length into.old }
@@ -62,6 +63,7 @@ fn fill_sector(into: &mut [u8], byte: u8, action: &Action)
 }
 
 /// Fills each sector that one of these entries wrote with this byte.
+#[tactic(auto, using(crate::proofs::Patches::names_at))]
 pub(crate) fn fill_written(into: &mut [u8], byte: u8, entries: &[RecordEntry])
     requires inside { (i : ℕ) → names entries.now i ≡ true → 512 * (i + 1) ≤ length into.old }
     ensures patched { Patches (names entries.now) (λ _. replicate 512 byte) (image_of into.old) (image_of into.new) }

@@ -111,6 +111,7 @@ impl Written {
 }
 
 // Announces what an invocation through a gate writes, and fetches it.
+#[tactic(auto, using(crate::proofs::Effects::all_through))]
 fn announce<F: PresentFrames>(
     store: &mut F,
     invocation: &Invocation,
@@ -163,6 +164,7 @@ fn leave<F: PresentFrames>(store: &mut F, invocation: &Invocation)
 
 // Sends the message through the gate. A gate that works only once is consumed at the end, so a copy
 // of it that was sent arrives void.
+#[tactic(auto, using(crate::proofs::Plans::after_process, crate::proofs::Plans::after_annex))]
 fn enter<F: PresentFrames>(
     store: &mut F,
     invocation: &Invocation,
@@ -216,6 +218,7 @@ fn can_enter<F: Frames>(store: &F, invocation: &Invocation, gate: Gate) -> bool
 
 /// An invocation by a running process through a gate. A start capability needs an available
 /// process, or one that returns to itself.
+#[tactic(auto, using(crate::proofs::Standing::keepable_most))]
 pub fn invoke_gate<F: PresentFrames>(
     store: &mut F,
     banks: &Banks,

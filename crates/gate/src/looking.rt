@@ -41,6 +41,7 @@ pub fn look_at_process<F: Frames>(store: &mut F, banks: &Banks, process: u64) ->
 
 /// Fetches what an order on a capability reads: the object that it names, and the annex of a
 /// process.
+#[tactic(auto, using(crate::proofs::Standing::named_known, crate::proofs::Standing::one_known))]
 #[inline(always)]
 pub fn look_at_named<F: Frames>(
     store: &mut F,

@@ -52,6 +52,7 @@ pub fn upgraded_sectors<D: Device>(device: &mut D) -> Result<u64, OpenFault>
 }
 
 // The entries of a directory, in slots that rise from 0.
+#[tactic(auto, using(crate::proofs::Numbered::all_numbered))]
 fn in_order(alloc: Global, entries: &[Entry]) -> Result<Vec<Entry>, AllocError>
     ensures { IfOk result (λ found. found.items ≡ numbered 0 entries.now) }
 {

@@ -144,6 +144,7 @@ impl<D: Device, S: ObjectStore<D>> Kernel<D, S> {
     /// A refusal gives the device back: `Failed` exactly where the device failed, `NoMemory` only
     /// where memory ran out, and else the least of the ten reasons to refuse an image. What a crash
     /// of a kernel leaves is refused for none of them.
+    #[tactic(auto, using(crate::proofs::Machines::opens_up))]
     pub fn open(alloc: Global, device: D, setting: S::Setting) -> Result<Self, OpenRefused<D>>
         ensures opened { IfOk result (λ k. Opens D.disk S.view S.parts device k) }
         ensures refused { IfErr result (λ r. RefusesToOpen D.disk device r.device r.fault) }

@@ -37,6 +37,7 @@ fn evict<D: Device, S: ObjectStore<D>>(live: &mut Live<S>, number: u64) -> Resul
 
 /// Serves a command that isn't an invocation and doesn't open the device, by a store that is up. Only
 /// `Show` takes memory. Fails exactly if the device fails.
+#[tactic(auto, using(crate::proofs::Acts::caused))]
 #[inline(always)]
 pub fn serve<D: Device, S: ObjectStore<D>>(
     alloc: Global,
@@ -79,6 +80,7 @@ pub fn serve<D: Device, S: ObjectStore<D>>(
 }
 
 /// Carries out an invocation, by a store that is up.
+#[tactic(auto, using(crate::proofs::Acts::caused))]
 pub fn invoke<D: Device, S: ObjectStore<D>>(
     live: &mut Live<S>,
     invocation: &Invocation,

@@ -14,6 +14,7 @@ use std::alloc::{AllocError, Global};
 /// is if the object isn't in the least closed set that contains `starts`.
 ///
 /// It follows each number once. Fails only if memory runs out.
+#[tactic(auto, using(crate::proofs::Chains::back_first))]
 pub fn shortest_chain(
     alloc: Global,
     objects: &[Object],

@@ -82,6 +82,7 @@ fn line_of_step(objects: &[Object], step: Step) -> LineText
 }
 
 // Writes the lines of steps.
+#[tactic(auto, using(crate::proofs::TextLines::plain_all))]
 fn print_steps<W: Output>(
     objects: &[Object],
     steps: &[Step],
@@ -108,6 +109,7 @@ fn print_object<W: Output>(objects: &[Object], number: u64, writer: &mut W) -> R
 }
 
 // Writes the lines of a chain to an object.
+#[tactic(auto, using(script::proofs::Fronts::writes_after))]
 fn print_to<W: Output>(
     objects: &[Object],
     object: u64,

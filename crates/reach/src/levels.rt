@@ -33,6 +33,7 @@ impl Levels {
     }
 
     /// Finds a number in no step, unless it was found before.
+    #[tactic(auto, using(crate::proofs::Finding::begun_before, crate::proofs::Finding::some_of))]
     pub(crate) fn begin(&mut self, number: u64)
         requires { number < length self.old.found.items }
         ensures { Begins number self.old self.new }
@@ -46,6 +47,7 @@ impl Levels {
     }
 
     /// Finds the end of a step at a level, unless it was found before.
+    #[tactic(auto, using(crate::proofs::Finding::added_before, crate::proofs::Finding::some_of))]
     pub(crate) fn add(&mut self, step: Step, level: u64)
         requires known { step.to < length self.old.found.items }
         requires level { level ≤ self.old.greatest + 1 }

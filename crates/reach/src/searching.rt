@@ -27,6 +27,7 @@ fn find(levels: &mut Levels, from: u64, way: Way, capability: Capability, level:
 }
 
 // Finds what the capabilities in slots have authority over.
+#[tactic(auto, using(crate::proofs::Finding::finds_none))]
 fn find_held(levels: &mut Levels, from: u64, slots: &[Capability], level: u64)
     requires known { All (NamesWithin (length levels.old.found.items)) slots.now }
     requires level { level ≤ levels.old.greatest + 1 }
@@ -42,6 +43,7 @@ fn find_held(levels: &mut Levels, from: u64, slots: &[Capability], level: u64)
 }
 
 // Finds what a bank owns.
+#[tactic(auto, using(crate::proofs::Finding::finds_none))]
 fn find_owned(levels: &mut Levels, objects: &[Object], bank: u64, level: u64)
     requires count { length levels.old.found.items ≡ length objects.now }
     requires level { level ≤ levels.old.greatest + 1 }
@@ -107,6 +109,7 @@ fn find_of_object(levels: &mut Levels, objects: &[Object], number: u64, level: u
 }
 
 // Follows all that was found at a level.
+#[tactic(auto, using(crate::proofs::Finding::finds_none))]
 fn follow_level(levels: &mut Levels, objects: &[Object], level: u64)
     requires sound { AreSoundObjects objects.now }
     requires count { length levels.old.found.items ≡ length objects.now }
@@ -124,6 +127,7 @@ fn follow_level(levels: &mut Levels, objects: &[Object], level: u64)
 
 /// Finds all to which chains of steps from some numbers lead, each in as few steps as can be.
 /// Fails only if memory runs out.
+#[tactic(auto, using(crate::proofs::Searches::searched_first))]
 pub(crate) fn search(
     alloc: Global,
     objects: &[Object],

@@ -54,6 +54,7 @@ impl<W: Write> CountedWriter<W> {
     }
 
     // Writes all of the text, with as many calls as the writer needs.
+    #[tactic(auto, using(crate::proofs::Fronts::taken_all, crate::proofs::Fronts::took_more))]
     #[inline(never)]
     fn write_rest(&mut self, text: &[u8]) -> Result<(), RunFault>
         ensures { Writes (written_by W.contents self.old) (written_by W.contents self.new) result text.now }

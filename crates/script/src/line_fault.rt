@@ -104,6 +104,7 @@ fn operands(keyword: Keyword) -> &'static [bool]
 }
 
 // Whether each byte of a word is a digit.
+#[tactic(auto, using(crate::proofs::LineFaults::digits_on))]
 fn is_digits(word: &[u8]) -> bool
     ensures { IsTrue result ↔ AllDigits 10 word.now }
 {
@@ -116,6 +117,7 @@ fn is_digits(word: &[u8]) -> bool
 }
 
 // Why the word at a place isn't the decimal text of a number below 2^64.
+#[tactic(auto, using(crate::proofs::LineFaults::zero_longer, crate::proofs::LineFaults::too_great))]
 fn number_fault(word: &[u8], place: u64) -> LineFault
     requires { (n : ℕ) → n < 2 ^ 64 → word.now ≢ decimal n }
     ensures { (is_register : Bool) → IsWordFault word.now place is_register result }
@@ -187,6 +189,7 @@ fn operands_fault(keyword: Keyword, words: &mut Words<'_>) -> Option<LineFault>
 }
 
 /// A reason why a line is bad. It takes no memory.
+#[tactic(auto, using(crate::proofs::LineFaults::not_bad))]
 pub fn why_bad(line: &[u8]) -> LineFault
     requires { Says line.now Line.Bad }
     ensures { IsFaultOf line.now result }

@@ -101,6 +101,7 @@ impl LineText {
     }
 
     /// Adds a space and the number.
+    #[tactic(auto, using(crate::proofs::Texts::one_digit_text, crate::proofs::Texts::two_digits_text))]
     pub fn number(&mut self, number: u64)
         requires { length self.old + 21 ≤ 320 }
         ensures text { self.new ≡ self.old ++ 32 ∷ decimal number }

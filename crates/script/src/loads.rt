@@ -23,6 +23,7 @@ pub struct Store {
 }
 
 /// The load that a line says.
+#[tactic(auto, using(crate::proofs::ShortInvocations::load_said))]
 #[inline(always)]
 pub fn load_in(line: &[u8]) -> Option<Load>
     ensures { IfSome result (λ l. Fits (Command.Load l.process l.address)
@@ -40,6 +41,7 @@ pub fn load_in(line: &[u8]) -> Option<Load>
 }
 
 /// The store that a line says.
+#[tactic(auto, using(crate::proofs::ShortInvocations::store_said))]
 #[inline(always)]
 pub fn store_in(line: &[u8]) -> Option<Store>
     ensures { IfSome result (λ s. Fits (Command.Store s.process s.address s.value)

@@ -161,6 +161,7 @@ fn arguments(kind: Kind, words: &mut Words<'_>) -> Option<Capability>
 /// `weak` may follow a page, a node and a space. The words have one space between each two,
 /// numbers are decimal without leading zeros and below 2^64, heights 1 to 4, keys below 65536.
 /// Any other text names none. It takes no memory.
+#[tactic(auto, using(crate::proofs::CapabilityTexts::no_text, crate::proofs::CapabilityWords::no_words))]
 pub fn capability_of(text: &[u8]) -> Option<Capability>
     ensures some { IfSome result (λ c. IsWellFormed c
         × IfSome (named c) (λ o. o < 2 ^ 64) × (capability_text c ≡ text.now)) }
@@ -180,6 +181,7 @@ pub fn capability_of(text: &[u8]) -> Option<Capability>
 /// The state of a process that a text names: `available`, `running` or `waiting`.
 ///
 /// Any other text names none. It takes no memory.
+#[tactic(auto, using(crate::proofs::Tables::no_state_left))]
 pub fn state_of(text: &[u8]) -> Option<State>
     ensures some { IfSome result (λ s. state_text s ≡ text.now) }
     ensures none { IfNone result ((s : State) → state_text s ≢ text.now) }

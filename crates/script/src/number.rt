@@ -28,6 +28,7 @@ fn with_digit(number: u64, digit: u64) -> Option<u64>
 }
 
 // The value of the first word of a text, if it is digits alone and below 2^64.
+#[tactic(auto, using(crate::proofs::FirstWords::ends_here, crate::proofs::FirstWords::first_end_within))]
 fn value_in_front(text: &[u8]) -> Option<Front>
     ensures size { IfSome result (λ front. front.size ≡ first_end text.now) }
     ensures found { IfSome result (λ front. (front.number < 2 ^ 64)
@@ -52,6 +53,7 @@ fn value_in_front(text: &[u8]) -> Option<Front>
 }
 
 /// The number whose decimal text, without leading zeros, is the first word of a text.
+#[tactic(auto, using(crate::proofs::FirstWords::word_length, crate::proofs::Numbers::decimal_not_empty))]
 #[inline(never)]
 pub fn number_in_front(text: &[u8]) -> Option<Front>
     ensures size { IfSome result (λ front. front.size ≡ first_end text.now) }

@@ -87,6 +87,7 @@ fn is_skipped(line: &[u8]) -> bool
 }
 
 // The command that the words of the line say.
+#[tactic(auto, using(crate::proofs::Commands::no_keyword))]
 fn command_in(line: &[u8]) -> Option<Command>
     ensures found { IfSome result (λ c. Fits c × (words_of line.now ≡ command_words c)) }
     ensures none { IfNone result ((c : Command) → Fits c → words_of line.now ≢ command_words c) }
@@ -102,6 +103,7 @@ fn command_in(line: &[u8]) -> Option<Command>
 }
 
 // What a line says. Most invocations, loads and stores are read before.
+#[tactic(auto, using(crate::proofs::Spellings::spelling_said, crate::proofs::Spellings::says_said))]
 #[inline(never)]
 fn other_line(line: &[u8]) -> Line
     ensures says { Says line.now result }

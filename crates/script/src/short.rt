@@ -76,6 +76,7 @@ fn digits_end(text: &[u8], at: usize) -> usize
 
 // The number at a place whose first digits, up to `from`, are those of `number`, if it has at most 19
 // and a space follows it. Else `next` is beyond the text.
+#[tactic(auto, using(crate::proofs::ShortNumbers::place_more))]
 #[inline(never)]
 fn digits_before(text: &[u8], at: usize, from: usize, number: u64) -> Short
     requires begun { (at < from) × (from ≤ length text.now) × (from ≤ at + 19) }
@@ -110,6 +111,7 @@ fn digits_before(text: &[u8], at: usize, from: usize, number: u64) -> Short
 
 // The number at a place, if it has two or more digits and a space follows it. Else `next` is beyond
 // the text.
+#[tactic(auto, using(crate::proofs::ShortNumbers::values_up_to_three))]
 #[inline(never)]
 fn longer_before(text: &[u8], at: usize) -> Short
     requires { at + 2 < length text.now }
@@ -182,6 +184,7 @@ struct ShortRegister {
 }
 
 // The register at a place, if a space follows its number.
+#[tactic(auto, using(crate::proofs::ShortInvocations::register_reads))]
 #[inline(always)]
 fn register_before(text: &[u8], at: usize, behind: usize) -> Option<ShortRegister>
     requires room { at + behind < length text.now }
@@ -199,6 +202,7 @@ fn register_before(text: &[u8], at: usize, behind: usize) -> Option<ShortRegiste
 
 // The number at a place whose first digits, up to `from`, are those of `number`, if it has at most 19
 // and is the last word.
+#[tactic(auto, using(crate::proofs::ShortNumbers::place_more, crate::proofs::ShortNumbers::digits_last))]
 #[inline(never)]
 fn last_digits(text: &[u8], at: usize, from: usize, number: u64) -> Option<u64>
     requires begun { (at < from) × (from ≤ length text.now) }
@@ -222,6 +226,7 @@ fn last_digits(text: &[u8], at: usize, from: usize, number: u64) -> Option<u64>
 }
 
 // The number at a place, if it has two or more digits and is the last word.
+#[tactic(auto, using(crate::proofs::ShortNumbers::values_up_to_three))]
 #[inline(never)]
 fn last_longer(text: &[u8], at: usize) -> Option<u64>
     requires { at + 1 < length text.now }
@@ -244,6 +249,7 @@ fn last_longer(text: &[u8], at: usize) -> Option<u64>
 }
 
 /// The number at a place, if it is the last word.
+#[tactic(auto, using(crate::proofs::ShortNumbers::last_one_found))]
 #[inline(always)]
 pub fn last_number(text: &[u8], at: usize) -> Option<u64>
     requires { at < length text.now }
@@ -265,6 +271,7 @@ fn last_register(text: &[u8], at: usize) -> Option<Register>
 }
 
 /// The registers at a place, if they are the last words. Mostly nothing is sent.
+#[tactic(auto, using(crate::proofs::ShortInvocations::void_read, crate::proofs::ShortInvocations::registers_read))]
 #[inline(always)]
 pub fn last_registers(text: &[u8], at: usize) -> Option<[Register; 4]>
     requires { at + 6 < length text.now }
@@ -292,6 +299,7 @@ struct Shorts {
 }
 
 // The four numbers at a place, if four more can follow.
+#[tactic(auto, using(crate::proofs::ShortInvocations::numbers_read))]
 #[inline(always)]
 fn numbers_before(text: &[u8], at: usize) -> Option<Shorts>
     requires { at + 14 < length text.now }

@@ -60,6 +60,7 @@ impl ShortLine {
     }
 
     /// Adds a space and the number.
+    #[tactic(auto, using(crate::proofs::Texts::one_digit_text))]
     #[inline(always)]
     pub fn number(&mut self, number: u64)
         requires { length self.old + 21 ≤ 60 }

@@ -33,6 +33,7 @@ pub fn state_word(state: State) -> &'static [u8]
 }
 
 // Begins the first line of a process.
+#[tactic(auto, using(crate::proofs::Texts::process_text))]
 fn begin_process(line: &mut LineText, number: u64, owner: u64, root: &Root<Capability>)
     ensures text { line.new ≡ spaced (headed (codes "process") number owner
         ++ (codes "annex" ∷ decimal root.now.annex ∷ state_text root.now.state
@@ -51,6 +52,7 @@ fn begin_process(line: &mut LineText, number: u64, owner: u64, root: &Root<Capab
 }
 
 // Begins the line of a bank.
+#[tactic(auto, using(crate::proofs::Texts::bank_text))]
 fn begin_bank(line: &mut LineText, number: u64, owner: u64, limit: u64, used: u64)
     ensures text { line.new ≡ spaced (headed (codes "bank") number owner
         ++ (codes "limit" ∷ decimal limit ∷ codes "used" ∷ decimal used ∷ [])) }
@@ -62,6 +64,7 @@ fn begin_bank(line: &mut LineText, number: u64, owner: u64, limit: u64, used: u6
 }
 
 // Writes the line of a word that isn't 0.
+#[tactic(auto, using(crate::proofs::Fronts::writes_same))]
 fn print_word<W: Output>(
     line: &mut LineText,
     index: usize,
@@ -95,6 +98,7 @@ fn print_words<W: Output>(
 }
 
 // Writes the line of a capability that isn't void.
+#[tactic(auto, using(crate::proofs::Fronts::writes_same, crate::proofs::Texts::capability_has_line))]
 fn print_capability<W: Output>(
     line: &mut LineText,
     name: &[u8],
@@ -159,6 +163,7 @@ fn held_by(registers: &Option<Slots<Capability>>) -> &[Capability]
 }
 
 /// Writes the lines of an object but the last.
+#[tactic(auto, using(crate::proofs::Fronts::writes_same, crate::proofs::Texts::object_free))]
 #[inline(never)]
 pub fn print_object<W: Output>(
     number: u64,

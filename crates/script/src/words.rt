@@ -19,6 +19,7 @@ fn first_space(bytes: &[u8]) -> Option<usize>
 }
 
 // What follows the space behind the first word of a text, if there is a space.
+#[tactic(auto, using(crate::proofs::Split::word_and_more, crate::proofs::Split::word_alone))]
 fn behind_first(text: &[u8], end: usize) -> Option<&[u8]>
     requires { end ≡ first_end text.now }
     ensures { words_of text.now ≡ first_word text.now
@@ -75,6 +76,7 @@ impl<'a> Words<'a> {
     }
 
     /// Whether no word is left.
+    #[tactic(auto, using(crate::proofs::Split::some_word))]
     pub fn is_empty(&self) -> bool
         ensures { IsTrue result ↔ (self.now ≡ []) }
     {
@@ -82,6 +84,7 @@ impl<'a> Words<'a> {
     }
 
     /// Takes the next word.
+    #[tactic(auto, using(crate::proofs::Split::no_space, crate::proofs::Split::first_piece))]
     pub fn next(&mut self) -> Option<&'a [u8]>
         ensures { MatchOption result ((self.old ≡ []) × (self.new ≡ []))
             (λ w. self.old ≡ w.now ∷ self.new) }

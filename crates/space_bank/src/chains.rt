@@ -17,6 +17,7 @@ use capability::Frames;
 /// Adds `more` to the usage of each bank in a chain, and subtracts `less`.
 ///
 /// Goes over at most 16 banks, in the table alone.
+#[tactic(auto, using(crate::proofs::Tallies::climb_ended))]
 pub(crate) fn shift<F: Frames>(usages: &mut [u64], store: &F, bank: u64, more: u64, less: u64)
     requires tree { IsTree (objects_in (F.parts store.now)) }
     requires bank { IsTrue (is_bank (content_at (objects_in (F.parts store.now)) bank)) }
@@ -42,6 +43,7 @@ pub(crate) fn shift<F: Frames>(usages: &mut [u64], store: &F, bank: u64, more: u
 impl Banks {
     /// Adds `count` to what each bank in the chain of `bank` accounts for, where none of their
     /// limits is passed.
+    #[tactic(auto, using(crate::proofs::Tallies::room_fits))]
     pub(crate) fn account<F: Frames>(&mut self, store: &F, bank: u64, count: u64)
         requires asks { MayServe (F.parts store.now) self.old bank }
         requires room { IsTrue (has_quota (objects_in (F.parts store.now)) bank count) }

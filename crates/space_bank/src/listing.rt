@@ -30,6 +30,7 @@ fn is_listed<F: Frames>(store: &F, bank: u64, deep: bool, number: u64) -> bool
 
 // Lists the numbers of a bank other than the prime bank, least first. Number 0 isn't among them.
 // Goes over the numbers that aren't free.
+#[tactic(auto, using(capability::proofs::FrameLists::length_objects, crate::proofs::Missing::listed_inner))]
 fn list_all<F: Frames>(
     store: &F,
     nodes: &NumberSet,
@@ -89,6 +90,7 @@ impl Banks {
     }
 
     // Lists the numbers of a bank behind those that are listed.
+    #[tactic(auto, using(crate::proofs::Tallies::serve_roles, crate::proofs::Missing::bank_free))]
     pub(crate) fn list_all<F: Frames>(&mut self, store: &F, bank: u64, deep: bool)
         requires bank { MayServe (F.parts store.now) self.old bank }
         requires other { bank ≢ 0 }

@@ -31,6 +31,7 @@ pub(crate) fn mark(
 }
 
 /// Makes numbers free.
+#[tactic(auto, using(crate::proofs::Tallies::marked_more))]
 pub(crate) fn mark_free(
     nodes: &mut NumberSet,
     pages: &mut NumberSet,

@@ -86,6 +86,7 @@ impl Banks {
     }
 
     // What a capability frees, where the bank owns it.
+    #[tactic(auto, using(crate::proofs::Plans::process_room))]
     fn plan_free<F: Frames>(&mut self, store: &F, bank: u64, capability: Capability) -> OrderPlan
         requires bank { MayServe (F.parts store.now) self.old bank }
         requires few { length self.old.listed ≤ 2 }
@@ -122,6 +123,7 @@ impl Banks {
     }
 
     // A bank and all that is under it are destroyed.
+    #[tactic(auto, using(crate::proofs::Plans::bank_room))]
     fn plan_destroy<F: Frames>(&mut self, store: &F, bank: u64) -> OrderPlan
         requires bank { MayServe (F.parts store.now) self.old bank }
         requires few { length self.old.listed ≤ 2 }

@@ -41,6 +41,7 @@ impl New {
 }
 
 // What is made of the least number in a set, whose numbers are counted from a first one.
+#[tactic(auto, using(crate::proofs::Missing::found_none))]
 fn next_one(numbers: &NumberSet, first: u64, fresh: Fresh, bank: u64) -> Option<BankChange>
     requires { first + length numbers.now < 2 ^ 64 }
     ensures made { (os : List Object) → AreMarked os first (length numbers.now) numbers.now
@@ -58,6 +59,7 @@ fn next_one(numbers: &NumberSet, first: u64, fresh: Fresh, bank: u64) -> Option<
 }
 
 // The process that is made of the two least numbers in a set.
+#[tactic(auto, using(crate::proofs::Missing::found_none, crate::proofs::Missing::process_missing))]
 fn next_process(numbers: &NumberSet, bank: u64) -> Option<BankChange>
     ensures made { (os : List Object) → AreMarked os 0 (length numbers.now) numbers.now
         → result ≡ process_at bank (are_free os (range_with_len 0 (length numbers.now))) }

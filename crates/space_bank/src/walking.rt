@@ -34,6 +34,7 @@ pub(crate) fn is_free<F: Frames>(store: &F, number: u64) -> bool
 
 /// Whether a bank is in the chain that begins with another, which has at most 16 banks (KeyKOS,
 /// EROS: banks form a tree). Goes from owner to owner in the table alone.
+#[tactic(auto, using(crate::proofs::Plans::chain_begun, crate::proofs::Plans::chain_here))]
 pub fn is_in_chain<F: Frames>(store: &F, first: u64, bank: u64) -> bool
     ensures { result
         ≡ list_any (nat_eq bank) (chain (objects_in (F.parts store.now)) first) }
@@ -61,6 +62,7 @@ pub(crate) fn is_under<F: Frames>(store: &F, bank: u64, number: u64) -> bool
 }
 
 // How many banks the chain of a bank has.
+#[tactic(auto, using(crate::proofs::Plans::chain_begun, crate::proofs::Plans::chain_last))]
 pub(crate) fn chain_length<F: Frames>(store: &F, bank: u64) -> usize
     ensures { result ≡ length (chain (objects_in (F.parts store.now)) bank) }
 {
@@ -93,6 +95,7 @@ impl Banks {
     }
 
     // How many more objects of a bank pass the limit of no bank in its chain.
+    #[tactic(auto, using(crate::proofs::Plans::left_there))]
     pub(crate) fn least_left<F: Frames>(&self, store: &F, bank: u64) -> u64
         requires { MayServe (F.parts store.now) self.now bank }
         ensures { result ≡ remaining (objects_in (F.parts store.now)) bank }

@@ -10,6 +10,7 @@ use model::Refusal;
 
 /// Why a process can't act: `NoProcess` or `NotRunning`, or `None` if it runs. `NoProcess` leaves the
 /// store untouched. Fails exactly if the device fails.
+#[tactic(auto, using(gate::proofs::Standing::keepable_most))]
 pub fn early<F: Frames>(store: &mut F, age: u64, process: u64) -> Result<Option<Refusal>, Failed>
     requires sound { IsSoundFrames (F.parts store.old).geometry age
         (frames_of (F.parts store.old)) }

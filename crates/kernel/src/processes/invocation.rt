@@ -42,6 +42,7 @@ fn refuse_worn<F: Frames>(store: &mut F, age: u64, invocation: &Invocation) -> R
 /// usages of the banks as they are afterwards.
 ///
 /// `Fault`: the device failed, and nothing has changed.
+#[tactic(auto, using(gate::proofs::BankStates::counted_looked, gate::proofs::Standing::looked_as))]
 pub fn invoke<F: PresentFrames>(
     store: &mut F,
     banks: &mut Banks,

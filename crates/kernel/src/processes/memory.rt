@@ -45,6 +45,7 @@ pub fn load<F: Frames>(
 /// precedes `LogFull`. A refusal changes nothing: the first that applies of `NoProcess` (the store is
 /// untouched), `NotRunning` and `LogFull`. Fails exactly if the device fails. The counts of `Banks`
 /// stay right.
+#[tactic(auto, using(gate::proofs::BankStates::counted_looked, gate::proofs::Standing::looked_as))]
 pub fn store<F: PresentFrames>(
     store: &mut F,
     age: u64,

@@ -94,6 +94,7 @@ fn are_all_named<F: Frames>(store: &F, notes: &[Option<Noted>], held: &[Cap]) ->
 }
 
 // The same of each capability that an object holds, which is fetched.
+#[tactic(auto, using(crate::proofs::Named::held_named, crate::proofs::Tables::content_read))]
 fn holds_named<F: Frames>(store: &F, notes: &[Option<Noted>], number: u64) -> bool
     requires fetched { F.IsFetched store.now number }
     requires notes { AreNoted (frames_of (F.parts store.now)) notes.now }

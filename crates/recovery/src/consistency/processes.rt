@@ -29,6 +29,7 @@ fn waits(state: State) -> bool
 }
 
 // What is noted of an object that is fetched.
+#[tactic(auto, using(crate::proofs::Tables::content_read))]
 fn note_there<F: Frames>(store: &F, number: u64) -> Option<Noted>
     requires { F.IsFetched store.now number }
     ensures { result ≡ noted_in (frame_at (frames_of (F.parts store.now)) number).content }
@@ -111,6 +112,7 @@ fn take_annex<F: Frames>(store: &F, taken: &mut [bool], root: u64, annex: u64) -
 }
 
 // Takes the annexes of all roots, from none. Whether each is one for its root and is taken once.
+#[tactic(auto, using(capability::proofs::FrameLists::length_in))]
 fn take_annexes<F: Frames>(store: &F, notes: &[Option<Noted>], taken: &mut [bool]) -> bool
     requires size { length taken.old ≡ length (F.parts store.now).headers }
     requires none { (a : ℕ) → is_taken taken.old a ≡ false }

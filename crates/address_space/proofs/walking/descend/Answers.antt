@@ -1,17 +1,8 @@
 use Rattle.address_space.proofs.Names.{nat_tests, sym, subst, arith, List, Object, MayBeHeld, Space, objects_in}
 use Rattle.std.proofs.Common.{◌∙◌}
 use Rattle.address_space.proofs.Paths.{goes_on, union_access, at_early_page, at_hole, at_other, at_other_tree, at_page}
-use Rattle.address_space.proofs.Known.{fetches_on, read_there, same_objects, ok_no_err, still_held, still_sound, unrisen}
+use Rattle.address_space.proofs.Known.{fetches_on, read_there, same_objects, ok_no_err, unrisen}
 use Rattle.address_space.proofs.walking.descend.Goals as goal
-
-pub loop-object-init : goal.loop-object-init
-loop-object-init g c = grind (arith, nat_tests)
-
-pub next_slot-requires-clause-sound : goal.next_slot-requires-clause-sound
-next_slot-requires-clause-sound g c = still_sound c.loop-object.invariant c.requires.sound
-
-pub next_slot-requires-clause-held : goal.next_slot-requires-clause-held
-next_slot-requires-clause-held g c = still_held c.loop-object.invariant
 
 pub returns-in-Void-clause-reached : goal.returns-in-Void-clause-reached
 returns-in-Void-clause-reached g c = grind (arith, nat_tests, at_hole, read_there)

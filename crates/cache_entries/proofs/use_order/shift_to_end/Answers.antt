@@ -1,10 +1,7 @@
 use Rattle.cache_entries.proofs.Names.{rules, arith, slice_get_within}
-use Rattle.std.proofs.Common.{◌+◌, ◌-◌}
-use Rattle.cache_entries.proofs.Moves.{move_begun, moved_up, moved_last}
+use Rattle.std.proofs.Common.{◌+◌}
+use Rattle.cache_entries.proofs.Moves.{moved_up, moved_last}
 use Rattle.cache_entries.proofs.use_order.shift_to_end.Goals as goal
-
-pub loop-i-init : goal.loop-i-init
-loop-i-init c = move_begun c.args.number c.args.numbers.now c.args.place c.requires.there c.requires.once
 
 pub loop-i-preserved : goal.loop-i-preserved
 loop-i-preserved c =

@@ -1,13 +1,5 @@
-use Rattle.std.proofs.Common.{rules}
-use Rattle.capability.proofs.Edits.{claim_objects, claim_stays_current}
 use Rattle.capability.proofs.Keeping.{claim_stays_keepable}
 use Rattle.capability.proofs.objects.claim.Goals as goal
-
-pub returns-clause-objects : goal.returns-clause-objects
-returns-clause-objects g c = search (rules, claim_objects)
-
-pub returns-clause-current : goal.returns-clause-current
-returns-clause-current g c = search (rules, claim_stays_current)
 
 pub returns-clause-keepable : goal.returns-clause-keepable
 returns-clause-keepable g c =

@@ -1,13 +1,5 @@
-use Rattle.std.proofs.Common.{rules}
-use Rattle.capability.proofs.Counts.{current_called, objects_called}
 use Rattle.capability.proofs.Keeping.{call_stays_keepable}
 use Rattle.capability.proofs.objects.consume.Goals as goal
-
-pub returns-clause-objects : goal.returns-clause-objects
-returns-clause-objects g c = search (rules, objects_called)
-
-pub returns-clause-current : goal.returns-clause-current
-returns-clause-current g c = search (rules, current_called)
 
 pub returns-clause-keepable : goal.returns-clause-keepable
 returns-clause-keepable g c =

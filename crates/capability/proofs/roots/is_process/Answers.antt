@@ -1,10 +1,6 @@
-use Rattle.std.proofs.Common.{rules}
 use Rattle.std.proofs.Common.{sym, ◌∙◌}
 use Rattle.capability.proofs.Roles.{no_root_role, process_by_role, role_there}
 use Rattle.capability.proofs.roots.is_process.Goals as goal
-
-pub returns-in-Root : goal.returns-in-Root
-returns-in-Root g c = search (rules, process_by_role, role_there)
 
 pub returns-in_default : goal.returns-in_default
 returns-in_default g c =

@@ -1,6 +1,5 @@
-use Rattle.ckpt_log.proofs.Names.{rules, subst, agrees_is, Image, Agrees, Peeks, KeepsOrHasNone}
-use Rattle.std.proofs.Common.{◌∙◌}
-use Rattle.ckpt_log.proofs.Closings.{closing_run, keeps_same, peek_run}
+use Rattle.ckpt_log.proofs.Names.{rules, Agrees, Peeks}
+use Rattle.ckpt_log.proofs.Closings.{closing_run, peek_run}
 use Rattle.ckpt_log.proofs.closing.close_gates.Goals as goal
 
 pub returns-clause-any_moment : goal.returns-clause-any_moment
@@ -10,12 +9,3 @@ returns-clause-any_moment g c =
     closing_run {old = g.D.Device.disk c.args.device.now} {mid = g.D.Device.disk c.lesser_slot.new.device} {new = g.D.Device.disk c.close_in_turn.new.device}
     (g.met.D.Device.seen_left c.args.device.now) same
     (peek_run {old = g.D.Device.disk c.args.device.now} {new = g.D.Device.disk c.lesser_slot.new.device} peeks) c.close_in_turn.ensures.any_moment
-
-pub returns-in_err-slot-clause-seen : goal.returns-in_err-slot-clause-seen
-returns-in_err-slot-clause-seen g c = keeps_same (λ i. c.lesser_slot.ensures.reads.seen i ∙ c.sync.ensures.seen i)
-
-pub returns-clause-seen : goal.returns-clause-seen
-returns-clause-seen g c =
-    let same : Agrees (g.D.Device.disk c.lesser_slot.new.device).seen (g.D.Device.disk c.args.device.now).seen =
-    λ i. c.lesser_slot.ensures.reads.seen i ∙ c.sync.ensures.seen i in
-    subst (λ (image : Image). KeepsOrHasNone image (g.D.Device.disk c.close_in_turn.new.device).seen) (agrees_is _ _ same) c.close_in_turn.ensures.seen

@@ -10,11 +10,6 @@ returns-in_err-close_gate-clause-any_moment g c =
     first_run c.args.slot {old = g.D.Device.disk c.args.device.now} {new = g.D.Device.disk c.close_gate.new.device}
     c.gate.ensures.value c.requires.lesser c.close_gate.ensures.any_moment
 
-pub returns-in_err-close_gate-clause-seen : goal.returns-in_err-close_gate-clause-seen
-returns-in_err-close_gate-clause-seen g c =
-    seen_has (returns-in_err-close_gate-clause-any_moment g c) (g.met.D.Device.counts_now c.close_gate.new.device)
-    (g.met.D.Device.seen_left c.close_gate.new.device)
-
 pub returns-clause-any_moment : goal.returns-clause-any_moment
 returns-clause-any_moment g c =
     second_run c.args.slot {old = g.D.Device.disk c.args.device.now} {mid = g.D.Device.disk c.close_gate.new.device}

@@ -1,15 +1,6 @@
-use Rattle.std.proofs.Common.{◌∙◌}
-use Rattle.ckpt_log.proofs.Commits.{opening, opened_new, gate_is}
+use Rattle.ckpt_log.proofs.Commits.{opening, gate_is}
 use Rattle.ckpt_log.proofs.Runs.{opening_run}
-use Rattle.std.proofs.lemmas.Result.{on_ok_weaker}
 use Rattle.ckpt_log.proofs.publish.open_gate.Goals as goal
-
-pub returns-clause-committed : goal.returns-clause-committed
-returns-clause-committed g c =
-    let place = gate_is c.args.header c.of.result c.of.ensures.value c.gate-at.ensures.value in
-    let elsewhere = rw place at c.put_sector.ensures.elsewhere in
-    let written = rw place at c.put_sector.ensures.written in
-    on_ok_weaker c.put_sector.result (λ gate. opened_new c.of.ensures.fits c.requires.next c.requires.written elsewhere (gate ∙ c.encode_gate.ensures)) written
 
 pub returns-clause-seen : goal.returns-clause-seen
 returns-clause-seen g c =

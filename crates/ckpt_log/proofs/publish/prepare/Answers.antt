@@ -29,9 +29,3 @@ returns-clause-any_moment g c =
     header_run (header_is c.args.header c.of-slot.result c.of-slot.ensures.value c.header.ensures.value)
     c.requires.next kept (shut_gate (g.D.Device.disk c.args.device.now).seen (g.D.Device.disk c.close_gate.new.device).seen c.args.header closed) first
     c.put_sector.ensures.any_moment
-
-pub returns-in_err-close_gate-clause-keeps : goal.returns-in_err-close_gate-clause-keeps
-returns-in_err-close_gate-clause-keeps g c =
-    let place = gate_is c.args.header c.of-slot.result c.of-slot.ensures.value c.gate.ensures.value in
-    let elsewhere = rw place at c.close_gate.ensures.elsewhere in
-    let same = rw place at c.close_gate.ensures.closed_before in closing_keeps c.requires.next elsewhere same

@@ -1,5 +1,5 @@
 use Rattle.command_line.proofs.Names.{rules, found_of, IsNumber}
-use Rattle.command_line.proofs.Getters.{given, held, missing}
+use Rattle.command_line.proofs.Getters.{given, held}
 use Rattle.command_line.proofs.arguments.option_of.Goals as goal
 
 pub returns-in_err-number-in-Some-clause-none : goal.returns-in_err-number-in-Some-clause-none
@@ -15,6 +15,3 @@ returns-in_ok-number-in-Some-clause-named c = (
   given (found_of c.args.inner.now) c.args.name.now c.get_str.result c.in-Some.word c.get_str.ensures (search rules),
   held (IsNumber c.args.least c.args.most c.in-Some.word.now) c.number_in.result c.in_ok-number-in-Some.number c.number_in.ensures.named (search rules),
 )
-
-pub returns-in-None-clause-named : goal.returns-in-None-clause-named
-returns-in-None-clause-named c = missing (found_of c.args.inner.now) c.args.name.now c.get_str.result c.get_str.ensures (search rules)

@@ -1,10 +1,7 @@
 use Rattle.devices.proofs.Names.{nat_tests, ℕ, arith, length-drop, length-take}
-use Rattle.devices.proofs.Deeds.{takes_none, takes_on}
+use Rattle.devices.proofs.Deeds.{takes_on}
 use Rattle.devices.proofs.host_file.put_fully.Goals as goal
 use Rattle.devices.proofs.host_file.put_fully.Goals.{in-Ok, in-Err+else-ne}
-
-pub loop-init : goal.loop-init
-loop-init g c = record { within = omega arith; taken = takes_none c.args.at (g.F.RawFile.calls c.args.file.now) }
 
 pub loop-preserved : goal.loop-preserved
 loop-preserved g c = elim c.match-put.branch [

@@ -1,19 +1,8 @@
 use Rattle.devices.proofs.Names.{nat_tests, arith, option_map, refl, ap, resizes}
 use Rattle.std.proofs.Common.{◌∙◌}
-use Rattle.devices.proofs.Openings.{fits_within, still_within, gets_none, gets_on, gets_still, keeps_length}
+use Rattle.devices.proofs.Openings.{fits_within, still_within, gets_on, gets_still, keeps_length}
 use Rattle.devices.proofs.open.get_fully.Goals as goal
 use Rattle.devices.proofs.open.get_fully.Goals.{in-Ok, in-Err+else-ne}
-
-pub returns-in-Ok-eq0-clause-length : goal.returns-in-Ok-eq0-clause-length
-returns-in-Ok-eq0-clause-length g c = keeps_length _ _ _ c.in-Ok-eq0.ensures.ok refl ∙ c.loop.invariant.length_kept
-
-pub loop-init : goal.loop-init
-loop-init g c = record {
-  within = omega arith;
-  bytes = gets_none c.args.at (g.F.Openable.opening c.args.file.now);
-  length_kept = refl;
-  calls = refl;
-}
 
 pub loop-preserved : goal.loop-preserved
 loop-preserved g c =

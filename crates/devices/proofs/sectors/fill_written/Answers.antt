@@ -1,11 +1,6 @@
 use Rattle.std.proofs.Common.{arith}
-use Rattle.devices.proofs.Patches.{patches_on, names_more, names_at}
+use Rattle.devices.proofs.Patches.{patches_on, names_more}
 use Rattle.devices.proofs.sectors.fill_written.Goals as goal
-
-pub fill_sector-requires : goal.fill_sector-requires
-fill_sector-requires c = record {
-  inside = λ i hit. omega (arith, c.requires.inside i (names_at c.args.entries.now c.loop-entry.entry-index _ (omega arith) i hit));
-}
 
 pub loop-entry-preserved : goal.loop-entry-preserved
 loop-entry-preserved c = record {

@@ -1,10 +1,7 @@
-use Rattle.gate.proofs.Names.{rules, ℕ, List, sym, subst, Contains}
-use Rattle.std.proofs.Common.{◌<◌, ◌∙◌}
-use Rattle.gate.proofs.Effects.{all_through, announced_through, on_ok}
+use Rattle.gate.proofs.Names.{ℕ, List, sym, subst, Contains}
+use Rattle.std.proofs.Common.{◌∙◌}
+use Rattle.gate.proofs.Effects.{announced_through, on_ok}
 use Rattle.gate.proofs.gates.announce.Goals as goal
-
-pub prepare-requires-clause-announced : goal.prepare-requires-clause-announced
-prepare-requires-clause-announced g c = search (rules, all_through)
 
 pub returns-clause-announced : goal.returns-clause-announced
 returns-clause-announced g c =

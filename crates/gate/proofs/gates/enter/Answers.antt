@@ -1,17 +1,7 @@
-use Rattle.gate.proofs.Names.{rules, List, arith, sym, subst, All, Capability, frames_of, keepable_later, FitsCap}
-use Rattle.std.proofs.Common.{◌+◌, ◌-◌, ◌^◌, ◌<◌, ◌∙◌}
+use Rattle.gate.proofs.Names.{List, arith, sym, subst, All, Capability, frames_of, keepable_later, FitsCap}
+use Rattle.std.proofs.Common.{◌+◌, ◌∙◌}
 use Rattle.gate.proofs.Standing.{in_geometry}
-use Rattle.gate.proofs.Plans.{after_annex, after_process}
 use Rattle.gate.proofs.gates.enter.Goals as goal
-
-pub deliver-requires-clause-process : goal.deliver-requires-clause-process
-deliver-requires-clause-process g c = search (rules, after_process)
-
-pub deliver-requires-clause-annex_fetched : goal.deliver-requires-clause-annex_fetched
-deliver-requires-clause-annex_fetched g c = search (rules, after_annex)
-
-pub deliver-requires-clause-annex_announced : goal.deliver-requires-clause-annex_announced
-deliver-requires-clause-annex_announced g c = search (rules, after_annex)
 
 pub returns-then-gate-clause-keepable : goal.returns-then-gate-clause-keepable
 returns-then-gate-clause-keepable g c age young fits k =

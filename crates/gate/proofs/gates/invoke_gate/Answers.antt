@@ -6,9 +6,6 @@ use Rattle.gate.proofs.Standing.{running_process, gate_no_bank, renews_invoked, 
 use Rattle.gate.proofs.Standing.{looked_as, looked_number, looked_objects, looked_sound, only_reads_again, now_sound, prepared_as}
 use Rattle.gate.proofs.gates.invoke_gate.Goals as goal
 
-pub look_at_process-requires-clause-keepable : goal.look_at_process-requires-clause-keepable
-look_at_process-requires-clause-keepable g c = keepable_most (g.F.Frames.parts c.args.store.now) c.requires.sound
-
 pub look_at_process-requires-clause-process : goal.look_at_process-requires-clause-process
 look_at_process-requires-clause-process g c =
     gate_process (g.F.Frames.parts c.args.store.now) c.requires.sound c.args.gate c.requires.requested c.requires.gate

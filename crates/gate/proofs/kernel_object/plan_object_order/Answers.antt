@@ -1,14 +1,7 @@
 use Rattle.gate.proofs.Names.{rules, ap, objects_in, BanksState}
-use Rattle.std.proofs.Common.{◌≡◌}
 use Rattle.gate.proofs.Plans.{object_planned, process_there}
-use Rattle.gate.proofs.Standing.{ReadsAs, few_objects, keepable_most, looked_as, looked_objects, now_sound, register_kind}
+use Rattle.gate.proofs.Standing.{ReadsAs, few_objects, looked_as, looked_objects, now_sound, register_kind}
 use Rattle.gate.proofs.kernel_object.plan_object_order.Goals as goal
-
-pub look_at_named-requires-clause-keepable : goal.look_at_named-requires-clause-keepable
-look_at_named-requires-clause-keepable g c = keepable_most (g.F.Frames.parts c.args.store.now) c.requires.sound
-
-pub look_at_named-requires-clause-kind : goal.look_at_named-requires-clause-kind
-look_at_named-requires-clause-kind g c = search (rules, register_kind)
 
 pub plan-plan-requires-clause-process : goal.plan-plan-requires-clause-process
 plan-plan-requires-clause-process g c p is = search (rules, looked_as, register_kind, looked_objects, process_there)

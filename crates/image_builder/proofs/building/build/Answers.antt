@@ -11,12 +11,3 @@ returns-in_err-blueprint-clause-refused g c =
 pub returns-in_err-blueprint-clause-any_moment : goal.returns-in_err-blueprint-clause-any_moment
 returns-in_err-blueprint-clause-any_moment g c = nothing_written_of (table_view c.args.table.now) (g.D.Device.disk c.args.device.now)
     (g.met.D.Device.only_now c.args.device.now)
-
-pub returns-clause-built : goal.returns-clause-built
-returns-clause-built g c = c.build.ensures.built (table_view c.args.table.now) c.in_ok-blueprint.ensures.read
-
-pub returns-clause-refused : goal.returns-clause-refused
-returns-clause-refused g c = c.build.ensures.refused (table_view c.args.table.now) c.in_ok-blueprint.ensures.read
-
-pub returns-clause-any_moment : goal.returns-clause-any_moment
-returns-clause-any_moment g c = c.build.ensures.any_moment (table_view c.args.table.now) c.in_ok-blueprint.ensures.read

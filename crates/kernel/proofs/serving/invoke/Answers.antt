@@ -1,6 +1,6 @@
 use Rattle.kernel.proofs.Names.{answer_with}
 use Rattle.model.specs.declared.command.Command.TheVariants as command
-use Rattle.kernel.proofs.Acts.{acted, caused}
+use Rattle.kernel.proofs.Acts.{acted}
 use Rattle.kernel.proofs.Machines.{up_code}
 use Rattle.kernel.proofs.serving.invoke.Goals as goal
 
@@ -12,9 +12,6 @@ returns-clause-serves g c =
     acted _ _ _ g.met.D.Device.only_now g.met.S.ObjectStore.sound_holds l s
     (g.met.S.ObjectStore.continues l.store s said.continues) c.invoke.new.banks c.invoke.new.age
     (command.Invoke c.args.invocation.now) (answer_with c.invoke.result) said.later said.serves said.counted
-
-pub returns-clause-cause : goal.returns-clause-cause
-returns-clause-cause g c = caused (g.met.S.ObjectStore.failures_are _) (g.met.S.ObjectStore.failures_are _) c.invoke.ensures.serves
 
 pub returns-clause-code : goal.returns-clause-code
 returns-clause-code g c =

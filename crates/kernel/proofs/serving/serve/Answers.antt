@@ -1,6 +1,6 @@
 use Rattle.kernel.proofs.Names.{arith, answer_of}
 use Rattle.model.specs.declared.command.Command.TheVariants as command
-use Rattle.kernel.proofs.Acts.{acted, caused, still_counted, up_counted}
+use Rattle.kernel.proofs.Acts.{acted, still_counted, up_counted}
 use Rattle.kernel.proofs.serving.serve.Goals as goal
 
 pub returns-in-Load-clause-serves : goal.returns-in-Load-clause-serves
@@ -12,9 +12,6 @@ returns-in-Load-clause-serves g c =
     (answer_of c.load.result) (omega arith) said.serves (still_counted (g.S.Frames.parts l.store) (g.S.Frames.parts c.load.new.store) l.banks
     said.snapshots.headers said.snapshots.contents said.snapshots.geometry (up_counted _ _ _ l c.requires.up)))
 
-pub returns-in-Load-clause-cause : goal.returns-in-Load-clause-cause
-returns-in-Load-clause-cause g c = caused (g.met.S.ObjectStore.failures_are _) (g.met.S.ObjectStore.failures_are _) c.load.ensures.serves
-
 pub returns-in-Store-clause-serves : goal.returns-in-Store-clause-serves
 returns-in-Store-clause-serves g c =
     let l = c.args.live.now in
@@ -22,9 +19,6 @@ returns-in-Store-clause-serves g c =
     rw c.in-Store.is (acted _ _ _ g.met.D.Device.only_now g.met.S.ObjectStore.sound_holds l c.store.new.store
     (g.met.S.ObjectStore.continues l.store c.store.new.store said.continues) l.banks l.age (command.Store c.in-Store.process c.in-Store.address
     c.in-Store.value) (answer_of c.store.result) (omega arith) said.serves (said.counted l.banks (up_counted _ _ _ l c.requires.up)))
-
-pub returns-in-Store-clause-cause : goal.returns-in-Store-clause-cause
-returns-in-Store-clause-cause g c = caused (g.met.S.ObjectStore.failures_are _) (g.met.S.ObjectStore.failures_are _) c.store.ensures.serves
 
 pub returns-in-Show-clause-serves : goal.returns-in-Show-clause-serves
 returns-in-Show-clause-serves g c =
@@ -34,9 +28,6 @@ returns-in-Show-clause-serves g c =
     (g.met.S.ObjectStore.continues l.store c.show.new.store said.snapshots.continues) l.banks l.age (command.Show c.in-Show.number) (answer_of c.show.result)
     (omega arith) said.serves (still_counted (g.S.Frames.parts l.store) (g.S.Frames.parts c.show.new.store) l.banks
     said.snapshots.headers said.snapshots.contents said.snapshots.geometry (up_counted _ _ _ l c.requires.up)))
-
-pub returns-in-Show-clause-cause : goal.returns-in-Show-clause-cause
-returns-in-Show-clause-cause g c = caused (g.met.S.ObjectStore.failures_are _) (g.met.S.ObjectStore.failures_are _) c.show.ensures.serves
 
 pub returns-in-Evict-clause-serves : goal.returns-in-Evict-clause-serves
 returns-in-Evict-clause-serves g c = rw c.in-Evict.is c.evict.ensures.serves

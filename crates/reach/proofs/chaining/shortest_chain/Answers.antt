@@ -1,6 +1,6 @@
-use Rattle.reach.proofs.Names.{common_steps, arith, reverse, refl, rules, sym}
+use Rattle.reach.proofs.Names.{reverse, refl, rules, sym}
 use Rattle.std.proofs.Common.{◌≡◌}
-use Rattle.reach.proofs.Chains.{back_first, back_level, back_next, back_shortest, chain_inside, no_chain, not_reached}
+use Rattle.reach.proofs.Chains.{back_level, back_next, back_shortest, chain_inside, no_chain, not_reached}
 use Rattle.reach.proofs.chaining.shortest_chain.Invariants.{level_of}
 use Rattle.reach.proofs.chaining.shortest_chain.Goals as goal
 
@@ -13,9 +13,6 @@ pub returns-then-not-contains-clause-reach : goal.returns-then-not-contains-clau
 returns-then-not-contains-clause-reach c =
     let searched = c.in_ok-levels.ensures in
     not_reached c.args.objects.now c.args.starts.now searched.0 c.in_ok-levels.levels searched.1 searched.2 c.args.object (sym c.if-not-contains.ensures)
-
-pub loop-step-init : goal.loop-step-init
-loop-step-init c = grind (arith, common_steps, back_first)
 
 pub loop-step-smaller : goal.loop-step-smaller
 loop-step-smaller c =

@@ -1,6 +1,6 @@
-use Rattle.reach.proofs.Names.{first_front, second_front, common_steps, arith, sym, wrote_trans, err_from_is_err_and, writes_fail, step_line}
+use Rattle.reach.proofs.Names.{common_steps, arith, wrote_trans, err_from_is_err_and, writes_fail, step_line}
 use Rattle.reach.specs.declared.step.Way.TheVariants as way
-use Rattle.reach.proofs.TextLines.{plain_all, plain_more, plain_split}
+use Rattle.reach.proofs.TextLines.{plain_more, plain_split}
 use Rattle.reach.proofs.explaining.print_steps.Goals as goal
 
 pub returns-in_err-write_to : goal.returns-in_err-write_to
@@ -12,6 +12,3 @@ returns-in_err-write_to g c =
 
 pub loop-step-preserved : goal.loop-step-preserved
 loop-step-preserved g c = grind (arith, common_steps, plain_more, wrote_trans)
-
-pub returns : goal.returns
-returns g c = grind (arith, common_steps, plain_all)

@@ -1,4 +1,4 @@
-use Rattle.reach.proofs.Names.{common_steps, arith, refl, err_from_is_err_and, text_fails, writes_after, line_of, spaced, object_at, flat_map, step_line}
+use Rattle.reach.proofs.Names.{refl, err_from_is_err_and, text_fails, line_of, spaced, object_at, flat_map, step_line}
 use Rattle.reach.proofs.Names.{words_of}
 use Rattle.reach.proofs.explaining.print_to.Goals as goal
 
@@ -7,6 +7,3 @@ returns-in_err-print_steps g c =
     let p = err_from_is_err_and c.from_residual.result c.from_residual.ensures.1 in
     rw (p.1, p.2) (text_fails _ _ _ (flat_map (step_line c.args.objects.now) c.args.steps.now)
     (line_of (spaced (words_of c.args.object (object_at c.args.objects.now c.args.object)))) _ refl c.in_err-print_steps.ensures)
-
-pub returns : goal.returns
-returns g c = grind (arith, common_steps, writes_after)

@@ -1,5 +1,5 @@
-use Rattle.reach.proofs.Names.{common_steps, arith, wrote_trans, err_from_is_err_and, member_pulls, writes_fail}
-use Rattle.reach.proofs.TextLines.{lines_split, lines_more, lines_all}
+use Rattle.reach.proofs.Names.{wrote_trans, err_from_is_err_and, member_pulls, writes_fail}
+use Rattle.reach.proofs.TextLines.{lines_split, lines_more}
 use Rattle.reach.proofs.printing.print_all_pulls.Goals as goal
 
 pub returns-in_err-print_member_pulls : goal.returns-in_err-print_member_pulls
@@ -16,6 +16,3 @@ loop-number-preserved g c =
     let o = c.index-objects-number.result in
     rw (lines_more (member_pulls c.args.objects.now c.args.inside.now) c.args.objects.now at o c.loop-number-test.true)
     (wrote_trans _ _ _ _ _ c.loop-number.invariant (rw (← c.index-objects-number.is) c.in_ok-print_member_pulls.ensures))
-
-pub returns : goal.returns
-returns g c = grind (arith, common_steps, lines_all)

@@ -1,5 +1,5 @@
-use Rattle.reach.proofs.Names.{common_steps, subst, sym, arith, wrote_trans, err_from_is_err_and, Wrote, Void, pull_line, writes_fail}
-use Rattle.reach.proofs.TextLines.{lines_split, lines_more, lines_all}
+use Rattle.reach.proofs.Names.{subst, sym, wrote_trans, err_from_is_err_and, Wrote, Void, pull_line, writes_fail}
+use Rattle.reach.proofs.TextLines.{lines_split, lines_more}
 use Rattle.reach.proofs.printing.print_pulls.Goals as goal
 
 pub returns-in_err-print_pull : goal.returns-in_err-print_pull
@@ -12,6 +12,3 @@ returns-in_err-print_pull g c =
 pub loop-index-preserved : goal.loop-index-preserved
 loop-index-preserved g c = subst (Wrote _ _) (sym (lines_more (pull_line c.args.name.now c.args.number c.args.place.now) _ _ Void c.loop-index-test.true))
     (wrote_trans _ _ _ _ _ c.loop-index.invariant c.in_ok-print_pull.ensures)
-
-pub returns : goal.returns
-returns g c = grind (arith, common_steps, lines_all)

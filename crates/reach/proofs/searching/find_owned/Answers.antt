@@ -1,11 +1,8 @@
-use Rattle.reach.proofs.Names.{common_steps, ℕ, arith, ap, refl, subst, sym, get_or_default, Object, free, is_free, object_at, FindsBy, IsOwnedBelow}
+use Rattle.reach.proofs.Names.{ap, refl, sym, get_or_default, Object, free, is_free, object_at}
 use Rattle.std.proofs.Common.{◌≡◌, ◌∙◌}
-use Rattle.reach.proofs.Finding.{finds_none, owned_next_step, owned_skip}
+use Rattle.reach.proofs.Finding.{owned_next_step, owned_skip}
 use Rattle.reach.proofs.searching.find_owned.Goals as goal
 use Rattle.reach.proofs.searching.find_owned.Goals.{then-is_owned, else-is_owned}
-
-pub loop-number-init : goal.loop-number-init
-loop-number-init c = finds_none (IsOwnedBelow c.args.objects.now 0 c.args.bank) c.args.level c.args.levels.now (λ s owned. absurd (omega (arith, owned.2)))
 
 pub loop-number-preserved : goal.loop-number-preserved
 loop-number-preserved c =

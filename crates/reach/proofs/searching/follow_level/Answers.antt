@@ -1,12 +1,7 @@
-use Rattle.reach.proofs.Names.{rules, common_steps, ℕ, arith, subst, sym, FindsBy, IsFromLevel}
-use Rattle.std.proofs.Common.{◌+◌}
-use Rattle.reach.proofs.Finding.{finds_none}
+use Rattle.reach.proofs.Names.{sym}
 use Rattle.reach.proofs.Searches.{level_next, level_skip}
 use Rattle.reach.proofs.searching.follow_level.Goals as goal
 use Rattle.reach.proofs.searching.follow_level.Goals.{then-is_at, else-is_at}
-
-pub loop-number-init : goal.loop-number-init
-loop-number-init c = grind (arith, common_steps, finds_none)
 
 pub loop-number-preserved : goal.loop-number-preserved
 loop-number-preserved c =

@@ -1,11 +1,7 @@
-use Rattle.std.proofs.Common.{rules}
 use Rattle.std.proofs.Common.{sym, ◌∙◌, arith}
 use Rattle.script.proofs.CapabilityTexts.{text_from_words, no_text}
-use Rattle.script.proofs.CapabilityWords.{capability_found, no_words, no_kind, no_arguments, words_left_over}
+use Rattle.script.proofs.CapabilityWords.{capability_found, no_kind, no_arguments, words_left_over}
 use Rattle.script.proofs.named.capability_of.Goals as goal
-
-pub returns-in_err-next-clause-none : goal.returns-in_err-next-clause-none
-returns-in_err-next-clause-none c = search (rules, no_text, no_words)
 
 pub returns-in_err-kind-clause-none : goal.returns-in_err-kind-clause-none
 returns-in_err-kind-clause-none c = rw c.from_residual-in_err-kind.ensures (λ d well small.

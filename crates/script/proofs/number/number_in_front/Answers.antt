@@ -1,14 +1,11 @@
 use Rattle.script.proofs.Names.{rules, None, Some, arith, first_word}
 use Rattle.script.proofs.FirstWords.{word_length, word_reads}
-use Rattle.script.proofs.Numbers.{decimal_not_empty, decimal_no_zero, number_found, number_none}
+use Rattle.script.proofs.Numbers.{decimal_no_zero, number_found, number_none}
 use Rattle.script.proofs.number.number_in_front.Goals as goal
 use Rattle.script.proofs.number.number_in_front.Goals.{else-front-gt1-via-then-front-gt1+else-text-eq48, else-front-gt1-via-else-front-gt1}
 
 pub returns-in_err-front-clause-none : goal.returns-in_err-front-clause-none
 returns-in_err-front-clause-none c = rw c.from_residual.ensures (number_none (first_word c.args.text.now) None c.in_err-front.ensures.none)
-
-pub returns-then-front-eq0-clause-none : goal.returns-then-front-eq0-clause-none
-returns-then-front-eq0-clause-none c = search (rules, decimal_not_empty, word_length)
 
 pub returns-then-text-eq48-clause-none : goal.returns-then-text-eq48-clause-none
 returns-then-text-eq48-clause-none c = search (rules, decimal_no_zero, word_length, word_reads)

@@ -1,10 +1,6 @@
-use Rattle.std.proofs.Common.{rules}
 use Rattle.std.proofs.Common.{refl, sym, ◌∙◌, arith}
-use Rattle.script.proofs.Commands.{command_found, no_keyword, no_arguments, words_left_over}
+use Rattle.script.proofs.Commands.{command_found, no_arguments, words_left_over}
 use Rattle.script.proofs.parse.command_in.Goals as goal
-
-pub returns-in_err-keyword-clause-none : goal.returns-in_err-keyword-clause-none
-returns-in_err-keyword-clause-none c = search (rules, no_keyword)
 
 pub returns-in_err-command-clause-none : goal.returns-in_err-command-clause-none
 returns-in_err-command-clause-none c = rw c.from_residual-in_err-command.ensures

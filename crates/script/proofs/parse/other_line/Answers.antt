@@ -1,15 +1,9 @@
-use Rattle.script.proofs.Names.{rules, ap, inr, arith, length, length-spelling}
-use Rattle.script.proofs.Spellings.{no_spelling, reads_said, says_said, spelling_said}
+use Rattle.script.proofs.Names.{ap, inr, arith, length, length-spelling}
+use Rattle.script.proofs.Spellings.{no_spelling, reads_said}
 use Rattle.script.proofs.parse.other_line.Goals as goal
 
 pub returns-then-line-gt-LONGEST_LINE-clause-reads : goal.returns-then-line-gt-LONGEST_LINE-clause-reads
 returns-then-line-gt-LONGEST_LINE-clause-reads c = λ d fits spelt. absurd (omega (arith, length-spelling d fits, ap length spelt))
-
-pub returns-then-is_skipped-clause-reads : goal.returns-then-is_skipped-clause-reads
-returns-then-is_skipped-clause-reads c = search (rules, spelling_said)
-
-pub returns-in-Some-clause-says : goal.returns-in-Some-clause-says
-returns-in-Some-clause-says c = says_said c.args.line.now c.in-Some.command c.in-Some.ensures.found
 
 pub returns-in-Some-clause-reads : goal.returns-in-Some-clause-reads
 returns-in-Some-clause-reads c = reads_said c.args.line.now c.in-Some.command c.in-Some.ensures.found

@@ -1,6 +1,5 @@
-use Rattle.std.proofs.Common.{rules}
 use Rattle.std.proofs.Common.{arith, ◌-◌}
-use Rattle.script.proofs.ShortNumbers.{digits_read, place_more, value_below}
+use Rattle.script.proofs.ShortNumbers.{digits_read, value_below}
 use Rattle.script.proofs.short.digits_before.Goals as goal
 
 pub returns-then-byte-eq-SPACE : goal.returns-then-byte-eq-SPACE
@@ -27,6 +26,3 @@ overflow_add-number c = omega (
   c.from-byte.ensures,
   c.if-byte-gt-LAST_DIGIT.false,
 )
-
-pub loop-place-preserved : goal.loop-place-preserved
-loop-place-preserved c = search (rules, place_more)

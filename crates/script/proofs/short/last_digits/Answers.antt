@@ -1,6 +1,5 @@
-use Rattle.std.proofs.Common.{rules}
 use Rattle.std.proofs.Common.{arith, ◌-◌}
-use Rattle.script.proofs.ShortNumbers.{digits_last, place_more, value_below}
+use Rattle.script.proofs.ShortNumbers.{value_below}
 use Rattle.script.proofs.short.last_digits.Goals as goal
 
 pub overflow_mul-number : goal.overflow_mul-number
@@ -20,9 +19,3 @@ overflow_add-number c = omega (
   c.from-byte.ensures,
   c.if-byte-gt-LAST_DIGIT.false,
 )
-
-pub loop-place-preserved : goal.loop-place-preserved
-loop-place-preserved c = search (rules, place_more)
-
-pub returns : goal.returns
-returns c = search (rules, digits_last)

@@ -1,10 +1,7 @@
 use Rattle.script.proofs.Names.{rules, sym, err_from_is_err_and, word_lines}
 use Rattle.script.proofs.Fronts.{writes_same, line_fails, line_and}
-use Rattle.script.proofs.Texts.{object_free, object_page, object_node, object_annex, object_root, object_bank}
+use Rattle.script.proofs.Texts.{object_page, object_node, object_annex, object_root, object_bank}
 use Rattle.script.proofs.shown.print_object.Goals as goal
-
-pub returns-in-Free : goal.returns-in-Free
-returns-in-Free g c = writes_same _ _ _ _ _ (rw (c.number.ensures.text, c.begin.ensures) (sym (object_free _ _ _ _ c.in-Free.is))) c.print.ensures
 
 pub returns-in_err-print-in-Page : goal.returns-in_err-print-in-Page
 returns-in_err-print-in-Page g c =

@@ -1,5 +1,5 @@
 use Rattle.space_bank.proofs.Names.{rules, owner_read}
-use Rattle.space_bank.proofs.Tallies.{climb_ended, climb_starts, climbs_on, shifted_last, shifting_starts, shifts_on, still_fits}
+use Rattle.space_bank.proofs.Tallies.{climb_starts, climbs_on, shifted_last, shifting_starts, shifts_on, still_fits}
 use Rattle.space_bank.proofs.chains.shift.Goals as goal
 
 pub loop-step-init : goal.loop-step-init
@@ -24,6 +24,3 @@ loop-step-preserved g c =
       climbs = climbs_on c.requires.tree at.climbs c.if-current-eq0.false;
       shifting = shifts_on c.requires.tree at.climbs c.requires.each c.requires.fits at.shifting c.if-current-eq0.false;
     })
-
-pub returns : goal.returns
-returns g c = absurd (climb_ended c.requires.tree c.loop-step.invariant.climbs c.loop-step-test.false)

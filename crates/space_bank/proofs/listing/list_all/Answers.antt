@@ -1,18 +1,9 @@
-use Rattle.space_bank.proofs.Names.{rules, ℕ, List, length, Vec, Global, vec_len, ap, sym, refl, arith, vec_capacity, objects_in, length_objects, HasNoneUsed}
+use Rattle.space_bank.proofs.Names.{ℕ, List, length, Vec, Global, vec_len, ap, sym, refl, arith, vec_capacity, objects_in, HasNoneUsed}
 use Rattle.space_bank.proofs.Names.{IsNextUsed, is_listed}
 use Rattle.std.proofs.Common.{◌∙◌, ◌++◌}
 use Rattle.space_bank.proofs.Missing.{listed_more, listed_same, listed_whole, free_not_listed, listed_inner, listed_up_to}
 use Rattle.space_bank.proofs.listing.list_all.Goals as goal
 use Rattle.space_bank.proofs.listing.list_all.Goals.{then-is_listed, else-is_listed}
-
-pub next_used-requires-clause-few : goal.next_used-requires-clause-few
-next_used-requires-clause-few g c = search (rules, length_objects)
-
-pub push_reserved-requires : goal.push_reserved-requires
-push_reserved-requires g c = search (rules, listed_inner, length_objects)
-
-pub overflow_add-from : goal.overflow_add-from
-overflow_add-from g c = search (rules, length_objects)
 
 pub loop-number-preserved : goal.loop-number-preserved
 loop-number-preserved g c =

@@ -1,9 +1,6 @@
-use Rattle.space_bank.proofs.Names.{rules, ap, sym, new_at}
-use Rattle.space_bank.proofs.Missing.{found_none, found_one}
+use Rattle.space_bank.proofs.Names.{ap, sym, new_at}
+use Rattle.space_bank.proofs.Missing.{found_one}
 use Rattle.space_bank.proofs.planning_new.next_one.Goals as goal
-
-pub returns-in-None-clause-made : goal.returns-in-None-clause-made
-returns-in-None-clause-made g = search (rules, found_none)
 
 pub returns-in-Some-clause-made : goal.returns-in-Some-clause-made
 returns-in-Some-clause-made g = λ os marked.

@@ -4,9 +4,6 @@ use Rattle.cache_entries.proofs.Orders.{demoted_keys}
 use Rattle.cache_entries.proofs.Spreads.{Spreads, count_some, known_place, listed, removed, some_place}
 use Rattle.cache_entries.proofs.places.Places.remove.Goals as goal
 
-pub overflow_sub-self : goal.overflow_sub-self
-overflow_sub-self c = count_some c.self.invariant c.args.number (some_place c.self.invariant c.self.view_is c.args.number c.requires)
-
 after : (c : goal.After-self-2-1) → Spreads (keys_of c.demote.new.self.entries) c.self.inside.numbers.items
     (set c.self.inside.places.items c.args.number c.len.result) (c.self.inside.count - 1) (record {
       numbers = without c.args.number c.args.self.now.numbers;

@@ -1,14 +1,8 @@
 use Rattle.std.proofs.Common.{rules}
 use Rattle.std.proofs.Common.{◌∙◌}
 use Rattle.std.proofs.lemmas.List.{with_items_is}
-use Rattle.collections.proofs.Marks.{has_word, has_word_above, marks_set, set_summed}
+use Rattle.collections.proofs.Marks.{marks_set, set_summed}
 use Rattle.collections.proofs.set.NumberSet.set.Goals as goal
-
-pub put_bit-word-requires : goal.put_bit-word-requires
-put_bit-word-requires c = has_word _ _ _ c.self.invariant _ c.self.view_is _ c.deref_mut.ensures.value _ c.requires
-
-pub put_bit-requires : goal.put_bit-requires
-put_bit-requires c = has_word_above _ _ _ c.self.invariant _ c.self.view_is _ c.deref_mut-2.ensures.value _ c.requires
 
 pub invariant_of-self : goal.invariant_of-self
 invariant_of-self c =

@@ -1,12 +1,6 @@
 use Rattle.std.proofs.Common.{length-set, rules}
-use Rattle.collections.proofs.Positions.{placed, room, added, added_positions}
+use Rattle.collections.proofs.Positions.{added, added_positions}
 use Rattle.collections.proofs.sparse_vec.SparseVec.add.Goals as goal
-
-pub index_mut-requires : goal.index_mut-requires
-index_mut-requires g c = search (rules, placed)
-
-pub unreachable-requires : goal.unreachable-requires
-unreachable-requires g c = search (rules, room)
 
 pub invariant_of-self : goal.invariant_of-self
 invariant_of-self g c = search (rules, added_positions, length-set)

@@ -1,4 +1,4 @@
-use Rattle.devices.proofs.Copies.{copy_synced, synced_only, synced_narrows}
+use Rattle.devices.proofs.Copies.{copy_synced, synced_narrows}
 use Rattle.devices.proofs.file_device.CopiedFileDevice.sync.Goals as goal
 
 pub invariant_of-self : goal.invariant_of-self
@@ -6,10 +6,6 @@ invariant_of-self g c = record {
   sound = copy_synced c.args.self.now.sectors c.args.self.now.copy _ _ c.args.self.now.sound _ c.sync.ensures.first _ c.sync.result c.sync.ensures.synced
       c.sync.ensures.nothing;
 }
-
-pub returns-clause-durable : goal.returns-clause-durable
-returns-clause-durable g c =
-    synced_only c.args.self.now.sectors c.args.self.now.copy _ _ c.args.self.now.sound _ c.sync.ensures.first _ c.sync.result 0 c.sync.ensures.synced
 
 pub returns-clause-crash : goal.returns-clause-crash
 returns-clause-crash g c =

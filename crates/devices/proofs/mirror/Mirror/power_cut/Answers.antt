@@ -1,7 +1,7 @@
 use Rattle.devices.proofs.Names.{ap, length, arith, take_rest, rewritten}
 use Rattle.std.proofs.Common.{◌∙◌}
 use Rattle.devices.proofs.Keeps.{sound_cut, cut_left, left_sound}
-use Rattle.devices.proofs.Entries.{past_cut, length-marked}
+use Rattle.devices.proofs.Entries.{length-marked}
 use Rattle.devices.proofs.mirror.Mirror.power_cut.Goals as goal
 
 pub invariant_of-self : goal.invariant_of-self
@@ -23,9 +23,6 @@ invariant_of-self c =
           (present_fits s.present_fits) (synced_fits s.synced_fits)
           c.settle.ensures.same (λ i. left i ∙ left_sound _ _ _ _ _ _ s c.args.outcome i) c.mark.ensures.items);
     }
-
-pub returns-clause-past : goal.returns-clause-past
-returns-clause-past c = past_cut c.args.outcome c.args.self.now.entries.items c.mark.new.entries.items c.mark.ensures.items
 
 pub returns-clause-entries : goal.returns-clause-entries
 returns-clause-entries c =

@@ -1,7 +1,6 @@
 use Rattle.devices.proofs.Names.{ap, length, take_rest, rewritten}
 use Rattle.std.proofs.Common.{◌∙◌}
 use Rattle.devices.proofs.Keeps.{sound_synced}
-use Rattle.devices.proofs.Entries.{past_synced}
 use Rattle.devices.proofs.mirror.Mirror.sync.Goals as goal
 
 pub invariant_of-self : goal.invariant_of-self
@@ -18,6 +17,3 @@ invariant_of-self c =
       )
           (sound_synced _ _ _ _ _ _ s c.copy_written.new.into c.note.new.entries.items same (fits s.synced_fits) patched c.note.ensures.items);
     }
-
-pub returns-clause-past : goal.returns-clause-past
-returns-clause-past c = past_synced c.args.self.now.entries.items c.note.new.entries.items c.note.ensures.items

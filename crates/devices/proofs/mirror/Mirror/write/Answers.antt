@@ -1,7 +1,6 @@
-use Rattle.devices.proofs.Names.{ap, length, arith, rewritten, sectors_of}
+use Rattle.devices.proofs.Names.{ap, length, rewritten}
 use Rattle.std.proofs.Common.{◌∙◌}
 use Rattle.devices.proofs.Keeps.{sound_written}
-use Rattle.devices.proofs.Entries.{past_written, length_written}
 use Rattle.devices.proofs.mirror.Mirror.write.Goals as goal
 
 pub invariant_of-self : goal.invariant_of-self
@@ -14,17 +13,3 @@ invariant_of-self c =
           c.put.ensures.written
           (rw c.deref_mut.ensures.value at c.put.ensures.elsewhere) c.note_writes.ensures.items);
     }
-
-pub returns-clause-past : goal.returns-clause-past
-returns-clause-past c = past_written c.args.self.now.entries.items c.note_writes.new.entries.items c.args.at (sectors_of c.args.from.now) c.args.from.now
-    c.note_writes.ensures.items
-
-pub returns-clause-entries : goal.returns-clause-entries
-returns-clause-entries c =
-    omega (
-      arith,
-      c.note_writes.new.entries.ok.0,
-      c.args.self.now.entries.ok.0,
-      length_written c.args.self.now.entries.items c.note_writes.new.entries.items
-          c.args.at (sectors_of c.args.from.now) c.args.from.now c.note_writes.ensures.items,
-    )

@@ -1,4 +1,4 @@
-use Rattle.devices.proofs.Stored.{is_within, stored_is, zeros_are_there}
+use Rattle.devices.proofs.Stored.{is_within, stored_is}
 use Rattle.devices.proofs.sector_copy.SectorCopy.sector.Goals as goal
 
 pub has-requires : goal.has-requires
@@ -7,7 +7,3 @@ has-requires c = is_within c.self.inside.stored c.self.invariant c.args.self.now
 pub returns-then-has : goal.returns-then-has
 returns-then-has c =
     stored_is c.self.inside.stored c.self.invariant c.args.self.now c.self.view_is c.args.at c.requires c.item.result.now c.item.ensures
-
-pub returns-else-has : goal.returns-else-has
-returns-else-has c =
-    zeros_are_there c.self.inside.stored c.self.invariant c.args.self.now c.self.view_is c.args.at c.requires c.if-has.ensures

@@ -1,4 +1,4 @@
-use Rattle.kernel.proofs.Names.{ℕ, length, sym, process_known, one_known, keepable_most}
+use Rattle.kernel.proofs.Names.{ℕ, length, sym, process_known, one_known}
 use Rattle.std.proofs.Common.{◌<◌}
 use Rattle.kernel.proofs.processes.early.early.Goals as goal
 
@@ -6,6 +6,3 @@ pub fetch-requires-clause-known : goal.fetch-requires-clause-known
 fetch-requires-clause-known g c =
     let p = g.F.Frames.parts c.args.store.now in
     one_known (λ (n : ℕ). n < length p.headers) c.args.process (process_known p c.args.process (sym c.if-not-is_process.ensures))
-
-pub fetch-requires-clause-keepable : goal.fetch-requires-clause-keepable
-fetch-requires-clause-keepable g c = keepable_most (g.F.Frames.parts c.args.store.now) (c.args.age, c.requires.sound)

@@ -1,4 +1,4 @@
-use Rattle.kernel.proofs.Names.{err_from_is_err_and, sym, counted_looked, looked_as}
+use Rattle.kernel.proofs.Names.{err_from_is_err_and, sym}
 use Rattle.std.proofs.Common.{◌∙◌}
 use Rattle.kernel.proofs.Performing.{fault_serves, invoked_serves, no_process_serves}
 use Rattle.kernel.proofs.processes.invocation.invoke.Goals as goal
@@ -20,6 +20,3 @@ returns-in_err-code-clause-serves g c =
     rw (p.1, p.2) (fault_serves g.F.Frames.parts g.F.Frames.ContinuesTo c.args.age.now c.args.store.now c.invoke.new.store c.args.invocation.now
     (sym c.is_process.ensures ∙ c.if-not-is_process.false) c.requires.sound (c.is_worn.ensures.young c.if-is_worn.false) _
     c.in_err-code.ensures.state c.in_err-code.ensures.invoked)
-
-pub returns-then-is_worn-clause-counted : goal.returns-then-is_worn-clause-counted
-returns-then-is_worn-clause-counted g c = counted_looked (looked_as c.refuse_worn.ensures.snapshots) c.requires.counted

@@ -35,9 +35,6 @@ returns-in-Err-clause-serves g c =
     c.early.ensures.snapshots c.early.ensures.later (ok_stayed c.in_ok-why.field-0 c.in_ok-why.ensures.cause) c.args.word said.writes.geometry
     said.writes.headers said.writes.later c.in-Err.why said.writes.refusals said.writes.unchanged said.writes.cause said.full)
 
-pub returns-in-Some-clause-counted : goal.returns-in-Some-clause-counted
-returns-in-Some-clause-counted g c banks counted = counted_looked (looked_as c.early.ensures.snapshots) counted
-
 pub returns-in-Ok-Ok-clause-counted : goal.returns-in-Ok-Ok-clause-counted
 returns-in-Ok-Ok-clause-counted g c banks counted =
     let said = c.in-Ok-Ok.ensures in

@@ -1,4 +1,4 @@
-use Rattle.recovery.proofs.Names.{nat_tests, rules, arith, length_in}
+use Rattle.recovery.proofs.Names.{nat_tests, arith}
 use Rattle.recovery.proofs.Notes.{none_noted, root_noted}
 use Rattle.recovery.proofs.Tables.{annex_known}
 use Rattle.recovery.proofs.Taking.{taken_more, taken_same}
@@ -15,6 +15,3 @@ loop-root-preserved g c =
       | in-Some+else-not-take_annex w ↦ grind (arith, nat_tests, annex_known, taken_more, root_noted)
       | in_default w ↦ grind (arith, nat_tests, taken_same, none_noted)
     ]
-
-pub returns-clause-yes : goal.returns-clause-yes
-returns-clause-yes g c = search (rules, length_in)

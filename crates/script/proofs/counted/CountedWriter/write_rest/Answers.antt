@@ -1,10 +1,6 @@
-use Rattle.script.proofs.Names.{rules, length-take, Appends-kept}
-use Rattle.std.proofs.Common.{length-drop}
-use Rattle.script.proofs.Fronts.{broke_off, kept_nil, took_more, taken_all}
+use Rattle.script.proofs.Names.{Appends-kept}
+use Rattle.script.proofs.Fronts.{broke_off, kept_nil}
 use Rattle.script.proofs.counted.CountedWriter.write_rest.Goals as goal
-
-pub returns-then-done-text : goal.returns-then-done-text
-returns-then-done-text g c = search (rules, taken_all)
 
 pub returns-in-Ok-eq0 : goal.returns-in-Ok-eq0
 returns-in-Ok-eq0 g c =
@@ -26,6 +22,3 @@ returns g c = (
   c.fail-2.ensures.fault,
   broke_off _ _ _ c.loop.done _ (rw c.fail-2.ensures.inner c.loop.invariant.taken) c.loop.invariant.none_failed c.fail-2.ensures.failures,
 )
-
-pub loop-preserved : goal.loop-preserved
-loop-preserved g c = search (rules, length-take, length-drop, took_more)

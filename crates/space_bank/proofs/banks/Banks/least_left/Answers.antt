@@ -1,16 +1,9 @@
-use Rattle.space_bank.proofs.Names.{rules, []}
-use Rattle.std.proofs.Common.{◌-◌, ◌∙◌}
-use Rattle.space_bank.proofs.Plans.{chain_past, least_begun, least_last, least_next, least_on, left_counted, left_there, owner_is_bank}
+use Rattle.space_bank.proofs.Names.{rules}
+use Rattle.space_bank.proofs.Plans.{chain_past, least_begun, least_last, least_next, least_on, left_counted, owner_is_bank}
 use Rattle.space_bank.proofs.banks.Banks.least_left.Goals as goal
-
-pub left-least-requires : goal.left-least-requires
-left-least-requires g c = left_there c.requires
 
 pub loop-step-init : goal.loop-step-init
 loop-step-init g c = search (rules, least_begun, left_counted)
-
-pub left-requires : goal.left-requires
-left-requires g c = left_there c.loop-step.invariant.there
 
 pub returns-then-current-eq0 : goal.returns-then-current-eq0
 returns-then-current-eq0 g c = search (rules, least_last, left_counted)

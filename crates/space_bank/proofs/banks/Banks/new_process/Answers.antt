@@ -1,10 +1,7 @@
-use Rattle.space_bank.proofs.Names.{rules, List, ap, subst, sym, slice_set, Geometry, Object, new_annex, new_root, with_new, AreKeepable, BanksState, frames_of}
+use Rattle.space_bank.proofs.Names.{List, ap, subst, sym, slice_set, Geometry, Object, new_annex, new_root, with_new, AreKeepable, BanksState, frames_of}
 use Rattle.std.proofs.Common.{◌∙◌}
-use Rattle.space_bank.proofs.Tallies.{process_carried, still_free, taken_one, taken_two, free_role}
+use Rattle.space_bank.proofs.Tallies.{process_carried, still_free, taken_one, taken_two}
 use Rattle.space_bank.proofs.banks.Banks.new_process.Goals as goal
-
-pub make-requires-clause-free : goal.make-requires-clause-free
-make-requires-clause-free g c = search (rules, free_role)
 
 pub make-requires-2-clause-free : goal.make-requires-2-clause-free
 make-requires-2-clause-free g c =

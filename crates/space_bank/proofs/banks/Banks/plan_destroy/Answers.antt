@@ -1,12 +1,9 @@
-use Rattle.space_bank.proofs.Names.{rules, length, ap, arith, Void, under, GiveUp, objects_in, BanksState}
-use Rattle.space_bank.proofs.Plans.{may_destroy, bank_room, destroy_prime, destroy_there, planned_made, planned_refused}
+use Rattle.space_bank.proofs.Names.{rules, ap, Void, under, GiveUp, objects_in, BanksState}
+use Rattle.space_bank.proofs.Plans.{may_destroy, destroy_prime, destroy_there, planned_made, planned_refused}
 use Rattle.space_bank.proofs.banks.Banks.plan_destroy.Goals as goal
 
 pub returns-then-bank-eq0-clause-planned : goal.returns-then-bank-eq0-clause-planned
 returns-then-bank-eq0-clause-planned g c = search (rules, planned_refused, destroy_prime)
-
-pub list_all-requires-clause-room : goal.list_all-requires-clause-room
-list_all-requires-clause-room g c = omega (arith, bank_room c.requires.bank (length c.args.self.now.listed) c.requires.few)
 
 pub returns-clause-planned : goal.returns-clause-planned
 returns-clause-planned g c = λ args.

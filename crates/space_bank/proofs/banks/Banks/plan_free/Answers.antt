@@ -1,7 +1,7 @@
-use Rattle.space_bank.proofs.Names.{rules, ℕ, List, [], append_assoc, sym, ap, Void, GiveUp, objects_in, BanksState, annex_among, annex_of}
+use Rattle.space_bank.proofs.Names.{ℕ, List, [], append_assoc, sym, ap, Void, GiveUp, objects_in, BanksState, annex_among, annex_of}
 use Rattle.std.proofs.Common.{◌++◌, ◌∙◌, ◌∷◌}
 use Rattle.model.specs.declared.order.ResultCode.TheVariants as code
-use Rattle.space_bank.proofs.Plans.{may_free, annex_kept, frees_none_there, frees_other_there, frees_own_there, planned_made, planned_refused, process_room}
+use Rattle.space_bank.proofs.Plans.{may_free, annex_kept, frees_none_there, frees_other_there, frees_own_there, planned_made, planned_refused}
 use Rattle.space_bank.proofs.banks.Banks.plan_free.Goals as goal
 
 pub returns-in-None-clause-planned : goal.returns-in-None-clause-planned
@@ -17,9 +17,6 @@ returns-then-owner-bank-clause-planned g c = λ args is.
     planned_refused code.NotFromThisBank (λ us frame.
     frees_other_there p.geometry os c.args.bank args us frame c.args.capability c.in-Some.object (annex_of os c.args.capability) is
     (c.in-Some.ensures os) (λ e. c.if-owner-bank.true (c.owner.ensures ∙ e))) c.refused-then-owner-bank.ensures
-
-pub list_annex-requires : goal.list_annex-requires
-list_annex-requires g c q is = search (rules, process_room)
 
 pub returns-else-owner-bank-clause-planned : goal.returns-else-owner-bank-clause-planned
 returns-else-owner-bank-clause-planned g c = λ args is.
