@@ -15,7 +15,7 @@ use device::Failed;
 use model::{MemoryFault, SLOTS, WORDS};
 
 /// The page that a reference to memory reaches.
-#[derive(Clone, Copy, PartialEq, Eq, Debug)]
+#[derive(Clone, Copy)]
 pub struct Reached {
     /// The number of the page.
     pub page: u64,

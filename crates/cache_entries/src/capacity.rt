@@ -10,7 +10,7 @@ pub const LEAST_CAPACITY: u64 = 8;
 pub const GREATEST_CAPACITY: u64 = 8192;
 
 /// The most objects that a store keeps in memory, 8 to 8192.
-#[derive(Clone, Copy, PartialEq, Eq, Debug)]
+#[derive(Clone, Copy)]
 pub struct Capacity(u64);
 
 impl Model for Capacity {

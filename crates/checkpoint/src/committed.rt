@@ -1,7 +1,7 @@
 // The committed checkpoint.
 
 /// The committed checkpoint, in the numbers that an answer reports.
-#[derive(Clone, Copy, PartialEq, Eq, Debug)]
+#[derive(Clone, Copy)]
 pub struct Checkpoint {
     pub generation: u64,
     pub age: u64,

@@ -5,7 +5,7 @@ ghost use Rattle.ckpt_log.specs.HeaderSlot.{slot_number, other_slot, header_at, 
 use layout::CheckpointHeader;
 
 /// One of the two places of a header, each with its gate behind it: headers take turns.
-#[derive(Clone, Copy, PartialEq, Eq, Debug)]
+#[derive(Clone, Copy)]
 pub enum HeaderSlot {
     First,
     Second,

@@ -1,7 +1,7 @@
 // What is wrong with the fields of a description.
 
 /// What is wrong in a list of entries with indexes.
-#[derive(Clone, Copy, PartialEq, Eq, Debug)]
+#[derive(Clone, Copy)]
 pub enum Indexed {
     /// The index of this entry is outside its range.
     OutOfRange(usize),
@@ -10,7 +10,7 @@ pub enum Indexed {
 }
 
 /// What is wrong in a list of slots or registers.
-#[derive(Clone, Copy, PartialEq, Eq, Debug)]
+#[derive(Clone, Copy)]
 pub enum SlotFlaw {
     Index(Indexed),
     /// The text of this entry is that of no capability.
@@ -18,7 +18,7 @@ pub enum SlotFlaw {
 }
 
 /// A field of an object, by the index of the object in its list.
-#[derive(Clone, Copy, PartialEq, Eq, Debug)]
+#[derive(Clone, Copy)]
 pub enum Part {
     State(usize),
     Key(usize),

@@ -8,7 +8,7 @@ use image_writer::BuildFault;
 use recovery::Unbanked;
 
 /// Where a description breaks one of the rules beyond its shape.
-#[derive(Clone, Copy, PartialEq, Eq, Debug)]
+#[derive(Clone, Copy)]
 pub enum Rule {
     Limit(Limit),
     Number(Misnumbered),

@@ -13,7 +13,7 @@ pub const SECTOR_SIZE: usize = 512;
 pub const MAX_SECTORS: u64 = 131072;
 
 /// The device didn't do what it was called for.
-#[derive(Clone, Copy, Debug, PartialEq, Eq, Error)]
+#[derive(Clone, Copy, Debug, Error)]
 #[error("the device failed")]
 pub struct Failed;
 

@@ -12,7 +12,7 @@ use std::os::unix::fs::FileExt;
 use std::path::Path;
 
 /// What a file is opened for.
-#[derive(Clone, Copy, Debug, PartialEq, Eq)]
+#[derive(Clone, Copy, PartialEq, Eq, Debug)]
 pub enum Access {
     /// To be read. The file has to be there.
     Read,
@@ -23,7 +23,7 @@ pub enum Access {
 }
 
 /// A lock on a whole file.
-#[derive(Clone, Copy, Debug, PartialEq, Eq)]
+#[derive(Clone, Copy, Debug)]
 pub enum Lock {
     /// No other lock is on the file.
     Exclusive,
@@ -32,7 +32,7 @@ pub enum Lock {
 }
 
 /// The answer to a request for a lock.
-#[derive(Clone, Copy, Debug, PartialEq, Eq)]
+#[derive(Clone, Copy, Debug)]
 pub enum LockAnswer {
     /// The lock is taken.
     Granted,

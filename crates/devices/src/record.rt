@@ -6,7 +6,7 @@ ghost use Rattle.devices.specs.Record.{entries_of, marked};
 use device::SECTOR_SIZE;
 
 /// What a power cut leaves of what was written and not synced.
-#[derive(Clone, Copy, Debug, PartialEq, Eq)]
+#[derive(Clone, Copy)]
 pub enum Outcome {
     /// All of it.
     Keep,

@@ -21,7 +21,7 @@ use space_bank::Banks;
 use std::marker::Model;
 
 /// An invoked gate: its process, its key, and whether it works only once.
-#[derive(Clone, Copy, Debug)]
+#[derive(Clone, Copy)]
 pub struct Gate {
     pub process: u64,
     pub key: u16,

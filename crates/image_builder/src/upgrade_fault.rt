@@ -4,7 +4,7 @@ use thiserror::Error;
 
 /// Why what one device saves isn't written to another. After `Failed` the new device may hold any
 /// bytes; all else leaves it as it was.
-#[derive(Clone, Copy, PartialEq, Eq, Debug, Error)]
+#[derive(Clone, Copy, Debug, Error)]
 pub enum UpgradeFault {
     /// The old device isn't opened; never for want of memory.
     #[error("the old device isn't opened: {0}")]

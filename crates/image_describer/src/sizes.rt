@@ -16,7 +16,7 @@ pub struct Sizes {
 }
 
 /// Why a description isn't renumbered for other sizes.
-#[derive(Clone, Copy, PartialEq, Eq, Debug)]
+#[derive(Clone, Copy)]
 pub enum GrowthFault {
     /// No image has these sizes.
     Limits,

@@ -4,7 +4,7 @@ use model::{Cap, Role};
 use recovery::Unbanked;
 
 /// Why an image is refused, by the least of the ten reasons that holds, and where.
-#[derive(Clone, Copy, PartialEq, Eq, Debug)]
+#[derive(Clone, Copy)]
 pub enum ImageFault {
     /// Reasons 1 to 7.
     Sectors(SectorFault),
@@ -17,7 +17,7 @@ pub enum ImageFault {
 }
 
 /// A held capability that names what it can't.
-#[derive(Clone, Copy, PartialEq, Eq, Debug)]
+#[derive(Clone, Copy)]
 pub struct Misnamed {
     /// The number of its holder, and what that is.
     pub holder: u64,
@@ -31,7 +31,7 @@ pub struct Misnamed {
 }
 
 /// A process and an annex that don't belong together.
-#[derive(Clone, Copy, PartialEq, Eq, Debug)]
+#[derive(Clone, Copy)]
 pub enum Unmatched {
     /// The annex that a root names is none, or has another owner.
     Annex { root: u64, annex: u64 },

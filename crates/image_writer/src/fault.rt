@@ -8,7 +8,7 @@ use thiserror::Error;
 
 /// Why no image is built from a table: the least of the reasons that hold. A function that does a part of
 /// the work answers only the faults of that part.
-#[derive(Clone, Copy, PartialEq, Eq, Debug, Error)]
+#[derive(Clone, Copy, Debug, Error)]
 pub enum BuildFault {
     #[error("the table hasn't the shape of a description")]
     Shape = 1,

@@ -1,7 +1,7 @@
 // Ranges of numbers, before their frames have a place.
 
 /// Consecutive numbers of objects, whose frames are to lie one after the other.
-#[derive(Clone, Copy, PartialEq, Eq, Debug)]
+#[derive(Clone, Copy)]
 pub struct NumberRange {
     /// The first number.
     pub first: u64,

@@ -13,7 +13,7 @@ use runs::Stop;
 use script::{LineText, Output, RunFault};
 
 /// Why a command of `eros` failed.
-#[derive(Clone, Copy, PartialEq, Eq, Debug)]
+#[derive(Clone, Copy)]
 pub enum Fault {
     /// The file of the description can't be read.
     CannotReadDescription,

@@ -12,7 +12,7 @@ use std::alloc::{AllocError, Global};
 
 /// A line about an image: its sizes and ranges, which checkpoint it holds, and how many objects of
 /// each kind.
-#[derive(Clone, Copy, PartialEq, Eq, Debug)]
+#[derive(Clone, Copy)]
 pub(crate) enum InfoLine {
     /// The version of the layout.
     Layout(u64),

@@ -2,7 +2,7 @@
 use thiserror::Error;
 
 /// Why an image is refused: the least of the reasons that hold.
-#[derive(Clone, Copy, PartialEq, Eq, Debug, Error)]
+#[derive(Clone, Copy, Debug, Error)]
 pub enum BadImage {
     #[error("the device is smaller than the image")]
     Small = 1,

@@ -15,7 +15,7 @@ pub const ENTRY_BYTES: usize = 16;
 pub const MAX_LOG: usize = 4096;
 
 /// Which object lies in which slot of a log half.
-#[derive(Clone, Copy, PartialEq, Eq, Debug)]
+#[derive(Clone, Copy)]
 pub struct Entry {
     pub object: u64,
     pub slot: u64,

@@ -7,7 +7,7 @@ use crate::version::Version;
 use model::Geometry;
 
 /// Consecutive numbers of objects whose frames lie one after the other.
-#[derive(Clone, Copy, PartialEq, Eq, Debug)]
+#[derive(Clone, Copy, PartialEq, Eq)]
 pub struct HomeRange {
     /// The first number.
     pub first: u64,
@@ -18,7 +18,7 @@ pub struct HomeRange {
 }
 
 /// Consecutive sectors.
-#[derive(Clone, Copy, PartialEq, Eq, Debug)]
+#[derive(Clone, Copy)]
 pub struct Extent {
     pub sector: u64,
     /// How many sectors.

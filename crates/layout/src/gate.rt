@@ -5,7 +5,7 @@ ghost use Rattle.layout.specs.Gate.{gate_bytes, gate_of};
 use crate::bytes::blank;
 
 /// Whether a header counts.
-#[derive(Clone, Copy, PartialEq, Eq, Debug)]
+#[derive(Clone, Copy, PartialEq, Eq)]
 pub enum Gate {
     Closed = 0,
     Open = 1,

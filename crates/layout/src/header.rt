@@ -11,7 +11,7 @@ use model::MAX_AGE;
 const HEADER_MAGIC: u64 = 0x4441_4548_534f_5245;
 
 /// What a header says of the committed checkpoint.
-#[derive(Clone, Copy, PartialEq, Eq, Debug)]
+#[derive(Clone, Copy)]
 pub struct CheckpointHeader {
     /// Counts the headers written. If two headers are open, the one with the greater number counts.
     pub sequence: u64,

@@ -5,7 +5,7 @@ use model::Refusal;
 use thiserror::Error;
 
 /// Why a device isn't opened, or something that it holds isn't read.
-#[derive(Clone, Copy, PartialEq, Eq, Debug, Error)]
+#[derive(Clone, Copy, Debug, Error)]
 pub enum OpenFault {
     /// The device failed.
     #[error("the device failed")]

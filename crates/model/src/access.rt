@@ -9,7 +9,7 @@ use bitflags::{Flag, Flags, bitflag_items};
 /// A capability is full with no bit set, read-only with `READ_ONLY`, and weak with both. What is
 /// fetched through a weak one is read-only and weak itself (EROS: the weak access right). No
 /// capability is weak without being read-only. A number that is fetched weakly stays.
-#[derive(Clone, Copy, PartialEq, Eq, Debug)]
+#[derive(Clone, Copy, PartialEq, Eq)]
 pub struct Access(u8);
 
 bitflag_items! {

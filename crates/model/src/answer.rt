@@ -8,7 +8,7 @@ use std::alloc::{AllocError, Global};
 use std::marker::Model;
 
 /// Why a memory reference reached no word.
-#[derive(Clone, Copy, PartialEq, Eq, Debug)]
+#[derive(Clone, Copy)]
 pub enum MemoryFault {
     /// There is no address space.
     NoSpace = 1,
@@ -23,7 +23,7 @@ pub enum MemoryFault {
 }
 
 /// Why a page wasn't journaled. Where both apply, the first here is given.
-#[derive(Clone, Copy, PartialEq, Eq, Debug)]
+#[derive(Clone, Copy)]
 pub enum Unjournaled {
     /// The object isn't a page.
     NotPage = 1,
@@ -33,7 +33,7 @@ pub enum Unjournaled {
 
 /// Why a command wasn't carried out. Where several apply, the first here is given, but for
 /// `NoMemory` and `Fault`, which may stand in place of others.
-#[derive(Clone, Copy, PartialEq, Eq, Debug)]
+#[derive(Clone, Copy)]
 pub enum Refusal {
     /// The machine is down: only `restart` and `cut` are taken.
     Down,

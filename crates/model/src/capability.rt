@@ -14,7 +14,7 @@ pub const MAX_HEIGHT: u8 = 4;
 ///
 /// A page, node or space capability names an object, a process, start or resume capability a
 /// process, and a bank capability a bank, by number. The others name nothing.
-#[derive(Clone, Copy, PartialEq, Eq, Debug)]
+#[derive(Clone, Copy, PartialEq, Eq)]
 pub enum Capability {
     /// Conveys nothing.
     Void,
@@ -52,7 +52,7 @@ pub enum Capability {
 }
 
 /// A held capability. It conveys authority only while its count equals that of its object.
-#[derive(Clone, Copy, PartialEq, Eq, Debug)]
+#[derive(Clone, Copy, PartialEq, Eq)]
 pub struct Cap {
     pub what: Capability,
     pub count: u64,

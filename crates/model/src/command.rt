@@ -9,7 +9,7 @@ use std::marker::Model;
 pub const REGISTERS: u8 = 32;
 
 /// A register of a process, by its number, which is below 32.
-#[derive(Clone, Copy, PartialEq, Eq, Debug)]
+#[derive(Clone, Copy)]
 pub struct Register(u8);
 
 impl Model for Register {
@@ -47,7 +47,7 @@ impl Register {
 }
 
 /// What an invocation does to the process that makes it.
-#[derive(Clone, Copy, PartialEq, Eq, Debug)]
+#[derive(Clone, Copy, PartialEq, Eq)]
 pub enum Operation {
     /// Through a gate it waits for an answer; with a kernel object, which answers at once, it goes
     /// on.
@@ -59,7 +59,7 @@ pub enum Operation {
 }
 
 /// The invocation of a capability by a process (EROS, KeyKOS: call, return and fork or send).
-#[derive(Clone, Copy, PartialEq, Eq, Debug)]
+#[derive(Clone, Copy)]
 pub struct Invocation {
     pub operation: Operation,
     /// The number of the process.
@@ -88,7 +88,7 @@ impl Invocation {
 }
 
 /// Words, a key and four capabilities on their way to a process.
-#[derive(Clone, Copy, PartialEq, Eq, Debug)]
+#[derive(Clone, Copy)]
 pub struct Message {
     pub words: [u64; 4],
     /// Which start capability was used, or 0.
@@ -98,7 +98,7 @@ pub struct Message {
 }
 
 /// A command of a script to the machine, a line each.
-#[derive(Clone, Copy, PartialEq, Eq, Debug)]
+#[derive(Clone, Copy)]
 pub enum Command {
     Invoke(Invocation),
     /// Reads the word at an address of the process's address space.

@@ -3,7 +3,7 @@ use crate::capability::Cap;
 use crate::object::{Content, Role};
 
 /// What is kept of an object beside its content, whether or not the content is in memory.
-#[derive(Clone, Copy, PartialEq, Eq, Debug)]
+#[derive(Clone, Copy)]
 pub struct ObjectHeader {
     /// What the object is.
     pub role: Role,

@@ -10,7 +10,7 @@ pub const MAX_AGE: u64 = 1 << 62;
 /// How much a device holds.
 ///
 /// Nodes have the numbers below `nodes`, and pages the `pages` numbers after them.
-#[derive(Clone, Copy, PartialEq, Eq, Debug)]
+#[derive(Clone, Copy)]
 pub struct Geometry {
     /// How many objects of 32 slots: nodes, the two halves of processes, and banks.
     pub nodes: u64,

@@ -2,7 +2,7 @@
 use crate::command::Command;
 
 /// What a line of a script says.
-#[derive(Clone, Copy, PartialEq, Eq, Debug)]
+#[derive(Clone, Copy)]
 pub enum Line {
     /// Nothing: it is empty or a comment.
     Skip,

@@ -7,7 +7,7 @@ use crate::{Cap, SLOTS, Slots, WORDS, Words};
 use std::alloc::{AllocError, Global};
 
 /// What an object is.
-#[derive(Clone, Copy, PartialEq, Eq, Debug)]
+#[derive(Clone, Copy, PartialEq, Eq)]
 pub enum Role {
     Free = 0,
     Page = 1,
@@ -20,7 +20,7 @@ pub enum Role {
 }
 
 /// What a process does.
-#[derive(Clone, Copy, PartialEq, Eq, Debug)]
+#[derive(Clone, Copy, PartialEq, Eq)]
 pub enum State {
     /// It can be started.
     Available = 0,

@@ -5,7 +5,7 @@ ghost use Rattle.model.specs.OrderOutcome.{code_number};
 use crate::capability::Capability;
 
 /// What came of an order: the first of the result words.
-#[derive(Clone, Copy, PartialEq, Eq, Debug)]
+#[derive(Clone, Copy)]
 pub enum ResultCode {
     Done = 0,
     NoOrder = 1,
@@ -21,7 +21,7 @@ pub enum ResultCode {
 }
 
 /// An order of a page capability.
-#[derive(Clone, Copy, PartialEq, Eq, Debug)]
+#[derive(Clone, Copy)]
 pub enum PageOrder {
     Read = 1,
     Write = 2,
@@ -29,7 +29,7 @@ pub enum PageOrder {
 }
 
 /// An order of a node capability.
-#[derive(Clone, Copy, PartialEq, Eq, Debug)]
+#[derive(Clone, Copy, PartialEq, Eq)]
 pub enum NodeOrder {
     Fetch = 1,
     Store = 2,
@@ -39,7 +39,7 @@ pub enum NodeOrder {
 }
 
 /// An order of a process capability.
-#[derive(Clone, Copy, PartialEq, Eq, Debug)]
+#[derive(Clone, Copy)]
 pub enum ProcessOrder {
     GetRegister = 1,
     PutRegister = 2,
@@ -53,7 +53,7 @@ pub enum ProcessOrder {
 }
 
 /// An order of a bank capability (EROS, KeyKOS: space bank).
-#[derive(Clone, Copy, PartialEq, Eq, Debug)]
+#[derive(Clone, Copy, PartialEq, Eq)]
 pub enum BankOrder {
     NewPage = 1,
     NewNode = 2,
@@ -66,7 +66,7 @@ pub enum BankOrder {
 }
 
 /// What an order is given: the second and third word sent, and the first capability.
-#[derive(Clone, Copy, PartialEq, Eq, Debug)]
+#[derive(Clone, Copy)]
 pub struct Arguments {
     pub first: u64,
     pub second: u64,

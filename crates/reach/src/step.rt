@@ -3,7 +3,7 @@
 use model::Capability;
 
 /// How one object has authority over another.
-#[derive(Clone, Copy, PartialEq, Eq, Debug)]
+#[derive(Clone, Copy)]
 pub enum Way {
     /// The one is a process, and the other its annex.
     Annex,
@@ -16,7 +16,7 @@ pub enum Way {
 }
 
 /// One object has authority over another.
-#[derive(Clone, Copy, PartialEq, Eq, Debug)]
+#[derive(Clone, Copy)]
 pub struct Step {
     pub from: u64,
     pub way: Way,

@@ -6,7 +6,7 @@ use model::{Refusal, ResultCode};
 use script::{LineFault, LineText, refusal_line};
 
 /// Why a strict run ends at a line.
-#[derive(Clone, Copy, PartialEq, Eq, Debug)]
+#[derive(Clone, Copy)]
 pub enum Cause {
     /// The line is bad.
     BadLine(LineFault),
@@ -17,7 +17,7 @@ pub enum Cause {
 }
 
 /// Where a strict run ended.
-#[derive(Clone, Copy, PartialEq, Eq, Debug)]
+#[derive(Clone, Copy)]
 pub struct Stop {
     /// The number of the line, from 1.
     pub line: u64,

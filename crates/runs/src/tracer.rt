@@ -14,7 +14,7 @@ use model::{Answer, Command, Line, ResultCode};
 use script::{LineFault, LineText, Output, answer_line, command_word, why_bad};
 
 /// What a run does beside writing the answers.
-#[derive(Clone, Copy, PartialEq, Eq, Debug)]
+#[derive(Clone, Copy)]
 pub struct TraceOptions {
     /// It writes what became of each line.
     pub trace: bool,

@@ -6,7 +6,7 @@ use crate::observer::Observer;
 use model::{Answer, Command, ResultCode};
 
 /// Watches for invocations and stores that aren't committed, and lets each run go on.
-#[derive(Clone, Copy, PartialEq, Eq, Debug)]
+#[derive(Clone, Copy)]
 pub struct Unsaved {
     // Some came after the last checkpoint or restart.
     present: bool,

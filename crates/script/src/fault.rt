@@ -2,7 +2,7 @@
 use thiserror::Error;
 
 /// Why a run of a script stopped early.
-#[derive(Clone, Copy, PartialEq, Eq, Debug, Error)]
+#[derive(Clone, Copy, Debug, Error)]
 pub enum RunFault {
     /// The reader of the script failed.
     #[error("cannot read script")]

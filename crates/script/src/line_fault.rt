@@ -13,7 +13,7 @@ use crate::words::Words;
 use model::Line;
 
 /// Why a line of a script is bad. Words have places from 1.
-#[derive(Clone, Copy, PartialEq, Eq, Debug)]
+#[derive(Clone, Copy)]
 pub enum LineFault {
     /// It has more than 256 bytes.
     Long,

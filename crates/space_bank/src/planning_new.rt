@@ -20,7 +20,7 @@ use collections::NumberSet;
 use model::{Access, Capability, ResultCode};
 
 /// What a bank makes.
-#[derive(Clone, Copy, Debug)]
+#[derive(Clone, Copy)]
 pub enum New {
     Page,
     Node,

@@ -6,7 +6,7 @@ use checkpoint::OpenFault;
 use layout::BadImage;
 
 /// What a call of the library returns. C gets its number.
-#[derive(Clone, Copy, PartialEq, Eq, Debug)]
+#[derive(Clone, Copy)]
 pub enum Status {
     /// The call did its work.
     Done,

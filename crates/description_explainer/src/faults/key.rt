@@ -5,7 +5,7 @@ ghost use Rattle.description_explainer.specs.Shapes.{key_name, keys_of};
 use crate::faults::place::TableName;
 
 /// A key of one of the tables of a description.
-#[derive(Clone, Copy, PartialEq, Eq, Debug)]
+#[derive(Clone, Copy)]
 pub enum Key {
     Nodes,
     Pages,

@@ -3,7 +3,7 @@
 use crate::faults::key::Key;
 
 /// A table of a description: the whole, or one of a list by its index.
-#[derive(Clone, Copy, PartialEq, Eq, Debug)]
+#[derive(Clone, Copy)]
 pub enum TableName {
     Whole,
     Bank(usize),
@@ -13,7 +13,7 @@ pub enum TableName {
 }
 
 /// What is wrong in a table.
-#[derive(Clone, Copy, PartialEq, Eq, Debug)]
+#[derive(Clone, Copy)]
 pub enum Flaw<'a> {
     /// This key is unknown.
     Unknown(&'a str),
@@ -24,14 +24,14 @@ pub enum Flaw<'a> {
 }
 
 /// A table, and what is wrong in it.
-#[derive(Clone, Copy, PartialEq, Eq, Debug)]
+#[derive(Clone, Copy)]
 pub struct ShapePlace<'a> {
     pub table: TableName,
     pub flaw: Flaw<'a>,
 }
 
 /// A size that no image has.
-#[derive(Clone, Copy, PartialEq, Eq, Debug)]
+#[derive(Clone, Copy)]
 pub enum Limit {
     Nodes,
     Pages,
@@ -48,7 +48,7 @@ pub enum Limit {
 }
 
 /// A number that a description names, by the index of its object in its list.
-#[derive(Clone, Copy, PartialEq, Eq, Debug)]
+#[derive(Clone, Copy)]
 pub enum Named {
     Bank(usize),
     Root(usize),
@@ -58,7 +58,7 @@ pub enum Named {
 }
 
 /// What is wrong with the numbers.
-#[derive(Clone, Copy, PartialEq, Eq, Debug)]
+#[derive(Clone, Copy)]
 pub enum Misnumbered {
     /// A number isn't one of its kind.
     OutOfRange(Named),
@@ -67,7 +67,7 @@ pub enum Misnumbered {
 }
 
 /// A capability of a process or a node, by the indexes of the object and of the entry in their lists.
-#[derive(Clone, Copy, PartialEq, Eq, Debug)]
+#[derive(Clone, Copy)]
 pub enum Held {
     Space(usize),
     Register(usize, usize),

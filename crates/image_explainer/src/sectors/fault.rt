@@ -1,7 +1,7 @@
 // What is wrong in the sectors of an image, and where.
 
 /// What is wrong in the sectors of an image, by the least of the reasons 1 to 7 that holds, and where.
-#[derive(Clone, Copy, PartialEq, Eq, Debug)]
+#[derive(Clone, Copy)]
 pub enum SectorFault {
     /// There are fewer sectors than the image needs.
     Small {
@@ -33,7 +33,7 @@ pub enum SectorFault {
 }
 
 /// What makes sector 0 no superblock.
-#[derive(Clone, Copy, PartialEq, Eq, Debug)]
+#[derive(Clone, Copy)]
 pub enum SuperblockPart {
     Magic,
     Version,
@@ -42,7 +42,7 @@ pub enum SuperblockPart {
 }
 
 /// What a superblock has outside its limits.
-#[derive(Clone, Copy, PartialEq, Eq, Debug)]
+#[derive(Clone, Copy)]
 pub enum GeometryPart {
     Nodes(u64),
     Pages(u64),
@@ -53,7 +53,7 @@ pub enum GeometryPart {
 }
 
 /// Why a header doesn't count.
-#[derive(Clone, Copy, PartialEq, Eq, Debug)]
+#[derive(Clone, Copy)]
 pub enum NotCounted {
     /// Its gate is closed.
     Closed,
@@ -62,7 +62,7 @@ pub enum NotCounted {
 }
 
 /// What is wrong with the committed header.
-#[derive(Clone, Copy, PartialEq, Eq, Debug)]
+#[derive(Clone, Copy)]
 pub enum HeaderPart {
     /// The entries are above the slots of a half of the log.
     Entries { entries: u64, slots: u64 },
@@ -76,7 +76,7 @@ pub enum HeaderPart {
 }
 
 /// What is wrong with a directory. Entries count from 0.
-#[derive(Clone, Copy, PartialEq, Eq, Debug)]
+#[derive(Clone, Copy)]
 pub enum DirectoryPart {
     /// There is no object with the number of this entry.
     Object {
@@ -103,7 +103,7 @@ pub enum DirectoryPart {
 }
 
 /// What is wrong with a frame.
-#[derive(Clone, Copy, PartialEq, Eq, Debug)]
+#[derive(Clone, Copy)]
 pub enum FramePart {
     /// The allocation count is above the age.
     Allocations { count: u64, age: u64 },

@@ -49,6 +49,7 @@ pub fn read_packed<D: Device>(
 }
 
 // Reads the frame of an object of this shape by way of a buffer of the frame's size.
+#[inline(always)]
 fn read_buffered<D: Device>(
     device: &mut D,
     at: u64,
@@ -151,6 +152,7 @@ pub fn write_page<D: Device>(
 }
 
 // Writes the frame of an object of this shape by way of a buffer of the frame's size.
+#[inline(always)]
 fn write_buffered<D: Device>(
     device: &mut D,
     at: u64,

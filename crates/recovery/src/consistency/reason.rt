@@ -1,7 +1,7 @@
 // Why banks fail the check.
 
 /// Why banks aren't a tree that owns all objects within their limits.
-#[derive(Clone, Copy, PartialEq, Eq, Debug)]
+#[derive(Clone, Copy)]
 pub enum Unbanked {
     /// Number 0 isn't a bank that owns itself.
     Prime,
