@@ -48,11 +48,6 @@ found {image} {b} slot e is = grind (arith, nat_tests)
 
 -- ---- the slot of the next header is touched
 
--- a slot counts only where it did, with the same header
-pub record CountsNoMore (r : ℕ) (old new : Image) : Type 0 where
-  pub counted : counts_at new r ≡ true → counts_at old r ≡ true
-  pub same : counts_at new r ≡ true → new (1 + 2 * r) ≡ old (1 + 2 * r)
-
 module _ {n : ℕ} {old new : Image} {b : List ℕ} (is : committed_bytes old ≡ Some b) (next : sequence_in b + 1 ≡ n)
     (touched : Elsewhere (1 + 2 * (n % 2)) 2 old new) where
   there : (k : ℕ) × Wins old k × (old (1 + 2 * k) ≡ b)

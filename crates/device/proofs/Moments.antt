@@ -32,11 +32,6 @@ goes_on {old} {mid} {new} {P} so_far time here = record {
   keeps = λ t c le left. time.keeps t c (omega (arith, le, so_far.later)) (so_far.keeps t c le left);
 }
 
--- one call alone
-pub in_one_call : {old new : Disk} (P : Image → Type 0) → OnlyNow old → Elapses old new → ((c : Image) → old.may_leave c → P c) →
-    ((c : Image) → new.may_leave c → P c) → LeavesOnly old new P
-in_one_call {old} {new} P only_now time first here = goes_on {old = old} {mid = old} {new = new} {P = P} (started old P only_now first) time here
-
 -- the same run, with a weaker statement
 pub leaves_weaker : {old new : Disk} {P : Image → Type 0} (Q : Image → Type 0) → ((c : Image) → P c → Q c) → LeavesOnly old new P → LeavesOnly old new Q
 leaves_weaker Q weaker run = record {
@@ -74,10 +69,6 @@ goes_on_cut {old} {mid} {new} {P} so_far counts_now time left only =
 -- before the first of a run of reads and syncs
 pub peeks_started : (disk : Disk) → OnlyNow disk → Peeks disk disk
 peeks_started disk only_now = started disk disk.may_leave only_now (λ c left. left)
-
--- a read or a sync more
-pub peeks_on : {old mid new : Disk} → Peeks old mid → CountsNow mid → Elapses mid new → Narrows mid new → Peeks old new
-peeks_on {old} {mid} {new} so_far counts_now time narrows = narrowed {old = old} {mid = mid} {new = new} {P = old.may_leave} so_far counts_now time narrows
 
 -- a call that succeeds leaves the count of failures
 pub counted_ok : {T E : Type 0} {old new : Disk} {value : T} → Counts {T = T} {E = E} old new (Ok value) → new.failures ≡ old.failures

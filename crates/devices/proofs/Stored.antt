@@ -140,10 +140,6 @@ pub put_more : (mid new from part : List ℕ) (at i : ℕ) → ((j : ℕ) → j 
     → (j : ℕ) → j < i + 1 → image_of from j ≡ image_of new (at + j)
 put_more mid new from part at i was part_is here others j below = grind (arith, nat_tests)
 
-pub elsewhere_more : (old mid new : List ℕ) (at i : ℕ) → Elsewhere at i (image_of old) (image_of mid) → Elsewhere (at + i) 1 (image_of mid) (image_of new)
-    → Elsewhere at (i + 1) (image_of old) (image_of new)
-elsewhere_more old mid new at i was others = grind (arith, nat_tests)
-
 -- one sector more was got
 pub got_more : (v mid new sector : List ℕ) (at i : ℕ) → ((j : ℕ) → j < i → image_of mid j ≡ image_of v (at + j)) → sector ≡ image_of v (at + i)
     → length sector ≡ 512 → AreSectors (image_of new) i sector → Elsewhere i (sectors_of sector) (image_of mid) (image_of new)

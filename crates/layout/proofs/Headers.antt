@@ -46,10 +46,6 @@ pub record HasFields (h : CheckpointHeader) (m : ℕ) (found : CheckpointHeader)
 abbrev made : ℕ → ℕ → ℕ → ℕ → CheckpointHeader
 made a b c d = record { sequence = a; generation = b; entries = c; age = d }
 
-same_fields : (a b c d a' b' c' d' : ℕ) → a ∷ b ∷ c ∷ d ∷ [] ≡ a' ∷ b' ∷ c' ∷ d' ∷ []
-    → made a b c d ≡ made a' b' c' d'
-same_fields a b c d a' b' c' d' e = grind (arith, nat_tests)
-
 pub spelt_header : (room : ℕ) (bytes rest : List ℕ) (m : ℕ) (found h : CheckpointHeader) → AllFit (m ∷ fields found)
     → bytes ≡ stream (m ∷ fields found) rest → IsHeader room h → bytes ≡ header_bytes h → HasFields h m found rest
 spelt_header room bytes rest m found h fits read is e =

@@ -136,10 +136,6 @@ pub node_of_frame : (g : Geometry) (age n : ℕ) (bytes : List ℕ) (f : Frame) 
     IsNodeFrame g age f × (bytes ≡ node_frame_bytes f)
 node_of_frame g age n bytes f lt is = (keepable_node g age n f lt is.0, is.1 ∙ node_bytes g n f lt)
 
-pub frame_of_page : (g : Geometry) (age n : ℕ) (bytes : List ℕ) (f : Frame) → g.nodes ≤ n → n < g.nodes + g.pages →
-    IsPageFrame age f × (bytes ≡ page_frame_bytes f) → IsFrameOf g age n bytes f
-frame_of_page g age n bytes f le lt is = (page_keepable g age n f le lt is.0, is.1 ∙ sym (page_bytes g n f le))
-
 pub page_of_frame : (g : Geometry) (age n : ℕ) (bytes : List ℕ) (f : Frame) → g.nodes ≤ n → IsFrameOf g age n bytes f →
     IsPageFrame age f × (bytes ≡ page_frame_bytes f)
 page_of_frame g age n bytes f le is = (keepable_page g age n f le is.0, is.1 ∙ page_bytes g n f le)

@@ -126,12 +126,6 @@ pub drop_filled : (filled : List ℕ) (n at : ℕ) → filled ≡ zeros n → dr
 unfolding zeros
 drop_filled filled n at e = ap (drop at) e ∙ drop-replicate at n 0
 
--- the rest of bytes is blank, said of the part that is passed
-pub blank_part : (bytes : List ℕ) (at : ℕ) (answer : Bool) → at ≤ length bytes
-    → IsTrue answer ↔ (between at (length bytes) bytes ≡ zeros (length (between at (length bytes) bytes)))
-    → IsTrue answer ↔ (drop at bytes ≡ zeros (length bytes - at))
-blank_part bytes at answer room says = grind (arith, nat_tests, take_rest, length-drop)
-
 pub all_blank : (bytes : List ℕ) (n : ℕ) → length bytes ≡ n → ((k d : ℕ) → k < n → get_or bytes k d ≡ 0) → bytes ≡ zeros n
 unfolding zeros
 all_blank bytes n len all = grind (arith, nat_tests, same_lists, length-replicate, get_or-replicate)

@@ -200,9 +200,5 @@ pub default_written : (f : Frame) (front new : List ℕ) → take 512 front ≡ 
     new ≡ take 512 front ++ zeros 4096 → new ≡ page_frame_bytes f
 default_written f front new before words is = page_written f front new (zeros 4096) before (sym zero_words_bytes ∙ ap words_bytes (sym words)) is
 
-pub blanked_front : (old new : List ℕ) (n : ℕ) → n ≤ length old → new ≡ zeros (length (take n old)) →
-    (take n (new ++ drop n old) ≡ zeros n) × (drop n (new ++ drop n old) ≡ drop n old)
-blanked_front old new n room e = grind (arith, nat_tests, length-take-le, length-zeros, take_at, drop_at)
-
 pub not_page : (r : ContentRef) → ((words : Bor (List ℕ)) → r ≡ content_ref.Page words → ⊥) → page_words (content_behind r) ≡ zero_words
 not_page r h = grind (arith, nat_tests)

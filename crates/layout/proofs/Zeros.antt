@@ -8,10 +8,6 @@ use Rattle.layout.proofs.Pages.{put_last}
 
 -- ---- the end of a cluster is written
 
-pub blank_end : (old end : List ℕ) (nodes : ℕ) → length old ≡ 4096 → nodes ≤ 5 → end ≡ zeros (length (take (length old - 800 * nodes) (drop (800 * nodes) old)))
-    → IsBlankBehind nodes (put_mid (800 * nodes) (length old - 800 * nodes) old end)
-blank_end old end nodes size few is = grind (arith, nat_tests, put_last, drop_at, length-take-le, take_rest, length-drop)
-
 pub places_stay : (old end : List ℕ) (nodes rank : ℕ) → length old ≡ 4096 → nodes ≤ 5 → rank < nodes
     → shape_bytes (Packed rank) (put_mid (800 * nodes) (length old - 800 * nodes) old end) ≡ shape_bytes (Packed rank) old
 places_stay old end nodes rank size few lt =
