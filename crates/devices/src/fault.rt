@@ -7,7 +7,7 @@ use std::io;
 use thiserror::Error;
 
 /// Why a file can't be opened or made as a device.
-#[derive(Clone, Copy, Debug, Error)]
+#[derive(Clone, Copy, PartialEq, Eq, Debug, Error)]
 pub enum FileFault {
     /// The system refused a call on the file.
     #[error("the file can't be opened, read or written")]

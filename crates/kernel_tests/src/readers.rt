@@ -1,7 +1,5 @@
 // Runs of scripts that come in pieces, or whose reader is interrupted or fails.
-use crate::Worlds;
-use crate::world_runs::World;
-use device::Device;
+use crate::worlds::{FIRST_WORLD, SECOND_WORLD, run_over};
 use runs::ScriptReader;
 use script::{CountedWriter, RunFault};
 use std::alloc::{AllocError, Global};
@@ -10,13 +8,13 @@ use std::io::{ErrorKind, Read};
 use std::process::Abort;
 use std::test::Fail;
 
-// The bytes that every read requests.
-const ASKED: usize = 4096;
+// How many bytes each read requests.
+const READ_SIZE: usize = 4096;
 
 const WIDTHS: [usize; 4] = [1, 7, 4095, 4096];
 
-// Gives some bytes, `width` at a time. Where it interrupts it does so before each piece, and where it
-// fails it does so at the end. It keeps whether a read requested another number of bytes.
+// Gives some bytes, `width` at a time. If it interrupts, each piece comes after an interrupted read. If it fails, the
+// read behind the last piece fails. It keeps whether a read requested another number of bytes than `READ_SIZE`.
 #[derive(Drop)]
 struct Pieces<'a> {
     rest: &'a [u8],
@@ -29,7 +27,7 @@ struct Pieces<'a> {
 
 impl Read for Pieces<'_> {
     fn read(&mut self, buf: &mut [u8]) -> io::Result<usize> {
-        self.requested_otherwise = self.requested_otherwise || buf.len() != ASKED;
+        self.requested_otherwise = self.requested_otherwise || buf.len() != READ_SIZE;
         self.interrupted = self.interrupts && !self.interrupted;
         if self.interrupted {
             return Err(io::Error::from(ErrorKind::Interrupted));
@@ -44,31 +42,30 @@ impl Read for Pieces<'_> {
     }
 }
 
-// What a reader gives is answered so over a device, and the run ends so.
-fn is_answered<D: Device>(
+// Runs the script of a reader over a world. Checks the answers, the end of the run, and what the reads requested.
+fn is_answered(
     rt: &(impl Abort + AllocGlobal),
-    device: D,
+    world: &str,
     reader: &mut Pieces<'_>,
     expected: &[u8],
 ) -> Result<(), Fail> {
     let mut answers = CountedWriter::new(Vec::new(rt.alloc()));
     let mut script = ScriptReader::new(&mut *reader);
-    let outcome = Worlds::new(rt.alloc()).run_over(device, &mut script, &mut answers)?;
-    let ends = if reader.fails {
-        Err(RunFault::Read)
-    } else {
-        Ok(())
+    let is_expected = match run_over(rt.alloc(), world, &mut script, &mut answers)? {
+        Ok(()) => !reader.fails,
+        Err(RunFault::Read) => reader.fails,
+        Err(_) => false,
     };
-    assert!(rt; outcome == ends);
+    assert!(rt; is_expected);
     assert_eq!(rt; answers.get_ref().as_slice(), expected);
     assert!(rt; !reader.requested_otherwise);
     Ok(())
 }
 
-// A script over a world is answered so, whatever pieces it comes in and whether they are interrupted.
+// Checks the answers to a script over a world, in pieces of each width, interrupted or not.
 fn is_answered_in_pieces(
     rt: &(impl Abort + AllocGlobal),
-    world: World,
+    world: &str,
     script: &[u8],
     fails: bool,
     expected: &[u8],
@@ -83,14 +80,13 @@ fn is_answered_in_pieces(
                 fails,
                 requested_otherwise: false,
             };
-            let device = Worlds::new(rt.alloc()).device_of(world)?;
-            is_answered(rt, device, &mut reader, expected)?;
+            is_answered(rt, world, &mut reader, expected)?;
         }
     }
     Ok(())
 }
 
-// So many times the same texts, one after another.
+// Returns the texts one after another, and all of them `times` times.
 fn repeated(alloc: Global, texts: &[&[u8]], times: usize) -> Result<Vec<u8>, AllocError> {
     let mut whole = Vec::new(alloc);
     for _ in 0..times {
@@ -101,10 +97,10 @@ fn repeated(alloc: Global, texts: &[&[u8]], times: usize) -> Result<Vec<u8>, All
     Ok(whole)
 }
 
-// A world, the parts of a script over it, and those of what is answered. The parts come `times` times, one
-// after another, and then the reader may fail.
+// A world, the parts of a script over it, and the parts of the answers. Both are repeated `times` times. If `fails`,
+// the reader then fails.
 struct Row {
-    world: World,
+    world: &'static str,
     script: &'static [&'static [u8]],
     expected: &'static [&'static [u8]],
     times: usize,
@@ -117,21 +113,21 @@ const SHOWN: &[u8] = b"node 5 owner 0\nend\n";
 // a failure cuts isn't answered.
 const ROWS: &[Row] = &[
     Row {
-        world: World::First,
+        world: FIRST_WORLD,
         script: &[],
         expected: &[],
         times: 1,
         fails: false,
     },
     Row {
-        world: World::First,
+        world: FIRST_WORLD,
         script: &[b"show 5\n\n#\nshow 01\ncut\nshow 5"],
         expected: &[SHOWN, b"bad line\nat 0 0\n", SHOWN],
         times: 1,
         fails: false,
     },
     Row {
-        world: World::First,
+        world: FIRST_WORLD,
         script: &[
             &[b'#'; 256],
             b"\n",
@@ -148,14 +144,14 @@ const ROWS: &[Row] = &[
         fails: false,
     },
     Row {
-        world: World::First,
+        world: FIRST_WORLD,
         script: &[&[b'#'; 250], b"\nshow 5\n"],
         expected: &[SHOWN],
         times: 40,
         fails: false,
     },
     Row {
-        world: World::Second,
+        world: SECOND_WORLD,
         script: &[
             b"call 1 2 1 0 0 0 0 0 0 0\nsend 1 28 2 0 42 0 0 0 0 0\ncheckpoint\n",
             b"send 1 28 2 0 43 0 0 0 0 0\nstabilize 5\ncommit\ncheckpoint\nmigrate 2\n",
@@ -170,21 +166,21 @@ const ROWS: &[Row] = &[
         fails: false,
     },
     Row {
-        world: World::First,
+        world: FIRST_WORLD,
         script: &[b"show 5\nshow 5"],
         expected: &[SHOWN],
         times: 1,
         fails: true,
     },
     Row {
-        world: World::First,
+        world: FIRST_WORLD,
         script: &[b"show 5\n"],
         expected: &[SHOWN],
         times: 1,
         fails: true,
     },
     Row {
-        world: World::First,
+        world: FIRST_WORLD,
         script: &[],
         expected: &[],
         times: 1,

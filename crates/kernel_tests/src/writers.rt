@@ -1,7 +1,5 @@
 // Answers to writers that take little, are interrupted, or fail.
-use crate::Worlds;
-use crate::world_runs::World;
-use device::Device;
+use crate::worlds::{FIRST_WORLD, run_over};
 use runs::ScriptReader;
 use script::{BufferedOutput, CountedWriter, RunFault};
 use std::alloc::Global;
@@ -53,11 +51,9 @@ impl Write for Narrow {
     }
 }
 
-// The answers to a script over a device are written to a writer. With too little room it has taken those that
-// fit, and there was a fault.
-fn is_written<D: Device>(
+// Writes the answers to a script to a writer. If its room is too small, it takes what fits and the run fails.
+fn is_written(
     rt: &(impl Abort + AllocGlobal),
-    device: D,
     writer: Narrow,
     script: &[u8],
     expected: &[u8],
@@ -65,13 +61,12 @@ fn is_written<D: Device>(
     let room = writer.room;
     let mut reader = ScriptReader::new(script);
     let mut writer = CountedWriter::new(writer);
-    let outcome = Worlds::new(rt.alloc()).run_over(device, &mut reader, &mut writer)?;
-    let ends = if room < expected.len() {
-        Err(RunFault::Write)
-    } else {
-        Ok(())
+    let is_expected = match run_over(rt.alloc(), FIRST_WORLD, &mut reader, &mut writer)? {
+        Ok(()) => room >= expected.len(),
+        Err(RunFault::Write) => room < expected.len(),
+        Err(_) => false,
     };
-    assert!(rt; outcome == ends, "room for {room}");
+    assert!(rt; is_expected, "room for {room}");
     assert_eq!(rt;
         writer.get_ref().taken.as_slice(),
         &expected[..room.min(expected.len())]
@@ -79,56 +74,36 @@ fn is_written<D: Device>(
     Ok(())
 }
 
-// The same with more and more room, where `width` bytes are taken at a time.
-fn are_written(
-    rt: &(impl Abort + AllocGlobal),
-    width: usize,
-    script: &[u8],
-    expected: &[u8],
-) -> Result<(), Fail> {
-    for fails in [false, true] {
-        for room in 0..expected.len() + 2 {
-            let device = Worlds::new(rt.alloc()).device_of(World::First)?;
-            let writer = Narrow::new(rt.alloc(), width, room, fails);
-            is_written(rt, device, writer, script, expected)?;
-        }
-    }
-    Ok(())
-}
-
-// Whatever byte of the answers a writer fails at, it has taken those before it.
+// At whatever byte of the answers a writer fails or takes nothing, it has taken the bytes before.
 #[test]
 fn a_failing_writer_ends_the_run(rt: HostRuntime) -> Result<(), Fail> {
     let script = b"show 5\nshow 01\nshow 16\n";
     let expected = b"node 5 owner 0\nend\nbad line\npage 16 owner 0\nend\n";
     for width in [1, 7, 4096] {
-        are_written(&rt, width, script, expected)?;
+        for fails in [false, true] {
+            for room in 0..expected.len() + 2 {
+                let writer = Narrow::new(rt.alloc(), width, room, fails);
+                is_written(&rt, writer, script, expected)?;
+            }
+        }
     }
     Ok(())
 }
 
-// The 19 bytes of an answer are buffered and passed on to a writer with this room, and the run ends so.
-fn is_passed_on<D: Device>(
-    rt: &(impl Abort + AllocGlobal),
-    device: D,
-    room: usize,
-    ends: Result<(), RunFault>,
-) -> Result<(), Fail> {
-    let buffer = BufWriter::new(rt.alloc(), Narrow::new(rt.alloc(), 4096, room, true))?;
-    let mut writer = BufferedOutput::new(buffer);
-    let mut reader = ScriptReader::new(b"show 5\n".as_slice());
-    let outcome = Worlds::new(rt.alloc()).run_over(device, &mut reader, &mut writer)?;
-    assert!(rt; outcome == ends);
-    assert_eq!(rt; writer.get_ref().taken.len(), room);
-    Ok(())
-}
-
-// What was answered is passed on, or the run fails.
+// An answer of 19 bytes is buffered. The run fails unless the writer behind the buffer takes all of them.
 #[test]
 fn what_is_not_passed_on_ends_the_run(rt: HostRuntime) -> Result<(), Fail> {
-    for (room, ends) in [(19, Ok(())), (18, Err(RunFault::Write))] {
-        let device = Worlds::new(rt.alloc()).device_of(World::First)?;
-        is_passed_on(&rt, device, room, ends)?;
+    for (room, is_passed_on) in [(19, true), (18, false)] {
+        let buffer = BufWriter::new(rt.alloc(), Narrow::new(rt.alloc(), 4096, room, true))?;
+        let mut writer = BufferedOutput::new(buffer);
+        let mut reader = ScriptReader::new(b"show 5\n".as_slice());
+        let is_expected = match run_over(rt.alloc(), FIRST_WORLD, &mut reader, &mut writer)? {
+            Ok(()) => is_passed_on,
+            Err(RunFault::Write) => !is_passed_on,
+            Err(_) => false,
+        };
+        assert!(rt; is_expected, "room for {room}");
+        assert_eq!(rt; writer.get_ref().taken.len(), room);
     }
     Ok(())
 }

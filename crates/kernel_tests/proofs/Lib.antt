@@ -1,4 +1,0 @@
-mod Names
-mod FreshSound
-mod FreshWorlds
-mod MadeWorlds
