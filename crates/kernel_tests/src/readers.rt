@@ -1,5 +1,7 @@
 // Runs of scripts that come in pieces, or whose reader is interrupted or fails.
-use crate::worlds::{FIRST_WORLD, SECOND_WORLD, run_over};
+use crate::worlds::{FIRST_WORLD, SECOND_WORLD, device_of, run_over};
+use device::Device;
+use object_cache::PlainStore;
 use runs::ScriptReader;
 use script::{CountedWriter, RunFault};
 use std::alloc::{AllocError, Global};
@@ -42,16 +44,18 @@ impl Read for Pieces<'_> {
     }
 }
 
-// Runs the script of a reader over a world. Checks the answers, the end of the run, and what the reads requested.
-fn is_answered(
+// Runs the script of a reader over a device. Checks the answers, the end of the run, and what the reads requested.
+fn is_answered<D: Device>(
     rt: &(impl Abort + AllocGlobal),
-    world: &str,
+    device: D,
     reader: &mut Pieces<'_>,
     expected: &[u8],
 ) -> Result<(), Fail> {
     let mut answers = CountedWriter::new(Vec::new(rt.alloc()));
     let mut script = ScriptReader::new(&mut *reader);
-    let is_expected = match run_over(rt.alloc(), world, &mut script, &mut answers)? {
+    let alloc = rt.alloc();
+    let outcome = run_over::<_, PlainStore<_>, _, _>(alloc, device, (), &mut script, &mut answers)?;
+    let is_expected = match outcome {
         Ok(()) => !reader.fails,
         Err(RunFault::Read) => reader.fails,
         Err(_) => false,
@@ -80,7 +84,7 @@ fn is_answered_in_pieces(
                 fails,
                 requested_otherwise: false,
             };
-            is_answered(rt, world, &mut reader, expected)?;
+            is_answered(rt, device_of(rt.alloc(), world)?, &mut reader, expected)?;
         }
     }
     Ok(())

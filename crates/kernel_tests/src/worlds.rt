@@ -1,16 +1,16 @@
 // Runs over devices in memory that hold one of two worlds.
+use checkpoint::ObjectStore;
 use device::Device;
 use devices::{Memory, Outcome};
 use image_builder::build;
 use kernel::Kernel;
-use object_cache::PlainStore;
 use runs::{Script, run};
 use script::{Output, RunFault};
 use std::alloc::Global;
 use std::test::Fail;
 
 /// Process 1 runs, and holds node 5 in register 5 and page 16 in register 6.
-pub const FIRST_WORLD: &str = "
+pub(crate) const FIRST_WORLD: &str = "
 nodes = 16
 pages = 8
 log = 16
@@ -22,7 +22,7 @@ page = [{ number = 16, owner = 0 }]
 
 /// Process 1 runs. Its registers 1 to 4 hold itself, the prime bank, the right to start process 3 with key 7, and that
 /// process, which is available.
-pub const SECOND_WORLD: &str = "
+pub(crate) const SECOND_WORLD: &str = "
 nodes = 16
 pages = 8
 log = 16
@@ -35,30 +35,40 @@ process = [
 ]
 ";
 
-/// Runs a script over a new device that holds the world of a description, and returns how the run ends. An error if the
-/// device isn't built or opened.
-pub fn run_over<R: Script, W: Output>(
-    alloc: Global,
-    world: &str,
-    reader: &mut R,
-    writer: &mut W,
-) -> Result<Result<(), RunFault>, Fail> {
-    let mut kernel = opened(alloc, device_of(alloc, world)?)?;
-    Ok(run(&mut kernel, reader, writer))
+/// A new device that holds the world of a description.
+pub(crate) fn device_of(alloc: Global, world: &str) -> Result<Memory, Fail> {
+    let device = Memory::new(alloc, 399, 4000, Outcome::Drop)?;
+    built(alloc, world, device)
 }
 
-// A device in memory with the image of a description.
-fn device_of(alloc: Global, description: &str) -> Result<Memory, Fail> {
+// A device with the image of a description.
+fn built<D: Device>(alloc: Global, description: &str, device: D) -> Result<D, Fail> {
+    let mut device = device;
     let table = toml::table_from_str(alloc, description)?;
-    let mut device = Memory::new(alloc, 399, 4000, Outcome::Drop)?;
     build(alloc, &table, &mut device)?;
     Ok(device)
 }
 
-// The kernel over a device.
-fn opened<D: Device>(alloc: Global, device: D) -> Result<Kernel<D, PlainStore<D>>, Fail> {
-    match Kernel::<D, PlainStore<D>>::open(alloc, device, ()) {
+/// The kernel over a device. An error if the device isn't opened.
+pub(crate) fn opened<D: Device, S: ObjectStore<D>>(
+    alloc: Global,
+    device: D,
+    setting: S::Setting,
+) -> Result<Kernel<D, S>, Fail> {
+    match Kernel::<D, S>::open(alloc, device, setting) {
         Ok(kernel) => Ok(kernel),
         Err(_) => Err(Fail::new("a device that isn't opened")),
     }
+}
+
+/// How a run over a device ends.
+pub(crate) fn run_over<D: Device, S: ObjectStore<D>, R: Script, W: Output>(
+    alloc: Global,
+    device: D,
+    setting: S::Setting,
+    reader: &mut R,
+    writer: &mut W,
+) -> Result<Result<(), RunFault>, Fail> {
+    let mut kernel = opened::<D, S>(alloc, device, setting)?;
+    Ok(run(&mut kernel, reader, writer))
 }
