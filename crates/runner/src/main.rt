@@ -10,7 +10,7 @@ use device::MAX_SECTORS;
 use devices::{FileDevice, FileFault, Fuse};
 use image_builder::{Blueprint, OldImage};
 use jobs::{
-    Fault, Focus, ShellInput, Sizes, build_image, check_image, describe_image, draw_image,
+    Done, Fault, Focus, ShellInput, Sizes, build_image, check_image, describe_image, draw_image,
     explain_description, explain_image, finish, info_image, reach_image, run_image, run_shell,
     run_traced, upgrade_opened,
 };
@@ -26,11 +26,15 @@ use std::os::unix::fs::{FileTypeExt, MetadataExt};
 use std::process::ExitCode;
 use toml::Table;
 
-// Standard output, behind a buffer.
-type StandardOutput = BufferedOutput<Stdout, Global>;
-
 // Standard error.
 type StandardError = CountedWriter<Stderr>;
+
+// Standard output, behind a buffer, and standard error.
+#[derive(Drop)]
+struct Stdio {
+    output: BufferedOutput<Stdout, Global>,
+    errors: StandardError,
+}
 
 // The fault where the system refused something: that memory ran out, or something else.
 fn of_io(error: &io::Error, otherwise: Fault) -> Fault {
@@ -94,17 +98,20 @@ fn create(rt: &HostRuntime, sectors: u64, source: &str, path: &str) -> Result<Fi
     }
 }
 
-// What standard output is written through.
-fn output(rt: &HostRuntime) -> Result<StandardOutput, Fault> {
-    match BufWriter::new(rt.alloc(), rt.stdout()) {
-        Ok(buffer) => Ok(BufferedOutput::new(buffer)),
-        Err(_) => Err(Fault::NoMemory),
-    }
-}
-
 // Standard error.
 fn errors_of(rt: &HostRuntime) -> StandardError {
     CountedWriter::new(rt.stderr())
+}
+
+// Standard output and standard error.
+fn stdio_of(rt: &HostRuntime) -> Result<Stdio, Fault> {
+    match BufWriter::new(rt.alloc(), rt.stdout()) {
+        Ok(buffer) => Ok(Stdio {
+            output: BufferedOutput::new(buffer),
+            errors: errors_of(rt),
+        }),
+        Err(_) => Err(Fault::NoMemory),
+    }
 }
 
 // The device of an image that is there.
@@ -140,16 +147,11 @@ fn open_to_read(rt: &HostRuntime, image: &str) -> Result<FileDevice, Fault> {
 }
 
 // Builds an image, and gives the status.
-fn build(
-    rt: &HostRuntime,
-    description: &str,
-    image: &str,
-    writer: &mut StandardOutput,
-    errors: &mut StandardError,
-) -> Result<u8, Fault> {
+fn build(rt: &HostRuntime, description: &str, image: &str, stdio: &mut Stdio) -> Result<u8, Fault> {
     let blueprint = read_blueprint(rt, description)?;
     let mut device = create(rt, blueprint.sectors(), description, image)?;
-    Ok(build_image(rt.alloc(), &blueprint, &mut device, writer, errors))
+    let Stdio { output, errors } = stdio;
+    Ok(build_image(rt.alloc(), &blueprint, &mut device, output, errors))
 }
 
 // The device that a script runs over: it may be made to fail from some call on.
@@ -170,17 +172,17 @@ fn trace_by<S: ObjectStore<FileFuse>, R: Read + Drop>(
     setting: S::Setting,
     script: R,
     options: TraceOptions,
-    writer: &mut StandardOutput,
-    errors: &mut StandardError,
+    stdio: &mut Stdio,
 ) -> u8 {
     let mut script = ScriptReader::new(script);
     let mut tracer = Tracer::new(errors_of(rt), options);
+    let Stdio { output, errors } = stdio;
     let done = run_traced::<_, S, _, _, _, _>(
         rt.alloc(),
         device,
         setting,
         &mut script,
-        writer,
+        output,
         &mut tracer,
         errors,
     );
@@ -194,12 +196,12 @@ fn shell_by<S: ObjectStore<FileFuse>, R: Read + Drop>(
     device: FileFuse,
     setting: S::Setting,
     lines: R,
-    writer: &mut StandardOutput,
-    errors: &mut StandardError,
+    stdio: &mut Stdio,
 ) -> u8 {
     let is_prompting = rt.stdin().is_terminal() && rt.stderr().is_terminal();
     let mut input = ShellInput::new(lines, errors_of(rt), is_prompting);
-    let done = run_shell::<_, S, _, _, _>(rt.alloc(), device, setting, &mut input, writer, errors);
+    let Stdio { output, errors } = stdio;
+    let done = run_shell::<_, S, _, _, _>(rt.alloc(), device, setting, &mut input, output, errors);
     done.status
 }
 
@@ -210,18 +212,16 @@ fn run_by<S: ObjectStore<FileFuse>, R: Read + Drop>(
     setting: S::Setting,
     script: R,
     mode: Mode,
-    writer: &mut StandardOutput,
-    errors: &mut StandardError,
+    stdio: &mut Stdio,
 ) -> u8 {
     match mode {
         Mode::Plain => {
             let (alloc, mut script) = (rt.alloc(), ScriptReader::new(script));
-            run_image::<_, S, _, _, _>(alloc, device, setting, &mut script, writer, errors).status
+            let Stdio { output, errors } = stdio;
+            run_image::<_, S, _, _, _>(alloc, device, setting, &mut script, output, errors).status
         }
-        Mode::Traced(options) => {
-            trace_by::<S, _>(rt, device, setting, script, options, writer, errors)
-        }
-        Mode::Shell => shell_by::<S, _>(rt, device, setting, script, writer, errors),
+        Mode::Traced(options) => trace_by::<S, _>(rt, device, setting, script, options, stdio),
+        Mode::Shell => shell_by::<S, _>(rt, device, setting, script, stdio),
     }
 }
 
@@ -232,14 +232,13 @@ fn run_on<R: Read + Drop>(
     cache: Option<Capacity>,
     script: R,
     mode: Mode,
-    writer: &mut StandardOutput,
-    errors: &mut StandardError,
+    stdio: &mut Stdio,
 ) -> u8 {
     match cache {
         Some(capacity) => {
-            run_by::<BoundedCache<_>, _>(rt, device, capacity, script, mode, writer, errors)
+            run_by::<BoundedCache<_>, _>(rt, device, capacity, script, mode, stdio)
         }
-        None => run_by::<PlainStore<_>, _>(rt, device, (), script, mode, writer, errors),
+        None => run_by::<PlainStore<_>, _>(rt, device, (), script, mode, stdio),
     }
 }
 
@@ -250,13 +249,12 @@ fn run_script(
     script: &Script<'_>,
     cache: Option<Capacity>,
     mode: Mode,
-    writer: &mut StandardOutput,
-    errors: &mut StandardError,
+    stdio: &mut Stdio,
 ) -> Result<u8, Fault> {
     match script {
-        Script::Input => Ok(run_on(rt, device, cache, rt.stdin(), mode, writer, errors)),
+        Script::Input => Ok(run_on(rt, device, cache, rt.stdin(), mode, stdio)),
         Script::File(path) => match File::open(rt, *path) {
-            Ok(file) => Ok(run_on(rt, device, cache, file, mode, writer, errors)),
+            Ok(file) => Ok(run_on(rt, device, cache, file, mode, stdio)),
             Err(error) => Err(of_io(&error, Fault::CannotReadScript)),
         },
     }
@@ -270,31 +268,14 @@ fn run(
     cache: Option<Capacity>,
     mode: Mode,
     stop_after: Option<u64>,
-    writer: &mut StandardOutput,
-    errors: &mut StandardError,
+    stdio: &mut Stdio,
 ) -> Result<u8, Fault> {
     let device = open(rt, image)?;
     let device = match stop_after {
         Some(calls) => Fuse::new(device, calls),
         None => Fuse::mended(device),
     };
-    run_script(rt, device, script, cache, mode, writer, errors)
-}
-
-// Checks an image, and gives the status.
-fn check(
-    rt: &HostRuntime,
-    image: &str,
-    writer: &mut StandardOutput,
-    errors: &mut StandardError,
-) -> Result<u8, Fault> {
-    let device = open_to_read(rt, image)?;
-    // A check fetches one object at a time.
-    let Some(least) = Capacity::new(8) else {
-        unreachable!()
-    };
-    let done = check_image::<_, BoundedCache<_>, _, _>(rt.alloc(), device, least, writer, errors);
-    Ok(done.status)
+    run_script(rt, device, script, cache, mode, stdio)
 }
 
 // Writes what an image saves to a new one by version 2 of the layout, and gives the status. The new
@@ -304,8 +285,7 @@ fn upgrade<S: WholeStore<FileDevice>>(
     old: &str,
     new: &str,
     setting: S::Setting,
-    writer: &mut StandardOutput,
-    errors: &mut StandardError,
+    stdio: &mut Stdio,
 ) -> Result<u8, Fault> {
     let device = open_to_read(rt, old)?;
     let image = match OldImage::<_, S>::open(rt.alloc(), device, setting) {
@@ -313,64 +293,60 @@ fn upgrade<S: WholeStore<FileDevice>>(
         Err(fault) => return Err(Fault::Upgrade(fault)),
     };
     let mut upgraded = create(rt, image.sectors(), old, new)?;
-    Ok(upgrade_opened(rt.alloc(), image, &mut upgraded, writer, errors))
+    let Stdio { output, errors } = stdio;
+    Ok(upgrade_opened(rt.alloc(), image, &mut upgraded, output, errors))
 }
 
-// Describes an image for other sizes, and gives the status.
-fn describe<S: WholeStore<FileDevice>>(
-    rt: &HostRuntime,
-    image: &str,
-    sizes: Sizes,
-    setting: S::Setting,
-    writer: &mut StandardOutput,
-    errors: &mut StandardError,
-) -> Result<u8, Fault> {
-    let device = open_to_read(rt, image)?;
-    let done = describe_image::<_, S, _, _>(rt.alloc(), device, setting, sizes, writer, errors);
-    Ok(done.status)
+// What a command asks about an image that it only reads.
+#[derive(Clone, Copy)]
+enum Query<'w> {
+    Check,
+    Describe(Sizes),
+    Draw(Focus),
+    Info,
+    Reach(&'w [u64], Option<u64>),
 }
 
-// Draws a part of an image, and gives the status.
-fn draw<S: WholeStore<FileDevice>>(
-    rt: &HostRuntime,
-    image: &str,
-    focus: Focus,
+// Answers a query about the image on a device. All but a check open it by a store of this kind.
+fn answer<S: WholeStore<FileDevice>>(
+    alloc: Global,
+    query: Query<'_>,
+    device: FileDevice,
     setting: S::Setting,
-    writer: &mut StandardOutput,
-    errors: &mut StandardError,
-) -> Result<u8, Fault> {
-    let device = open_to_read(rt, image)?;
-    let done = draw_image::<_, S, _, _>(rt.alloc(), device, setting, focus, writer, errors);
-    Ok(done.status)
+    stdio: &mut Stdio,
+) -> Done<FileDevice> {
+    let Stdio { output, errors } = stdio;
+    match query {
+        Query::Check => {
+            // A check fetches one object at a time.
+            let Some(least) = Capacity::new(8) else {
+                unreachable!()
+            };
+            check_image::<_, BoundedCache<_>, _, _>(alloc, device, least, output, errors)
+        }
+        Query::Describe(sizes) => {
+            describe_image::<_, S, _, _>(alloc, device, setting, sizes, output, errors)
+        }
+        Query::Draw(focus) => draw_image::<_, S, _, _>(
+            alloc, device, setting, focus, output, errors,
+        ),
+        Query::Info => info_image::<_, S, _, _>(alloc, device, setting, output, errors),
+        Query::Reach(processes, shows) => {
+            reach_image::<_, S, _, _>(alloc, device, setting, processes, shows, output, errors)
+        }
+    }
 }
 
-// Prints the sizes of an image and the state of its checkpoint, and gives the status.
-fn info<S: WholeStore<FileDevice>>(
+// Answers a query about an image, and gives the status.
+fn inspect<S: WholeStore<FileDevice>>(
     rt: &HostRuntime,
     image: &str,
+    query: Query<'_>,
     setting: S::Setting,
-    writer: &mut StandardOutput,
-    errors: &mut StandardError,
+    stdio: &mut Stdio,
 ) -> Result<u8, Fault> {
     let device = open_to_read(rt, image)?;
-    let done = info_image::<_, S, _, _>(rt.alloc(), device, setting, writer, errors);
-    Ok(done.status)
-}
-
-// Writes what processes can ever change, or how they can change one object, and gives the status.
-fn reach<S: WholeStore<FileDevice>>(
-    rt: &HostRuntime,
-    image: &str,
-    processes: &[u64],
-    shows: Option<u64>,
-    setting: S::Setting,
-    writer: &mut StandardOutput,
-    errors: &mut StandardError,
-) -> Result<u8, Fault> {
-    let device = open_to_read(rt, image)?;
-    let alloc = rt.alloc();
-    let done = reach_image::<_, S, _, _>(alloc, device, setting, processes, shows, writer, errors);
-    Ok(done.status)
+    Ok(answer::<S>(rt.alloc(), query, device, setting, stdio).status)
 }
 
 // How a script is run by these options.
@@ -404,12 +380,12 @@ fn explain_file<S: WholeStore<FileDevice>>(
     rt: &HostRuntime,
     image: &str,
     setting: S::Setting,
-    writer: &mut StandardOutput,
-    errors: &mut StandardError,
+    stdio: &mut Stdio,
 ) -> Result<u8, Fault> {
     match FileDevice::open_to_read(rt, image) {
         Ok(device) => {
-            let done = explain_image::<_, S, _, _>(rt.alloc(), device, setting, writer, errors);
+            let Stdio { output, errors } = stdio;
+            let done = explain_image::<_, S, _, _>(rt.alloc(), device, setting, output, errors);
             Ok(done.status)
         }
         Err(FileFault::NoMemory) => Err(Fault::NoMemory),
@@ -423,8 +399,7 @@ fn explain_regular<S: WholeStore<FileDevice>>(
     rt: &HostRuntime,
     file: &str,
     setting: S::Setting,
-    writer: &mut StandardOutput,
-    errors: &mut StandardError,
+    stdio: &mut Stdio,
 ) -> Result<u8, Fault> {
     let bytes = match fs::read(rt, file) {
         Ok(bytes) => bytes,
@@ -433,9 +408,10 @@ fn explain_regular<S: WholeStore<FileDevice>>(
     };
     match str::from_utf8(&bytes) {
         Ok(text) if !bytes.contains(&0) => {
-            Ok(explain_description(rt.alloc(), text, writer, errors))
+            let Stdio { output, errors } = stdio;
+            Ok(explain_description(rt.alloc(), text, output, errors))
         }
-        _ => explain_file::<S>(rt, file, setting, writer, errors),
+        _ => explain_file::<S>(rt, file, setting, stdio),
     }
 }
 
@@ -445,8 +421,7 @@ fn explain<S: WholeStore<FileDevice>>(
     rt: &HostRuntime,
     file: &str,
     setting: S::Setting,
-    writer: &mut StandardOutput,
-    errors: &mut StandardError,
+    stdio: &mut Stdio,
 ) -> Result<u8, Fault> {
     let kind = match fs::metadata(rt, file) {
         Ok(found) => found.file_type(),
@@ -454,9 +429,9 @@ fn explain<S: WholeStore<FileDevice>>(
         Err(error) => return Ok(refuse_file(rt, file, &error)),
     };
     if kind.is_block_device() {
-        explain_file::<S>(rt, file, setting, writer, errors)
+        explain_file::<S>(rt, file, setting, stdio)
     } else if kind.is_file() {
-        explain_regular::<S>(rt, file, setting, writer, errors)
+        explain_regular::<S>(rt, file, setting, stdio)
     } else {
         Ok(refuse_file(rt, file, "not a regular file"))
     }
@@ -479,11 +454,10 @@ fn run_with(
     cache: Option<u64>,
     mode: Mode,
     stop_after: Option<u64>,
-    writer: &mut StandardOutput,
-    errors: &mut StandardError,
+    stdio: &mut Stdio,
 ) -> Result<u8, Fault> {
     match capacity_of(cache) {
-        Ok(cache) => run(rt, image, script, cache, mode, stop_after, writer, errors),
+        Ok(cache) => run(rt, image, script, cache, mode, stop_after, stdio),
         Err(status) => Ok(status),
     }
 }
@@ -493,11 +467,10 @@ fn serve<S: WholeStore<FileDevice>>(
     rt: &HostRuntime,
     job: &Job<'_>,
     setting: S::Setting,
-    writer: &mut StandardOutput,
-    errors: &mut StandardError,
+    stdio: &mut Stdio,
 ) -> Result<u8, Fault> {
     match job {
-        Job::Build { description, image } => build(rt, description, image, writer, errors),
+        Job::Build { description, image } => build(rt, description, image, stdio),
         Job::Run {
             image,
             script,
@@ -507,36 +480,35 @@ fn serve<S: WholeStore<FileDevice>>(
             stop_after,
         } => {
             let mode = mode_of(*trace, *strict);
-            run_with(rt, image, script, *cache, mode, *stop_after, writer, errors)
+            run_with(rt, image, script, *cache, mode, *stop_after, stdio)
         }
         Job::Shell { image, cache } => {
-            let lines = Script::Input;
-            run_with(rt, image, &lines, *cache, Mode::Shell, None, writer, errors)
+            run_with(rt, image, &Script::Input, *cache, Mode::Shell, None, stdio)
         }
-        Job::Check { image } => check(rt, image, writer, errors),
-        Job::Upgrade { old, new } => upgrade::<S>(rt, old, new, setting, writer, errors),
+        Job::Check { image } => inspect::<S>(rt, image, Query::Check, setting, stdio),
+        Job::Upgrade { old, new } => upgrade::<S>(rt, old, new, setting, stdio),
         Job::Describe { image, sizes } => {
-            describe::<S>(rt, image, sizes_of(sizes), setting, writer, errors)
+            inspect::<S>(rt, image, Query::Describe(sizes_of(sizes)), setting, stdio)
         }
         Job::Draw { image, from, to } => {
             let (from, to) = (*from, *to);
-            draw::<S>(rt, image, Focus { from, to }, setting, writer, errors)
+            inspect::<S>(rt, image, Query::Draw(Focus { from, to }), setting, stdio)
         }
-        Job::Explain { file } => explain::<S>(rt, file, setting, writer, errors),
-        Job::Info { image } => info::<S>(rt, image, setting, writer, errors),
+        Job::Explain { file } => explain::<S>(rt, file, setting, stdio),
+        Job::Info { image } => inspect::<S>(rt, image, Query::Info, setting, stdio),
         Job::Reach {
             image,
             processes,
             shows,
-        } => reach::<S>(rt, image, processes, *shows, setting, writer, errors),
+        } => inspect::<S>(rt, image, Query::Reach(processes, *shows), setting, stdio),
     }
 }
 
 // Does a job, passes on what it wrote, and gives the status.
 fn serve_whole(rt: &HostRuntime, job: &Job<'_>) -> Result<u8, Fault> {
-    let (mut writer, mut errors) = (output(rt)?, errors_of(rt));
-    match serve::<PlainStore<_>>(rt, job, (), &mut writer, &mut errors) {
-        Ok(status) => Ok(finish(&mut writer, status, &mut errors)),
+    let mut stdio = stdio_of(rt)?;
+    match serve::<PlainStore<_>>(rt, job, (), &mut stdio) {
+        Ok(status) => Ok(finish(&mut stdio.output, status, &mut stdio.errors)),
         Err(fault) => Err(fault),
     }
 }
