@@ -1,13 +1,11 @@
 // The numbers that a description names.
-ghost use Rattle.std.specs.Prelude.{◌≡◌, ◌+◌, ◌<◌, ◌≤◌, ◌^◌, ◌↔◌, IfOk, IsTrue};
+ghost use Rattle.std.specs.Prelude.{◌≡◌, ◌<◌, ◌↔◌, IfOk, IsTrue};
 ghost use Rattle.std.specs.List.{All};
 ghost use Rattle.layout.specs.Superblock.{IsGeometry};
-ghost use Rattle.model.specs.Sound.{object_count};
 ghost use Rattle.description.specs.Described.{AreDistinct, HasNumbers, node_numbers, page_numbers};
 
-use crate::Description;
+use crate::{Description, find_outside};
 use collections::NumberSet;
-use model::Geometry;
 use std::alloc::{AllocError, Global};
 
 /// The numbers of banks, roots, annexes and nodes, in this order. Fails only where memory runs out.
@@ -31,25 +29,6 @@ pub fn page_numbers(alloc: Global, description: &Description) -> Result<Vec<u64>
 {
     let pages = description.pages.iter();
     pages.map(|page| page.number).collect(alloc)
-}
-
-// Whether all are numbers of nodes.
-fn are_of_nodes(geometry: Geometry, numbers: &[u64]) -> bool
-    ensures { IsTrue result ↔ All (λ n. n < geometry.nodes) numbers.now }
-{
-    numbers.iter().all(|number| *number < geometry.nodes)
-}
-
-// Whether all are numbers of pages.
-fn are_of_pages(geometry: Geometry, numbers: &[u64]) -> bool
-    requires { object_count geometry < 2 ^ 64 }
-    ensures { IsTrue result
-        ↔ All (λ n. (geometry.nodes ≤ n) × (n < object_count geometry)) numbers.now }
-{
-    let end = geometry.nodes + geometry.pages;
-    numbers
-        .iter()
-        .all(|number| geometry.nodes <= *number && *number < end)
 }
 
 // Whether no number comes twice. Fails only if memory runs out.
@@ -78,9 +57,12 @@ pub(crate) fn has_numbers(alloc: Global, description: &Description) -> Result<bo
     let mut numbers = node_numbers(alloc, description)?;
     let pages = page_numbers(alloc, description)?;
     let geometry = description.geometry;
-    if !are_of_nodes(geometry, &numbers) || !are_of_pages(geometry, &pages) {
+    let end = geometry.nodes + geometry.pages;
+    if find_outside(0, geometry.nodes, numbers.as_slice()).is_some()
+        || find_outside(geometry.nodes, end, pages.as_slice()).is_some()
+    {
         return Ok(false);
     }
     numbers.extend_from_slice(&pages)?;
-    are_distinct(alloc, &numbers, (geometry.nodes + geometry.pages) as usize)
+    are_distinct(alloc, &numbers, end as usize)
 }
