@@ -5,8 +5,8 @@ use Rattle.image_describer.proofs.Names.{Capability, Void, Geometry, Object, nam
 use Rattle.image_describer.proofs.Names.{is_process, register_at, root_at, slot_at, Description, NodeEntry, ProcessEntry, SlotEntry, AreDistinct, AreSlots}
 use Rattle.image_describer.proofs.Names.{IsProcessEntry, Entry, OfAnnex, OfBank, OfNode, OfPage, OfRoot, number_of, IsOf, described_cases, contains_cases}
 use Rattle.image_describer.proofs.Names.{contains_here, contains_none, Describes, plain_frames, arrow_of, arrow_to, arrows, arrows_at, node_arrows}
-use Rattle.image_describer.proofs.Names.{process_arrows, ArrowsAreHeld, Holds, IsArrow, IsOnce, Arrow, Place}
-use Rattle.std.proofs.Common.{◌≡◌, ◌∙◌, unwrap_or}
+use Rattle.image_describer.proofs.Names.{process_arrows, ArrowsAreHeld, Holds, IsArrow, IsOnce, Arrow, Place, unwrap_or}
+use Rattle.std.proofs.Common.{◌≡◌, ◌∙◌}
 use Rattle.image_describer.specs.declared.graph.arrow.Place.TheVariants as place
 use Rattle.image_describer.proofs.Once.{contains_flat, distinct_left, distinct_right, flat_contains, once_append, once_distinct, once_flat}
 use Rattle.image_describer.proofs.Reported.{annex_reported, bank_reported, free_reported, node_reported, page_reported, root_reported, said_slot, slot_said}

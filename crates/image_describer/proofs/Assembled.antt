@@ -8,8 +8,8 @@ use Rattle.image_describer.proofs.Names.{Description, NodeEntry, PageEntry, Proc
 use Rattle.image_describer.proofs.Names.{HasNamedWords, HasNumbers, HoldsNamed, IsDescribed, IsDescribedAnnex, IsDescribedNode, IsDescribedPage}
 use Rattle.image_describer.proofs.Names.{IsDescribedRoot, IsProcessEntry, IsSomeCapability, IsSpaceEntry, first_frame, node_numbers, page_numbers, all_from}
 use Rattle.image_describer.proofs.Names.{contains_map, map_contains, AreBriefSlots, AreBriefWords, Describes, IsBrief, NamesSlots, NamesWords, plain_frame}
-use Rattle.image_describer.proofs.Names.{plain_frames, TellAll, TellsBank, TellsNode, TellsPage, TellsProcess}
-use Rattle.std.proofs.Common.{unwrap_or, ◌≡◌, ◌≢◌, ◌⊎◌, ◌<◌, ◌≤◌, ◌++◌, ◌∙◌}
+use Rattle.image_describer.proofs.Names.{plain_frames, TellAll, TellsBank, TellsNode, TellsPage, TellsProcess, unwrap_or}
+use Rattle.std.proofs.Common.{◌≡◌, ◌≢◌, ◌⊎◌, ◌<◌, ◌≤◌, ◌++◌, ◌∙◌}
 use Rattle.std.specs.Option.{option_map}
 use Rattle.model.specs.declared.object.Content.TheVariants as content
 use Rattle.model.specs.declared.object.Role.TheVariants as role

@@ -3,10 +3,9 @@ use Rattle.image_describer.proofs.Names.{ℕ, Bool, true, false, List, [], map, 
 use Rattle.image_describer.proofs.Names.{All-map, All-weaker, slice_get-map, Cap, Capability, Void, Page, Space, Frame, Geometry, Content, Object, IsWellFormed}
 use Rattle.image_describer.proofs.Names.{named, map_content, IsSpace, object_count, fresh_cap, SlotEntry, AreDistinct, AreSlots, HoldsNamed, IsSomeCapability}
 use Rattle.image_describer.proofs.Names.{IsSpaceEntry, named_at, AreBriefSlots, AreRising, plain_frame, moved, moved_capability, moved_held, moved_object}
-use Rattle.image_describer.proofs.Names.{moved_slot, IsWide, NamesWide, SpellsSlot}
-use Rattle.std.proofs.Common.{unwrap_or, ◌≡◌, ◌≢◌, ◌+◌, ◌-◌, ◌<◌, ◌≤◌, if◌then◌else◌, ◌∷◌, ◌∙◌}
+use Rattle.image_describer.proofs.Names.{moved_slot, IsWide, NamesWide, SpellsSlot, unwrap_or}
+use Rattle.std.proofs.Common.{◌≡◌, ◌≢◌, ◌+◌, ◌-◌, ◌<◌, ◌≤◌, if◌then◌else◌, ◌∷◌, ◌∙◌}
 use Rattle.std.specs.Prelude.{◌==◌, IfSome, option_map}
-use Rattle.model.specs.declared.object.Content.TheVariants as content
 
 -- Numbers
 

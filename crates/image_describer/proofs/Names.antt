@@ -9,7 +9,7 @@ pub use Rattle.collections.specs.Marks.{is_marked}
 pub use Rattle.description.proofs.DescribedOnce.{described_once}
 pub use Rattle.description.proofs.Entries.{IsFrameOf, IsOf, described_cases, described_of, in_range}
 pub use Rattle.description.proofs.Lists.{all_from, all_got, contains_cases, contains_here, contains_map, contains_none, contains_there, first_beyond}
-pub use Rattle.description.proofs.Lists.{first_none, first_of, first_there, map_again, map_both, map_contains}
+pub use Rattle.description.proofs.Lists.{first_none, first_of, first_there, map_again, map_both, map_contains, none_marked}
 pub use Rattle.description.specs.Described.{AreDistinct, AreSlots, AreWords, HasFields, HasNamedWords, HasNumbers, HoldsNamed, IsDescribed, IsDescribedAnnex}
 pub use Rattle.description.specs.Described.{IsDescribedNode, IsDescribedPage, IsDescribedRoot, IsProcessEntry, IsSomeCapability, IsSpaceEntry, first_frame}
 pub use Rattle.description.specs.Described.{first_named, named_at, node_numbers, page_numbers, word_named_at}
@@ -31,7 +31,7 @@ pub use Rattle.layout.specs.Superblock.{Cover, IsGeometry, IsOfOneKind, IsPlan, 
 pub use Rattle.layout.specs.declared.extent.HomeRange.{HomeRange}
 pub use Rattle.layout.specs.declared.version.Version.{Version}
 pub use Rattle.layout.specs.declared.version.Version.TheVariants.{One, Two}
-pub use Rattle.model.specs.Capability.{IsWellFormed, access_bits, named}
+pub use Rattle.model.specs.Capability.{IsWellFormed, named}
 pub use Rattle.model.specs.Frame.{blank_frame, conveyed, current_count, frame_at, header_at, headers, object_of, void_held}
 unfoldable pub use Rattle.model.specs.Frame.{objects_of}
 pub use Rattle.model.specs.Keepable.{AreCurrent, AreKeepable, AreKeptSlots, AreKeptWords, Follows, IsCurrent, IsKeepable, IsKeptCap, IsSoundFrames, MayBeKept}
@@ -63,7 +63,7 @@ pub use Rattle.script.specs.declared.fault.RunFault.{RunFault}
 pub use Rattle.std.proofs.Common.{Bool, Equal, Err, Greater, IfSome, IsSomeAnd, Less, List, MatchOption, None, Option, Ordering, Result, Some, [], add-one, ap}
 pub use Rattle.std.proofs.Common.{append-nil, append_assoc, arith, codes, decimal, drop, false, get_or, inl, inr, is_eq, length, map, nat_cmp, nat_lt, not}
 pub use Rattle.std.proofs.Common.{option_and_then, option_map, option_to_list, pos, refl, replicate, rules, slice_index_or, slice_set, string_bytes, subst, suc}
-pub use Rattle.std.proofs.Common.{sym, take, true, zero, ℕ}
+pub use Rattle.std.proofs.Common.{sym, take, true, unwrap_or, zero, ℕ}
 pub use Rattle.std.proofs.Math.ListN.{get_or-map}
 pub use Rattle.std.proofs.Math.Seq.{take-suc}
 pub use Rattle.std.proofs.lemmas.Bool.{cases_Bool, cases_eq, cases_lt, true≢false}
@@ -71,7 +71,7 @@ pub use Rattle.std.proofs.lemmas.Bool.Decides.{nat_tests}
 pub use Rattle.std.proofs.lemmas.Cmp.{alike_right, nat_list_cmp_total}
 pub use Rattle.std.proofs.lemmas.Fmt.{decimal_is_IsNumeral}
 pub use Rattle.std.proofs.lemmas.Fn.{filter_same}
-pub use Rattle.std.proofs.lemmas.Grind.{flat_map-append}
+pub use Rattle.std.proofs.lemmas.Grind.{common_steps, flat_map-append}
 pub use Rattle.std.proofs.lemmas.List.{ext_get_or, get_or-set_other, get_or-set_same, get_or_past, length-map, length-replicate, length-set, take-append-drop}
 pub use Rattle.std.proofs.lemmas.List.{take_all, take_more}
 pub use Rattle.std.proofs.lemmas.List.Elements.{All-append, All-cons, All-contains, All-filter, All-from_recursion, All-head, All-map, All-nil, All-push}
@@ -82,10 +82,11 @@ pub use Rattle.std.proofs.lemmas.List.FromFn.{get_or-map-range_with_len, length-
 pub use Rattle.std.proofs.lemmas.Option.{get_or_from_slice_get, none-some, same_Some, slice_get-get_or, slice_get-map}
 pub use Rattle.std.proofs.lemmas.Result.{err_from_is_err_and, on_ok_weaker}
 pub use Rattle.std.proofs.lemmas.Str.Parse.{digit_from_value}
+pub use Rattle.std.specs.Cmp.Derive.{both_true}
 pub use Rattle.std.specs.Cmp.Lexicographic.{slice_cmp}
 pub use Rattle.std.specs.List.{All, AllZip, Contains, filter, flat_map, join_by, list_all, list_any, range_with_len}
 pub use Rattle.std.specs.Ordering.{match_ordering}
-pub use Rattle.std.specs.Prelude.{IsTrue, Vec, unwrap_or}
+pub use Rattle.std.specs.Prelude.{IsTrue, Vec}
 pub use Rattle.std.specs.Str.Parse.{AllDigits}
 pub use Rattle.std.specs.declared.alloc.Global.{Global}
 pub use Rattle.toml.proofs.Fill.{Exists, fill, fill_elements, fill_pairs, fill_sections, roots, run-append, run_elements, run_pairs}
@@ -106,9 +107,8 @@ unfoldable pub use Rattle.toml_writer.specs.Text.{encoding_of, escaped, key_text
 pub use Rattle.image_describer.specs.DescribedEntry.{MayName, MayTell, TellAll, TellsBank, TellsNode, TellsPage, TellsProcess}
 pub use Rattle.image_describer.specs.Describes.{AreBriefSlots, AreBriefWords, AreRising, Describes, IsBrief, Names, NamesSlots, NamesWords, plain_frame}
 unfoldable pub use Rattle.image_describer.specs.Describes.{plain_frames}
-pub use Rattle.image_describer.specs.Graph.{arrow_lines, arrow_of, arrow_to, arrows, arrows_at, box_line, box_lines, boxes, head_lines, joined, kind_text}
-pub use Rattle.image_describer.specs.Graph.{next_line, node_arrows, owner_lines, owners, place_in, place_text, plain_line, plain_lines, process_arrows}
-pub use Rattle.image_describer.specs.Graph.{style_text, word_of_state}
+pub use Rattle.image_describer.specs.Graph.{arrow_lines, arrow_of, arrow_to, arrows, arrows_at, box_line, box_lines, boxes, head_lines, joined, next_line}
+pub use Rattle.image_describer.specs.Graph.{node_arrows, owner_lines, owners, place_in, plain_line, plain_lines, process_arrows, word_of_state}
 unfoldable pub use Rattle.image_describer.specs.Graph.{arrow_line, bank_box, graph_text, node_box, owner_line, page_box, process_box}
 pub use Rattle.image_describer.specs.GraphLaws.{ArrowsAreHeld, BoxesAreObjects, HasBox, Holds, IsArrow, IsOnce, IsOwner, OwnersAreOwners}
 pub use Rattle.image_describer.specs.Grown.{IsGrown, IsMovedNode, IsMovedPage, IsMovedProcess, IsNotRenumbered, IsRenumbered, IsUnsuited, NamesNodes}

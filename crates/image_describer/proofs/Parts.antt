@@ -2,8 +2,8 @@
 use Rattle.image_describer.proofs.Names.{nat_tests, arith, ℕ, Bool, true, false, Option, Some, None, List, [], map, refl, sym, ap, AllZip, filter, flat_map}
 use Rattle.image_describer.proofs.Names.{filter-append, Capability, Void, named, BankEntry, Description, NodeEntry, PageEntry, ProcessEntry, SlotEntry, Arrow}
 use Rattle.image_describer.proofs.Names.{Place, arrow_of, arrow_to, arrows_at, joined, node_arrows, process_arrows, IsPart, IsPartOfNode, IsPartOfProcess}
-use Rattle.image_describer.proofs.Names.{PartIsShown, is_inside, leads_inside, space_inside}
-use Rattle.std.proofs.Common.{◌≡◌, if◌then◌else◌, ◌∷◌, ◌++◌, ◌∙◌, unwrap_or}
+use Rattle.image_describer.proofs.Names.{PartIsShown, is_inside, leads_inside, space_inside, unwrap_or}
+use Rattle.std.proofs.Common.{◌≡◌, if◌then◌else◌, ◌∷◌, ◌++◌, ◌∙◌}
 use Rattle.std.specs.Prelude.{◌==◌, ◌&&◌}
 use Rattle.image_describer.proofs.Pairs.{zip_map}
 use Rattle.image_describer.specs.declared.graph.arrow.Place.TheVariants as place

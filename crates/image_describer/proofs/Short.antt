@@ -8,8 +8,8 @@ use Rattle.image_describer.proofs.Names.{fresh_cap, mapped, BankEntry, Descripti
 use Rattle.image_describer.proofs.Names.{AreWords, HasNamedWords, HoldsNamed, IsDescribedNode, IsDescribedPage, IsDescribedAnnex, IsDescribedRoot}
 use Rattle.image_describer.proofs.Names.{IsProcessEntry, first_frame, named_at, node_numbers, word_named_at, all_from, all_got, contains_map, first_of}
 use Rattle.image_describer.proofs.Names.{Describes, plain_frame, plain_frames, DescribedHasText, IsShort, IsWide, NamesWide, SpellsBank, SpellsGeometry}
-use Rattle.image_describer.proofs.Names.{SpellsNode, SpellsPage, SpellsProcess, SpellsRange, SpellsSlot, SpellsWord}
-use Rattle.std.proofs.Common.{unwrap_or, ◌≡◌, ◌≢◌, ◌+◌, ◌<◌, ◌≤◌, ◌^◌, ◌∷◌, ◌++◌, ◌∙◌}
+use Rattle.image_describer.proofs.Names.{SpellsNode, SpellsPage, SpellsProcess, SpellsRange, SpellsSlot, SpellsWord, unwrap_or}
+use Rattle.std.proofs.Common.{◌≡◌, ◌≢◌, ◌+◌, ◌<◌, ◌≤◌, ◌^◌, ◌∷◌, ◌++◌, ◌∙◌}
 use Rattle.std.specs.List.{AllByRecursion as ByRecursion}
 use Rattle.model.specs.declared.object.Content.TheVariants as content
 use Rattle.model.specs.declared.object.Role.TheVariants as role

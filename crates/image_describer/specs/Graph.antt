@@ -1,9 +1,8 @@
 -- A description as a graph in DOT: boxes, owners and arrows.
 use Rattle.image_describer.specs.Names.{ℕ, Bool, true, false, Option, None, Some, List, [], map, codes, decimal}
-use Rattle.image_describer.specs.Names.{unwrap_or, flat_map}
-use Rattle.image_describer.specs.Names.{Capability, Void, Number, Space, Start, Resume, Discrim, State, access_bits}
-use Rattle.image_describer.specs.Names.{named, capability_text, line_of, spaced, state_text, BankEntry, Description}
-use Rattle.image_describer.specs.Names.{NodeEntry, PageEntry, ProcessEntry, SlotEntry}
+use Rattle.image_describer.specs.Names.{unwrap_or, flat_map, Capability, Void, Number, Space, Start, Resume, Discrim}
+use Rattle.image_describer.specs.Names.{State, access_bits, named, capability_text, line_of, spaced, state_text}
+use Rattle.image_describer.specs.Names.{BankEntry, Description, NodeEntry, PageEntry, ProcessEntry, SlotEntry}
 use Rattle.std.specs.Prelude.{◌==◌, if◌then◌else◌, ◌∷◌, ◌++◌}
 use Rattle.image_describer.specs.declared.graph.arrow.Arrow.{Arrow}
 use Rattle.image_describer.specs.declared.graph.arrow.Place.{Place}

@@ -1,7 +1,7 @@
 // What is named of an object: what isn't at its default, in order.
-ghost use Rattle.std.specs.Prelude.{IfOk, unwrap_or};
+ghost use Rattle.std.specs.Prelude.{ℕ, IfOk, unwrap_or};
 ghost use Rattle.model.specs.declared.capability.Capability.TheVariants.{Void};
-ghost use Rattle.image_describer.specs.Describes.{NamesSlots, NamesWords};
+ghost use Rattle.image_describer.specs.Describes.{Names};
 ghost use Rattle.image_describer.specs.DescribedEntry.{MayName};
 
 use crate::adding::add;
@@ -9,51 +9,73 @@ use description::{SlotEntry, WordEntry};
 use model::Capability;
 use std::alloc::{AllocError, Global};
 
-// An entry for a slot, unless it is void.
-fn slot_entry(index: u64, capability: Capability) -> Option<SlotEntry>
-    ensures { MayName (λ s. s.index) (λ s. unwrap_or s.capability Void) Void index capability result }
-{
-    match capability {
-        Capability::Void => None,
-        named => Some(SlotEntry {
-            index,
-            capability: Some(named),
-        }),
+/// An entry of a list that leaves out the items at their default.
+pub(crate) trait SparseEntry: Drop {
+    /// What it names.
+    type Item: Copy;
+
+    ghost index: { Self → ℕ };
+
+    ghost value: { Self → Self.Item };
+
+    ghost default: { Self.Item };
+
+    /// The entry for an item, unless the item is at its default.
+    fn of_item(place: u64, item: Self::Item) -> Option<Self>
+        ensures { MayName index value default place item result };
+}
+
+impl SparseEntry for SlotEntry {
+    type Item = Capability;
+
+    ghost index = { λ s. s.index };
+
+    ghost value = { λ s. unwrap_or s.capability Void };
+
+    ghost default = { Void };
+
+    fn of_item(place: u64, item: Capability) -> Option<SlotEntry> {
+        match item {
+            Capability::Void => None,
+            named => Some(SlotEntry {
+                index: place,
+                capability: Some(named),
+            }),
+        }
     }
 }
 
-// An entry for a word, unless it is 0.
-fn word_entry(index: u64, word: u64) -> Option<WordEntry>
-    ensures { MayName (λ w. w.index) (λ w. w.word) 0 index word result }
-{
-    if word == 0 {
-        None
-    } else {
-        Some(WordEntry { index, word })
+impl SparseEntry for WordEntry {
+    type Item = u64;
+
+    ghost index = { λ w. w.index };
+
+    ghost value = { λ w. w.word };
+
+    ghost default = { 0 };
+
+    fn of_item(place: u64, item: u64) -> Option<WordEntry> {
+        if item == 0 {
+            None
+        } else {
+            Some(WordEntry {
+                index: place,
+                word: item,
+            })
+        }
     }
 }
 
-/// Entries for the slots that aren't void. Fails only where memory runs out, as the one below.
-pub(crate) fn slot_entries(
+/// Entries for the items that aren't at their default. Fails only if memory runs out.
+pub(crate) fn entries_of<E: SparseEntry>(
     alloc: Global,
-    slots: &[Capability],
-) -> Result<Vec<SlotEntry>, AllocError>
-    ensures { IfOk result (λ entries. NamesSlots slots.now entries.items) }
+    items: &[E::Item],
+) -> Result<Vec<E>, AllocError>
+    ensures { IfOk result (λ entries. Names E.index E.value E.default items.now entries.items) }
 {
     let mut entries = Vec::new(alloc);
-    for (i, capability) in slots.iter().enumerate() {
-        add(&mut entries, slot_entry(i as u64, *capability))?;
-    }
-    Ok(entries)
-}
-
-/// Entries for the words that aren't 0.
-pub(crate) fn word_entries(alloc: Global, words: &[u64]) -> Result<Vec<WordEntry>, AllocError>
-    ensures { IfOk result (λ entries. NamesWords words.now entries.items) }
-{
-    let mut entries = Vec::new(alloc);
-    for (i, word) in words.iter().enumerate() {
-        add(&mut entries, word_entry(i as u64, *word))?;
+    for (i, item) in items.iter().enumerate() {
+        add(&mut entries, E::of_item(i as u64, *item))?;
     }
     Ok(entries)
 }

@@ -10,7 +10,7 @@ ghost use Rattle.capability.specs.Parts.{AreSound, HaveTheirRoles, OnlyReads, fr
 ghost use Rattle.image_describer.specs.Describes.{NamesSlots};
 ghost use Rattle.image_describer.specs.DescribedEntry.{MayTell, TellsBank, TellsNode, TellsPage, TellsProcess};
 
-use crate::entries::{slot_entries, word_entries};
+use crate::entries::entries_of;
 use capability::{Frames, view};
 use description::{BankEntry, NodeEntry, PageEntry, ProcessEntry, SlotEntry};
 use model::{Content, Object, Refusal, Role};
@@ -48,7 +48,7 @@ fn registers<F: Frames>(alloc: Global, store: &mut F, annex: u64) -> Result<Vec<
 {
     store.fetch(&[annex])?;
     let slots = view::registers(alloc, store, annex)?;
-    Ok(slot_entries(alloc, slots.as_slice())?)
+    Ok(entries_of(alloc, slots.as_slice())?)
 }
 
 /// An entry that describes an object of a kind.
@@ -165,7 +165,7 @@ impl DescribedEntry for NodeEntry {
         let Content::Node(slots) = content else {
             unreachable!()
         };
-        let slots = slot_entries(alloc, slots.as_slice())?;
+        let slots = entries_of(alloc, slots.as_slice())?;
         Ok(Some(NodeEntry {
             number,
             owner,
@@ -195,7 +195,7 @@ impl DescribedEntry for PageEntry {
         let Content::Page(words) = content else {
             unreachable!()
         };
-        let words = word_entries(alloc, words.as_slice())?;
+        let words = entries_of(alloc, words.as_slice())?;
         Ok(Some(PageEntry {
             number,
             owner,

@@ -1,5 +1,4 @@
-use Rattle.image_describer.proofs.Names.{rules, filter, filter_same, is_marked, refl, arith, sym}
-use Rattle.std.proofs.lemmas.Grind.{common_steps}
+use Rattle.image_describer.proofs.Names.{rules, filter, filter_same, is_marked, refl, arith, sym, common_steps}
 use Rattle.std.proofs.Common.{◌≡◌}
 use Rattle.image_describer.proofs.graph.restricting.restrict.Goals as goal
 

@@ -1,4 +1,4 @@
-use Rattle.image_describer.proofs.Names.{refl, err_from_is_err_and, unwrap_or, Void, plain_line}
+use Rattle.image_describer.proofs.Names.{refl, err_from_is_err_and, Void, plain_line, unwrap_or}
 use Rattle.image_describer.proofs.Texts.{place_fails}
 use Rattle.image_describer.proofs.graph.slots.draw_plain_slots.Goals as goal
 

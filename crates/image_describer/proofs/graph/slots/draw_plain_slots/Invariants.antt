@@ -1,4 +1,4 @@
-use Rattle.image_describer.proofs.Names.{take, flat_map, Wrote, unwrap_or, Void, plain_line}
+use Rattle.image_describer.proofs.Names.{take, flat_map, Wrote, Void, plain_line, unwrap_or}
 use Rattle.image_describer.proofs.graph.slots.draw_plain_slots.Given as goal
 
 abbrev pub invariant-loop-slot : goal.invariant-loop-slot

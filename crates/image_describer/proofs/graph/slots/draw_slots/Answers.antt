@@ -1,4 +1,4 @@
-use Rattle.image_describer.proofs.Names.{err_from_is_err_and, unwrap_or, flat_map, Void, arrow_line, arrow_of, place_in}
+use Rattle.image_describer.proofs.Names.{err_from_is_err_and, flat_map, Void, arrow_line, arrow_of, place_in, unwrap_or}
 use Rattle.image_describer.proofs.Texts.{flat_map-flat_map, all_written, place_fails}
 use Rattle.image_describer.proofs.graph.slots.draw_slots.Goals as goal
 

@@ -1,4 +1,4 @@
-use Rattle.image_describer.proofs.Names.{take, flat_map, Wrote, unwrap_or, Void, arrow_line, arrow_of, place_in}
+use Rattle.image_describer.proofs.Names.{take, flat_map, Wrote, Void, arrow_line, arrow_of, place_in, unwrap_or}
 use Rattle.image_describer.proofs.graph.slots.draw_slots.Given as goal
 
 abbrev pub invariant-loop-slot : goal.invariant-loop-slot

@@ -1,4 +1,4 @@
-use Rattle.image_describer.proofs.Names.{unwrap_or, flat_map-append, err_from_is_err_and, Void, text_fails, arrow_line, arrow_of, arrows_at}
+use Rattle.image_describer.proofs.Names.{flat_map-append, err_from_is_err_and, Void, text_fails, arrow_line, arrow_of, arrows_at, unwrap_or}
 use Rattle.image_describer.specs.declared.graph.arrow.Place.TheVariants as place
 use Rattle.image_describer.proofs.Texts.{two_written}
 use Rattle.image_describer.proofs.graph.part.ProcessEntryPart.draw_arrows.Goals as goal
