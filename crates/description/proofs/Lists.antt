@@ -112,7 +112,7 @@ module _ {E V : Type 0} (index : E → ℕ) (value : E → V) where
 
 -- Numbers that are gone through in order, with those before marked.
 
-none_marked : (count m : ℕ) → is_marked (replicate count false) m ≡ false
+pub none_marked : (count m : ℕ) → is_marked (replicate count false) m ≡ false
 none_marked (suc c) (suc m) = none_marked c m
 none_marked count m = refl
 

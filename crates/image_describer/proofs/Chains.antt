@@ -1,8 +1,8 @@
 -- Tables that come of an empty one by several values put at keys.
-use Rattle.image_describer.proofs.Names.{nat_tests, ℕ, zero, suc, Bool, true, false, not, List, [], length, Option, None, slice_index_or, refl, sym, ap, subst}
-use Rattle.image_describer.proofs.Names.{arith, IsTrue, list_any, Data, Members, get_member, same_key, has_only}
+use Rattle.image_describer.proofs.Names.{nat_tests, ℕ, zero, suc, Bool, true, false, not, List, [], length, Option, None, slice_index_or, sym, ap, subst, arith}
+use Rattle.image_describer.proofs.Names.{IsTrue, list_any, Data, Members, get_member, same_key, has_only}
 use Rattle.std.proofs.Common.{◌≡◌, ◌<◌, ◌&&◌, ◌∷◌, ◌++◌, ◌∙◌}
-use Rattle.image_describer.proofs.Puts.{Puts}
+use Rattle.image_describer.proofs.Puts.{Puts, falsely, left, right}
 
 -- a key, and what is put there
 abbrev pub Pair : Type 0
@@ -25,18 +25,6 @@ are_apart (p ∷ ps) = is_apart p.0 ps && are_apart ps
 abbrev pub are_known : List (List ℕ) → List Pair → Bool
 are_known keys [] = true
 are_known keys (p ∷ ps) = list_any (same_key p.0) keys && are_known keys ps
-
-left : (a b : Bool) → IsTrue (a && b) → IsTrue a
-left true b is = refl
-left false b is = is
-
-right : (a b : Bool) → IsTrue (a && b) → IsTrue b
-right true b is = is
-right false b is = absurd cc
-
-falsely : (a : Bool) → IsTrue (not a) → a ≡ false
-falsely true is = sym is
-falsely false is = refl
 
 -- a key that is none of those keeps what it had
 pub chain_other : (ps : List Pair) (k : List ℕ) (old new : Members) → Chain ps old new → IsTrue (is_apart k ps) → get_member k new ≡ get_member k old

@@ -1,13 +1,13 @@
 -- What the lines of a description leave in the nodes of TOML's reader.
-use Rattle.image_describer.proofs.Names.{nat_tests, arith, ℕ, Bool, true, false, not, List, [], Option, Some, None, option_and_then, IfSome, MatchOption}
-use Rattle.image_describer.proofs.Names.{append-nil, append_assoc, refl, sym, ap, subst, inr, IsTrue, none-some, same_Some, Key, Data, array, table, Items}
-use Rattle.image_describer.proofs.Names.{no_items, item, push_item, Members, no_members, member, get_member, Nodes, no_nodes, value, open_array, close, insert}
-use Rattle.image_describer.proofs.Names.{Edit, Document, Expression, array_table, along_dots, along_header, at_key, put, are_tables, elements, is_section}
-use Rattle.image_describer.proofs.Names.{section, sections, Exists, fill, fill_elements, fill_pairs, fill_sections, roots, run-append, run_elements}
-use Rattle.image_describer.proofs.Names.{along_found, get_node-insert, replace-insert, run, AreItems, IsList, IsTable}
+use Rattle.image_describer.proofs.Names.{nat_tests, arith, ℕ, Bool, true, false, List, [], Option, Some, None, option_and_then, IfSome, MatchOption, append-nil}
+use Rattle.image_describer.proofs.Names.{append_assoc, refl, sym, ap, subst, inr, IsTrue, none-some, same_Some, Key, Data, array, table, Items, no_items, item}
+use Rattle.image_describer.proofs.Names.{push_item, Members, no_members, member, get_member, Nodes, no_nodes, value, open_array, close, insert, Edit, Document}
+use Rattle.image_describer.proofs.Names.{Expression, array_table, along_dots, along_header, at_key, put, are_tables, elements, is_section, section, sections}
+use Rattle.image_describer.proofs.Names.{Exists, fill, fill_elements, fill_pairs, fill_sections, roots, run-append, run_elements, along_found, get_node-insert}
+use Rattle.image_describer.proofs.Names.{replace-insert, run, AreItems, IsList, IsTable}
 use Rattle.std.proofs.Common.{◌≡◌, ◌&&◌, ◌∷◌, ◌++◌, ◌∙◌}
 use Rattle.image_describer.proofs.Chains.{Chain, Pair, are_apart, is_apart}
-use Rattle.image_describer.proofs.Puts.{Puts, no_node, puts_inserted, puts_none}
+use Rattle.image_describer.proofs.Puts.{Puts, falsely, left, no_node, puts_inserted, puts_none, right}
 
 -- a table with the values that are there, in this order
 abbrev pub member_or : List ℕ → Option Data → Members → Members
@@ -31,18 +31,6 @@ AreNew (p ∷ ps) ms = (get_member p.0 ms ≡ None) × AreNew ps ms
 pub all_new : (ps : List Pair) → AreNew ps no_members
 all_new [] = tt
 all_new (p ∷ ps) = (refl, all_new ps)
-
-left : (a b : Bool) → IsTrue (a && b) → IsTrue a
-left true b is = refl
-left false b is = is
-
-right : (a b : Bool) → IsTrue (a && b) → IsTrue b
-right true b is = is
-right false b is = absurd cc
-
-falsely : (a : Bool) → IsTrue (not a) → a ≡ false
-falsely true is = sym is
-falsely false is = refl
 
 -- keys that are apart from one that is put are still new
 new_kept : (ps : List Pair) (k : List ℕ) (o : Option Data) (old new : Members) → Puts k o old new → IsTrue (is_apart k ps) → AreNew ps old → AreNew ps new

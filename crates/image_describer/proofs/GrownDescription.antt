@@ -12,6 +12,7 @@ use Rattle.model.specs.declared.object.Content.TheVariants as content
 use Rattle.image_describer.proofs.GrownWorld.{comes_from, frame_arrived, frame_inside, frame_past, grown_length, grown_objects, node_arrives, origin}
 use Rattle.image_describer.proofs.GrownWorld.{page_arrives}
 use Rattle.image_describer.proofs.Moved.{brief_moved, holds_moved, moved_cap, moved_frame, node_stays, page_moves, slots_moved, space_entry_moved}
+use Rattle.image_describer.proofs.Once.{distinct_left, distinct_right}
 use Rattle.image_describer.proofs.Pairs.{zip_all, zip_map}
 use Rattle.image_describer.proofs.Rising.{distinct_both, distinct_other}
 
@@ -60,15 +61,6 @@ module _ (at : ℕ → ℕ) where
 
   pub page_fields : (p q : PageEntry) → IsMovedPage at p q → AreWords p.words.items → AreWords q.words.items
   page_fields p q same is = subst (λ (v : Vec WordEntry Global). AreWords v.items) (sym same.words) is
-
--- none of a part of a list comes twice
-distinct_first : (ns ms : List ℕ) → AreDistinct (ns ++ ms) → AreDistinct ns
-distinct_first [] ms distinct = tt
-distinct_first (n ∷ ns) ms distinct = ((λ there. distinct.0 (Contains-append_left ns ms n there)), distinct_first ns ms distinct.1)
-
-distinct_rest : (ns ms : List ℕ) → AreDistinct (ns ++ ms) → AreDistinct ms
-distinct_rest [] ms distinct = distinct
-distinct_rest (n ∷ ns) ms distinct = distinct_rest ns ms distinct.1
 
 -- Descriptions
 
@@ -125,7 +117,7 @@ module _ (d e : Description) (same : IsRenumbered d e) where
         (omega (arith, is), page_fits p there)))
 
     pages_distinct : AreDistinct (map (λ p. at p.number) d.pages.items)
-    pages_distinct = distinct_other (λ p. p.number) (λ p. at p.number) _ (distinct_rest _ _ has.distinct) (λ p q here there is.
+    pages_distinct = distinct_other (λ p. p.number) (λ p. at p.number) _ (distinct_right _ _ has.distinct) (λ p q here there is.
         let one = page_range p here in
         let other = page_range q there in
         let one_is = page_moves old new _ one.0 one.1 in
@@ -133,7 +125,7 @@ module _ (d e : Description) (same : IsRenumbered d e) where
         omega (arith, one.0, other.0, is, one_is, other_is))
 
     pub numbers_grown : HasNumbers e
-    numbers_grown = grind (arith, nat_tests, nodes_named, nodes_below, pages_named, pages_above, distinct_both, distinct_first, pages_distinct, All-contains)
+    numbers_grown = grind (arith, nat_tests, nodes_named, nodes_below, pages_named, pages_above, distinct_both, distinct_left, pages_distinct, All-contains)
 
     -- the frames
     module _ (os : List Object) (count : length os ≡ object_count old) (is : IsDescribed d (plain_frames os)) where

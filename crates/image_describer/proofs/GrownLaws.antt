@@ -3,7 +3,6 @@ use Rattle.image_describer.proofs.Names.{nat_tests, arith, ℕ, Bool, true, fals
 use Rattle.image_describer.proofs.Names.{Content, Object, free, is_free, map_content, IsSound, World, content_at, object_at, IsGrown, moved, moved_capability}
 use Rattle.image_describer.proofs.Names.{moved_object, GrownIsDescribed, GrownToItself}
 use Rattle.std.proofs.Common.{◌≡◌, ◌∷◌, ◌∙◌}
-use Rattle.model.specs.declared.object.Content.TheVariants as content
 use Rattle.image_describer.proofs.GrownDescription.{fields_grown, frames_grown, numbers_grown}
 use Rattle.image_describer.proofs.GrownFits.{nodes_fit, pages_fit}
 use Rattle.image_describer.proofs.GrownWorld.{free_object, grown_world, is_grown}

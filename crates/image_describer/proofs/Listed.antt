@@ -1,9 +1,9 @@
 -- The numbers of those who hold an object, and of the boxes.
 use Rattle.image_describer.proofs.Names.{ℕ, Bool, true, false, List, [], length, map, refl, sym, ap, subst, arith, All, Contains, nat_tests, All-append}
 use Rattle.image_describer.proofs.Names.{All-contains, All-map, object_count, BankEntry, Description, NodeEntry, PageEntry, ProcessEntry, HasNumbers, OfBank}
-use Rattle.image_describer.proofs.Names.{OfNode, OfPage, OfRoot, in_range, all_from, contains_here, contains_there, boxes, is_listed, suc, slice_set, replicate}
+use Rattle.image_describer.proofs.Names.{OfNode, OfPage, OfRoot, in_range, all_from, contains_here, contains_there, boxes, is_listed, slice_set, replicate}
 use Rattle.image_describer.proofs.Names.{get_or-set_other, get_or-set_same, length-replicate, length-set, is_marked, Adds, get_or, take, holding_nodes}
-use Rattle.image_describer.proofs.Names.{holding_processes, take_more, list_any-append, All-filter, list_any}
+use Rattle.image_describer.proofs.Names.{holding_processes, take_more, list_any-append, All-filter, list_any, none_marked}
 use Rattle.std.proofs.Common.{◌≡◌, ◌<◌, ◌+◌, ◌∷◌, ◌++◌, ◌∙◌}
 use Rattle.std.specs.Prelude.{◌==◌, ◌||◌}
 
@@ -86,14 +86,10 @@ pub adds_more : (ns : List ℕ) (i d : ℕ) (was now : List Bool) → i < length
     Adds (take (i + 1) ns) was (slice_set now (get_or ns i d) true)
 adds_more ns i d was now within adds below = rw (take_more ns i d within) (adds_both (take i ns) (get_or ns i d ∷ []) was now _ adds (adds_one now _ below))
 
-unmarked : (count n : ℕ) → is_marked (replicate count false) n ≡ false
-unmarked (suc count) (suc n) = unmarked count n
-unmarked count n = refl
-
 -- an empty set gets an object, and those that hold it
 pub holders_marked : (count o : ℕ) (ns : List ℕ) (now : List Bool) → o < count → Adds ns (slice_set (replicate count false) o true) now → (n : ℕ) →
     is_marked now n ≡ is_listed n (o ∷ ns)
 holders_marked count o ns now within adds n =
     let none = replicate count false in
     let one = adds_one none o (subst (λ (k : ℕ). o < k) (sym (length-replicate count false)) within) in
-    (adds_both (o ∷ []) ns none _ now one adds).marks n ∙ ap (λ (b : Bool). b || is_listed n (o ∷ ns)) (unmarked count n)
+    (adds_both (o ∷ []) ns none _ now one adds).marks n ∙ ap (λ (b : Bool). b || is_listed n (o ∷ ns)) (none_marked count n)

@@ -2,8 +2,22 @@
 use Rattle.image_describer.proofs.Names.{nat_tests, arith, ℕ, Bool, true, false, List, Option, Some, None, option_map, Ordering, Less, Equal, Greater, nat_cmp}
 use Rattle.image_describer.proofs.Names.{is_eq, refl, sym, ap, IsTrue, slice_cmp, list_any, match_ordering, alike_right, nat_list_cmp_total, Data, get_member}
 use Rattle.image_describer.proofs.Names.{member, Members, no_members, same_key, Nodes, close, close_node, get_node, insert, no_nodes, node, get_node-insert}
-use Rattle.image_describer.proofs.Names.{has_only, Node}
+use Rattle.image_describer.proofs.Names.{has_only, Node, both_true}
 use Rattle.std.proofs.Common.{◌≡◌, ◌&&◌, if◌then◌else◌, ◌∙◌}
+use Rattle.std.specs.Prelude.{not}
+
+-- parts of tests
+pub left : (a b : Bool) → IsTrue (a && b) → IsTrue a
+left true b is = refl
+left false b is = is
+
+pub right : (a b : Bool) → IsTrue (a && b) → IsTrue b
+right true b is = is
+right false b is = absurd cc
+
+pub falsely : (a : Bool) → IsTrue (not a) → a ≡ false
+falsely true is = sym is
+falsely false is = refl
 
 -- a value is put at a key, where there is one
 pub record Puts (key : List ℕ) (o : Option Data) (old new : Members) : Type 0 where
@@ -48,30 +62,17 @@ inserted_other j k x no_nodes other = first_other j k (close_node x) no_members 
 inserted_other j k x (node l y ns) other = other_at j (slice_cmp nat_cmp k l) k l x y ns (insert k x ns) refl other (inserted_other j k x ns other)
 
 -- the keys are among those that are known
-both : (a b : Bool) → IsTrue a → IsTrue b → IsTrue (a && b)
-both true true one other = refl
-both true false one other = other
-both false b one other = absurd cc
-
-first_true : (a b : Bool) → IsTrue (a && b) → IsTrue a
-first_true true b is = refl
-first_true false b is = is
-
-second_true : (a b : Bool) → IsTrue (a && b) → IsTrue b
-second_true true b is = is
-second_true false b is = absurd cc
-
 only_at : (keys : List (List ℕ)) (o : Ordering) (k l : List ℕ) (x y : Node) (ns next : Nodes) → IsTrue (list_any (same_key k) keys)
     → IsTrue (has_only keys (close (node l y ns))) → IsTrue (has_only keys (close next))
     → IsTrue (has_only keys (close (match_ordering o (node k x (node l y ns)) (node l x ns) (node l y next))))
-only_at keys Less k l x y ns next known all rest = both (list_any (same_key k) keys) (has_only keys (close (node l y ns))) known all
+only_at keys Less k l x y ns next known all rest = both_true known all
 only_at keys Equal k l x y ns next known all rest = all
-only_at keys Greater k l x y ns next known all rest = both _ _ (first_true _ _ all) rest
+only_at keys Greater k l x y ns next known all rest = both_true (left _ _ all) rest
 
 inserted_only : (keys : List (List ℕ)) (k : List ℕ) (x : Node) (ns : Nodes) → IsTrue (list_any (same_key k) keys) → IsTrue (has_only keys (close ns)) →
     IsTrue (has_only keys (close (insert k x ns)))
-inserted_only keys k x no_nodes known all = both (list_any (same_key k) keys) true known refl
-inserted_only keys k x (node l y ns) known all = only_at keys _ k l x y ns _ known all (inserted_only keys k x ns known (second_true _ _ all))
+inserted_only keys k x no_nodes known all = both_true known refl
+inserted_only keys k x (node l y ns) known all = only_at keys _ k l x y ns _ known all (inserted_only keys k x ns known (right _ _ all))
 
 -- a node that is inserted is put, and nothing is where there is none
 pub puts_inserted : (k : List ℕ) (x : Node) (ns : Nodes) → Puts k (Some (close_node x)) (close ns) (close (insert k x ns))

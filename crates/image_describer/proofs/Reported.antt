@@ -4,9 +4,10 @@ use Rattle.image_describer.proofs.Names.{length-map, All-contains, get_or_from_s
 use Rattle.image_describer.proofs.Names.{blank_frame, frame_at, free, map_content, World, object_at, fresh_cap, BankEntry, Description, NodeEntry, PageEntry}
 use Rattle.image_describer.proofs.Names.{ProcessEntry, SlotEntry, AreSlots, HoldsNamed, IsDescribedAnnex, IsDescribedNode, IsDescribedPage, IsDescribedRoot}
 use Rattle.image_describer.proofs.Names.{first_frame, named_at, contains_here, contains_there, first_beyond, first_of, first_there, Describes, plain_frame}
-use Rattle.image_describer.proofs.Names.{plain_frames}
-use Rattle.std.proofs.Common.{◌≡◌, ◌≢◌, ◌<◌, ◌≤◌, ◌∷◌, ◌∙◌, unwrap_or}
+use Rattle.image_describer.proofs.Names.{plain_frames, unwrap_or}
+use Rattle.std.proofs.Common.{◌≡◌, ◌≢◌, ◌<◌, ◌≤◌, ◌∷◌, ◌∙◌}
 use Rattle.model.specs.declared.object.Content.TheVariants as content
+use Rattle.image_describer.proofs.Plain.{plain_at}
 
 -- a capability behind its count
 abbrev pub what : Cap → Capability
@@ -27,10 +28,6 @@ pub object_back : (o : Object) (owner : ℕ) (held : Content Cap) → plain_fram
 object_back o owner held is = ap (λ (c : Content Capability). let x : Object = record { owner = o.owner; content = c } in x)
     (sym (content_back _) ∙ ap (λ (f : Frame). map_content what f.content) is)
     ∙ ap (λ (n : ℕ). let x : Object = record { owner = n; content = map_content what held } in x) (ap (λ (f : Frame). f.header.owner) is)
-
-pub plain_at : (os : List Object) (n : ℕ) → frame_at (plain_frames os) n ≡ plain_frame (object_at os n)
-unfolding plain_frames
-plain_at os n = get_or-map plain_frame os n free
 
 -- slots hold what entries name
 pub record SaysSlots (entries : List SlotEntry) (slots : List Capability) : Type 0 where

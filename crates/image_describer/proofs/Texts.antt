@@ -77,22 +77,10 @@ flat_map-four {A} {B} f ps qs rs ss =
     ∙ ap (λ (l : List B). (l ++ flat_map f rs) ++ flat_map f ss) (flat_map-append f ps qs)
 
 -- Lines as they are put together.
-nine_joined : (a b c d e f g h i : List ℕ) → (((((((a ++ b) ++ c) ++ d) ++ e) ++ f) ++ g) ++ h) ++ i ≡ a ++ (b ++ (c ++ (d ++ (e ++ (f ++ (g ++ (h ++ i)))))))
-nine_joined a b c d e f g h i = simp append_assoc
-
-five_joined : (a b c d e : List ℕ) → (((a ++ b) ++ c) ++ d) ++ e ≡ a ++ (b ++ (c ++ (d ++ e)))
-five_joined a b c d e = simp append_assoc
-
-four_joined : (a b c d : List ℕ) → (a ++ (b ++ c)) ++ d ≡ a ++ (b ++ (c ++ d))
-four_joined a b c d = simp append_assoc
-
 pub arrow_put : (holder target : ℕ) (place kind style : List ℕ)
     → (((((((decimal holder ++ 32 ∷ codes "->") ++ 32 ∷ decimal target) ++ 32 ∷ codes "[label=\"") ++ place) ++ kind) ++ codes "\"") ++ style) ++ codes "]"
     ≡ spaced (decimal holder ∷ codes "->" ∷ decimal target ∷ (codes "[label=\"" ++ place ++ kind ++ codes "\"" ++ style ++ codes "]") ∷ [])
-arrow_put holder target place kind style =
-    nine_joined (decimal holder) (32 ∷ codes "->") (32 ∷ decimal target) (32 ∷ codes "[label=\"") place kind (codes "\"") style (codes "]")
-    ∙ ap (λ (l : List ℕ). decimal holder ++ ((32 ∷ codes "->") ++ ((32 ∷ decimal target) ++ ((32 ∷ codes "[label=\"") ++ l))))
-    (sym (five_joined place kind (codes "\"") style (codes "]")))
+arrow_put holder target place kind style = grind (arith, nat_tests, append_assoc)
 
 pub process_put : (root annex key : ℕ) (state : List ℕ)
     → (((((((decimal root ++ 32 ∷ codes "[label=\"process") ++ 32 ∷ decimal root) ++ 32 ∷ codes "annex") ++ 32 ∷ decimal annex) ++ codes "\\n") ++ state) ++ 32
@@ -100,20 +88,13 @@ pub process_put : (root annex key : ℕ) (state : List ℕ)
     ≡ spaced (decimal root ∷
     (codes "[label=\"" ++ spaced (codes "process" ∷ decimal root ∷ codes "annex" ∷ decimal annex ∷ []) ++ next_line
     (spaced (state ∷ codes "key" ∷ decimal key ∷ []))) ∷ [])
-process_put root annex key state =
-    nine_joined (decimal root)
-    (32 ∷ codes "[label=\"process") (32 ∷ decimal root) (32 ∷ codes "annex") (32 ∷ decimal annex) (codes "\\n") state (32 ∷ codes "key") (32 ∷ decimal key)
-    ∙ ap (λ (l : List ℕ). decimal root ++ ((32 ∷ codes "[label=\"process") ++ 32 ∷ l))
-    (sym (four_joined (decimal root) (32 ∷ codes "annex") (32 ∷ decimal annex) (codes "\\n" ++ (state ++ ((32 ∷ codes "key") ++ 32 ∷ decimal key)))))
-
-seven_joined : (a b c d e f g : List ℕ) → (((((a ++ b) ++ c) ++ d) ++ e) ++ f) ++ g ≡ a ++ (b ++ (c ++ (d ++ (e ++ (f ++ g)))))
-seven_joined a b c d e f g = simp append_assoc
+process_put root annex key state = grind (arith, nat_tests, append_assoc)
 
 pub cluster_put : (owner number : ℕ)
     → (((((codes "subgraph cluster_" ++ decimal owner) ++ 32 ∷ codes "{ label=\"bank") ++ 32 ∷ decimal owner) ++ codes "\"") ++ 32 ∷ decimal number) ++ 32 ∷
     codes "}"
     ≡ spaced ((codes "subgraph cluster_" ++ decimal owner) ∷ codes "{" ∷ codes "label=\"bank" ∷ (decimal owner ++ codes "\"") ∷ decimal number ∷ codes "}" ∷ [])
-cluster_put owner number = grind (arith, nat_tests, seven_joined, append_assoc)
+cluster_put owner number = simp append_assoc
 
 -- a box in three pieces
 pub box_pieces : (number : ℕ) (first more shape : List ℕ)

@@ -5,10 +5,11 @@ use Rattle.image_describer.proofs.Names.{NumberRange, Capability, Void, Number, 
 use Rattle.image_describer.proofs.Names.{IsCapability, IsList, IsNumber, IsRange, IsSlot, IsState, IsWideNumber, IsWord, whole_ranges, SlotEntry, WordEntry}
 use Rattle.image_describer.proofs.Names.{IsSomeCapability, IsSpaceEntry, IsShort, IsWide, NamesWide, SpellsRange, SpellsSlot, SpellsWord, are_whole, held_text}
 use Rattle.image_describer.proofs.Names.{is_range, list_text, list_unless_empty, number_unless, range_text, slot_text, space_unless_void, state_value, unless}
-use Rattle.image_describer.proofs.Names.{wide_text, word_text, words_unless_zeros}
-use Rattle.std.proofs.Common.{unwrap_or, ◌≡◌, ◌≢◌, ◌<◌, ◌≤◌, ◌^◌, ◌==◌, ◌&&◌, if◌then◌else◌, ◌∷◌, ◌∙◌}
+use Rattle.image_describer.proofs.Names.{wide_text, word_text, words_unless_zeros, unwrap_or}
+use Rattle.std.proofs.Common.{◌≡◌, ◌≢◌, ◌<◌, ◌≤◌, ◌^◌, ◌==◌, ◌&&◌, if◌then◌else◌, ◌∷◌, ◌∙◌}
 use Rattle.std.specs.List.{AllByRecursion as ByRecursion}
 use Rattle.image_describer.proofs.Lines.{AllSpell, Spells, SpellsOption, deeper, items, spells_list, spells_number, spells_pair, spells_text}
+use Rattle.image_describer.proofs.Puts.{left, right}
 use Rattle.image_describer.proofs.Quoted.{quoted_capability, quoted_state}
 
 -- ---- numbers, capabilities and states
@@ -216,14 +217,6 @@ range_is r n count is =
     let long : r.count ≡ count = grind (arith, nat_tests, is) in
     ap (λ (k : ℕ). let s : NumberRange = record { first = k; count = r.count } in s) at ∙
     ap (λ (k : ℕ). let s : NumberRange = record { first = n; count = k } in s) long
-
-left : (a b : Bool) → (a && b) ≡ true → a ≡ true
-left true b is = refl
-left false b is = absurd cc
-
-right : (a b : Bool) → (a && b) ≡ true → b ≡ true
-right true b is = is
-right false b is = absurd cc
 
 whole_is : (g : Geometry) (rs : List NumberRange) → are_whole g rs ≡ true → rs ≡ whole_ranges g
 whole_is g rs is = grind (arith, nat_tests, range_is, left, right)

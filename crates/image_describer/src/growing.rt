@@ -89,6 +89,7 @@ trait Renumbered {
         ensures { IsMoved (moved old new) self.old self.new };
 }
 
+#[tactic(auto, using(crate::proofs::Pairs::zip_set, crate::proofs::Pairs::zip_whole))]
 fn renumber_all<T: Renumbered>(old: Geometry, new: Geometry, entries: &mut [T])
     requires old { object_count old ≤ 8192 }
     requires new { new.nodes ≤ 4096 }
@@ -194,6 +195,7 @@ fn grown_ranges(
 }
 
 // Refuses sizes for which a description can't be renumbered, with these home ranges.
+#[tactic(auto, using(crate::proofs::GrownRanges::ranges_suit))]
 fn check_sizes(
     description: &Description,
     new: Geometry,

@@ -19,11 +19,13 @@ pub fn described_has_text()
 {}
 
 /// The text of a description is read as that description.
+#[tactic(auto, using(crate::proofs::ReadBack::text_is_read))]
 pub fn text_is_read()
     ensures { TextIsRead }
 {}
 
 /// The description of a world, renumbered for an image of other sizes, is that of its objects there.
+#[tactic(auto, using(crate::proofs::GrownLaws::grown_is_described))]
 pub fn grown_is_described()
     ensures { GrownIsDescribed }
 {}

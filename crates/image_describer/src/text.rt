@@ -102,6 +102,7 @@ fn is_range(range: &NumberRange, first: u64, count: u64) -> bool
 }
 
 // Whether ranges are one of all nodes and one of all pages.
+#[tactic(auto, using(crate::proofs::Written::second_range))]
 fn are_whole(geometry: Geometry, ranges: &[NumberRange]) -> bool
     ensures { result ≡ are_whole geometry ranges.now }
 {

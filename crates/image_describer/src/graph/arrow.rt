@@ -93,6 +93,7 @@ fn push_style(line: &mut LineText, access: Access)
 
 impl Arrow {
     // Writes the line of an arrow.
+    #[tactic(auto, using(crate::proofs::Texts::arrow_put), unfolding(crate::specs::Graph::arrow_line))]
     fn draw<W: Output>(self, writer: &mut W) -> Result<(), RunFault>
         ensures { Writes (W.written writer.old) (W.written writer.new) result (arrow_line self) }
     {

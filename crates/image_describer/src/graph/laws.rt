@@ -22,6 +22,7 @@ pub fn arrows_are_held()
 
 /// In the graph of a description that `restrict` restricted to a set, the boxes are those of the set, and the
 /// arrows those between them.
+#[tactic(auto, using(crate::proofs::Parts::part_is_shown))]
 pub fn part_is_shown()
     ensures { PartIsShown }
 {}

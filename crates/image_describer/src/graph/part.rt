@@ -49,6 +49,7 @@ impl Part for BankEntry {
 
     ghost arrows_of = { λ _. [] };
 
+    #[tactic(auto, using(std::proofs::Common::append_assoc), unfolding(crate::specs::Graph::bank_box))]
     fn draw_box<W: Output>(&self, writer: &mut W) -> Result<(), RunFault> {
         let mut line = begin(self.number);
         line.word(b"[label=\"bank");
@@ -161,6 +162,7 @@ impl Part for PageEntry {
 
     ghost arrows_of = { λ _. [] };
 
+    #[tactic(auto, using(std::proofs::Common::append_assoc), unfolding(crate::specs::Graph::page_box))]
     fn draw_box<W: Output>(&self, writer: &mut W) -> Result<(), RunFault> {
         let mut line = begin(self.number);
         line.word(b"[label=\"page");

@@ -74,6 +74,7 @@ impl Restricted for NodeEntry {
     }
 }
 
+#[tactic(auto, using(crate::proofs::Pairs::zip_set, crate::proofs::Pairs::zip_whole))]
 fn restrict_all<T: Restricted>(inside: &NumberSet, entries: &mut [T])
     ensures { AllZip (T.IsPartOf (is_marked inside.now)) entries.old entries.new }
 {
