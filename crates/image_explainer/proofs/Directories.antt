@@ -1,7 +1,7 @@
 -- Entries that are each as they must be are a directory.
 use Rattle.image_explainer.proofs.Names.{nat_tests, ℕ, List, length, arith, Geometry, Entry, AllFitting, IsDirectory, directory_bytes, directory_fits}
 use Rattle.image_explainer.proofs.Names.{one_directory, get_or_default, DirectoryPart, BreaksDirectory, IsAmong}
-use Rattle.std.proofs.Common.{◌≡◌, ◌+◌, ◌-◌, ◌<◌, ◌∙◌}
+use Rattle.std.proofs.Common.{◌≡◌, ◌<◌}
 
 module _ (g : Geometry) (es : List Entry) where
   pub all_among : ((k : ℕ) → k < length es → IsAmong g es k) → IsDirectory g es

@@ -1,32 +1,15 @@
 -- Slots and frames.
-use Rattle.image_explainer.proofs.Names.{nat_tests, ℕ, nat_le, List, Option, Some, take, drop, refl, sym, ap, subst, inl, inr, arith, cases_lt, Image, Cap}
-use Rattle.image_explainer.proofs.Names.{Frame, Geometry, IsKeptCap, Entry, CheckpointHeader, Shape, capability_bytes, shape_of, HasDirectory, HasHeader}
-use Rattle.image_explainer.proofs.Names.{HasPlan, frame_in, frame_sector, sectors_from, shaped_at, shape_bytes, Plan, FramePart, HoldsCap, IsFault, FitsOr}
-use Rattle.image_explainer.proofs.Names.{IsWholeFrame}
+use Rattle.image_explainer.proofs.Names.{nat_tests, ℕ, nat_le, List, Option, Some, take, drop, refl, sym, ap, subst, arith, Image, Cap, Geometry, IsKeptCap}
+use Rattle.image_explainer.proofs.Names.{Entry, CheckpointHeader, Shape, capability_bytes, shape_of, HasDirectory, HasHeader, HasPlan, frame_in, frame_sector}
+use Rattle.image_explainer.proofs.Names.{sectors_from, shaped_at, shape_bytes, Plan, FramePart, HoldsCap, IsFault, FitsOr}
 use Rattle.std.proofs.Common.{◌≡◌, ◌+◌, ◌-◌, ◌*◌, ◌<◌, ◌∙◌}
 use Rattle.layout.specs.declared.shape.Shape.TheVariants as shape
 use Rattle.image_explainer.specs.declared.sectors.fault.SectorFault.TheVariants as fault
-
--- a slot more has a capability
-pub slots_more : (g : Geometry) (age : ℕ) (bytes : List ℕ) (k : ℕ) → ((j : ℕ) → j < k → HoldsCap g age bytes j) → HoldsCap g age bytes k → (j : ℕ) → j < k + 1 →
-    HoldsCap g age bytes j
-slots_more g age bytes k before here j lt = elim (cases_lt j k) [
-  | inl less ↦ before j less
-  | inr le ↦ let same : k ≡ j = omega (arith, lt, le) in subst (HoldsCap g age bytes) same here
-]
 
 -- as the code cuts it
 pub slot_read : (g : Geometry) (age : ℕ) (bytes : List ℕ) (k at : ℕ) (c : Cap) → at ≡ 32 + 24 * k → IsKeptCap g age c →
     take (at + 24 - at) (drop at bytes) ≡ capability_bytes c → HoldsCap g age bytes k
 slot_read g age bytes k at c place kept is = grind (arith, nat_tests)
-
--- a frame more can be kept
-pub frames_more : (image : Image) (p : Plan) (h : CheckpointHeader) (es : List Entry) (n : ℕ) → ((m : ℕ) → m < n → IsWholeFrame image p h es m) →
-    IsWholeFrame image p h es n → (m : ℕ) → m < n + 1 → IsWholeFrame image p h es m
-frames_more image p h es n before here m lt = elim (cases_lt m n) [
-  | inl less ↦ before m less
-  | inr le ↦ let same : n ≡ m = omega (arith, lt, le) in subst (IsWholeFrame image p h es) same here
-]
 
 -- the bytes of a frame as they lie in sectors
 module _ (g : Geometry) (age n at : ℕ) (image : Image) (form : Shape) (run : List ℕ) (found : Option FramePart) where

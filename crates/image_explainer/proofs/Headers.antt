@@ -3,7 +3,6 @@ use Rattle.image_explainer.proofs.Names.{nat_tests, ℕ, Bool, true, List, Optio
 use Rattle.image_explainer.proofs.Names.{Image, CheckpointHeader, IsHeader, header_bytes, HasHeader, HasPlan, committed_of, committed_bytes, committed_slot}
 use Rattle.image_explainer.proofs.Names.{option_at, Plan, SectorFault, IsFault, HasHeaderIn, HasNoneIn, RefusesHeader, picked, slot_of, ⊤}
 use Rattle.std.proofs.Common.{◌≡◌, ◌+◌, ◌*◌, ◌<◌, ◌∙◌}
-use Rattle.std.specs.Prelude.{if◌then◌else◌}
 
 -- the second counts, and the first doesn't or has a smaller number
 pub second_wins : (first second : Bool) (m n : ℕ) → second ≡ true → (first ≡ true → m < n) → committed_of first m second n ≡ Some 1

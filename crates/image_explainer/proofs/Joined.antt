@@ -1,19 +1,19 @@
 -- Texts that are put together piece by piece.
-use Rattle.image_explainer.proofs.Names.{arith, nat_tests, ℕ, List, ap, append_assoc, codes, decimal, BadImage, ImageFault, reason_of, fault_text}
-use Rattle.image_explainer.proofs.Names.{reason_number, place_text}
-use Rattle.std.proofs.Common.{◌≡◌, ◌∷◌, ◌++◌, ◌∙◌}
+use Rattle.image_explainer.proofs.Names.{arith, nat_tests, ℕ, List, append_assoc, codes, decimal, BadImage, ImageFault, reason_of, fault_text, reason_number}
+use Rattle.image_explainer.proofs.Names.{place_text}
+use Rattle.std.proofs.Common.{◌≡◌, ◌∷◌, ◌++◌}
 
 module _ (l a b m n : List ℕ) (first : m ≡ l ++ a) (second : n ≡ m ++ b) where
   pub joined_2 : n ≡ l ++ (a ++ b)
-  joined_2 = second ∙ ap (λ (x : List ℕ). x ++ b) first ∙ append_assoc l a b
+  joined_2 = grind (arith, nat_tests, append_assoc)
 
   module _ (c o : List ℕ) (third : o ≡ n ++ c) where
     pub joined_3 : o ≡ l ++ (a ++ b ++ c)
-    joined_3 = third ∙ ap (λ (x : List ℕ). x ++ c) joined_2 ∙ append_assoc l (a ++ b) c
+    joined_3 = grind (arith, nat_tests, append_assoc)
 
     module _ (d p : List ℕ) (fourth : p ≡ o ++ d) where
       pub joined_4 : p ≡ l ++ (a ++ b ++ c ++ d)
-      joined_4 = fourth ∙ ap (λ (x : List ℕ). x ++ d) joined_3 ∙ append_assoc l (a ++ b ++ c) d
+      joined_4 = grind (arith, nat_tests, append_assoc)
 
       pub joined_6 : (e f q r : List ℕ) → q ≡ p ++ e → r ≡ q ++ f → r ≡ l ++ (a ++ b ++ c ++ d ++ e ++ f)
       joined_6 e f q r fifth sixth = grind (arith, nat_tests, joined_4, append_assoc)

@@ -1,8 +1,8 @@
 -- A superblock has its mark, and an image with one is large enough.
-use Rattle.image_explainer.proofs.Names.{nat_tests, ℕ, List, [], length, replicate, take, drop, refl, sym, ap, subst, ⊎_elim, append_assoc, length-append}
-use Rattle.image_explainer.proofs.Names.{take_at, drop_at, arith, codes, length-replicate, Image, HomeRange, half_number, number, zeros, HasPlan, IsTooSmall}
-use Rattle.image_explainer.proofs.Names.{HasMark, IsPlan, Plan, ranges_bytes, superblock_bytes, unused, version_number, total_reported}
-use Rattle.std.proofs.Common.{◌≡◌, ◌+◌, ◌-◌, ◌*◌, ◌∷◌, ◌++◌, ◌∙◌}
+use Rattle.image_explainer.proofs.Names.{nat_tests, ℕ, List, [], length, replicate, take, drop, refl, sym, ap, subst, append_assoc, length-append, take_at}
+use Rattle.image_explainer.proofs.Names.{drop_at, arith, codes, length-replicate, Image, HomeRange, half_number, number, zeros, HasPlan, IsTooSmall, HasMark}
+use Rattle.image_explainer.proofs.Names.{IsPlan, Plan, ranges_bytes, superblock_bytes, unused, version_number, total_reported}
+use Rattle.std.proofs.Common.{◌≡◌, ◌-◌, ◌*◌, ◌∷◌, ◌++◌, ◌∙◌}
 
 long : (n : ℕ) → length (number n) ≡ 8
 unfolding number
@@ -16,33 +16,17 @@ no_range : length (ranges_bytes []) ≡ 0
 unfolding ranges_bytes
 no_range = refl
 
-three : (a b c z : List ℕ) → (a ++ b ++ c) ++ z ≡ a ++ (b ++ (c ++ z))
-three a b c z = simp append_assoc
-
 cons_range : (r : HomeRange) (rs : List HomeRange) → ranges_bytes (r ∷ rs) ≡ number r.first ++ (number r.count ++ (number r.sector ++ ranges_bytes rs))
 unfolding ranges_bytes
-cons_range r rs = three (number r.first) (number r.count) (number r.sector) (ranges_bytes rs)
+cons_range r rs = simp append_assoc
 
 ranges_long : (rs : List HomeRange) → length (ranges_bytes rs) ≡ 24 * length rs
 ranges_long [] = no_range
-ranges_long (r ∷ rs) = ap (λ (x : List ℕ). length x) (cons_range r rs) ∙ length-append (number r.first) (number r.count ++ (number r.sector ++ ranges_bytes rs))
-    ∙ omega (
-      arith,
-      length-append (number r.count) (number r.sector ++ ranges_bytes rs),
-      length-append (number r.sector) (ranges_bytes rs),
-      long r.first,
-      long r.count,
-      long r.sector,
-      ranges_long rs,
-    )
+ranges_long (r ∷ rs) = grind (arith, nat_tests, cons_range, length-append, long, ranges_long rs)
 
 deep : (a b c d e f g h i j z : List ℕ) →
     a ++ b ++ c ++ d ++ e ++ f ++ g ++ h ++ i ++ j ++ z ≡ a ++ (b ++ (c ++ (d ++ (e ++ (f ++ (g ++ (h ++ (i ++ (j ++ z)))))))))
 deep a b c d e f g h i j z = simp append_assoc
-
-nine : (a b c d e f g h i j : List ℕ) → length (a ++ b ++ c ++ d ++ e ++ f ++ g ++ h ++ i ++ j) ≡ length a + length b + length c + length d + length e + length
-    f + length g + length h + length i + length j
-nine a b c d e f g h i j = simp length-append
 
 module _ (p : Plan) (is : IsPlan p) where
   abbrev all_ranges : List HomeRange
@@ -71,7 +55,7 @@ module _ (p : Plan) (is : IsPlan p) where
   ends = refl
 
   front_long : length front ≡ 256
-  front_long = search (arith, nat_tests, nine, half, long, eight)
+  front_long = grind (arith, nat_tests, length-append, half, long, eight)
 
   pub marked : HasMark (superblock_bytes p)
   marked = record {

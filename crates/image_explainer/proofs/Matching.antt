@@ -1,7 +1,7 @@
 -- Roots and annexes that don't belong together.
-use Rattle.image_explainer.proofs.Names.{nat_tests, ℕ, List, Option, None, length, inl, inr, subst, arith, cases_lt, Frame, Noted, AreWholeProcesses, AreNoted}
+use Rattle.image_explainer.proofs.Names.{nat_tests, ℕ, List, Option, None, length, inl, inr, arith, cases_lt, Frame, Noted, AreWholeProcesses, AreNoted}
 use Rattle.image_explainer.proofs.Names.{none_noted, HasRoot, IsMatched, MatchesOr, Unmatched, IsUnmatched, IfNone, IfSome, get_or_past}
-use Rattle.std.proofs.Common.{◌≡◌, ◌+◌, ◌<◌, ◌≤◌}
+use Rattle.std.proofs.Common.{◌+◌, ◌<◌, ◌≤◌}
 
 -- past the notes there is no root
 pub all_matched : (fs : List Frame) (notes : List (Option Noted)) (n : ℕ) → AreNoted fs notes → length notes ≤ n → ((p : ℕ) → p < n → IsMatched fs p) →
@@ -11,16 +11,9 @@ all_matched fs notes n noted past each p = elim (cases_lt p n) [
   | inr beyond ↦ λ a root. absurd (none_noted fs notes noted p a (get_or_past notes p None (omega (arith, past, beyond))) root)
 ]
 
--- a root more is matched
-pub matched_more : (fs : List Frame) (n : ℕ) → ((p : ℕ) → p < n → IsMatched fs p) → IsMatched fs n → (p : ℕ) → p < n + 1 → IsMatched fs p
-matched_more fs n before here p lt = elim (cases_lt p n) [
-  | inl less ↦ before p less
-  | inr le ↦ let same : n ≡ p = omega (arith, lt, le) in subst (IsMatched fs) same here
-]
-
--- an annex more has a root
-pub rooted_more : (fs : List Frame) (n : ℕ) → ((a : ℕ) → a < n → HasRoot fs a) → HasRoot fs n → (a : ℕ) → a < n + 1 → HasRoot fs a
-rooted_more fs n before here a lt = grind (arith, nat_tests)
+-- what holds below a number, and of it, holds below the next
+pub below_more : (P : ℕ → Type 0) (n : ℕ) → ((m : ℕ) → m < n → P m) → P n → (m : ℕ) → m < n + 1 → P m
+below_more P n before here m lt = grind (arith, nat_tests)
 
 -- matched roots have annexes of their own
 pub whole_of_matched : (fs : List Frame) → ((p : ℕ) → IsMatched fs p) → ((a : ℕ) → HasRoot fs a) → AreWholeProcesses fs

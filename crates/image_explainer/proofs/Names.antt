@@ -67,7 +67,6 @@ pub use Rattle.std.proofs.lemmas.List.{drop-drop, get_or-drop, get_or-take, get_
 pub use Rattle.std.proofs.lemmas.List.{take-append-drop, take_rest}
 pub use Rattle.std.proofs.lemmas.Nat.{le_bytes_8}
 pub use Rattle.std.specs.ControlFlow.{MatchControlFlow}
-pub use Rattle.std.specs.Int.{from_le_bytes, w64}
 pub use Rattle.std.specs.List.{All}
 pub use Rattle.std.specs.Prelude.{IfNone, IfSome, codes, decimal, ⊤}
 pub use Rattle.image_explainer.specs.Breaking.{BreaksFrames, IsMisnamed, IsUnmatched, reason_of}

@@ -1,16 +1,12 @@
 -- Numbers in bytes.
-use Rattle.image_explainer.proofs.Names.{ℕ, List, length, get_or, take, drop, sym, ap, inl, inr, arith, w64, from_le_bytes, le_bytes_8, take-append-drop}
-use Rattle.image_explainer.proofs.Names.{length-take, length-drop, drop-drop, get_or-take, get_or-drop, get_or_past, cases_lt, little_number, little_from-take}
-use Rattle.image_explainer.proofs.Names.{number}
+use Rattle.image_explainer.proofs.Names.{ℕ, List, length, get_or, take, drop, sym, ap, inl, inr, arith, le_bytes_8, take-append-drop, length-take, length-drop}
+use Rattle.image_explainer.proofs.Names.{drop-drop, get_or-take, get_or-drop, get_or_past, cases_lt, little_number, little_from-take, number}
 use Rattle.std.proofs.Common.{◌≡◌, ◌+◌, ◌<◌, ◌≤◌, ◌++◌, ◌∙◌}
-
-as_le : (xs : List ℕ) → little_number 8 xs ≡ from_le_bytes w64 xs
-as_le xs = omega arith
 
 -- eight bytes are those of the number in them
 number_back : (xs : List ℕ) → length xs ≡ 8 → ((i : ℕ) → get_or xs i 0 < 256) → number (little_number 8 xs) ≡ xs
 unfolding number
-number_back xs l small = le_bytes_8 xs (little_number 8 xs) l small (as_le xs)
+number_back xs l small = le_bytes_8 xs (little_number 8 xs) l small (omega arith)
 
 small_front : (bytes : List ℕ) (at : ℕ) → ((i : ℕ) → get_or bytes i 0 < 256) → (i : ℕ) → get_or (take 8 (drop at bytes)) i 0 < 256
 small_front bytes at small i =

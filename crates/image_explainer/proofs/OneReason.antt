@@ -73,29 +73,9 @@ module _ (size : ℕ) (image : Image) where
   one_reason bad.BadFrame bad.BadDirectory x y = absurd (same_both y.0 x.0 y.1 x.1 y.2 x.3 y.3 x.4 y.4 x.2 x.5.fits x.5.count x.5.spelt)
   one_reason bad.BadFrame bad.BadFrame x y = refl
   one_reason bad.BadCapability b x y = absurd x
-  one_reason bad.Small bad.BadCapability x y = absurd y
-  one_reason bad.NotASuperblock bad.BadCapability x y = absurd y
-  one_reason bad.BadGeometry bad.BadCapability x y = absurd y
-  one_reason bad.NoHeader bad.BadCapability x y = absurd y
-  one_reason bad.BadHeader bad.BadCapability x y = absurd y
-  one_reason bad.BadDirectory bad.BadCapability x y = absurd y
-  one_reason bad.BadFrame bad.BadCapability x y = absurd y
   one_reason bad.BadProcess b x y = absurd x
-  one_reason bad.Small bad.BadProcess x y = absurd y
-  one_reason bad.NotASuperblock bad.BadProcess x y = absurd y
-  one_reason bad.BadGeometry bad.BadProcess x y = absurd y
-  one_reason bad.NoHeader bad.BadProcess x y = absurd y
-  one_reason bad.BadHeader bad.BadProcess x y = absurd y
-  one_reason bad.BadDirectory bad.BadProcess x y = absurd y
-  one_reason bad.BadFrame bad.BadProcess x y = absurd y
   one_reason bad.BadBank b x y = absurd x
-  one_reason bad.Small bad.BadBank x y = absurd y
-  one_reason bad.NotASuperblock bad.BadBank x y = absurd y
-  one_reason bad.BadGeometry bad.BadBank x y = absurd y
-  one_reason bad.NoHeader bad.BadBank x y = absurd y
-  one_reason bad.BadHeader bad.BadBank x y = absurd y
-  one_reason bad.BadDirectory bad.BadBank x y = absurd y
-  one_reason bad.BadFrame bad.BadBank x y = absurd y
+  one_reason a b x y = absurd y
 
   -- all frames can be kept
   abbrev AreWhole : Plan → CheckpointHeader → List Entry → Type 0
@@ -127,5 +107,4 @@ module _ (size : ℕ) (image : Image) where
       let whole = all_same w.0 x.0 w.1 x.1 w.2 x.2 w.3 x.3 w.4 x.4 w.5 x.5 w.6 in
       let frame = whole x.6.0 x.6.1 in
       x.6.2 frame.0 frame.1
-  whole_not_bad bad.BadCapability w x = absurd x
   whole_not_bad other w x = absurd x

@@ -2,7 +2,6 @@
 use Rattle.image_explainer.proofs.Names.{nat_tests, ℕ, Some, Result, Ok, Err, ⊎_elim, refl, sym, subst, arith, cases_lt, Disk, Image, CountsNow, agrees_is}
 use Rattle.image_explainer.proofs.Names.{BadImage, IsBadBy, OpenFault, CountsOpen, OnlyReads, Refuses, ReadsOnly, IsNoReason, SectorFault, IsFault, ImageFault}
 use Rattle.image_explainer.proofs.Names.{Explains}
-use Rattle.std.proofs.Common.{◌∙◌}
 use Rattle.std.specs.Prelude.{Option}
 use Rattle.layout.specs.declared.open_fault.OpenFault.TheVariants as open_fault
 use Rattle.image_explainer.specs.declared.fault.ImageFault.TheVariants as fault

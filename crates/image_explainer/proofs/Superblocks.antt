@@ -1,7 +1,7 @@
 -- What is wrong with the size of an image or with its superblock.
-use Rattle.image_explainer.proofs.Names.{nat_tests, ℕ, Bool, List, ControlFlow, MatchControlFlow, refl, sym, ap, inl, ⊎_elim, arith, lt-ltb, Image, HasPlan}
-use Rattle.image_explainer.proofs.Names.{total_in, IsPlan, Plan, superblock_bytes, total_reported, SectorFault, IsFault, BreaksSector, ⊤}
-use Rattle.std.proofs.Common.{◌≡◌, ◌<◌, ◌≤◌, ◌∙◌}
+use Rattle.image_explainer.proofs.Names.{nat_tests, ℕ, Bool, List, ControlFlow, MatchControlFlow, refl, sym, ap, inl, arith, lt-ltb, Image, HasPlan, total_in}
+use Rattle.image_explainer.proofs.Names.{IsPlan, Plan, superblock_bytes, total_reported, SectorFault, IsFault, BreaksSector, ⊤}
+use Rattle.std.proofs.Common.{◌≡◌, ◌<◌, ◌≤◌}
 use Rattle.std.specs.Prelude.{if◌then◌else◌}
 use Rattle.image_explainer.specs.declared.sectors.fault.SectorFault.TheVariants as fault
 

@@ -1,5 +1,5 @@
 use Rattle.image_explainer.proofs.Names.{nat_tests, length, refl, subst, arith, Geometry, slot_sector, Plan, BreaksDirectory}
-use Rattle.std.proofs.Common.{◌≡◌, ◌+◌, ◌-◌, ◌∙◌}
+use Rattle.std.proofs.Common.{◌≡◌, ◌+◌, ◌-◌}
 use Rattle.image_explainer.proofs.Whole.{directory_fault, directory_inside}
 use Rattle.image_explainer.proofs.sectors.finding.find_directory.Goals as goal
 

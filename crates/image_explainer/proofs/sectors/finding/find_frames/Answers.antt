@@ -1,7 +1,8 @@
-use Rattle.image_explainer.proofs.Frames.{frames_more}
+use Rattle.image_explainer.proofs.Names.{IsWholeFrame}
+use Rattle.image_explainer.proofs.Matching.{below_more}
 use Rattle.image_explainer.proofs.sectors.finding.find_frames.Goals as goal
 
 pub loop-number-preserved : goal.loop-number-preserved
 loop-number-preserved c = λ image copy plan header directory.
-    frames_more image c.args.superblock.now c.args.header c.args.entries.now c.loop-number.number (c.loop-number.invariant image copy plan header directory)
-    (c.in_ok-find_frame.ensures image copy plan header directory)
+    below_more (IsWholeFrame image c.args.superblock.now c.args.header c.args.entries.now) c.loop-number.number
+    (c.loop-number.invariant image copy plan header directory) (c.in_ok-find_frame.ensures image copy plan header directory)
