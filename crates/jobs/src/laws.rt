@@ -29,6 +29,7 @@ pub fn grown_is_denoted()
 {}
 
 /// With no other sizes `describe_image` writes the description of what the image saves.
+#[tactic(auto, using(crate::proofs::GrownImages::unsized_is_whole))]
 pub fn unsized_is_whole()
     ensures { UnsizedIsWhole }
 {}
