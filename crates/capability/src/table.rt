@@ -69,14 +69,15 @@ impl ObjectTable {
     pub fn current_count(&self, capability: Capability) -> u64
         ensures { result ≡ current_count self.now capability }
     {
-        let named = capability.named();
-        let header = self.header(named.unwrap_or(0));
-        let count = if let Capability::Resume(_) = capability {
+        let Some(number) = capability.named() else {
+            return 0;
+        };
+        let header = self.header(number);
+        if let Capability::Resume(_) = capability {
             header.calls
         } else {
             header.allocations
-        };
-        if named.is_some() { count } else { 0 }
+        }
     }
 
     /// The stored form of a live capability: its count is the current one.
