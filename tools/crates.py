@@ -1,10 +1,17 @@
-"""The repository's crates, and copies of some of them in a folder of their own, where `rt ci` proves them from nothing:
-that is the quickest way, since it takes as many at a time as there are processors and memory, and loads of a library its
-statements alone."""
+"""The repository's crates, and copies of some of them in a folder of their own, where `rt ci` proves them from nothing: as many at
+a time as there are processors and memory, and of a library it loads the statements alone."""
 import shutil
+import subprocess
+from functools import cache
 from pathlib import Path
 
 ROOT = Path(__file__).resolve().parent.parent
+
+
+@cache
+def kit():
+    """The folder of the kit."""
+    return Path(subprocess.run(["rt", "doc"], capture_output=True, text=True, check=True).stdout.strip()).parent
 
 
 def libraries():
