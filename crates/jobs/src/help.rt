@@ -25,10 +25,12 @@ const UNKNOWN: &[u8] = b"There is no help on this. Type help for the commands.\n
 const TOPICS: &[Topic] = &[
     Topic {
         word: b"call",
-        text: b"call P R W0 W1 W2 W3 C0 C1 C2 C3: process P invokes the capability in its register R, and
-gets the reply. It sends four words and the capabilities in four registers; register 0 is void. Through a
-start or resume capability it waits for the answer. A kernel object carries out order W0 at once. The
-answer is done; show P prints the result code, the first of its words.\n",
+        text: b"\
+call P R W0 W1 W2 W3 C0 C1 C2 C3: process P invokes the capability in its register R, and gets the
+reply. It sends four words and the capabilities in four registers; register 0 is void. Through a start
+or resume capability it waits for the answer. A kernel object carries out order W0 at once. The answer
+is done; show P prints the result code, the first of its words.
+",
     },
     Topic {
         word: b"return",
@@ -83,6 +85,10 @@ answer is done; show P prints the result code, the first of its words.\n",
         text: b"cut: cuts the power, then opens the image again, at the last commit.\n",
     },
     Topic {
+        word: b"quit",
+        text: b"quit: ends the shell. What is not committed is lost.\n",
+    },
+    Topic {
         word: b"number",
         text: b"Orders of a number: 1 value.\n",
     },
@@ -92,8 +98,10 @@ answer is done; show P prints the result code, the first of its words.\n",
     },
     Topic {
         word: b"node",
-        text: b"Orders of a node: 1 fetch (W1 slot), 2 store (W1 slot, C0), 3 reduce (W1 is 1 or 3), 4 space
-        (W1\nheight), 5 put number (W1 slot, W2 number).\n",
+        text: b"\
+Orders of a node: 1 fetch (W1 slot), 2 store (W1 slot, C0), 3 reduce (W1 is 1 or 3),
+4 space (W1 height), 5 put number (W1 slot, W2 number).
+",
     },
     Topic {
         word: b"space",
@@ -105,13 +113,18 @@ answer is done; show P prints the result code, the first of its words.\n",
     },
     Topic {
         word: b"process",
-        text: b"Orders of a process: 1 get register (W1), 2 put register (W1, C0), 3 get word (W1), 4 put word
-        (W1, W2),\n5 make start (W1 key), 6 get state, 7 set state (W1 is 0 or 1), 8 get space, 9 set space (C0).\n",
+        text: b"\
+Orders of a process: 1 get register (W1), 2 put register (W1, C0), 3 get word (W1),
+4 put word (W1, W2), 5 make start (W1 key), 6 get state, 7 set state (W1 is 0 or 1), 8 get space,
+9 set space (C0).
+",
     },
     Topic {
         word: b"bank",
-        text: b"Orders of a bank: 1 page, 2 node, 3 process, 4 sub-bank (W1 limit), 5 free (C0), 6 destroy,\n7 return to
-        parent, 8 remaining.\n",
+        text: b"\
+Orders of a bank: 1 page, 2 node, 3 process, 4 sub-bank (W1 limit), 5 free (C0), 6 destroy,
+7 return to parent, 8 remaining.
+",
     },
 ];
 
