@@ -43,10 +43,10 @@ pub use Rattle.layout.specs.declared.version.Version.TheVariants.{Two}
 unfoldable pub use Rattle.model.specs.Frame.{objects_of}
 pub use Rattle.model.specs.Keepable.{IsSoundFrames, world_at}
 pub use Rattle.model.specs.Machine.{Saved}
-pub use Rattle.model.specs.Object.{role_number, role_of}
+pub use Rattle.model.specs.Object.{is_free, role_number, role_of}
 pub use Rattle.model.specs.Run.{Turn}
 pub use Rattle.model.specs.Text.{line_of, spaced}
-pub use Rattle.model.specs.World.{World, is_process}
+pub use Rattle.model.specs.World.{World, content_at, is_process}
 pub use Rattle.model.specs.declared.frame.Frame.{Frame}
 pub use Rattle.model.specs.declared.frame.ObjectHeader.{ObjectHeader}
 pub use Rattle.model.specs.declared.geometry.Geometry.{Geometry}

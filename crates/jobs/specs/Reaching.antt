@@ -1,7 +1,8 @@
 -- What the command says of the objects that some processes can ever change.
 use Rattle.jobs.specs.Names.{Written, ℕ, Bool, not, Option, None, Some, List, Vec, Result, Ok, Err, IsTrue, is_some}
 use Rattle.jobs.specs.Names.{Wrote, All, find, Global, is_marked, Object, objects_of, is_process, Disk, WroteFront}
-use Rattle.jobs.specs.Names.{Step, IsShortestIfAny, chain_text, reach_text, BoundsRuns, IsReach}
+use Rattle.jobs.specs.Names.{Step, IsShortestIfAny, chain_text, reach_text, BoundsRuns, IsReach, true, false, is_free}
+use Rattle.jobs.specs.Names.{content_at}
 use Rattle.std.specs.Prelude.{◌≡◌}
 use Rattle.layout.specs.declared.open_fault.OpenFault.TheVariants as opening
 use Rattle.jobs.specs.declared.fault.Fault.{Fault}
@@ -18,8 +19,9 @@ pub record IsSetText (os : List Object) (starts : List ℕ) (text : List ℕ) : 
   pub bounds : BoundsRuns os (is_marked marks)
   pub spelled : text ≡ reach_text os marks
 
--- the text of a shortest chain to an object, or that it is out of reach: outside the least closed set
+-- the text of a shortest chain to an object that there is, or that it is out of reach: outside the least closed set
 pub record IsChainText (os : List Object) (starts : List ℕ) (o : ℕ) (text : List ℕ) : Type 0 where
+  pub there : is_free (content_at os o) ≡ false
   pub chain : Option (Vec Step Global)
   pub shortest : IsShortestIfAny os starts o chain
   pub reach : (inside : ℕ → Bool) → IsReach os starts inside → inside o ≡ is_some chain
@@ -34,7 +36,7 @@ abbrev pub Reaches : List Object → List ℕ → Option ℕ → (List ℕ → T
 Reaches os starts shows Reported = AreProcesses os starts ×
     ((text : List ℕ) × IsReachText os starts shows text × Reported text)
 
--- so it was; or that couldn't be written whole; or a number isn't that of a process; or memory ran out
+-- so it was; or it couldn't be written whole; or a number has no process, or no object; or memory ran out
 abbrev pub TellsReach : List Object → List ℕ → Option ℕ → Written → Written → Result (Unit {0}) Fault →
     Type 0
 TellsReach os starts shows output output_left (Ok a) = Reaches os starts shows (Wrote output output_left)
@@ -42,6 +44,8 @@ TellsReach os starts shows output output_left (Err fault.CannotWriteOutput) = Re
     (WroteFront output output_left)
 TellsReach os starts shows output output_left (Err (fault.NoProcess p)) =
     (find (λ n. not (is_process os n)) starts ≡ Some p) × (output_left ≡ output)
+TellsReach os starts shows output output_left (Err (fault.NoObject o)) =
+    AreProcesses os starts × (shows ≡ Some o) × (is_free (content_at os o) ≡ true) × (output_left ≡ output)
 TellsReach os starts shows output output_left (Err (fault.Open opening.NoMemory)) = output_left ≡ output
 TellsReach os starts shows output output_left (Err _) = ⊥
 

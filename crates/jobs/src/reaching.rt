@@ -1,5 +1,7 @@
 // The command that says what processes can ever change.
 ghost use Rattle.std.specs.Prelude.{◌≡◌, None, Some, Result};
+ghost use Rattle.model.specs.Object.{is_free};
+ghost use Rattle.model.specs.World.{content_at};
 ghost use Rattle.reach.specs.Reached.{AreSoundObjects};
 ghost use Rattle.jobs.specs.Faults.{IsReported, status_of};
 ghost use Rattle.jobs.specs.Reaching.{AreProcesses, ReachesImage, TellsReach};
@@ -10,7 +12,7 @@ use crate::saved::read_saved;
 use checkpoint::OpenFault;
 use device::Device;
 use migrator::WholeStore;
-use model::Object;
+use model::{Content, Object};
 use reach::{missing_process, print_chain, print_reach, reach, shortest_chain};
 use script::Output;
 use std::alloc::Global;
@@ -32,6 +34,16 @@ fn tell_set<W: Output>(
     }
 }
 
+// Whether a number has no object.
+fn is_free(objects: &[Object], number: u64) -> bool
+    ensures { result ≡ is_free (content_at objects.now number) }
+{
+    match objects.get(number as usize) {
+        Some(object) => matches!(object.content, Content::Free),
+        None => true,
+    }
+}
+
 // Writes a shortest chain from some processes to an object.
 fn tell_chain<W: Output>(
     alloc: Global,
@@ -45,6 +57,9 @@ fn tell_chain<W: Output>(
     ensures { TellsReach objects.now processes.now (Some object) (W.written writer.old) (W.written writer.new)
         result }
 {
+    if is_free(objects, object) {
+        return Err(Fault::NoObject(object));
+    }
     match shortest_chain(alloc, objects, processes, object) {
         Ok(chain) => of_write(print_chain(objects, object, &chain, writer)),
         Err(_) => Err(Fault::Open(OpenFault::NoMemory)),
@@ -72,15 +87,16 @@ fn tell_reach<W: Output>(
 }
 
 /// Opens a device as a run does, and writes what some processes can ever change: the least closed set
-/// of numbers that contains them. With `shows` it writes a shortest chain of steps to that object in
-/// its place, or `out of reach`. Then the status is 0.
+/// of numbers that contains them. With `shows` it instead writes a shortest chain of steps to that
+/// object, or `out of reach` if the set doesn't contain it. Then the status is 0.
 ///
 /// After a fault one line is written to `errors`, and the status is 1:
 /// - `bad image` with a number from 1 to 10, `device failed` or `no memory`;
 /// - `no process` with the first of the numbers that isn't the number of a process;
+/// - `no object` with the number `shows` if it is free or beyond the image;
 /// - `cannot write output` if the writer fails.
 ///
-/// The device is given back, and nothing was written to it at any moment.
+/// The device is returned. Nothing is written to it at any moment.
 pub fn reach_image<D: Device, S: WholeStore<D>, W: Output, V: Output>(
     alloc: Global,
     device: D,

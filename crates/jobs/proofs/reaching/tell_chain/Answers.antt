@@ -11,6 +11,6 @@ returns-in-Ok g c =
     let new = g.W.Output.written c.print_chain.new.writer in
     let text = chain_text c.args.objects.now c.args.object c.in-Ok.chain in
     let is : IsChainText c.args.objects.now c.args.processes.now c.args.object text =
-    record { chain = c.in-Ok.chain; shortest = c.in-Ok.ensures.shortest; reach = c.in-Ok.ensures.reach; spelled = refl } in
+    record { there = c.is_free.ensures; chain = c.in-Ok.chain; shortest = c.in-Ok.ensures.shortest; reach = c.in-Ok.ensures.reach; spelled = refl } in
     rw c.of_write.ensures (text_written old new text (TellsReach c.args.objects.now c.args.processes.now (Some c.args.object) old new)
     (λ a wrote. (c.requires.processes, (text, is, wrote))) (λ front. (c.requires.processes, (text, is, front))) c.print_chain.result c.print_chain.ensures)
