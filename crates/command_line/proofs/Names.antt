@@ -32,7 +32,6 @@ pub use Rattle.std.proofs.Common.{length, map, not, option_map, refl, rules, sub
 pub use Rattle.std.proofs.Math.Seq.{take-length, take-suc}
 pub use Rattle.std.proofs.lemmas.Bool.{eqb-true, leb-true, lt-ltb}
 pub use Rattle.std.proofs.lemmas.Bool.Decides.{nat_tests}
-pub use Rattle.std.proofs.lemmas.Grind.{common_steps}
 pub use Rattle.std.proofs.lemmas.List.{get_or-map, length-map, map-append, take_all, take_more}
 pub use Rattle.std.proofs.lemmas.List.Elements.{All-get_or, All-more}
 pub use Rattle.std.proofs.lemmas.List.Folds.{list_all-append}

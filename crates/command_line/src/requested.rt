@@ -12,7 +12,7 @@ use crate::subcommands::{
     CACHE, DESCRIPTION, FILE, FROM, IMAGE, LOG, NEW, NODES, OLD, PAGES, PROCESS, SCRIPT, SHOWS,
     STOP_AFTER, STRICT, Subcommand, TO, TRACE,
 };
-use cache_entries::{GREATEST_CAPACITY, LEAST_CAPACITY};
+use cache_entries::{Capacity, GREATEST_CAPACITY, LEAST_CAPACITY};
 use clap::error::ErrorKind;
 use clap::{ArgMatches, Command, Error};
 use std::alloc::{AllocError, Global};
@@ -34,7 +34,7 @@ pub struct Sizes {
     pub nodes: Option<u64>,
     /// The number of pages.
     pub pages: Option<u64>,
-    /// The number of slots of the checkpoint log.
+    /// The number of slots in each half of the log.
     pub log: Option<u64>,
 }
 
@@ -50,9 +50,9 @@ pub enum Job<'a> {
     Run {
         image: &'a str,
         script: Script<'a>,
-        /// The most objects kept in memory, 8 to 8192; `None` keeps all.
-        cache: Option<u64>,
-        /// Whether standard error says what became of each line.
+        /// The most objects kept in memory; `None` keeps all.
+        cache: Option<Capacity>,
+        /// Whether the result of each line is written to standard error.
         trace: bool,
         /// Whether the run stops at the first line that is bad or refused, or whose invocation of a kernel
         /// object fails.
@@ -63,8 +63,8 @@ pub enum Job<'a> {
     /// Reads commands from a terminal and runs them over an image.
     Shell {
         image: &'a str,
-        /// As that of `Run`.
-        cache: Option<u64>,
+        /// The most objects kept in memory; `None` keeps all.
+        cache: Option<Capacity>,
     },
     /// Checks an image.
     Check {
@@ -99,9 +99,9 @@ pub enum Job<'a> {
     /// Draws what an image saves.
     Draw {
         image: &'a str,
-        /// Draws only what this process reaches.
+        /// Draws only what this process reaches: the smallest closed set that contains it.
         from: Option<u64>,
-        /// Draws only what has a way to this object.
+        /// Draws only this object and what holds a capability to it.
         to: Option<u64>,
     },
 }
@@ -119,11 +119,17 @@ fn script_of<'a>(word: &'a str) -> Script<'a>
 
 // The capacity of the option `--cache`: `Some(None)` where it is left out, and `None` where it is no number
 // from 8 to 8192.
-fn cache_of(inner: &ArgMatches<'_>) -> Option<Option<u64>>
+fn cache_of(inner: &ArgMatches<'_>) -> Option<Option<Capacity>>
     ensures named { IfSome result (IsCache (rows_of (found_of inner.now))) }
     ensures none { IsNone result → GivesNoNumber (rows_of (found_of inner.now)) (codes "cache") 8 8192 }
 {
-    option_of(inner, CACHE, LEAST_CAPACITY, GREATEST_CAPACITY)
+    let Some(count) = option_of(inner, CACHE, LEAST_CAPACITY, GREATEST_CAPACITY)? else {
+        return Some(None);
+    };
+    match Capacity::new(count) {
+        Some(capacity) => Some(Some(capacity)),
+        None => unreachable!(),
+    }
 }
 
 // The number of an option: `Some(None)` where it is left out, and `None` where its word writes no number.

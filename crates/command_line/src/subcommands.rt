@@ -45,7 +45,7 @@ pub(crate) const TO: &str = "to";
 pub(crate) const STOP_AFTER: &str = "stop-after";
 
 /// What `eros --version` prints behind the name.
-const VERSION: &str = "1.0.0\nlayouts 1 and 2\nproved with rattle-kit-13 logic dac8208d650f15bf";
+const VERSION: &str = "1.0.0\nlayouts 1 and 2\nproved with rattle-kit-13f logic dac8208d650f15bf";
 
 /// An argument or an option of a subcommand.
 #[derive(Clone, Copy)]
@@ -99,7 +99,10 @@ const READ: Argument<'static> = Argument::File(IMAGE, "The image, which isn't ch
 
 const BUILD: &[Argument<'static>] = &[
     Argument::File(DESCRIPTION, "What the image is to hold, in TOML"),
-    Argument::File(IMAGE, "The file to make, in place of one that is there"),
+    Argument::File(
+        IMAGE,
+        "The image file; an old one is lost, also if the description is bad: run eros explain first",
+    ),
 ];
 
 const RUN: &[Argument<'static>] = &[
@@ -109,10 +112,10 @@ const RUN: &[Argument<'static>] = &[
     ),
     Argument::File(SCRIPT, "The script, a command a line; - is standard input"),
     Argument::Cache,
-    Argument::Flag(TRACE, "Says on standard error what became of each line"),
+    Argument::Flag(TRACE, "Writes the result of each line to standard error"),
     Argument::Flag(
         STRICT,
-        "Stops at the first line that is bad or refused, or whose order to the kernel fails",
+        "Stops at the first line that is bad or refused, or whose order fails",
     ),
     Argument::Number(
         STOP_AFTER,
@@ -143,7 +146,7 @@ const REACH: &[Argument<'static>] = &[
 
 const UPGRADE: &[Argument<'static>] = &[
     Argument::File(OLD, "The image, which isn't changed"),
-    Argument::File(NEW, "The file to make, in place of one that is there"),
+    Argument::File(NEW, "The new image file; an old one is replaced"),
 ];
 
 const DESCRIBE: &[Argument<'static>] = &[
@@ -158,7 +161,11 @@ const DESCRIBE: &[Argument<'static>] = &[
         "P",
         "Renumbers the description for an image of P pages",
     ),
-    Argument::Number(LOG, "R", "Gives the image a checkpoint log of R sectors"),
+    Argument::Number(
+        LOG,
+        "R",
+        "Describes an image with R slots in each half of the log",
+    ),
 ];
 
 const DRAW: &[Argument<'static>] = &[
@@ -166,12 +173,12 @@ const DRAW: &[Argument<'static>] = &[
     Argument::Number(
         FROM,
         "P",
-        "Draws only what process P reaches by capabilities, as --from 3",
+        "Draws only what eros reach IMAGE P lists, as --from 3",
     ),
     Argument::Number(
         TO,
         "O",
-        "Draws only the objects that lead to object O, as --to 7",
+        "Draws only object O and what holds a capability to it, as --to 7",
     ),
 ];
 
@@ -240,10 +247,10 @@ impl Subcommand {
                 "Prints the layout and sizes of an image, its checkpoint and how many objects it has"
             }
             Subcommand::Reach => {
-                "Prints what processes can ever change: the least closed set that has them"
+                "Prints what processes can ever change: the smallest closed set that contains them"
             }
             Subcommand::Upgrade => {
-                "Writes what an image saves to a new image of version 2 of the layout, where nodes take less room"
+                "Writes what an image saves to a new image of layout version 2, where nodes take less space"
             }
             Subcommand::Describe => "Prints the description of what an image saves, in TOML",
             Subcommand::Draw => {
@@ -307,18 +314,18 @@ fn bare<'a>(alloc: Global) -> Result<Command<'a>, AllocError>
             "Example:\n  eros build examples/first-steps.toml first.image    prints: built 399 sectors\n  \
              eros run first.image examples/first-steps.eros      prints the answers, a line or more each\n  \
              eros check first.image                              prints: ok generation 1 age 3 entries 0\n  \
-             eros reach first.image 3                            prints what process 3 can ever change\n  \
+             eros reach first.image 1                            prints what process 1 can ever change\n  \
              eros explain examples/first-steps.toml              prints: ok, or what is wrong and where\n  \
              eros info first.image                               prints its sizes and its checkpoint\n  \
-             eros run --trace first.image first.eros             says too what became of each line\n  \
+             eros run --trace first.image examples/journal.eros  also writes the result of each line\n  \
              eros shell first.image                              reads commands from the terminal\n  \
              eros upgrade first.image second.image               prints: upgraded 399 sectors\n  \
              eros describe first.image                           prints the description of what it saves\n  \
              eros describe --nodes 64 first.image                prints it for an image of 64 nodes\n  \
              eros draw first.image                               prints a graph of what it saves\n  \
-             eros draw --from 3 first.image                      prints what process 3 reaches as a graph\n\n\
-             The status is 0, whatever the answers are; 1 after a fault, of which one line is reported on standard\n\
-             error; and 2 where the command line isn't understood.",
+             eros draw --from 1 first.image                      prints a graph of what process 1 reaches\n\n\
+             Status 0: success, whatever the answers are. Status 1: a fault, with one line on standard error, or a\n\
+             file that explain found bad. Status 2: the command line isn't understood.",
         )
         .subcommand_required(true);
     Ok(command)

@@ -358,17 +358,6 @@ fn mode_of(trace: bool, strict: bool) -> Mode {
     }
 }
 
-// The capacity of a cache, or the status of a bad command line, which names no job.
-fn capacity_of(cache: Option<u64>) -> Result<Option<Capacity>, u8> {
-    match cache {
-        Some(count) => match Capacity::new(count) {
-            Some(capacity) => Ok(Some(capacity)),
-            None => Err(2),
-        },
-        None => Ok(None),
-    }
-}
-
 // Writes why a file can't be explained, and gives the status.
 fn refuse_file<C: Display + Drop>(rt: &HostRuntime, file: &str, cause: C) -> u8 {
     let _reported = eprintln!(rt; "eros: {file}: {cause}");
@@ -446,22 +435,6 @@ fn sizes_of(sizes: &command_line::Sizes) -> Sizes {
     }
 }
 
-// Runs a script with a cache of this capacity, or with all objects in memory, and gives the status.
-fn run_with(
-    rt: &HostRuntime,
-    image: &str,
-    script: &Script<'_>,
-    cache: Option<u64>,
-    mode: Mode,
-    stop_after: Option<u64>,
-    stdio: &mut Stdio,
-) -> Result<u8, Fault> {
-    match capacity_of(cache) {
-        Ok(cache) => run(rt, image, script, cache, mode, stop_after, stdio),
-        Err(status) => Ok(status),
-    }
-}
-
 // Does a job, and gives the status. An image that is only read is opened by a store of this kind.
 fn serve<S: WholeStore<FileDevice>>(
     rt: &HostRuntime,
@@ -480,10 +453,10 @@ fn serve<S: WholeStore<FileDevice>>(
             stop_after,
         } => {
             let mode = mode_of(*trace, *strict);
-            run_with(rt, image, script, *cache, mode, *stop_after, stdio)
+            run(rt, image, script, *cache, mode, *stop_after, stdio)
         }
         Job::Shell { image, cache } => {
-            run_with(rt, image, &Script::Input, *cache, Mode::Shell, None, stdio)
+            run(rt, image, &Script::Input, *cache, Mode::Shell, None, stdio)
         }
         Job::Check { image } => inspect::<S>(rt, image, Query::Check, setting, stdio),
         Job::Upgrade { old, new } => upgrade::<S>(rt, old, new, setting, stdio),
