@@ -9,11 +9,11 @@ abbrev pub chain_within : ℕ → List Object → ℕ → List ℕ
 chain_within zero os b = []
 chain_within (suc k) os b = b ∷ (if b == 0 then [] else chain_within k os (owner_at os b))
 
--- the chain of a bank, which has at most 16 banks (KeyKOS, EROS: banks form a tree)
+-- the chain of a bank, cut after 16 banks: in a sound world it has reached number 0 by then
 unfoldable pub chain : List Object → ℕ → List ℕ
 chain os b = chain_within 16 os b
 
--- whether the chain of an object that b isn't passes through the bank b
+-- whether the bank b is in the chain of an object's owner; asked of objects other than b
 abbrev pub is_under : List Object → ℕ → Object → Bool
 is_under os b object = not (is_free object.content) && list_any (nat_eq b) (chain os object.owner)
 

@@ -94,7 +94,7 @@ transferred b parent o = if not (is_free o.content) && (o.owner == b) then
 unfoldable pub inherited : List Object → ℕ → List Object
 inherited os b = map (transferred b (owner_at os b)) os
 
--- what is below the limit of a bank, and the least of it in a chain
+-- how many more objects a bank's own limit allows, and the least of some numbers
 abbrev pub left_of : List Object → ℕ → ℕ
 left_of os b = limit_in (content_at os b) - usage os b
 

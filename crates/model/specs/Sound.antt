@@ -25,7 +25,7 @@ IsOfKind g n (content.Root root) = n < g.nodes
 IsOfKind g n (content.Annex registers) = n < g.nodes
 IsOfKind g n (content.Bank limit) = n < g.nodes
 
--- a page has 512 words, a node and an annex 32 slots, and a root 4 words of 64 bits and a key of 16
+-- a page has 512 words, a node and an annex 32 slots, a root 4 words of 64 bits and a key of 16, a bank a limit of 64
 abbrev pub HasShape : Content Capability → Type 0
 HasShape content.Free = Unit {0}
 HasShape (content.Page words) = length words ≡ 512
@@ -59,7 +59,8 @@ NamesItsKind os Discrim = Unit {0}
 abbrev pub MayBeHeld : List Object → Capability → Type 0
 MayBeHeld os c = IsWellFormed c × NamesItsKind os c
 
--- a world in which everything is in its place
+-- Each number holds an object of its kind, and capabilities name objects of theirs. Each annex belongs to one process.
+-- Banks form a tree below number 0, own all objects and keep their limits.
 pub record IsSound (g : Geometry) (w : World) : Type 0 where
   pub size : length w.objects ≡ object_count g
   pub kinds : (n : ℕ) → IsOfKind g n (content_at w.objects n)

@@ -146,6 +146,7 @@ frozen_now g s =
     outcome (answer.Frozen size)
     (record s { now = now; touched = untouched g; renewed = untouched g; frozen = Some frozen })
 
+-- objects of the frozen state go to the log; refused before, if there is none
 abbrev pub stabilized : Running → ℕ → Outcome
 stabilized s n = elim s.frozen [
   | None ↦ outcome answer.Done s
@@ -153,6 +154,7 @@ stabilized s n = elim s.frozen [
       (freezing s (Some (record { world = f.world; size = f.size; left = f.left - n })))
 ]
 
+-- the frozen state becomes the saved one; refused before, if there is none
 abbrev pub commits : Running → Outcome
 commits s = elim s.frozen [
   | None ↦ outcome answer.Done s
@@ -160,7 +162,7 @@ commits s = elim s.frozen [
       (record s { frozen = None; saved = committed s f; to_move = f.size })
 ]
 
--- a command that isn't refused, carried out
+-- a command that isn't refused, carried out; an invocation then has an effect
 unfoldable pub carried_out : Geometry → Running → Command → Outcome
 carried_out g s (command.Invoke i) = elim (invoke g s.now.objects i) [
   | None ↦ outcome answer.Done s
@@ -201,7 +203,7 @@ abbrev pub Reopens : Geometry → List Saved → Answer → Machine → Type 0
 Reopens g saved a after =
     (at : Saved) × Contains saved at × (a ≡ answer.At at.generation at.world.age) × (after ≡ Up (opened g at))
 
--- the commands that open the device again, and those that may want memory
+-- the commands that open the device again, and those that take memory
 abbrev pub opens : Command → Bool
 opens command.Restart = true
 opens command.Cut = true
@@ -211,20 +213,21 @@ abbrev pub takes_memory : Command → Bool
 takes_memory (command.Show n) = true
 takes_memory c = opens c
 
--- whether want of memory may stand in place of a refusal
+-- whether lack of memory may stand in place of a refusal
 abbrev pub gives_way : Option Refusal → Bool
 gives_way (Some refusal.BadNumber) = false
 gives_way _ = true
 
+-- memory may run out in a `show` of an object that there is, and wherever the device is opened
 abbrev pub MayWantMemory : Geometry → Machine → Command → Type 0
 MayWantMemory g (Up s) c = IsTrue (takes_memory c && gives_way (refusal_of g s c))
 MayWantMemory g (Down saved) c = IsTrue (opens c)
 
--- want of memory changes nothing, but leaves a machine that was to be opened down
+-- lack of memory changes nothing, but leaves a machine that was to be opened down
 abbrev pub without_memory : Machine → Command → Machine
 without_memory m c = if opens c then Down (candidates m) else m
 
--- what a command would have saved beside what was saved, if the device fails in it
+-- what else may be saved if the device fails in a command: the part that the command saves
 abbrev pub second : Machine → Command → List Saved
 second (Up s) command.Commit = elim s.frozen
     [ None ↦ [] | Some frozen ↦ if frozen.left == 0 then committed s frozen ∷ [] else [] ]

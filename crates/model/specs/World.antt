@@ -8,7 +8,7 @@ use Rattle.model.specs.declared.object.Content.TheVariants as content
 use Rattle.model.specs.declared.object.Object.{Object}
 use Rattle.model.specs.Object.{free, is_root, is_running, words_in, slots_in, root_in, with_word_in, with_slot_in}
 
--- what each number holds, and the age, which each invocation and each checkpoint raises by one
+-- the object of each number, and the age: how many invocations, checkpoints and journaled pages there were
 pub record World : Type 0 where
   pub objects : List Object
   pub age : ℕ

@@ -4,7 +4,7 @@ ghost use Rattle.model.specs.Keepable.{IsTarget};
 
 use crate::capability::Capability;
 
-/// The age at which nothing can be invoked any more, and no checkpoint begun.
+/// The age at which no process can invoke, no checkpoint begin and no page be journaled any more.
 pub const MAX_AGE: u64 = 1 << 62;
 
 /// How much a device holds.
