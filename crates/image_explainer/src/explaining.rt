@@ -112,7 +112,7 @@ fn explain_sectors<D: Device>(
 /// reason of the fault is the least of the ten that holds, and holds for what it names. Copies the sectors
 /// into memory.
 ///
-/// The device is given back, and nothing was written to it, at no moment. `Failed` exactly if the device failed, and
+/// The device is returned. Nothing is written to it at any moment. `Failed` exactly if the device failed, and
 /// `NoMemory` if memory ran out; never `Bad`.
 #[tactic(auto, using(crate::proofs::Refused::bad_still))]
 pub fn explain<D: Device, S: WholeStore<D>>(

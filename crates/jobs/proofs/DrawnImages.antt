@@ -2,9 +2,7 @@
 use Rattle.jobs.proofs.Names.{Written, List, Result, Ok, Err, sym, subst, arith, Geometry, Object, object_count, objects_of, Disk, Description, SavedState}
 use Rattle.jobs.proofs.Names.{Focus, Fault, DrawsImage, DrawsPart, IsHeldTo, KeepsPart, KeepsReached, IsDescriptionOf, ReadsSaved}
 use Rattle.std.proofs.Common.{◌≡◌, ◌<◌, ◌^◌}
-use Rattle.layout.specs.declared.open_fault.OpenFault.TheVariants as opening
 use Rattle.jobs.specs.declared.fault.Fault.TheVariants as fault
-use Rattle.jobs.proofs.DescribedImages.{no_memory}
 
 module _ {D : Type 0} {disk : D → Disk} {device back : D} {s : SavedState} (reads : ReadsSaved disk device back s) (d : Description)
     (us : List Object) (is : IsDescriptionOf s.plan s.header.age s.frames d × (us ≡ objects_of s.frames)) where
@@ -16,7 +14,6 @@ module _ {D : Type 0} {disk : D → Disk} {device back : D} {s : SavedState} (re
 
   pub draws_image : (focus : Focus) (output output_left : Written) (outcome : Result (Unit {0}) Fault) →
       DrawsPart us focus d output output_left outcome → DrawsImage disk focus device back output output_left outcome
-  draws_image focus output output_left (Err (fault.Open opening.NoMemory)) draws = (no_memory disk device back reads, draws)
   draws_image focus output output_left (Err (fault.Open why)) draws = absurd draws.0
   draws_image focus output output_left outcome draws =
       (s, reads, (d, is.0, subst (λ (os : List Object). DrawsPart os focus d output output_left outcome) is.1 draws))
@@ -26,5 +23,5 @@ pub keeps_both : (os : List Object) (focus : Focus) (d m e : Description) → Is
     KeepsReached os focus.from m e outcome → KeepsPart os focus d e outcome
 keeps_both os focus d m e held (Ok a) keeps = (m, held, keeps)
 keeps_both os focus d m e held (Err (fault.NoProcess p)) keeps = keeps
-keeps_both os focus d m e held (Err (fault.Open opening.NoMemory)) keeps = keeps
+keeps_both os focus d m e held (Err fault.NoMemory) keeps = keeps
 keeps_both os focus d m e held outcome keeps = absurd keeps

@@ -7,9 +7,7 @@ use Rattle.jobs.proofs.Names.{fields_grown, not_suited, grown_is_described, grow
 use Rattle.jobs.proofs.Names.{IsGrownFrom, TellsDescription, TellsGrown, TellsText, DescribesImage, IsDescribedIn, ReadsSaved, TellsWhole, GrownIsDenoted}
 use Rattle.jobs.proofs.Names.{UnsizedIsWhole}
 use Rattle.std.proofs.Common.{◌≡◌, ◌∙◌}
-use Rattle.layout.specs.declared.open_fault.OpenFault.TheVariants as opening
 use Rattle.jobs.specs.declared.fault.Fault.TheVariants as fault
-use Rattle.jobs.proofs.DescribedImages.{no_memory}
 
 pub grown_is_denoted : GrownIsDenoted
 grown_is_denoted p g age frames text table e saved size c reported read said built holds =
@@ -113,7 +111,7 @@ module _ {D : Type 0} {disk : D → Disk} {device back : D} {s : SavedState} (re
   describes_image output output_left (Ok a) tells = (s, reads, tells_grown tells.0 tells.1 (Wrote output output_left) tells.2)
   describes_image output output_left (Err fault.CannotWriteOutput) tells =
       (s, reads, tells_grown tells.0 tells.1 (WroteFront output output_left) tells.2)
-  describes_image output output_left (Err (fault.Open opening.NoMemory)) tells = (no_memory disk device back reads, tells)
+  describes_image output output_left (Err fault.NoMemory) tells = (s, reads, tells)
   describes_image output output_left (Err (fault.Sizes why)) tells = (
     s,
     reads,

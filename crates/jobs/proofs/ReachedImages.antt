@@ -2,9 +2,7 @@
 use Rattle.jobs.proofs.Names.{Written, ℕ, List, Option, Result, Err, sym, subst, Object, objects_of, Disk, SavedState, AreSoundObjects, Fault, ReachesImage}
 use Rattle.jobs.proofs.Names.{ReadsSaved, TellsReach}
 use Rattle.std.proofs.Common.{◌≡◌}
-use Rattle.layout.specs.declared.open_fault.OpenFault.TheVariants as opening
 use Rattle.jobs.specs.declared.fault.Fault.TheVariants as fault
-use Rattle.jobs.proofs.DescribedImages.{no_memory}
 
 module _ {D : Type 0} {disk : D → Disk} {device back : D} {s : SavedState} (reads : ReadsSaved disk device back s) (objects : List Object)
     (are : objects ≡ objects_of s.frames) where
@@ -14,7 +12,6 @@ module _ {D : Type 0} {disk : D → Disk} {device back : D} {s : SavedState} (re
 
   pub reaches_image : (starts : List ℕ) (shows : Option ℕ) (output output_left : Written) (outcome : Result (Unit {0}) Fault) →
       TellsReach objects starts shows output output_left outcome → ReachesImage disk starts shows device back output output_left outcome
-  reaches_image starts shows output output_left (Err (fault.Open opening.NoMemory)) tells = (no_memory disk device back reads, tells)
   reaches_image starts shows output output_left (Err (fault.Open why)) tells = absurd tells
   reaches_image starts shows output output_left outcome tells =
       (s, reads, subst (λ (os : List Object). TellsReach os starts shows output output_left outcome) are tells)

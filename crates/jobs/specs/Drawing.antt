@@ -3,7 +3,6 @@ use Rattle.jobs.specs.Names.{Written, ℕ, Bool, true, false, Option, None, Some
 use Rattle.jobs.specs.Names.{Object, objects_of, is_process, Disk, WroteFront, Description, boxes, graph_text, IsPart}
 use Rattle.jobs.specs.Names.{holders, is_listed, IsReach}
 use Rattle.std.specs.Prelude.{◌≡◌, ◌∷◌}
-use Rattle.layout.specs.declared.open_fault.OpenFault.TheVariants as opening
 use Rattle.jobs.specs.declared.drawing.Focus.{Focus}
 use Rattle.jobs.specs.declared.fault.Fault.{Fault}
 use Rattle.jobs.specs.declared.fault.Fault.TheVariants as fault
@@ -29,14 +28,14 @@ IsFocus os focus d e = (m : Description) × IsHeldTo focus.to d m × IsReachedFr
 abbrev pub KeepsHolders : Option ℕ → Description → Description → Result (Unit {0}) Fault → Type 0
 KeepsHolders to d e (Ok a) = IsHeldTo to d e
 KeepsHolders to d e (Err (fault.NoObject o)) = (to ≡ Some o) × (is_listed o (boxes d) ≡ false)
-KeepsHolders to d e (Err (fault.Open opening.NoMemory)) = Unit {0}
+KeepsHolders to d e (Err fault.NoMemory) = Unit {0}
 KeepsHolders to d e (Err _) = ⊥
 
 -- so it was; or the number isn't that of a process; or memory ran out
 abbrev pub KeepsReached : List Object → Option ℕ → Description → Description → Result (Unit {0}) Fault → Type 0
 KeepsReached os from d e (Ok a) = IsReachedFrom os from d e
 KeepsReached os from d e (Err (fault.NoProcess p)) = (from ≡ Some p) × (is_process os p ≡ false)
-KeepsReached os from d e (Err (fault.Open opening.NoMemory)) = Unit {0}
+KeepsReached os from d e (Err fault.NoMemory) = Unit {0}
 KeepsReached os from d e (Err _) = ⊥
 
 -- a number of a focus is none of an object with a box, or of a process
@@ -47,7 +46,7 @@ IsNoFocus os focus d _ = ⊥
 
 abbrev pub KeepsPart : List Object → Focus → Description → Description → Result (Unit {0}) Fault → Type 0
 KeepsPart os focus d e (Ok a) = IsFocus os focus d e
-KeepsPart os focus d e (Err (fault.Open opening.NoMemory)) = Unit {0}
+KeepsPart os focus d e (Err fault.NoMemory) = Unit {0}
 KeepsPart os focus d e (Err why) = IsNoFocus os focus d why
 
 -- the graph of a part was written
@@ -59,7 +58,7 @@ abbrev pub DrawsPart : List Object → Focus → Description → Written → Wri
 DrawsPart os focus d output output_left (Ok a) = TellsPart os focus d (Wrote output output_left)
 DrawsPart os focus d output output_left (Err fault.CannotWriteOutput) = TellsPart os focus d
     (WroteFront output output_left)
-DrawsPart os focus d output output_left (Err (fault.Open opening.NoMemory)) = output_left ≡ output
+DrawsPart os focus d output output_left (Err fault.NoMemory) = output_left ≡ output
 DrawsPart os focus d output output_left (Err why) = IsNoFocus os focus d why × (output_left ≡ output)
 
 -- the graph of a part of what is saved was written; or not whole; or a number of the focus is wrong; or

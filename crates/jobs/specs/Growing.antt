@@ -3,7 +3,6 @@ use Rattle.jobs.specs.Names.{Written, ℕ, List, Some, Result, Ok, Err, Wrote, M
 use Rattle.jobs.specs.Names.{WroteFront, Description, IsDescription, Sizes, IsNotRenumbered, IsRenumbered, NamesNodes}
 use Rattle.jobs.specs.Names.{NamesPages, grown_geometry, description_text}
 use Rattle.std.specs.Prelude.{◌≡◌}
-use Rattle.layout.specs.declared.open_fault.OpenFault.TheVariants as opening
 use Rattle.jobs.specs.declared.fault.Fault.{Fault}
 use Rattle.jobs.specs.declared.fault.Fault.TheVariants as fault
 
@@ -21,7 +20,7 @@ TellsText d Reported = (text : List ℕ) × IsSpelling d text × Reported text
 abbrev pub TellsDescription : Description → Written → Written → Result (Unit {0}) Fault → Type 0
 TellsDescription d output output_left (Ok a) = TellsText d (Wrote output output_left)
 TellsDescription d output output_left (Err fault.CannotWriteOutput) = TellsText d (WroteFront output output_left)
-TellsDescription d output output_left (Err (fault.Open opening.NoMemory)) = output_left ≡ output
+TellsDescription d output output_left (Err fault.NoMemory) = output_left ≡ output
 TellsDescription d output output_left (Err _) = ⊥
 
 -- a description is another's, renumbered for sizes that have a number for each object
@@ -36,7 +35,7 @@ pub record IsGrownFrom (sizes : Sizes) (d e : Description) : Type 0 where
 abbrev pub GrowsDescription : Sizes → Description → Description → Result (Unit {0}) Fault → Type 0
 GrowsDescription sizes d e (Ok a) = IsGrownFrom sizes d e
 GrowsDescription sizes d e (Err (fault.Sizes why)) = IsNotRenumbered d (grown_geometry d.geometry sizes) why
-GrowsDescription sizes d e (Err (fault.Open opening.NoMemory)) = Unit {0}
+GrowsDescription sizes d e (Err fault.NoMemory) = Unit {0}
 GrowsDescription sizes d e (Err _) = ⊥
 
 abbrev pub TellsGrownText : Description → Sizes → (List ℕ → Type 0) → Type 0
@@ -49,5 +48,5 @@ TellsGrown d sizes output output_left (Err fault.CannotWriteOutput) = TellsGrown
     (WroteFront output output_left)
 TellsGrown d sizes output output_left (Err (fault.Sizes why)) = IsNotRenumbered d (grown_geometry d.geometry sizes) why
     × (output_left ≡ output)
-TellsGrown d sizes output output_left (Err (fault.Open opening.NoMemory)) = output_left ≡ output
+TellsGrown d sizes output output_left (Err fault.NoMemory) = output_left ≡ output
 TellsGrown d sizes output output_left (Err _) = ⊥

@@ -198,7 +198,7 @@ abbrev pub TellsWhole : Sizes → SavedState → (List ℕ → Type 0) → Type 
 TellsWhole sizes s Reported = (text : List ℕ)
     × IsTextIn s.plan (grown_geometry s.plan.geometry sizes) s.header.age s.frames text × Reported text
 
--- all was written; or not all of it; or there is no image of these sizes for it
+-- all was written; or not all of it; or there is no image of these sizes for it; or memory ran out
 abbrev pub TellsGrownState : Sizes → SavedState → Written → Written → Result (Unit {0}) Fault → Type 0
 TellsGrownState sizes s output output_left (Ok a) = TellsWhole sizes s (Wrote output output_left)
 TellsGrownState sizes s output output_left (Err fault.CannotWriteOutput) = TellsWhole sizes s
@@ -206,6 +206,7 @@ TellsGrownState sizes s output output_left (Err fault.CannotWriteOutput) = Tells
 TellsGrownState sizes s output output_left (Err (fault.Sizes why)) =
     IsUnsuited s.plan.geometry (grown_geometry s.plan.geometry sizes) (world_at s.header.age s.frames) why
     × (output_left ≡ output)
+TellsGrownState sizes s output output_left (Err fault.NoMemory) = output_left ≡ output
 TellsGrownState sizes s output output_left (Err _) = ⊥
 
 abbrev pub DescribesImage : {D : Type 0} → (D → Disk) → Sizes → D → D → Written → Written →

@@ -4,7 +4,6 @@ use Rattle.jobs.specs.Names.{Wrote, All, find, Global, is_marked, Object, object
 use Rattle.jobs.specs.Names.{Step, IsShortestIfAny, chain_text, reach_text, BoundsRuns, IsReach, true, false, is_free}
 use Rattle.jobs.specs.Names.{content_at}
 use Rattle.std.specs.Prelude.{◌≡◌}
-use Rattle.layout.specs.declared.open_fault.OpenFault.TheVariants as opening
 use Rattle.jobs.specs.declared.fault.Fault.{Fault}
 use Rattle.jobs.specs.declared.fault.Fault.TheVariants as fault
 use Rattle.jobs.specs.Images.{TellsImage}
@@ -46,7 +45,7 @@ TellsReach os starts shows output output_left (Err (fault.NoProcess p)) =
     (find (λ n. not (is_process os n)) starts ≡ Some p) × (output_left ≡ output)
 TellsReach os starts shows output output_left (Err (fault.NoObject o)) =
     AreProcesses os starts × (shows ≡ Some o) × (is_free (content_at os o) ≡ true) × (output_left ≡ output)
-TellsReach os starts shows output output_left (Err (fault.Open opening.NoMemory)) = output_left ≡ output
+TellsReach os starts shows output output_left (Err fault.NoMemory) = output_left ≡ output
 TellsReach os starts shows output output_left (Err _) = ⊥
 
 -- what processes can ever change was written; or a fault; or the device wasn't opened, or memory ran out

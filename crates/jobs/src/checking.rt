@@ -27,7 +27,7 @@ fn checked_line(saved: Checkpoint) -> LineText
 /// status is 1: `bad image` with a number from 1 to 10, `device failed` or `no memory` where the
 /// device isn't opened, and `cannot write output` where the writer fails.
 ///
-/// The device is given back, and nothing was written to it, at no moment.
+/// The device is returned. Nothing is written to it at any moment.
 pub fn check_image<D: Device, S: ObjectStore<D>, W: Output, V: Output>(
     alloc: Global,
     device: D,

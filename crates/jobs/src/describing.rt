@@ -10,7 +10,6 @@ ghost use Rattle.jobs.specs.Images.{DescribesImage};
 use crate::done::Done;
 use crate::fault::{Fault, of_write};
 use crate::saved::read_saved;
-use checkpoint::OpenFault;
 use description::Description;
 use device::Device;
 use image_describer::{GrowthFault, Sizes, grow, text_of};
@@ -30,7 +29,7 @@ fn tell_description<W: Output>(
 {
     match text_of(alloc, description) {
         Ok(text) => of_write(writer.write_fully(text.as_bytes())),
-        Err(_) => Err(Fault::Open(OpenFault::NoMemory)),
+        Err(_) => Err(Fault::NoMemory),
     }
 }
 
@@ -41,7 +40,7 @@ fn grow_description(alloc: Global, description: &mut Description, sizes: Sizes) 
 {
     match grow(alloc, description, sizes.over(description.geometry)) {
         Ok(()) => Ok(()),
-        Err(GrowthFault::NoMemory) => Err(Fault::Open(OpenFault::NoMemory)),
+        Err(GrowthFault::NoMemory) => Err(Fault::NoMemory),
         Err(fault) => Err(Fault::Sizes(fault)),
     }
 }
@@ -74,7 +73,7 @@ fn tell_grown<W: Output>(
 /// - `no image has these sizes`, or `too few nodes` or `too few pages` for what is saved;
 /// - `cannot write output` if the writer fails.
 ///
-/// The device is given back, and nothing was written to it, at no moment.
+/// The device is returned. Nothing is written to it at any moment.
 pub fn describe_image<D: Device, S: WholeStore<D>, W: Output, V: Output>(
     alloc: Global,
     device: D,

@@ -48,7 +48,7 @@ fn explain_and_tell<D: Device, S: WholeStore<D>, W: Output>(
 /// line is written to `errors`, and the status is 1: `device failed`, `no memory`, or `cannot write output`
 /// where the writer fails.
 ///
-/// The device is given back, and nothing was written to it, at no moment.
+/// The device is returned. Nothing is written to it at any moment.
 pub fn explain_image<D: Device, S: WholeStore<D>, W: Output, V: Output>(
     alloc: Global,
     device: D,

@@ -9,7 +9,6 @@ ghost use Rattle.jobs.specs.Faults.{IsReported, status_of};
 use crate::done::Done;
 use crate::fault::{Fault, of_write};
 use crate::saved::read_saved;
-use checkpoint::OpenFault;
 use collections::NumberSet;
 use description::Description;
 use device::Device;
@@ -46,7 +45,7 @@ fn keep_holders(alloc: Global, to: Option<u64>, description: &mut Description) -
             restrict(description, &inside);
             Ok(())
         }
-        Err(_) => Err(Fault::Open(OpenFault::NoMemory)),
+        Err(_) => Err(Fault::NoMemory),
     }
 }
 
@@ -71,7 +70,7 @@ fn keep_reached(
             restrict(description, &inside);
             Ok(())
         }
-        Err(_) => Err(Fault::Open(OpenFault::NoMemory)),
+        Err(_) => Err(Fault::NoMemory),
     }
 }
 
@@ -122,7 +121,7 @@ fn draw_part<W: Output>(
 /// - `no object` or `no process` with the number in the focus, if that is none;
 /// - `cannot write output` if the writer fails.
 ///
-/// The device is given back, and nothing was written to it, at no moment.
+/// The device is returned. Nothing is written to it at any moment.
 pub fn draw_image<D: Device, S: WholeStore<D>, W: Output, V: Output>(
     alloc: Global,
     device: D,

@@ -19,7 +19,7 @@ use std::alloc::Global;
 /// is 1: `bad image` with a number from 1 to 10, `device failed` or `no memory`, and `cannot write
 /// output` where the writer fails.
 ///
-/// The device is given back, and nothing was written to it, at no moment.
+/// The device is returned. Nothing is written to it at any moment.
 pub fn info_image<D: Device, S: WholeStore<D>, W: Output, V: Output>(
     alloc: Global,
     device: D,

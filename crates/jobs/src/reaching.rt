@@ -9,7 +9,6 @@ ghost use Rattle.jobs.specs.Reaching.{AreProcesses, ReachesImage, TellsReach};
 use crate::done::Done;
 use crate::fault::{Fault, of_write};
 use crate::saved::read_saved;
-use checkpoint::OpenFault;
 use device::Device;
 use migrator::WholeStore;
 use model::{Content, Object};
@@ -30,7 +29,7 @@ fn tell_set<W: Output>(
 {
     match reach(alloc, objects, processes) {
         Ok(inside) => of_write(print_reach(objects, &inside, writer)),
-        Err(_) => Err(Fault::Open(OpenFault::NoMemory)),
+        Err(_) => Err(Fault::NoMemory),
     }
 }
 
@@ -62,7 +61,7 @@ fn tell_chain<W: Output>(
     }
     match shortest_chain(alloc, objects, processes, object) {
         Ok(chain) => of_write(print_chain(objects, object, &chain, writer)),
-        Err(_) => Err(Fault::Open(OpenFault::NoMemory)),
+        Err(_) => Err(Fault::NoMemory),
     }
 }
 
