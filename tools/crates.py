@@ -2,6 +2,7 @@
 a time as there are processors and memory, and of a library it loads the statements alone."""
 import shutil
 import subprocess
+import sys
 from functools import cache
 from pathlib import Path
 
@@ -19,6 +20,13 @@ def libraries():
     lines = [it.partition("#")[0].partition(":") for it in (ROOT / "crates.txt").read_text().splitlines()]
     named = {name.split()[0]: below.split() for name, colon, below in lines if colon}
     return {name: [it for it in below if it in named] for name, below in named.items()}
+
+
+def refuse_unknown(names, crates):
+    """Ends the program if one of the names is none of the crates."""
+    unknown = [it for it in names if it not in crates]
+    if unknown:
+        sys.exit(f"{Path(sys.argv[0]).name}: no crate {', '.join(unknown)}")
 
 
 def closure(names):
