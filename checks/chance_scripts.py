@@ -1,4 +1,5 @@
 """Scripts that chance makes, for `checks/stops`: commands of all kinds over 64 objects."""
+from common import joined
 
 NODES, PAGES = 40, 24
 PAGE, NODE = range(6, 14), range(14, 18)
@@ -69,10 +70,6 @@ owner = 5
 # A checkpoint, and how it goes on.
 CYCLE = (b"checkpoint", b"stabilize 2", b"stabilize 99", b"commit", b"migrate 2", b"migrate 99")
 ADDRESSES = (0, 511, 512, 600, 15872, 16384, 16385, 16900, 32768, 524288, 2**64 - 1)
-
-
-def joined(*words):
-    return " ".join(map(str, words)).encode()
 
 
 def any_register(chance):

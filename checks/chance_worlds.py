@@ -1,6 +1,7 @@
 """Descriptions that chance makes, and scripts over them, for `checks/describe`."""
+from common import WORDS, joined
 
-GREAT, WORDS, AGE = 2**63, 2**64, 2**62
+GREAT, AGE = 2**63, 2**62
 ALL = b"99999"
 COMMITTED = [b"checkpoint", b"stabilize " + ALL, b"commit"]
 
@@ -123,10 +124,6 @@ def told_of(document):
 
 
 # ---- scripts
-
-def joined(*words):
-    return " ".join(map(str, words)).encode()
-
 
 def acts(world, count):
     """So many commands, none of a checkpoint: what the processes do with what they hold."""

@@ -3,11 +3,17 @@ import os
 import re
 import subprocess
 import sys
+from functools import cache
 from pathlib import Path
 
 ROOT = Path(__file__).resolve().parent.parent
 EXAMPLES = ROOT / "examples"
 MOST, WORDS = 256, 2**64
+# The outcomes of a power cut over a device that stops; if the last sync of a header fails, OPENING leave its gate open.
+OUTCOMES, OPENING = ("keep", "drop", "0", "1", "255"), ("keep", "1")
+# The kinds of capabilities by tag, and the texts of their accesses.
+CAPABILITIES = "void number page node space process start resume bank discrim".split()
+ACCESSES = {0: "", 1: " ro", 3: " weak"}
 
 # The words behind a command's name: n is a number, r a register.
 INVOCATION = "nrnnnnrrrr"
@@ -40,12 +46,15 @@ ANSWERS = {
 }
 
 
+@cache
 def program():
+    """The program that is tried."""
     if "EROS" in os.environ:
         return Path(os.environ["EROS"]).resolve()
     return Path(subprocess.run([ROOT / "tools" / "program"], stdout=subprocess.PIPE, text=True, check=True).stdout.strip())
 
 
+@cache
 def stopper():
     """The program that runs scripts over devices that stop."""
     if "STOPPER" in os.environ:
@@ -60,6 +69,19 @@ def stopper():
         subprocess.run([ROOT / "tools" / "build", "stop_tests"], check=True)
         made.touch()
     return made
+
+
+def joined(*words):
+    """A line of a script."""
+    return " ".join(map(str, words)).encode()
+
+
+def cap_text(cap):
+    """A capability that checks/reader.py read, as `show` prints it."""
+    kind = CAPABILITIES[cap.tag]
+    number = "" if kind in ("void", "discrim") else f" {cap.number}"
+    more = f" {cap.height}" if kind == "space" else f" {cap.key}" if kind == "start" else ""
+    return f"{kind}{number}{more}{ACCESSES[cap.access]}"
 
 
 def is_word(word, form):

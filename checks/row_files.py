@@ -49,15 +49,25 @@ def cached_calls_of(lines):
     return {number: int(it[len(CACHED) :]) for number, it in enumerate(lines, 1) if it.startswith(CACHED)}
 
 
+def image_names(lines):
+    """The names of the descriptions in the lines `# Image: ..`."""
+    return [it[len(IMAGE) :].decode().strip() for it in lines if it.startswith(IMAGE)]
+
+
+def description_named(file, name):
+    """The description of a name in a file of scripts."""
+    found = [it for it in (ROWS / name, EXAMPLES / name) if it.is_file()]
+    if not found:
+        sys.exit(f"{file.name}: there is no description {name}")
+    return found[0]
+
+
 def description_of(file, begin):
     """The description of the image that the rows of a file run over."""
-    names = [it[len(IMAGE) :].decode().strip() for it in begin if it.startswith(IMAGE)]
+    names = image_names(begin)
     if len(names) != 1:
-        sys.exit(f"{file.name}: one line '# Image: ..' is wanted before its rows")
-    found = [it for it in (ROWS / names[0], EXAMPLES / names[0]) if it.is_file()]
-    if not found:
-        sys.exit(f"{file.name}: there is no description {names[0]}")
-    return found[0]
+        sys.exit(f"{file.name}: it needs one line '# Image: ..' before its rows")
+    return description_named(file, names[0])
 
 
 def printed(*words):

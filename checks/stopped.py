@@ -4,6 +4,7 @@ import re
 from collections import namedtuple
 from dataclasses import dataclass, field
 
+from cases import need
 from common import Answers, command_of
 
 # What is saved: the numbers of `eros check`, and what `show` prints of each object.
@@ -11,15 +12,6 @@ Saved = namedtuple("Saved", "generation age entries shown")
 # After these lines each object is shown, to tell what is frozen, journaled or opened.
 LOOKED = (b"checkpoint", b"journal", b"restart", b"cut")
 INVOKING = (b"call", b"return", b"send")
-
-
-class Wrong(Exception):
-    """Something isn't as it must be."""
-
-
-def need(holds, what):
-    if not holds:
-        raise Wrong(what)
 
 
 def numbers_in(said):
