@@ -1,4 +1,4 @@
-"""Scripts that chance makes, for `checks/stops`: commands of all kinds over 64 objects."""
+"""Random scripts: commands of all kinds over 64 objects."""
 from common import joined
 
 NODES, PAGES = 40, 24
@@ -77,7 +77,7 @@ def any_register(chance):
 
 
 def write(chance):
-    """A page or a node gets something."""
+    """Writes to a page or a node."""
     process, how = chance.choice((1, 1, 9)), chance.choice(("call", "send"))
     if chance.random() < 0.6:
         return joined(how, process, chance.choice(PAGE), 2, chance.choice((0, 1, 511)), chance.randrange(1, 10**6), 0, 0, 0, 0, 0)
@@ -86,7 +86,7 @@ def write(chance):
 
 
 def order_of_bank(chance):
-    """Something is made, or given up; what was made last is in register 28, and comes into another."""
+    """Makes an object, or frees one. The object made last is in register 28."""
     order = chance.choice((1, 1, 2, 2, 3, 4, 5, 5, 6, 7, 8))
     held = chance.choice((28, 28, *range(21, 28), *PAGE, *NODE))
     return joined("call", 1, chance.choice((2, 5, 5, 28)), order, chance.choice((0, 2, 10)), 0, 0, held, 0, 0, 0)
@@ -115,7 +115,7 @@ def exchange(chance):
 
 
 def answer(chance):
-    """Process 3 answers, so that process 1 goes on where it waits."""
+    """Process 3 answers, so that process 1 continues if it waits."""
     return joined(chance.choice(("return", "return", "send")), 3, 31, chance.randrange(9), 0, 0, 0, any_register(chance), 0, 0, 0)
 
 
@@ -141,7 +141,7 @@ KINDS = (write,) * 12 + (order_of_bank, kept, looked) * 3 + (exchange, of_memory
 
 
 def some(chance, count, cuts):
-    """So many lines, and checkpoints that go on from time to time. Each cut is one of so many lines."""
+    """At least `count` lines, among them the steps of checkpoints. If `cuts` isn't 0, one line of `cuts` is a cut."""
     lines, step = [], 0
     for _ in range(count):
         if chance.random() < 0.35:
@@ -159,11 +159,11 @@ def some(chance, count, cuts):
 
 
 def by_chance(chance):
-    """The lines of a script, and what is asked of what a stop leaves: nothing, or more of the kind and a checkpoint."""
+    """The lines of a script, and the lines that run over what a stop leaves: none, or more of the same kind and a checkpoint."""
     rest = [] if chance.random() < 0.5 else [*some(chance, 12, 0), b"migrate 99", *CYCLE]
     return some(chance, 60, 40), rest
 
 
 def long_one(chance):
-    """The lines of a script that is run whole, with cuts in it."""
+    """The lines of a long script with cuts."""
     return some(chance, 600, 50)

@@ -1,4 +1,4 @@
-"""Descriptions that chance makes, and scripts over them, for `checks/describe`."""
+"""Random descriptions, and scripts over them."""
 from common import WORDS, joined
 
 GREAT, AGE = 2**63, 2**62
@@ -7,7 +7,7 @@ COMMITTED = [b"checkpoint", b"stabilize " + ALL, b"commit"]
 
 
 class World:
-    """A description that chance makes: what it has, and the numbers of its objects by kind."""
+    """A random description: its document, and the numbers of its objects by kind."""
 
     def __init__(self, chance):
         self.chance = chance
@@ -22,7 +22,7 @@ class World:
         self.document = {**self.size, **self.of_image(), **self.tables()}
 
     def of_image(self):
-        """The keys of the whole image, most of them left out at times."""
+        """Some of the optional keys of the whole image."""
         keys = {"layout": self.chance.choice((1, 2)), "age": self.chance.choice((0, 1, 5, 2**40, AGE - 1, AGE)), "ranges": self.ranges()}
         return {key: value for key, value in keys.items() if self.chance.random() < 0.7}
 
@@ -33,7 +33,7 @@ class World:
         return [[one, two - one] for one, two in zip(edges, edges[1:])]
 
     def number(self):
-        """A word: from 2^63 on it is the text of a capability."""
+        """A word. From 2^63 on it is written as a text."""
         number = self.chance.choice((0, 1, 2, 511, GREAT - 1, GREAT, WORDS - 1, self.chance.randrange(WORDS)))
         return f"number {number}" if number >= GREAT else number
 
@@ -57,15 +57,15 @@ class World:
         return [[it, self.capability()] for it in self.chance.sample(range(first, 32), self.chance.randrange(32 - first))]
 
     def process(self, root, annex):
-        told = {"root": root, "annex": annex, "owner": self.owner(), "state": self.states[root]}
+        row = {"root": root, "annex": annex, "owner": self.owner(), "state": self.states[root]}
         more = {"key": self.chance.choice((0, 7, 65535)), "words": [self.number() for _ in range(4)], "space": self.space(), "registers": self.held(1)}
-        return told | {key: value for key, value in more.items() if self.chance.random() < 0.8}
+        return row | {key: value for key, value in more.items() if self.chance.random() < 0.8}
 
     def owner(self):
         return self.chance.choice(self.banks)
 
     def tables(self):
-        """The tables of all objects, each kind in any order. A bank is owned by one that is before it."""
+        """The tables of all objects, each kind in random order. Each bank is owned by one before it in `banks`."""
         limit = lambda: self.chance.choice((1000, GREAT - 1, f"number {GREAT}", f"number {WORDS - 1}"))
         words = lambda: [[it, self.number()] for it in self.chance.sample(range(512), self.chance.randrange(12))]
         owners = [self.banks[self.chance.randrange(max(1, it))] for it in range(len(self.banks))]
@@ -94,39 +94,39 @@ def text_of(document):
 
 # ---- the text of a description
 
-def told_held(slots):
+def sorted_slots(slots):
     return sorted([place, text] for place, text in slots if text != "void")
 
 
-def told_words(words):
+def sorted_words(words):
     return sorted(([place, word] for place, word in words if word != 0), key=lambda it: it[0])
 
 
-def told_row(row):
-    """The lines of an object in a description, without defaults, in the manual's order."""
+def described_row(row):
+    """The row of an object as `describe` prints it: in the manual's order, without defaults."""
     numbers = {key: row[key] for key in ("number", "root", "annex", "owner", "limit") if key in row}
     state = {"state": row["state"]} if "state" in row else {}
     if "root" in row:
-        more = {"key": row.get("key", 0), "words": row.get("words", [0] * 4), "space": row.get("space", "void"), "registers": told_held(row.get("registers", []))}
+        more = {"key": row.get("key", 0), "words": row.get("words", [0] * 4), "space": row.get("space", "void"), "registers": sorted_slots(row.get("registers", []))}
     else:
-        more = {"slots": told_held(row.get("slots", [])), "words": told_words(row.get("words", []))}
+        more = {"slots": sorted_slots(row.get("slots", [])), "words": sorted_words(row.get("words", []))}
     return {**numbers, **state, **{key: value for key, value in more.items() if value not in (0, "void", [], [0] * 4)}}
 
 
-def told_of(document):
-    """The lines of the image's own keys in a description, in the manual's order."""
+def described_document(document):
+    """A document as `describe` prints it: in the manual's order, without defaults."""
     nodes, pages = document["nodes"], document["pages"]
     default = {"layout": 1, "age": 0, "ranges": [[0, nodes], [nodes, pages]]}
     head = {key: document[key] for key in ("nodes", "pages", "log")} | {key: document[key] for key in default if document.get(key, default[key]) != default[key]}
     first = lambda row: next(iter(row.values()))
-    rows = {key: sorted(map(told_row, document.get(key, [])), key=first) for key in ("bank", "process", "node", "page")}
+    rows = {key: sorted(map(described_row, document.get(key, [])), key=first) for key in ("bank", "process", "node", "page")}
     return head | {key: value for key, value in rows.items() if value}
 
 
 # ---- scripts
 
 def acts(world, count):
-    """So many commands, none of a checkpoint: what the processes do with what they hold."""
+    """`count` commands, none of a checkpoint: most are invocations by the processes."""
     chance, total = world.chance, world.size["nodes"] + world.size["pages"]
     held = {row["root"]: [place for place, _ in row.get("registers", [])] for row in world.document["process"]}
     roots = [root for root, state in world.states.items() if state == "running"] or [*held]
@@ -148,7 +148,7 @@ def acts(world, count):
 
 
 def commits(world):
-    """A script in which much is done and committed, some of it journaled, and at its end some that isn't."""
+    """A script with commits, and at times with a journal or a cut. Its last commands aren't committed."""
     chance, pages = world.chance, world.pages or [world.size["nodes"]]
     lines = []
     for _ in range(chance.randrange(1, 5)):

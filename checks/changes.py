@@ -1,4 +1,4 @@
-"""Changes images by chance, for `checks/images`: bytes, sectors and frames, and each kind of field near its limits."""
+"""Random changes of images: of bytes, sectors and frames, and of each kind of field near its limits."""
 import random
 
 from reader import ANNEX, BANK, RESUME, ROOT, SECTOR, SPACE, START, length_of, usages
@@ -25,12 +25,12 @@ class Changed:
         return self.chance.randrange(len(self.frames))
 
     def near(self, *numbers):
-        """One of these numbers or one beside it, and seldom a great one."""
+        """One of these numbers or one beside it; at times a very great one."""
         some = [*numbers, 0, len(self.frames), 2**62, 2**63, 2**64 - 1] if self.chance.random() < 0.2 else numbers
         return self.chance.choice(some) + self.chance.choice((0, 0, -1, 1))
 
     def looked_at(self):
-        """A sector that is looked at, or lies in a structure that another image would have."""
+        """A sector that the program reads, or that it would read in another image."""
         parts = [0, 0, 1, 2, 3, 4, *(frame.place // SECTOR + self.chance.randrange(2) for frame in self.frames)]
         return self.chance.choice([*parts, *(it + 9 * self.shape.slots for it in self.shape.halves)])
 
@@ -51,7 +51,7 @@ def copied_sector(it):
 
 
 def copied_frame(it):
-    """The frame of an object is put in the place of another, mostly of one that is free."""
+    """Copies the frame of an object over another, mostly over a free one."""
     target = it.some(0) if it.chance.random() < 0.7 else it.any_number()
     source = it.any_number()
     size = 4608 if target >= it.shape.nodes else 1024 if it.shape.version == 1 else 800
@@ -66,7 +66,7 @@ def gate(it):
 
 
 def header(it):
-    """A field of a header is set near its limits."""
+    """Sets a field of a header near its limits."""
     place, age = SECTOR * it.chance.choice((1, 3)), it.age
     field = it.chance.choice((8, 16, 24, 32))
     sequence, entries = it.saved.header.sequence, it.saved.header.entries
@@ -75,7 +75,7 @@ def header(it):
 
 
 def other_header(it):
-    """The committed header is copied to the other slot, with another sequence number and an open gate."""
+    """Copies the committed header to the other slot, with another sequence number and an open gate."""
     one, two = (1, 3) if it.saved.header.slot == 0 else (3, 1)
     it.data[SECTOR * two : SECTOR * two + 1024] = it.data[SECTOR * one : SECTOR * one + 1024]
     it.put(SECTOR * two + 8, it.saved.header.sequence + it.chance.choice((1, 1, -1, 3, 2)))
@@ -83,7 +83,7 @@ def other_header(it):
 
 
 def entry(it):
-    """An entry of the directory is doubled, put ahead, or led to another object or slot."""
+    """Doubles an entry of the directory, or gives it another object or slot."""
     entries = it.saved.header.entries
     place = SECTOR * (it.shape.halves[it.saved.header.generation % 2] + 9 * it.shape.slots)
     at, other = (place + 16 * it.chance.randrange(entries + 1) for _ in range(2))
@@ -105,7 +105,7 @@ def role(it):
 
 
 def owner(it):
-    """An owner is another bank, or another object, or two banks own each other."""
+    """Changes an owner to another object, or makes two banks own each other."""
     one, two = it.some(BANK), it.some(BANK)
     if it.chance.random() < 0.3:
         it.put(it.frames[one].place + 24, two)
@@ -129,7 +129,7 @@ def cap_place(it):
 
 
 def cap(it):
-    """A capability by the rules, mostly, with a count that is stale, live or ahead."""
+    """Writes a capability, mostly one by the rules, with a count that is stale, live or ahead."""
     place, tag = cap_place(it), it.chance.randrange(10)
     wanted = {2: (1,), 3: (2,), 4: (2,), 5: (3,), 6: (3,), 7: (3,), 8: (5,)}
     number = it.some(*wanted[tag]) if tag in wanted and it.chance.random() < 0.7 else it.any_number()
@@ -157,7 +157,7 @@ def cap_field(it):
 
 
 def process(it):
-    """A field of a root: its annex is that of another, or a state, a word, a key."""
+    """Changes a field of a process: its annex, state, words or key."""
     place = it.frames[it.some(ROOT)].place + 40
     slot = it.chance.choice((0, 0, 0, 1, 1, 2, 6))
     it.put(place + 24 * slot, it.chance.choice((it.some(ANNEX), it.near(it.any_number()), it.chance.randrange(4), 65535, 65536)))
@@ -169,7 +169,7 @@ def limit(it):
 
 
 def added(it):
-    """A free number becomes a node, a page or a bank of some bank."""
+    """Makes a free number a node, a page or a bank."""
     number = it.some(0)
     place = it.frames[number].place
     kind = 1 if number >= it.shape.nodes else it.chance.choice((2, 5))
@@ -181,7 +181,7 @@ def added(it):
 
 
 def superblock(it):
-    """A field of the superblock is another, or two ranges are one, or change their places."""
+    """Changes a field of the superblock, or splits, joins or swaps ranges."""
     kind = it.chance.randrange(4)
     place = it.chance.choice((8, 12, 16, 24, 32, 40, 48, 56, *range(64, 136, 8)))
     if kind == 0:
@@ -222,7 +222,7 @@ def by_chance(bases, seed, number):
     changed = Changed(*chance.choice(bases), chance)
     whole = len(changed.data)
     for _ in range(chance.choice((1, 1, 2, 3))):
-        # The parts of an image that was cut aren't where they were told.
+        # An image that was cut short has no more changes: its parts may be gone.
         if len(changed.data) >= whole:
             chance.choice(CHANGES)(changed)
     return bytes(changed.data), chance

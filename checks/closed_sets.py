@@ -1,4 +1,4 @@
-"""What processes can ever change by a description, for `checks/reach` and `checks/draw`."""
+"""What processes can ever change, by a description."""
 
 PULLING = ("process", "start", "resume", "bank")
 
@@ -59,7 +59,7 @@ def conveyed(text):
 
 
 def least_closed(objects, processes):
-    """The least closed set, as a fixed point over all objects: no order, and no list of what is still to be followed."""
+    """The least closed set, as a fixed point over all objects."""
     inside = set(processes)
     while True:
         more = inside | {it for number in inside for it, _ in objects.steps(number)}

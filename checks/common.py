@@ -1,4 +1,4 @@
-"""For what tries the program in Python: the program, and a reader of scripts and answers by docs/SCRIPTS.md."""
+"""What the checks in Python share: the programs, and a reader of scripts and answers by docs/SCRIPTS.md."""
 import os
 import re
 import subprocess
@@ -33,7 +33,7 @@ def pattern(text):
 
 SHOWN, MORE = pattern(FIRST), pattern(rb"word N N|slot N CAP|register N CAP")
 INVOKED = pattern(rb"done|no process|not running|worn|stalled|log full")
-# What a command may be answered while no memory is refused and no device fails.
+# The answers that a command may get, if memory suffices and no device fails.
 ANSWERS = {
     b"call": INVOKED, b"return": INVOKED, b"send": INVOKED,
     b"load": pattern(rb"value N|memory fault [1-4]|no process|not running"),
@@ -90,7 +90,7 @@ def is_word(word, form):
 
 
 def command_of(line):
-    """The name of the command that a line is; b"" where it is a bad one, and None where it is skipped."""
+    """The name of a line's command; b"" if the line is bad, and None if it is skipped."""
     if len(line) > MOST:
         return b""
     if not line or line[:1] == b"#":
@@ -102,13 +102,13 @@ def command_of(line):
 
 
 def lines_of(script):
-    """The lines of a script. What is behind the last newline is one where it isn't empty."""
+    """The lines of a script. The rest after the last newline is a line if it isn't empty."""
     *lines, rest = script.split(b"\n")
     return [*lines, rest] if rest else lines
 
 
 class Answers:
-    """Takes answers from what was printed, one for each line."""
+    """Takes the answers from the output, one for each line."""
 
     def __init__(self, printed):
         self.lines, self.at = printed.split(b"\n"), 0
@@ -117,7 +117,7 @@ class Answers:
         return self.at == len(self.lines) - 1 and not self.lines[-1]
 
     def take(self, line):
-        """The answer to a line, b"" for one that is skipped, or None where what comes is no answer to it."""
+        """The answer to a line: b"" if the line is skipped, None if the output has no answer to it."""
         name = command_of(line)
         if name is None:
             return b""
@@ -139,11 +139,11 @@ class Answers:
 
 
 def answers_to(lines, printed):
-    """The answers to lines, and what is wrong with them, or None."""
+    """The answers to lines, and what is wrong with them or None."""
     answers, given = Answers(printed), []
     for number, line in enumerate(lines):
         answer = answers.take(line)
         if answer is None:
             return given, f"line {number + 1}, {line[:60]!r}, was answered {answers.lines[max(0, answers.at - 1)][:60]!r}"
         given.append(answer)
-    return given, None if answers.is_at_end() else f"behind the last line came {answers.lines[answers.at][:60]!r}"
+    return given, None if answers.is_at_end() else f"after the last line came {answers.lines[answers.at][:60]!r}"

@@ -1,4 +1,4 @@
-"""An image of other sizes, for `checks/describe`: what docs/MANUAL.md says of its numbers, and nothing of the program."""
+"""Descriptions for other sizes, for `checks/describe`: by docs/MANUAL.md, and without the program."""
 import re
 
 PAGE = re.compile(r"\bpage ([0-9]+)")
@@ -6,18 +6,18 @@ LIMITS = {"nodes": (16, 4096), "pages": (1, 4096), "log": (16, 4096)}
 
 
 class Sizes:
-    """The sizes of an image, and those that it is to have."""
+    """The old and the new sizes of an image."""
 
     def __init__(self, document, options):
         self.old = {key: document[key] for key in LIMITS}
         self.new = self.old | options
 
     def moved(self, number):
-        """The number of an object there."""
+        """The new number of an object."""
         return number if number < self.old["nodes"] else number - self.old["nodes"] + self.new["nodes"]
 
     def text(self, text):
-        """A text in which each page has its number there."""
+        """A text with the new numbers of its pages."""
         return PAGE.sub(lambda found: f"page {self.moved(int(found[1]))}", text)
 
     def fault(self, document):
@@ -31,7 +31,7 @@ class Sizes:
         return "too few pages" if pages and max(pages) >= self.new["nodes"] + self.new["pages"] else None
 
     def document(self, document):
-        """A description for these sizes."""
+        """A description for the new sizes."""
         same = all(self.old[key] == self.new[key] for key in ("nodes", "pages"))
         head = {key: value for key, value in document.items() if key not in ("bank", "process", "node", "page") and (same or key != "ranges")}
         rows = {key: [self.row(key, row) for row in document[key]] for key in ("bank", "process", "node", "page") if key in document}
@@ -44,7 +44,7 @@ class Sizes:
         return row | ({"number": self.moved(row["number"])} if kind == "page" else {})
 
     def shown(self, lines):
-        """What is shown of the numbers of the old image, as the new one shows it."""
+        """The output of `show` over the old image, as the new one prints it."""
         return [self.free(self.text(line)) for line in lines]
 
     def free(self, line):
@@ -52,7 +52,7 @@ class Sizes:
         return f"free {self.moved(int(words[1]))}" if words[:1] == ["free"] else line
 
     def script(self, lines):
-        """A script whose numbers of objects are those there."""
+        """A script with the new numbers of its objects."""
         return [self.command(line) for line in lines]
 
     def command(self, line):
@@ -61,7 +61,7 @@ class Sizes:
         return f"{words[0]} {self.moved(int(words[1]))}" if named else line
 
     def numbers(self):
-        """The numbers of the old image that are numbers of the same kind there, as the old one has them and as the new one does."""
+        """The pairs of old and new numbers that both images have."""
         nodes = [(it, it) for it in range(min(self.old["nodes"], self.new["nodes"]))]
         pages = [(self.old["nodes"] + it, self.new["nodes"] + it) for it in range(min(self.old["pages"], self.new["pages"]))]
         return nodes + pages

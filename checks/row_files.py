@@ -1,4 +1,4 @@
-"""Reads the rows of checks/rows, and runs them over an image, as `checks/try-rows` tells."""
+"""Reads the rows of checks/rows, and runs them over an image. The head of `checks/try-rows` says how they look."""
 import os
 import shutil
 import subprocess
@@ -8,10 +8,10 @@ from common import EXAMPLES, ROOT
 
 ROWS, SECTOR = ROOT / "checks" / "rows", 512
 ROW, IMAGE, BYTES = b"# Row: ", b"# Image: ", b"# Bytes: "
-# What names bytes of the image; and what ends a run, and how the image is changed or looked at then.
+# The lines that name bytes of the image; and the lines that end a run, and change or read the image.
 PLACED = (b"# Poke: ", b"# Length: ", BYTES)
 ENDS = (*PLACED, b"# Check", b"# Again", b"# Fresh")
-# How many calls of the device the next line makes where all objects are in memory, and with a cache of 8, for `checks/stops`.
+# The number of device calls that the next line makes: with all objects in memory, and with a cache of 8. `checks/stops` tries it.
 CALLS, CACHED = b"# Calls: ", b"# Cached: "
 # A key of a description, which stands before its tables.
 LAYOUT = b"layout = "
@@ -38,14 +38,14 @@ def names_places(lines):
 
 
 def calls_of(lines):
-    """How many calls of the device each line of a run makes where all objects are in memory, by the numbers of the lines. If it is
-    said of some lines, the others make none."""
+    """The number of device calls of each line of a run, by line number, with all objects in memory. If some lines have such a number, the
+    others make none."""
     said = {number: int(it[len(CALLS) :]) for number, it in enumerate(lines, 1) if it.startswith(CALLS)}
     return said and {number: said.get(number, 0) for number in range(len(lines))}
 
 
 def cached_calls_of(lines):
-    """The same with a cache of 8, where it is said."""
+    """The same with a cache of 8, for the lines that have such a number."""
     return {number: int(it[len(CACHED) :]) for number, it in enumerate(lines, 1) if it.startswith(CACHED)}
 
 
@@ -71,10 +71,10 @@ def description_of(file, begin):
 
 
 def printed(*words):
-    """What the program prints, and the line of its fault."""
+    """The output of the program, and the line of its fault. Any other end adds its status."""
     ran = subprocess.run([str(it) for it in words], stdin=subprocess.DEVNULL, capture_output=True, timeout=120)
-    is_told = ran.returncode == 0 and not ran.stderr or ran.returncode == 1 and ran.stderr
-    return ran.stdout + ran.stderr + (b"" if is_told else b"ended in %d\n" % ran.returncode)
+    is_usual = ran.returncode == 0 and not ran.stderr or ran.returncode == 1 and ran.stderr
+    return ran.stdout + ran.stderr + (b"" if is_usual else b"ended in %d\n" % ran.returncode)
 
 
 def bytes_at(file, line):
@@ -92,7 +92,7 @@ class Image:
         shutil.copyfile(built, file)
 
     def run(self, script):
-        """What is printed for a script, which changes the image. One of comments alone isn't run."""
+        """The answers to a script, which changes the image. A script of comments isn't run."""
         if all(it.startswith(b"#") for it in script):
             return b""
         file = self.file.with_suffix(".eros")
@@ -100,7 +100,7 @@ class Image:
         return printed(self.program, "run", *self.store, self.file, file)
 
     def go_on(self, line):
-        """Does what a line says at which a run ends, and returns what is printed."""
+        """Carries out a line that ends a run. Returns what is printed."""
         word, _, rest = line.partition(b": ")
         numbers = [int(it) for it in rest.split()]
         if word == b"# Poke":
@@ -118,7 +118,7 @@ class Image:
         return b""
 
     def take(self, lines):
-        """What is printed for all runs of a row."""
+        """The output of all runs of a row."""
         said, script = b"", []
         for line in lines:
             if line.startswith(ENDS):

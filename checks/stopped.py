@@ -1,5 +1,6 @@
-"""A plain machine, for `checks/stops`: what is saved as a script goes on, made of what it is answered and of what `show` prints of
-each object. It has no device: what is frozen is what was shown then, and what is saved is what was frozen."""
+"""A plain machine, for `checks/stops`. From the answers to a script, and the output of `show` for each object, it derives what is saved
+after each line. It has no device: what was shown at a checkpoint is frozen, and a commit saves it.
+"""
 import re
 from collections import namedtuple
 from dataclasses import dataclass, field
@@ -9,7 +10,7 @@ from common import Answers, command_of
 
 # What is saved: the numbers of `eros check`, and what `show` prints of each object.
 Saved = namedtuple("Saved", "generation age entries shown")
-# After these lines each object is shown, to tell what is frozen, journaled or opened.
+# After these lines each object is shown: it is frozen, journaled or opened then.
 LOOKED = (b"checkpoint", b"journal", b"restart", b"cut")
 INVOKING = (b"call", b"return", b"send")
 
@@ -20,13 +21,13 @@ def numbers_in(said):
 
 @dataclass
 class Machine:
-    """What is saved, and what is to be."""
+    """What is saved, and what is frozen."""
 
     saved: Saved
     age: int
     left: int
     frozen: Saved = None
-    # What is saved at the end of each line, and what a stop in its course may leave besides what was saved before it.
+    # What is saved after each line; and what a stop in the line may leave, if it isn't what was saved before.
     after: list = field(default_factory=list)
     beside: list = field(default_factory=list)
 
@@ -52,12 +53,12 @@ class Machine:
         need(numbers_in(said) == [self.saved.generation], f"{said!r} isn't the generation after the next")
 
     def rise(self, said, shown):
-        need(said == at(self.saved), f"it stands {said!r}, and {at(self.saved)!r} was saved")
+        need(said == at(self.saved), f"{said!r} was opened, and {at(self.saved)!r} was saved")
         need(shown == self.saved.shown, "what is shown isn't what was saved")
         self.age, self.left, self.frozen = self.saved.age, self.saved.entries, None
 
     def take(self, line, said, shown):
-        """Takes a line with its answer, and what was shown behind it where it is looked at."""
+        """Takes a line with its answer, and what was shown after it if it is one of LOOKED."""
         before, name = self.saved, command_of(line)
         if name in INVOKING and said == b"done\n":
             self.age += 1
@@ -80,7 +81,7 @@ def at(saved):
 
 
 def shows(count):
-    """The lines that show each of so many objects."""
+    """The lines that show each of `count` objects."""
     return [b"show %d" % it for it in range(count)]
 
 
@@ -89,13 +90,13 @@ def take_shown(answers, count):
 
 
 def looked_at(lines, count):
-    """The script with `show` of each object behind each line that is looked at."""
+    """The script with `show` of each object after each line of LOOKED."""
     return [it for line in lines for it in [line, *(shows(count) if command_of(line) in LOOKED else [])]]
 
 
 def machine_of(lines, first, printed):
-    """The machine after a script that began at what was saved first, and was answered so with all that is looked at. Gives the
-    answers to its own lines too."""
+    """The machine after a script, and the answers to its lines. The script began at `first`; `printed` are the answers to it with what
+    `looked_at` adds."""
     machine, answers, given = Machine(first, first.age, first.entries), Answers(printed), []
     for line in lines:
         said = answers.take(line)
@@ -103,6 +104,6 @@ def machine_of(lines, first, printed):
         shown = take_shown(answers, len(first.shown)) if command_of(line) in LOOKED else None
         machine.take(line, said, shown)
         given.append(said)
-    need(answers.is_at_end(), f"behind the last line came {answers.lines[answers.at]!r}")
+    need(answers.is_at_end(), f"after the last line came {answers.lines[answers.at]!r}")
     return machine, given
 

@@ -1,5 +1,4 @@
-"""The repository's crates, and copies of some of them in a folder of their own, where `rt ci` proves them from nothing: as many at
-a time as there are processors and memory, and of a library it loads the statements alone."""
+"""The repository's crates, and copies of some of them in another folder, where `rt ci` proves them from nothing."""
 import shutil
 import subprocess
 import sys
@@ -16,7 +15,7 @@ def kit():
 
 
 def libraries():
-    """The repository's crates, each with those of them that it names. A line may say more before the colon than the name."""
+    """The repository's crates, each with those that it names. A line may have more words before the colon than the name."""
     lines = [it.partition("#")[0].partition(":") for it in (ROOT / "crates.txt").read_text().splitlines()]
     named = {name.split()[0]: below.split() for name, colon, below in lines if colon}
     return {name: [it for it in below if it in named] for name, below in named.items()}
@@ -30,7 +29,7 @@ def refuse_unknown(names, crates):
 
 
 def closure(names):
-    """These crates and those that they stand on, lowest first, each with those that it names."""
+    """These crates and those below them, lowest first, each with those that it names."""
     all_crates, found = libraries(), {}
 
     def add(name):
@@ -46,7 +45,7 @@ def closure(names):
 
 
 def copy_to(folder, names, parts):
-    """Copies these crates to a folder, of each the parts named and what its program is run on."""
+    """Copies these crates to a folder: their files, and the folders in `parts`."""
     folder = Path(folder)
     for name in names:
         own = ROOT / "crates" / name

@@ -1,4 +1,4 @@
-"""How far a build is, and the commands that it runs."""
+"""The progress of a build, and the commands that it runs."""
 import subprocess
 import sys
 import threading
@@ -6,13 +6,13 @@ import time
 
 
 class Progress:
-    """How far the proofs are."""
+    """The progress of the proofs."""
 
     def __init__(self, crates):
         self.crates, self.done, self.start = crates, [], time.time()
         self.ended = threading.Event()
 
-    def tell(self):
+    def report(self):
         waiting = [it for it in self.crates if it not in self.done]
         ready = [it for it in waiting if all(below in self.done for below in self.crates[it])]
         what = f"now {', '.join(ready)}" if ready else "compiling"
@@ -21,19 +21,19 @@ class Progress:
 
     def tick(self):
         while not self.ended.wait(30):
-            self.tell()
+            self.report()
 
     def read(self, line):
-        """Takes a line of what the proofs say."""
+        """Takes a line of the proofs' output."""
         words = line.split()
         is_done = words[:1] == ["rt:"] and (words[2:] == ["proved"] or words[2:4] == ["is", "kept:"])
         if is_done and words[1] in self.crates and words[1] not in self.done:
             self.done.append(words[1])
-            self.tell()
+            self.report()
 
 
 def run(words, folder, take=lambda line: None):
-    """Runs a command, and passes its lines on. If it fails, its output is printed."""
+    """Runs a command, and passes its lines to `take`. If it fails, prints its output and ends the program."""
     said = []
     how = {"stdin": subprocess.DEVNULL, "stdout": subprocess.PIPE, "stderr": subprocess.STDOUT, "text": True, "errors": "replace"}
     with subprocess.Popen(words, cwd=folder, **how) as running:
