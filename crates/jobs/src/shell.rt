@@ -1,6 +1,6 @@
 // What a shell reads, and what it writes beside the answers.
-ghost use Rattle.std.specs.Prelude.{◌≡◌, ◌<◌, ◌≤◌, [], None, IfErr, IfOk, IsErr, OnOk, length};
-ghost use Rattle.jobs.specs.Shell.{IsPieceOf, TellsUnsaved};
+ghost use Rattle.std.specs.Prelude.{◌≡◌, ◌<◌, ◌≤◌, ◌||◌, [], None, IfErr, IfOk, IsErr, OnOk, length, not};
+ghost use Rattle.jobs.specs.Shell.{IsPieceOf, IsServed, IsTextOf, Requests, TellsUnsaved};
 ghost use Rattle.runs.specs.KernelRuns.{IsCounted};
 ghost use Rattle.runs.specs.Reader.{failed_reads, left_to_read};
 
@@ -29,7 +29,9 @@ enum Request<'a> {
 }
 
 // What a line requests of the shell.
-fn request_of(line: &[u8]) -> Request<'_> {
+fn request_of(line: &[u8]) -> Request<'_>
+    ensures { Requests line.now result }
+{
     if line == b"quit".as_slice() {
         Request::Quit
     } else if line == b"help".as_slice() {
@@ -108,6 +110,7 @@ impl<R: Read, V: Output> ShellInput<R, V> {
     // that isn't whole goes on in the next piece.
     fn serve(&mut self, line: &[u8], is_whole: bool) -> Piece
         ensures bytes { IsPieceOf line.now result }
+        ensures served { IsServed (self.old.is_inside || not is_whole) line.now result }
         ensures inner { self.new.inner ≡ self.old.inner }
     {
         let was_inside = self.is_inside;
@@ -128,7 +131,7 @@ impl<R: Read, V: Output> ShellInput<R, V> {
 
 // A line without its newline, if it has one.
 fn without_newline(line: &[u8]) -> &[u8]
-    ensures { length result.now ≤ length line.now }
+    ensures { IsTextOf line.now result.now }
 {
     match line {
         [text @ .., b'\n'] => text,
