@@ -1,4 +1,4 @@
-// Closing the gates of both headers, before an image is written over.
+// Closing the gates of both headers, before a new image overwrites the old.
 ghost use Rattle.std.specs.Prelude.{◌≡◌, ◌≤◌, IfOk, OnOk};
 ghost use Rattle.device.specs.Calls.{Counts, Only};
 ghost use Rattle.device.specs.Moments.{LeavesOnly};
@@ -11,7 +11,7 @@ use crate::sector::read_sector;
 use device::{Device, Failed, SECTOR_SIZE};
 use layout::sequence_in;
 
-// The slot whose gate is closed first: that of the header with the lesser sequence number.
+// Returns the slot of the header with the lesser sequence number, whose gate `close_gates` closes first.
 fn lesser_slot<D: Device>(device: &mut D) -> Result<HeaderSlot, Failed>
     requires inside { 5 ≤ (D.disk device.old).sectors }
     ensures lesser { IfOk result (λ slot. IsLesser (D.disk device.old).seen slot) }
@@ -28,7 +28,7 @@ fn lesser_slot<D: Device>(device: &mut D) -> Result<HeaderSlot, Failed>
     Ok(HeaderSlot::Second)
 }
 
-// Closes the gate of a slot and then the other, where all is durable.
+// Closes the gate of a slot and then the other. All writes must be durable before.
 #[tactic(auto, using(crate::proofs::Sectors::seen_has))]
 fn close_in_turn<D: Device>(device: &mut D, slot: HeaderSlot) -> Result<(), Failed>
     requires inside { 5 ≤ (D.disk device.old).sectors }
@@ -47,12 +47,14 @@ fn close_in_turn<D: Device>(device: &mut D, slot: HeaderSlot) -> Result<(), Fail
     close_gate(device, slot.other().gate())
 }
 
-/// Closes the gates of both headers, so that no header is committed, and makes that durable. All
-/// that was written before is durable then too.
+/// Closes the gates of both headers, so that no header is committed. Then this and all earlier writes
+/// are durable.
 ///
 /// A crash at any moment leaves the image that it could have left before, with the same committed
-/// header, or one without any: the committed header's gate is the last to be closed, and a gate that
-/// is closed isn't written. `Failed` exactly where the device failed. It takes no memory.
+/// header, or none. For that it closes the gate of the committed header last, and doesn't write a
+/// closed gate.
+///
+/// It allocates nothing. Returns `Failed` exactly if the device failed.
 #[tactic(auto, using(device::proofs::Images::agrees_is, crate::proofs::Closings::keeps_same))]
 pub fn close_gates<D: Device>(device: &mut D) -> Result<(), Failed>
     requires inside { 5 ≤ (D.disk device.old).sectors }

@@ -1,4 +1,4 @@
-// Which header is the committed one, and its directory.
+// The committed header and its directory.
 ghost use Rattle.std.specs.Prelude.{◌≡◌, ◌≤◌, length, option_map, IfOk, IfErr, OnOk};
 ghost use Rattle.layout.specs.Image.{does_count, committed_of, HasHeader};
 ghost use Rattle.device.specs.Calls.{Counts};
@@ -15,8 +15,8 @@ use layout::{
     BadImage, CheckpointHeader, Entry, Gate, OpenFault, decode_gate, decode_header, sequence_in,
 };
 
-// Reads the header of a slot, and answers whether it counts: its gate is open, and it belongs in
-// this slot.
+// Reads the header of a slot into `into`. Returns whether it counts: its gate is open, and it belongs
+// in this slot.
 fn read_header<D: Device>(device: &mut D, slot: HeaderSlot, into: &mut [u8]) -> Result<bool, Failed>
     requires inside { 5 ≤ (D.disk device.old).sectors }
     requires one { length into.old ≡ 512 }
@@ -33,7 +33,7 @@ fn read_header<D: Device>(device: &mut D, slot: HeaderSlot, into: &mut [u8]) -> 
     Ok(decode_gate(&gate) == Gate::Open && sequence_in(into) % 2 == slot.number())
 }
 
-// The committed one of two headers: where both count, the one with the greater sequence number.
+// Returns the slot of the committed header: if both count, of the one with the greater sequence number.
 fn committed_of(first: bool, m: u64, second: bool, n: u64) -> Option<HeaderSlot>
     ensures { option_map slot_number result ≡ committed_of first m second n }
 {
@@ -45,8 +45,8 @@ fn committed_of(first: bool, m: u64, second: bool, n: u64) -> Option<HeaderSlot>
     }
 }
 
-// Reads the header of a slot from the bytes of both. A greater one that is malformed is not passed
-// over.
+// Returns the header of a slot from the bytes of both. If it is malformed, it doesn't take the other,
+// but returns `BadHeader`; without a slot it returns `NoHeader`.
 fn choose(
     slot: Option<HeaderSlot>,
     first: &[u8],
@@ -66,7 +66,7 @@ fn choose(
 }
 
 impl<'a> Log<'a> {
-    // The committed header.
+    // Returns the committed header, with the errors of `find_committed`.
     fn find_header<D: Device>(&self, device: &mut D) -> Result<CheckpointHeader, OpenFault>
         requires inside { self.now.total ≤ (D.disk device.old).sectors }
         ensures found { IfOk result (λ h. HasHeader (D.disk device.old).seen self.now h) }
@@ -88,13 +88,16 @@ impl<'a> Log<'a> {
         Ok(choose(slot, &first, &second, room)?)
     }
 
-    /// The committed header, with its directory in the first of the entries. It takes no memory and
-    /// writes nothing.
+    /// Returns the committed header, and puts its directory into the first of the entries. It allocates
+    /// and writes nothing.
     ///
-    /// It returns `Failed` exactly where the device failed; `BadImage::NoHeader` where no header
-    /// counts, `BadImage::BadHeader` where the committed one is malformed, though another may count
-    /// too, and `BadImage::BadDirectory` where its directory is malformed. A refusal leaves any
-    /// entries.
+    /// Returns `Failed` exactly if the device failed, else:
+    ///
+    /// - `NoHeader` if no header counts
+    /// - `BadHeader` if the committed header is malformed, even if the other counts too
+    /// - `BadDirectory` if its directory is malformed
+    ///
+    /// After an error the entries may be any.
     pub fn find_committed<D: Device>(
         &self,
         device: &mut D,

@@ -15,12 +15,13 @@ use layout::{
 };
 use model::Geometry;
 
-// The bytes of the greatest directory.
+// How many bytes the greatest directory takes.
 const MAX_BYTES: usize = 65536;
 
+// How many entries a sector has.
 const ENTRIES_IN_SECTOR: usize = 32;
 
-// Writes the bytes of a directory before those that are there.
+// Writes the bytes of a directory, 16 for each entry. The bytes behind them stay.
 fn put_entries(entries: &[Entry], into: &mut [u8])
     requires room { 16 * length entries.now ≤ length into.old }
     ensures front { take (16 * length entries.now) into.new ≡ directory_bytes entries.now }
@@ -31,7 +32,7 @@ fn put_entries(entries: &[Entry], into: &mut [u8])
     encode_directory(entries, &mut into[..ENTRY_BYTES * entries.len()]);
 }
 
-// Writes a directory into the sectors from `at` on, in a buffer of zeros that has space for them.
+// Writes a directory into the sectors from `at` on, through a buffer of zeros that has space for them.
 fn write_entries<D: Device>(
     device: &mut D,
     at: u64,
@@ -58,7 +59,7 @@ fn write_entries<D: Device>(
     write_sectors(device, at, sectors, run)
 }
 
-// Reads a directory of as many entries as `into` takes from the first of the bytes.
+// Reads a directory of `into.len()` entries from the first of the bytes. Returns `BadDirectory` if they spell none.
 fn entries_in(bytes: &[u8], geometry: Geometry, into: &mut [Entry]) -> Result<(), BadImage>
     requires room { 16 * length into.old ≤ length bytes.now }
     requires log { geometry.log ≤ 4096 }
@@ -72,11 +73,12 @@ fn entries_in(bytes: &[u8], geometry: Geometry, into: &mut [Entry]) -> Result<()
 }
 
 impl<'a> Log<'a> {
-    /// Writes the directory of the half of a generation, and touches its sectors alone: a crash at
-    /// any moment leaves all other sectors as they could have been left before. The bytes behind the
-    /// last entry of its last sector are 0. It is refused exactly where the device fails, and the
-    /// sectors may then hold any bytes. It takes no memory, and where there are no entries it makes
-    /// no call of the device.
+    /// Writes the directory of the half of a generation. The bytes behind the last entry of its last
+    /// sector are 0. For all other sectors it changes neither their bytes nor what a crash may leave in
+    /// them.
+    ///
+    /// It allocates nothing, and without entries it doesn't call the device. Returns `Failed` exactly if
+    /// the device failed; then the sectors of the directory may hold any bytes.
     #[tactic(auto, using(crate::proofs::Directories::no_entries, crate::proofs::Directories::none_behind))]
     pub fn write_directory<D: Device>(
         &self,
@@ -108,11 +110,11 @@ impl<'a> Log<'a> {
         write_entries(device, at, entries, &mut [0; MAX_BYTES])
     }
 
-    /// Reads a directory of as many entries as `into` takes from the half of a generation. It takes
-    /// no memory, and where that is no entry it makes no call of the device.
+    /// Reads a directory of `into.len()` entries from the half of a generation. It allocates nothing, and
+    /// without entries it doesn't call the device.
     ///
-    /// It is refused by `Failed` exactly where the device failed, and by `BadImage::BadDirectory`
-    /// exactly where the sectors spell no directory of this length. Either leaves any entries.
+    /// Returns `Failed` exactly if the device failed, and `BadDirectory` exactly if the sectors spell no
+    /// directory of this length. After either, `into` may hold any entries.
     #[tactic(auto, using(crate::proofs::Directories::no_entries, crate::proofs::Directories::few_bytes))]
     pub fn read_directory<D: Device>(
         &self,

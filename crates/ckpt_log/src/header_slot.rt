@@ -4,7 +4,7 @@ ghost use Rattle.ckpt_log.specs.HeaderSlot.{slot_number, other_slot, header_at, 
 
 use layout::CheckpointHeader;
 
-/// One of the two places of a header, each with its gate behind it: headers take turns.
+/// A place of a header, with its gate in the next sector. Headers use the two places in turn.
 #[derive(Clone, Copy)]
 pub enum HeaderSlot {
     First,
@@ -12,7 +12,7 @@ pub enum HeaderSlot {
 }
 
 impl HeaderSlot {
-    // The slot that a header belongs in, by its sequence number.
+    // Returns the slot that a header belongs in, by its sequence number.
     pub(crate) fn of(header: CheckpointHeader) -> HeaderSlot
         ensures value { slot_number result ≡ header.sequence % 2 }
         ensures fits { header.sequence < 2 ^ 64 }
@@ -24,7 +24,7 @@ impl HeaderSlot {
         }
     }
 
-    // The slot of the headers before and after those of this one.
+    // Returns the other slot, where the headers before and after this one's belong.
     pub(crate) fn other(self) -> HeaderSlot
         ensures { result ≡ other_slot self }
     {
@@ -34,7 +34,7 @@ impl HeaderSlot {
         }
     }
 
-    // What a sequence number leaves on division by two, where its header belongs here.
+    // Returns the remainder by 2 of the sequence numbers whose headers belong here.
     pub(crate) fn number(self) -> u64
         ensures value { result ≡ slot_number self }
         ensures low { result < 2 }
@@ -45,7 +45,7 @@ impl HeaderSlot {
         }
     }
 
-    /// The sector of the header.
+    /// Returns the sector of the header.
     pub fn header(self) -> u64
         ensures value { result ≡ header_at self }
         ensures inside { result < 5 }
@@ -53,7 +53,7 @@ impl HeaderSlot {
         1 + 2 * self.number()
     }
 
-    /// The sector of its gate.
+    /// Returns the sector of its gate.
     pub fn gate(self) -> u64
         ensures value { result ≡ gate_at self }
         ensures inside { result < 5 }

@@ -7,9 +7,9 @@ ghost use Rattle.ckpt_log.specs.Places.{HalvesAreApart, SlotsAreApart, SlotsSpar
 ghost use Rattle.ckpt_log.specs.SavedSectors.{SameHeader, SameDirectory, SameFrames, SameSaved};
 ghost use Rattle.ckpt_log.specs.Slot.{SlotsAreReadBack, DirectoriesAreReadBack};
 
-/// Images that agree in the header slots and their gates, in the directory of the committed header
-/// and in the frames that it names have the same committed header, directory and frames. So a write
-/// elsewhere leaves what is saved, whatever a crash makes of it. It does nothing: its contract is
+/// The saved state depends only on the header slots and gates, the directory of the committed header,
+/// and the frames that it names. Images that agree there have the same header, directory and frames.
+/// So no write elsewhere changes the saved state, even with a crash. It does nothing: its contract is
 /// the law.
 pub fn saved_is_read_from_its_sectors()
     ensures header { SameHeader }
@@ -18,10 +18,9 @@ pub fn saved_is_read_from_its_sectors()
     ensures saved { SameSaved }
 {}
 
-/// The slots and the directory of a generation lie in its half of the log and apart from one
-/// another, and a frame in its slot; the halves lie behind the headers, before the end, and apart.
-/// So what is written for the next generation touches nothing that the last one is read from. It
-/// does nothing: its contract is the law.
+/// The slots and the directory of a generation lie in its half of the log and apart from one another.
+/// A frame lies in its slot. The halves lie behind the headers, before the end, and apart. So writes
+/// for the next generation touch no sector of the last one. It does nothing: its contract is the law.
 #[tactic(auto, using(crate::proofs::Places::place_laws))]
 pub fn keep_halves_apart()
     ensures slots { SlotsAreInside }
@@ -33,17 +32,16 @@ pub fn keep_halves_apart()
     ensures slots_spare_directories { SlotsSpareDirectories }
 {}
 
-/// A frame that meets the rules of the image, once it is written into a slot, is the one that is
-/// read there, and is refused only where the device fails; and so is a directory. It does nothing:
-/// its contract is the law.
+/// A read of a slot gives the frame that was written there, if an image may hold it, or fails only if
+/// the device fails. The same holds for a directory. It does nothing: its contract is the law.
 pub fn what_is_written_is_read()
     ensures slots { SlotsAreReadBack }
     ensures directories { DirectoriesAreReadBack }
 {}
 
-/// The bytes of a header have its sequence number, so the header with the next one may be published
-/// after the committed one. A write of a header's slot leaves the superblock and all that lies
-/// behind the headers: frames and directories. It does nothing: its contract is the law.
+/// The bytes of a header have its sequence number, so `publish` may follow the committed header with
+/// the next number. A write of a header's slot changes neither the superblock nor what lies behind the
+/// headers: frames and directories. It does nothing: its contract is the law.
 #[tactic(auto, using(crate::proofs::Places::header_laws))]
 pub fn headers_spare_the_rest()
     ensures sequences { SequencesAreReported }
@@ -54,9 +52,9 @@ pub fn headers_spare_the_rest()
     ensures directories { HeadersSpareDirectories }
 {}
 
-/// What `Log::publish` leaves, in the words of a saved state: where a crash leaves the header from
-/// before, the state that was saved; where it leaves the new header, the state that was written for
-/// it. It does nothing: its contract is the law.
+/// The saved states after a crash during `Log::publish`. If the crash leaves the old header, the image
+/// has the state saved before. If it leaves the new header, the image has the state written for it. It
+/// does nothing: its contract is the law.
 pub fn a_commit_leaves_either_state()
     ensures behind { FramesAreBehind }
     ensures old { OldIsDenoted }

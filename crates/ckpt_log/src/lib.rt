@@ -1,5 +1,5 @@
-//! The log of checkpoints. One header commits: at every moment a crash leaves a device whose
-//! committed header is the one before or the next.
+//! The log of checkpoints. `Log::publish` commits a header: a crash at any moment leaves the old
+//! header committed, or the new one.
 #![tactic(auto)]
 
 mod closing;

@@ -9,7 +9,8 @@ use layout::{Half, Shape, Superblock};
 use model::Geometry;
 use std::marker::Model;
 
-/// Where a superblock places the log, and how many slots a half has. Each call is lent the device.
+/// The log of a device: where its superblock places the halves, and how many slots they have. Callers
+/// pass the device to each call.
 #[derive(Drop)]
 pub struct Log<'a> {
     superblock: &'a Superblock,
@@ -24,14 +25,14 @@ impl<'a> Model for Log<'a> {
 }
 
 impl<'a> Log<'a> {
-    /// The log of a device with this superblock.
+    /// Returns the log of a device with this superblock.
     pub fn new(superblock: &'a Superblock) -> Log<'a>
         ensures { result ≡ superblock.now }
     {
         Log { superblock }
     }
 
-    // How many objects there are, and how many slots in a half of the log.
+    // Returns how many nodes, pages and log slots there are.
     pub(crate) fn geometry(&self) -> Geometry
         ensures value { result ≡ self.now.geometry }
         ensures room { self.now.geometry.log ≤ 4096 }
@@ -40,7 +41,7 @@ impl<'a> Log<'a> {
         self.superblock.geometry()
     }
 
-    // How the frame of an object lies in its slot. A slot has space for either shape.
+    // Returns the shape of the frame of an object in its slot, which has space for each shape.
     pub(crate) fn shape(&self, number: u64) -> Shape
         ensures value { result ≡ shape_of self.now number }
         ensures fits { IsShapeFor self.now.geometry number result }
@@ -49,7 +50,7 @@ impl<'a> Log<'a> {
         self.superblock.shape(number)
     }
 
-    // The first sector of the half of a generation.
+    // Returns the first sector of the half of a generation.
     #[tactic(auto, using(layout::proofs::Halves::half_within))]
     fn half_sector(&self, generation: u64) -> u64
         ensures value { result ≡ half_sector self.now generation }
@@ -60,7 +61,7 @@ impl<'a> Log<'a> {
         self.superblock.half(Half::of(generation))
     }
 
-    /// The first sector of a slot in the half of a generation, which takes 9 sectors.
+    /// Returns the first of the 9 sectors of a slot in the half of a generation.
     pub fn slot_sector(&self, generation: u64, slot: u64) -> u64
         requires slot { slot < self.now.geometry.log }
         ensures value { result ≡ slot_sector self.now generation slot }
@@ -69,7 +70,7 @@ impl<'a> Log<'a> {
         self.half_sector(generation) + 9 * slot
     }
 
-    // The first sector of a directory.
+    // Returns the first sector of the directory of a generation.
     pub(crate) fn directory_sector(&self, generation: u64) -> u64
         ensures value { result ≡ directory_sector self.now generation }
         ensures inside { result + directory_length self.now.geometry.log ≤ self.now.total }

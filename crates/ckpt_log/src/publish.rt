@@ -14,8 +14,8 @@ use crate::sector::{put_sector, read_sector};
 use device::{Device, Failed, SECTOR_SIZE};
 use layout::{CheckpointHeader, Gate, decode_gate, encode_gate, encode_header};
 
-// Closes the gate in a sector where it is open. A closed gate isn't written: a torn write could
-// open it.
+// Closes the gate in a sector if it is open. It doesn't write a closed gate: a torn write could open
+// it.
 pub(crate) fn close_gate<D: Device>(device: &mut D, at: u64) -> Result<(), Failed>
     requires inside { at < (D.disk device.old).sectors }
     requires durable { Only (D.disk device.old).seen (D.disk device.old) }
@@ -44,8 +44,8 @@ pub(crate) fn close_gate<D: Device>(device: &mut D, at: u64) -> Result<(), Faile
     put_sector(device, at, &sector)
 }
 
-// Closes the gate of a header where it is open, and writes the header under it. A crash at any
-// moment leaves the committed header that there is.
+// Closes the gate of a header if it is open, then writes the header. A crash at any moment leaves the
+// same committed header.
 #[tactic(auto, using(crate::proofs::Commits::closing_keeps, crate::proofs::Commits::gate_is))]
 fn prepare<D: Device>(device: &mut D, header: CheckpointHeader) -> Result<(), Failed>
     requires inside { 5 ≤ (D.disk device.old).sectors }
@@ -70,8 +70,8 @@ fn prepare<D: Device>(device: &mut D, header: CheckpointHeader) -> Result<(), Fa
     put_sector(device, slot.header(), &bytes)
 }
 
-// Opens the gate of a header that is written and durable. A crash at any moment leaves the
-// committed header that there was, or this one.
+// Opens the gate of a header that is written and durable. A crash at any moment leaves the old header
+// committed, or this one.
 #[tactic(auto, using(crate::proofs::Commits::gate_is, crate::proofs::Commits::opened_new))]
 fn open_gate<D: Device>(device: &mut D, header: CheckpointHeader) -> Result<(), Failed>
     requires inside { 5 ≤ (D.disk device.old).sectors }
@@ -99,17 +99,21 @@ fn open_gate<D: Device>(device: &mut D, header: CheckpointHeader) -> Result<(), 
 }
 
 impl<'a> Log<'a> {
-    /// Commits a header: from `Ok` on each crash leaves it the committed one, and all that was
-    /// written before the call is then durable. It returns `Failed` exactly where the device
-    /// failed; then the header before it is the committed one, or this one is.
+    /// Commits a header. After `Ok` each crash leaves it committed, and all earlier writes are durable.
+    /// Returns `Failed` exactly if the device failed; then the old header is committed, or this one.
     ///
-    /// The header is one that can be read again: at most as many entries as a half of the log has
-    /// slots, an age of at most `MAX_AGE`, and a generation and a sequence number of at most twice
-    /// the age (the sequence number of one without entries may be one more). Its sequence number
-    /// is the next after that of the committed header, and each crash now would leave that one.
+    /// The header must be within its limits:
     ///
-    /// Only the header's own slot is written: its gate with 0 and zeros, where it is open, then the
-    /// header, and then the gate with 1 and zeros, each durable before the next.
+    /// - at most as many entries as a half of the log has slots
+    /// - an age of at most `MAX_AGE`
+    /// - a generation of at most twice the age
+    /// - a sequence number of at most twice the age, or one more for a header without entries
+    ///
+    /// Its sequence number must be the next after that of the committed header, and each crash before
+    /// the call must leave that header.
+    ///
+    /// It writes only the header's own slot: the gate with 0 and zeros if it is open, then the header,
+    /// then the gate with 1 and zeros. Each write is durable before the next.
     #[tactic(auto, using(crate::proofs::Runs::sync_order, crate::proofs::Runs::sync_run))]
     pub fn publish<D: Device>(&self, device: &mut D, header: CheckpointHeader) -> Result<(), Failed>
         requires spelt { IsHeader self.now.geometry.log header }
@@ -126,8 +130,8 @@ impl<'a> Log<'a> {
         ensures elsewhere { Elsewhere (header_sector header) 2
             (D.disk device.old).seen (D.disk device.new).seen }
 
-        // A crash at any moment leaves the header before it committed, or this one; and where it
-        // leaves this one, all that was written before the call.
+        // A crash at any moment leaves the old header committed, or this one. With this one it leaves
+        // all that was written before the call.
         ensures any_moment { LeavesOnly (D.disk device.old) (D.disk device.new)
             (λ c. IsOld header (D.disk device.old) c ⊎ HasNew header (D.disk device.old).seen c) }
 

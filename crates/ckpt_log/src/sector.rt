@@ -7,7 +7,7 @@ ghost use Rattle.layout.specs.Calls.{ReadsOnly};
 use device::{Device, Failed, write_durably};
 use layout::read_sectors;
 
-/// Reads a sector.
+/// Fills `into` with the 512 bytes of a sector. Returns `Failed` exactly if the device failed.
 #[tactic(auto, using(crate::proofs::Sectors::read_is))]
 pub(crate) fn read_sector<D: Device>(device: &mut D, at: u64, into: &mut [u8]) -> Result<(), Failed>
     requires one { length into.old ≡ 512 }
@@ -19,8 +19,8 @@ pub(crate) fn read_sector<D: Device>(device: &mut D, at: u64, into: &mut [u8]) -
     read_sectors(device, at, 1, into)
 }
 
-/// Writes a sector and makes it durable. At `Failed` it may hold any bytes, and no other is
-/// touched.
+/// Writes a sector and makes it durable. No other sector changes. Returns `Failed` exactly if the
+/// device failed; then the sector may hold any bytes.
 #[tactic(auto, using(crate::proofs::Sectors::one_sector, crate::proofs::Sectors::seen_has))]
 pub(crate) fn put_sector<D: Device>(device: &mut D, at: u64, bytes: &[u8]) -> Result<(), Failed>
     requires one { length bytes.now ≡ 512 }

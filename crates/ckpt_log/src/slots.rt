@@ -17,12 +17,11 @@ use layout::{Body, OpenFault, Scratch, read_frame, write_frame, write_page};
 use model::{Cap, ContentRef, ObjectHeader};
 
 impl<'a> Log<'a> {
-    /// Reads the frame of an object in a slot of the half of a generation. The slots of a node or
-    /// an annex and the words of a page are left in `scratch`, and no memory is taken.
+    /// Reads the frame of an object in a slot of the half of a generation. It puts the slots of a node
+    /// or an annex and the words of a page into `scratch`, and allocates nothing.
     ///
-    /// It is refused by `Failed` exactly where the device failed, and by `BadImage::BadFrame`
-    /// exactly where the slot spells no frame that can be kept at the age. Either leaves anything
-    /// in `scratch`.
+    /// Returns `Failed` exactly if the device failed. Returns `BadFrame` exactly if the slot spells no
+    /// frame that an image of this age may hold. After either, `scratch` may hold any slots and words.
     pub fn read_slot<D: Device>(
         &self,
         device: &mut D,
@@ -49,10 +48,11 @@ impl<'a> Log<'a> {
         read_frame(device, at, shape, self.geometry(), number, age, scratch)
     }
 
-    /// Writes the frame of an object into a slot of the half of a generation, and touches that slot alone: a
-    /// crash at any moment leaves all other sectors as they could have been left before. In a cluster all
-    /// bytes beside the frame are 0. It is refused exactly where the device fails, and the sectors may then
-    /// hold any bytes.
+    /// Writes the frame of an object into a slot of the half of a generation. In a cluster it sets all
+    /// bytes beside the frame to 0. For all other sectors it changes neither their bytes nor what a
+    /// crash may leave in them.
+    ///
+    /// Returns `Failed` exactly if the device failed; then the sectors of the shape may hold any bytes.
     pub fn write_slot<D: Device>(
         &self,
         device: &mut D,
@@ -80,10 +80,10 @@ impl<'a> Log<'a> {
         write_frame(device, at, shape, self.geometry(), number, header, content)
     }
 
-    /// Writes the frame of a page with these words into a slot of the half of a generation, and
-    /// touches that slot alone: a crash at any moment leaves all other sectors as they could have
-    /// been left before. It is refused exactly where the device fails, and the sectors may then
-    /// hold any bytes.
+    /// Writes the frame of a page with these words into a slot of the half of a generation. For all
+    /// other sectors it changes neither their bytes nor what a crash may leave in them.
+    ///
+    /// Returns `Failed` exactly if the device failed; then the 9 sectors may hold any bytes.
     pub fn write_page<D: Device>(
         &self,
         device: &mut D,

@@ -15,12 +15,12 @@ use layout::{Body, OpenFault, Scratch, read_frame, write_sectors};
 use model::ObjectHeader;
 
 impl<'a> Home<'a> {
-    /// Reads the home frame of an object. The slots of a node or an annex and the words of a page
-    /// are left in `scratch`, and no memory is taken.
+    /// Reads the home frame of an object. It puts the slots of a node or an annex and the words of a
+    /// page into `scratch`, and allocates nothing.
     ///
-    /// It is refused by `Failed` exactly where the device failed, and by `BadImage::BadFrame`
-    /// exactly where the sectors at the place spell no frame that can be kept at the age. Either
-    /// leaves anything in `scratch`.
+    /// Returns `Failed` exactly if the device failed. Returns `BadFrame` exactly if the home sectors
+    /// spell no frame that an image of this age may hold. After either, `scratch` may hold any slots
+    /// and words.
     pub fn read_frame<D: Device>(
         &self,
         device: &mut D,
@@ -44,10 +44,11 @@ impl<'a> Home<'a> {
         read_frame(device, at, shape, self.geometry(), number, age, scratch)
     }
 
-    /// Writes the home of an object, and with it those of the other nodes of its cluster: `bytes`
-    /// are all of its sectors. Touches these alone: a crash at any moment leaves all other sectors
-    /// as they could have been left before. It is refused exactly where the device fails, and the
-    /// sectors of the home may then hold any bytes.
+    /// Writes all sectors of the home of an object, and with it the frames of the other nodes of its
+    /// cluster. For all other sectors it changes neither their bytes nor what a crash may leave in
+    /// them.
+    ///
+    /// Returns `Failed` exactly if the device failed; then the sectors of the home may hold any bytes.
     #[tactic(auto, using(crate::proofs::Places::home_held, crate::proofs::Places::bytes_home))]
     pub fn write_frame<D: Device>(
         &self,

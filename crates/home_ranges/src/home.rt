@@ -25,7 +25,7 @@ impl<'a> Model for Home<'a> {
     ghost view = { λ home. home.superblock.now };
 }
 
-// How many sectors into its range the i-th node begins, or the cluster of five that has it.
+// Returns where in its range the i-th node begins, or the cluster that has it, in sectors.
 fn node_offset(version: Version, i: u64) -> u64
     requires few { i ≤ 8192 }
     ensures { result ≡ node_offset version i }
@@ -36,7 +36,7 @@ fn node_offset(version: Version, i: u64) -> u64
     }
 }
 
-// The place of a number in a range that has it.
+// Returns the first sector of the home of a number, from the range that has the number.
 fn place_in(version: Version, geometry: Geometry, range: HomeRange, number: u64) -> u64
     requires low { range.first ≤ number }
     requires few { number ≤ 8192 }
@@ -53,14 +53,14 @@ fn place_in(version: Version, geometry: Geometry, range: HomeRange, number: u64)
 }
 
 impl<'a> Home<'a> {
-    /// The home places of a superblock.
+    /// Returns the homes that a superblock gives.
     pub fn new(superblock: &'a Superblock) -> Home<'a>
         ensures { result ≡ superblock.now }
     {
         Home { superblock }
     }
 
-    /// The first sector of the home of an object: of its own frame, or of the cluster that has it.
+    /// Returns the first sector of the home of an object: of its own frame, or of the cluster that has it.
     #[tactic(auto, using(crate::proofs::Places::no_range))]
     pub fn place(&self, number: u64) -> u64
         requires object { IsObject self.now.geometry number }
@@ -76,7 +76,7 @@ impl<'a> Home<'a> {
         }
     }
 
-    /// How the frame of an object lies in the sectors from there on.
+    /// Returns the shape of the frame of an object in the sectors from `place` on.
     pub fn shape(&self, number: u64) -> Shape
         ensures value { result ≡ shape_of self.now number }
         ensures fits { IsShapeFor self.now.geometry number result }
@@ -85,8 +85,7 @@ impl<'a> Home<'a> {
         self.superblock.shape(number)
     }
 
-    /// How many numbers from this one on have its home: up to five nodes of one cluster, else the
-    /// number alone.
+    /// Returns how many numbers from this one on have its home: 1 to 5 for nodes of one cluster, else 1.
     #[tactic(auto, using(crate::proofs::Places::cluster_shared, crate::proofs::Places::itself_alone))]
     pub fn sharers(&self, number: u64) -> u64
         requires object { IsObject self.now.geometry number }
@@ -104,7 +103,7 @@ impl<'a> Home<'a> {
         }
     }
 
-    /// Makes the bytes of a cluster behind its nodes 0; `first` is its first node. The frames of
+    /// Sets the bytes behind the nodes of a cluster to 0, where `first` is its first node. The frames of
     /// the nodes stay.
     #[tactic(auto, using(crate::proofs::Places::cluster_stays))]
     pub fn blank_rest(&self, first: u64, cluster: &mut [u8])
@@ -120,7 +119,7 @@ impl<'a> Home<'a> {
         blank_behind(cluster, nodes);
     }
 
-    /// How many objects there are, and how many slots in a half of the log.
+    /// Returns how many nodes, pages and log slots there are.
     pub fn geometry(&self) -> Geometry
         ensures value { result ≡ self.now.geometry }
         ensures fits { IsPlan self.now }

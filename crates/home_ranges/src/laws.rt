@@ -2,9 +2,9 @@
 ghost use Rattle.home_ranges.specs.Laws.{PlacesAreWithin, PlacesAreApart, NumbersAreApart, PlacesSpareLog, FramesStay};
 ghost use Rattle.home_ranges.specs.Laws.{FramesAreHome};
 
-/// Homes lie behind the headers and before the end, apart from one another and from the log, and a
-/// change apart from one leaves its frame. They are the frames of the objects that no slot of the
-/// log has. It does nothing: its contract is the law.
+/// Homes lie behind the headers and before the end, apart from one another and from the log. A change
+/// of other sectors leaves the frame in a home. An object without a slot in the log has its home
+/// frame. It does nothing: its contract is the law.
 pub fn keep_places_apart()
     ensures within { PlacesAreWithin }
     ensures apart { PlacesAreApart }

@@ -1,4 +1,4 @@
-// The frames that share a home: the bytes of a cluster, and frames that are written to any sectors.
+// Writing the frames that share a home to any sectors.
 ghost use Rattle.std.specs.Prelude.{◌≡◌, ◌+◌, ◌-◌, ◌<◌, ◌≤◌, ℕ, length, OnOk};
 ghost use Rattle.device.specs.Calls.{Counts};
 ghost use Rattle.layout.specs.declared.shape.Shape.TheVariants as shape;
@@ -21,9 +21,10 @@ use layout::{
 };
 use model::{Cap, Content, Geometry, ObjectHeader};
 
+// How many sectors a cluster takes.
 const CLUSTER_SECTORS: usize = 8;
 
-// Puts the frame of a node's number into the place of a rank. Those of the other ranks stay.
+// Puts the frame of a node's number into the place of a rank in a cluster. Those of the other ranks stay.
 #[tactic(auto, using(layout::proofs::Clusters::node_end))]
 fn put_node(
     geometry: Geometry,
@@ -48,8 +49,8 @@ fn put_node(
     pack_node(&node, rank as usize, cluster);
 }
 
-// Fills the 4096 bytes of the cluster whose first node is `number`: with the frame of each of its
-// nodes, from the header and the content of its number, and with zeros behind them.
+// Fills the 4096 bytes of the cluster whose first node is `number` with the frames of its nodes, and
+// with zeros behind them. Each frame has the header and the content of its number.
 #[tactic(auto, using(crate::proofs::Ranks::shares_node))]
 fn fill_cluster(
     home: &Home,
@@ -113,7 +114,8 @@ fn write_cluster<D: Device>(
     write_sectors(device, at, CLUSTER_SECTORS, &cluster)
 }
 
-/// Writes the frames of all that have the home of an object into the sectors from `at` on, as they lie at home.
+/// Writes the frames of all objects with the home of `number` into the sectors from `at` on, as they lie at home.
+/// Returns `Failed` exactly if the device failed.
 #[tactic(auto, using(crate::proofs::SlotFrames::own_written_at))]
 pub(crate) fn write_shared<D: Device>(
     device: &mut D,

@@ -1,4 +1,4 @@
-// Why no image is built.
+// The reasons to build no image.
 ghost use Rattle.std.specs.Prelude.{◌≡◌};
 ghost use Rattle.image_writer.specs.Faults.{fault_number};
 
@@ -6,8 +6,8 @@ use device::Failed;
 use std::alloc::{AllocError, AllocFailed};
 use thiserror::Error;
 
-/// Why no image is built from a table: the least of the reasons that hold. A function that does a part of
-/// the work answers only the faults of that part.
+/// A reason to build no image from a table: the least of those that hold. A function that does a part of
+/// the work returns only the faults of that part.
 #[derive(Clone, Copy, Debug, Error)]
 pub enum BuildFault {
     #[error("the table hasn't the shape of a description")]
@@ -31,7 +31,7 @@ pub enum BuildFault {
 }
 
 impl BuildFault {
-    /// Its number: the order above, from 1.
+    /// Returns its number, from 1 in the order above.
     pub fn number(self) -> u64
         ensures { result ≡ fault_number self }
     {

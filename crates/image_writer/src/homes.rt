@@ -16,7 +16,7 @@ use home_ranges::Home;
 use layout::Shape;
 use model::{Cap, Content, ObjectHeader};
 
-// Whether a number is the first that has its home.
+// Whether a number is the first with its home.
 fn is_first(home: &Home, number: u64) -> bool
     ensures { IsTrue result ↔ (frames_before (shape_of home.now number) ≡ 0) }
 {
@@ -26,9 +26,9 @@ fn is_first(home: &Home, number: u64) -> bool
     }
 }
 
-/// Writes the homes of all `count` objects, each home once: each frame from
-/// the header and the content of its number. The gates of both headers are closed, and a crash at
-/// any moment leaves them so.
+/// Writes the homes of all `count` objects, each home once. Each frame has the header and the content
+/// of its number. The gates of both headers are closed, and a crash at any moment leaves them so.
+/// Returns `Failed` exactly if the device failed.
 #[tactic(auto, using(crate::proofs::HomeFrames::stays_between))]
 pub(crate) fn write_homes<D: Device>(
     device: &mut D,

@@ -1,4 +1,4 @@
-// Writing an image over whatever a device holds.
+// Writing an image over the content of a device.
 ghost use Rattle.std.specs.Prelude.{◌≡◌, ◌-◌, ◌^◌, ◌<◌, ◌≤◌, ℕ, length, OnOk};
 ghost use Rattle.device.specs.Disk.{Image};
 ghost use Rattle.device.specs.Calls.{Counts, Elsewhere, Only};
@@ -25,8 +25,8 @@ use home_ranges::Home;
 use layout::{CheckpointHeader, Entry, Superblock};
 use model::{Cap, Content, Geometry, ObjectHeader};
 
-// Writes the homes of all `count` objects, and the half of the log of a
-// generation. The gates of both headers are closed, and a crash at any moment leaves them so.
+// Writes the homes of all `count` objects, and the half of the log of a generation. The gates of both
+// headers are closed, and a crash at any moment leaves them so.
 #[tactic(auto, using(crate::proofs::SlotFrames::log_between))]
 fn write_frames<D: Device>(
     device: &mut D,
@@ -65,8 +65,8 @@ fn write_frames<D: Device>(
     write_log(device, &log, &home, generation, entries, headers, contents)
 }
 
-// Closes the gates of what the device holds, writes all of an image but that its gate is open, and
-// makes that durable. A crash at any moment leaves what the device held, or nothing that opens.
+// Closes the gates of both headers, then writes an image whose gate is still closed, and makes that
+// durable. A crash at any moment leaves the old image, or none that opens.
 fn write_parts<D: Device>(
     device: &mut D,
     superblock: &Superblock,
@@ -106,22 +106,27 @@ fn write_parts<D: Device>(
     device.sync()
 }
 
-/// Writes an image over whatever the device holds: one committed checkpoint with this header, whose
-/// sequence number is 0, and this directory; the frames of all objects, each from the header and the
-/// content of its number, at home, and in the slots of the directory's entries those of all that have
-/// the homes of their objects. From `Ok` on a read gives that state, and so does each crash.
+/// Writes an image over the content of the device, and allocates nothing. Each frame has the header and
+/// the content of its number. The image holds:
 ///
-/// The gates of what the device held are closed first, the committed header's last: until then a
-/// crash leaves that image as it was. From then on, until the gate of the new header is written, it
-/// leaves nothing that can be opened, since no header is committed; and then that, or the new image.
-/// Each of the three steps is durable before the next begins.
+/// - one committed checkpoint with this header, of sequence number 0, and this directory
+/// - at home, the frames of all objects
+/// - in the slot of each entry, the frames of all objects with the home of the entry's object
 ///
-/// It is refused exactly where the device fails, and the image's sectors may then hold any bytes,
-/// but at no moment such that a crash leaves anything else that can be opened. Sectors behind its
-/// total hold what they held. No memory is taken.
+/// After `Ok` a read gives that state, also after a crash. There are three steps, each durable before
+/// the next begins:
 ///
-/// The device has at least as many sectors as the superblock says, header and directory fit it and
-/// one another, and each frame can be kept at the header's age.
+/// 1. It closes the old gates, the committed header's last. A crash leaves the old image as it was, or
+///    no committed header.
+/// 2. It writes the image. A crash leaves no committed header, so nothing opens.
+/// 3. It opens the gate of the new header. A crash leaves no committed header, or the new image.
+///
+/// Returns `Failed` exactly if the device failed; then the image's sectors may hold any bytes. Even
+/// then a crash leaves the old image, the new one, or none that opens. Sectors from the image's total
+/// on never change.
+///
+/// The device must have at least as many sectors as the superblock says. Header and directory must fit
+/// it and one another, and an image of the header's age may hold each frame.
 #[tactic(auto, using(crate::proofs::FreshImages::denotes, crate::proofs::FreshImages::not_yet))]
 pub fn write_saved<D: Device>(
     device: &mut D,
@@ -148,8 +153,8 @@ pub fn write_saved<D: Device>(
         (D.disk device.old).seen (D.disk device.new).seen }
     ensures size { (D.disk device.new).sectors ≡ (D.disk device.old).sectors }
 
-    // A crash at any moment leaves what it could have left before but for the gates, with the same
-    // committed header; or no committed header; or the image, whole.
+    // A crash at any moment leaves no committed header, or the whole image, or what it could have left
+    // before. That may differ in the gates, but has the same committed header.
     ensures any_moment { LeavesOnly (D.disk device.old) (D.disk device.new)
         (λ c. IsLeftWriting (D.disk device.old) (kept_of
         (state_of superblock.now header entries.now (frames_in headers.now contents.now))) c) }
@@ -159,17 +164,18 @@ pub fn write_saved<D: Device>(
     open_gate(device)
 }
 
-/// Writes a fresh image over whatever the device holds: the frames of all objects, each from the
-/// header and the content of its number, at home, and one committed checkpoint of generation 0 with
-/// no entries, sequence number 0 and this age, as `write_saved` does. From `Ok` on a read gives that
-/// state, and so does each crash.
+/// Writes a fresh image over the content of the device, in the steps of `write_saved`, and allocates
+/// nothing. All frames are at home, each with the header and the content of its number. The committed
+/// checkpoint has this age, generation 0, sequence number 0 and no entries.
 ///
-/// It is refused exactly where the device fails, and the image's sectors may then hold any bytes,
-/// but at no moment such that a crash leaves anything else that can be opened. Sectors behind its
-/// total hold what they held. No memory is taken.
+/// After `Ok` a read gives that state, also after a crash.
 ///
-/// The device has at least as many sectors as the superblock says, and each frame can be kept at
-/// the age, which is at most `MAX_AGE`.
+/// Returns `Failed` exactly if the device failed; then the image's sectors may hold any bytes. Even
+/// then a crash leaves the old image, the new one, or none that opens. Sectors from the image's total
+/// on never change.
+///
+/// The device must have at least as many sectors as the superblock says. The age is at most `MAX_AGE`,
+/// and an image of this age may hold each frame.
 #[tactic(auto, using(crate::proofs::FreshImages::header_fits, crate::proofs::FreshImages::no_directory))]
 pub fn write_image<D: Device>(
     device: &mut D,
@@ -194,8 +200,8 @@ pub fn write_image<D: Device>(
         (D.disk device.old).seen (D.disk device.new).seen }
     ensures size { (D.disk device.new).sectors ≡ (D.disk device.old).sectors }
 
-    // A crash at any moment leaves what it could have left before but for the gates, with the same
-    // committed header; or no committed header; or the fresh image.
+    // A crash at any moment leaves no committed header, or the fresh image, or what it could have left
+    // before. That may differ in the gates, but has the same committed header.
     ensures any_moment { LeavesOnly (D.disk device.old) (D.disk device.new)
         (λ c. IsLeftWriting (D.disk device.old)
         (first_saved superblock.now.geometry age (frames_in headers.now contents.now)) c) }

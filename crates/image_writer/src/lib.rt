@@ -1,4 +1,4 @@
-//! A fresh image: where its parts lie on a device, and writing it there.
+//! Laying out an image, and writing it to a device.
 #![tactic(auto)]
 
 mod clusters;

@@ -1,6 +1,6 @@
-// Ranges of numbers, before their frames have a place.
+// Ranges of numbers, before the layout gives them sectors.
 
-/// Consecutive numbers of objects, whose frames are to lie one after the other.
+/// Consecutive numbers of objects whose frames will lie one after the other.
 #[derive(Clone, Copy)]
 pub struct NumberRange {
     /// The first number.

@@ -16,7 +16,7 @@ use layout::{
     write_sectors,
 };
 
-// Writes a sector before the gates, which are closed, and touches no other.
+// Writes a sector before the gates, which are closed. No other sector changes.
 #[tactic(auto, using(crate::proofs::SingleSectors::alone))]
 fn write_sector<D: Device>(device: &mut D, at: u64, bytes: &[u8]) -> Result<(), Failed>
     requires one { length bytes.now ≡ 512 }
@@ -33,7 +33,7 @@ fn write_sector<D: Device>(device: &mut D, at: u64, bytes: &[u8]) -> Result<(), 
     write_sectors(device, at, 1, bytes)
 }
 
-// Writes the superblock.
+// Writes the superblock under closed gates.
 fn write_superblock<D: Device>(device: &mut D, superblock: &Superblock) -> Result<(), Failed>
     requires inside { 5 ≤ (D.disk device.old).sectors }
     requires closed { LeavesClosed (D.disk device.old) }
@@ -50,7 +50,7 @@ fn write_superblock<D: Device>(device: &mut D, superblock: &Superblock) -> Resul
     write_sector(device, 0, &sector)
 }
 
-// Writes the first header.
+// Writes the first header under closed gates.
 fn write_header<D: Device>(device: &mut D, header: CheckpointHeader) -> Result<(), Failed>
     requires inside { 5 ≤ (D.disk device.old).sectors }
     requires closed { LeavesClosed (D.disk device.old) }
@@ -67,8 +67,8 @@ fn write_header<D: Device>(device: &mut D, header: CheckpointHeader) -> Result<(
     write_sector(device, HeaderSlot::First.header(), &sector)
 }
 
-/// Writes the superblock, and the first header, under closed gates. A crash at any moment
-/// leaves these closed.
+/// Writes the superblock and the first header under closed gates. A crash at any moment leaves them
+/// closed. Returns `Failed` exactly if the device failed.
 pub(crate) fn write_opening_sectors<D: Device>(
     device: &mut D,
     superblock: &Superblock,
@@ -88,7 +88,7 @@ pub(crate) fn write_opening_sectors<D: Device>(
     write_header(device, header)
 }
 
-// Writes the gate of the first header, and touches no other sector.
+// Writes the gate of the first header. No other sector changes.
 #[tactic(auto, using(crate::proofs::SingleSectors::alone))]
 fn write_gate<D: Device>(device: &mut D, gate: Gate) -> Result<(), Failed>
     requires inside { 5 ≤ (D.disk device.old).sectors }
@@ -101,8 +101,8 @@ fn write_gate<D: Device>(device: &mut D, gate: Gate) -> Result<(), Failed>
     write_sectors(device, HeaderSlot::First.gate(), 1, &sector)
 }
 
-/// Opens the gate of the first header, where all that was written is durable. A crash at any moment
-/// leaves all else.
+/// Opens the gate of the first header, and makes it durable. All earlier writes must be durable. A
+/// crash at any moment leaves all other sectors. Returns `Failed` exactly if the device failed.
 pub(crate) fn open_gate<D: Device>(device: &mut D) -> Result<(), Failed>
     requires inside { 5 ≤ (D.disk device.old).sectors }
     requires durable { Only (D.disk device.old).seen (D.disk device.old) }

@@ -1,4 +1,4 @@
-// Where the parts of a fresh image lie.
+// The places of the parts of an image.
 ghost use Rattle.std.specs.Prelude.{◌≡◌, ◌≤◌, length, map, IsTrue, IfOk, IfErr, ◌↔◌};
 ghost use Rattle.std.specs.List.{All};
 ghost use Rattle.layout.specs.Superblock.{IsPlan};
@@ -9,19 +9,20 @@ use crate::number_range::NumberRange;
 use layout::{HomeRange, MAX_LOG, MAX_RANGES, Superblock, Version, half_extent, range_extent};
 use model::Geometry;
 
-// The most numbers of objects.
+// The greatest number of objects.
 const MAX_OBJECTS: u64 = 8192;
 
 // The sector behind the superblock and the headers.
 const FIRST_SECTOR: u64 = 5;
 
+// A range that is not used.
 const UNUSED: HomeRange = HomeRange {
     first: 0,
     count: 0,
     sector: 0,
 };
 
-// Lays ranges one behind the other, and answers the sector behind them.
+// Lays ranges one behind the other from sector 5 on, and returns the sector behind the last.
 #[tactic(auto, using(crate::proofs::Laying::all_laid, crate::proofs::Laying::end_laid))]
 fn lay_ranges(
     version: Version,
@@ -50,20 +51,23 @@ fn lay_ranges(
     next
 }
 
-// Whether the numbers of all ranges are few.
+// Whether each range has at most `MAX_OBJECTS` numbers.
 fn are_few(ranges: &[NumberRange]) -> bool
     ensures { IsTrue result ↔ All (λ r. r.count ≤ 8192) ranges.now }
 {
     ranges.iter().all(|range| range.count <= MAX_OBJECTS)
 }
 
-/// Lays out an image of this version and geometry: from sector 5 on the home ranges in their
-/// order, behind them the two halves of the log. The total is the sector behind the second.
+/// Lays out an image of this version and geometry. From sector 5 on come the home ranges in their
+/// order, then the two halves of the log. The total is the sector behind the second half.
 ///
-/// It is refused, with `Limits`, exactly where the format wants other numbers: 16 to 4096 nodes, 1 to 4096 pages,
-/// 16 to 4096 slots in a half of the log; and 1 to 8 ranges that have each number once, in their
-/// order, each with nodes alone or pages alone, and none without a number. No such image takes more
-/// sectors than a device may have, in either version.
+/// Returns `Limits` exactly if one of these doesn't hold:
+///
+/// - There are 16 to 4096 nodes, 1 to 4096 pages, and 16 to 4096 slots in a half of the log.
+/// - There are 1 to 8 ranges, which have each number once, in their order.
+/// - Each range has a number, and has nodes only or pages only.
+///
+/// No such image takes more sectors than a device may have, in either version.
 pub fn lay_out(
     version: Version,
     geometry: Geometry,
@@ -90,7 +94,7 @@ pub fn lay_out(
     }
 }
 
-// The numbers of home ranges.
+// Fills `into` with the numbers of home ranges.
 #[tactic(auto, using(crate::proofs::LaidAgain::numbers_more, crate::proofs::LaidAgain::all_numbers))]
 fn put_numbers(ranges: &[HomeRange], into: &mut [NumberRange])
     requires size { length into.old ≡ length ranges.now }
@@ -104,8 +108,8 @@ fn put_numbers(ranges: &[HomeRange], into: &mut [NumberRange])
     }
 }
 
-/// Lays an image of a version out anew, with the objects and the home ranges of another: the ranges
-/// from sector 5 on, as `lay_out` does.
+/// Lays out an image of this version with the objects and the home ranges of another image, as
+/// `lay_out` does.
 pub fn lay_out_again(version: Version, superblock: &Superblock) -> Superblock
     ensures laid { result ≡ laid_again version superblock.now }
     ensures fits { IsPlan result }

@@ -1,4 +1,4 @@
-// The log of an image that is written: the slots of its directory's entries, and the directory.
+// Writing the log of an image: the slots of its directory's entries, and the directory.
 ghost use Rattle.std.specs.Prelude.{◌≡◌, ◌-◌, ◌*◌, ◌<◌, ◌≤◌, length, OnOk};
 ghost use Rattle.device.specs.Calls.{Counts, Elsewhere};
 ghost use Rattle.device.specs.Moments.{LeavesOnly};
@@ -53,9 +53,9 @@ fn write_slots<D: Device>(
     Ok(())
 }
 
-/// Writes the half of the log of a generation: the slots of a directory's entries, each with the
-/// frames of all that have the home of its object, and the directory. The gates of both headers are
-/// closed, and a crash at any moment leaves them so.
+/// Writes the half of the log of a generation: the slots of a directory's entries, and the directory.
+/// Each slot has the frames of all objects with the home of its object. The gates of both headers are
+/// closed, and a crash at any moment leaves them so. Returns `Failed` exactly if the device failed.
 pub(crate) fn write_log<D: Device>(
     device: &mut D,
     log: &Log,

@@ -1,7 +1,7 @@
-// Why an image is refused.
+// The reasons to refuse an image.
 use thiserror::Error;
 
-/// Why an image is refused: the least of the reasons that hold.
+/// A reason to refuse an image: the least of those that hold.
 #[derive(Clone, Copy, Debug, Error)]
 pub enum BadImage {
     #[error("the device is smaller than the image")]

@@ -1,4 +1,4 @@
-// What is read of a frame beside its header, and the scratch buffer for it.
+// The body of a frame, behind its header, and a scratch buffer for it.
 ghost use Rattle.std.specs.Prelude.{◌≡◌, IfOk, replicate};
 ghost use Rattle.model.specs.Frame.{content_behind, void_held};
 ghost use Rattle.layout.specs.Frame.{content_of};
@@ -6,8 +6,8 @@ ghost use Rattle.layout.specs.Frame.{content_of};
 use model::{Cap, ContentRef, Root, Slots, Words};
 use std::alloc::{AllocError, Global};
 
-/// What a frame holds, but for the words of a page and the slots of a node or an annex: those are
-/// left in a `Scratch`.
+/// The content of a frame, without the words of a page and the slots of a node or an annex: those
+/// are in a `Scratch`.
 #[derive(Drop)]
 pub enum Body {
     Free,
@@ -19,8 +19,8 @@ pub enum Body {
 }
 
 impl Body {
-    /// The content that was read: the words of a page and the slots of a node or an annex are those
-    /// in `scratch`.
+    /// Returns the content: this body with the words of a page, or the slots of a node or an annex, in
+    /// `scratch`.
     pub fn content<'a>(&'a self, scratch: &'a Scratch) -> ContentRef<'a>
         ensures { content_behind result ≡ content_of self.now scratch.now.slots scratch.now.words }
     {
@@ -35,8 +35,8 @@ impl Body {
     }
 }
 
-/// A scratch buffer for the body of any object. A caller lends it to what reads frames, which so
-/// takes no memory.
+/// A scratch buffer for the slots or words of any object. Callers lend it to functions that read
+/// frames, which then allocate nothing.
 #[derive(Drop)]
 pub struct Scratch {
     pub slots: Slots<Cap>,
@@ -44,7 +44,7 @@ pub struct Scratch {
 }
 
 impl Scratch {
-    /// A scratch buffer with void slots and words of 0. Fails only where memory runs out.
+    /// Returns a scratch buffer with void slots and words of 0, or `AllocError` if memory runs out.
     pub fn new(alloc: Global) -> Result<Scratch, AllocError>
         ensures slots { IfOk result (λ scratch. scratch.slots ≡ replicate 32 void_held) }
         ensures words { IfOk result (λ scratch. scratch.words ≡ replicate 512 0) }

@@ -4,7 +4,7 @@ ghost use Rattle.layout.specs.Bytes.{number, zeros};
 
 use byteorder::{ByteOrder, LittleEndian};
 
-/// The number in the eight bytes from a place on.
+/// Returns the little-endian number in the eight bytes from `at` on.
 #[tactic(auto, using(crate::proofs::Numbers::number_read, std::proofs::lemmas::List::take_rest))]
 pub fn number_at(bytes: &[u8], at: usize) -> u64
     requires { at + 8 ≤ length bytes.now }
@@ -13,7 +13,7 @@ pub fn number_at(bytes: &[u8], at: usize) -> u64
     LittleEndian::read_u64(&bytes[at..])
 }
 
-/// Writes a number into the eight bytes from a place on.
+/// Writes `n` little-endian into the eight bytes from `at` on. The others stay.
 pub fn put_number(bytes: &mut [u8], at: usize, n: u64)
     requires { at + 8 ≤ length bytes.old }
     ensures before { take (at + 8) bytes.new ≡ take at bytes.old ++ number n }
@@ -34,7 +34,7 @@ fn are_zeros(bytes: &[u8]) -> bool
     any == 0
 }
 
-/// Whether all bytes from a place on are 0.
+/// Whether all bytes from `at` on are 0.
 pub fn is_blank_from(bytes: &[u8], at: usize) -> bool
     requires { at ≤ length bytes.now }
     ensures { IsTrue result ↔ (drop at bytes.now ≡ zeros (length bytes.now - at)) }
@@ -42,7 +42,7 @@ pub fn is_blank_from(bytes: &[u8], at: usize) -> bool
     are_zeros(&bytes[at..])
 }
 
-/// Whether all bytes from a place to another are 0.
+/// Whether all bytes from `from` on and before `to` are 0.
 pub fn is_blank_between(bytes: &[u8], from: usize, to: usize) -> bool
     requires order { from ≤ to }
     requires room { to ≤ length bytes.now }
@@ -51,7 +51,7 @@ pub fn is_blank_between(bytes: &[u8], from: usize, to: usize) -> bool
     are_zeros(&bytes[from..to])
 }
 
-/// Makes all bytes 0.
+/// Sets all bytes to 0.
 #[tactic(auto, using(crate::proofs::Numbers::all_blank))]
 pub fn blank(bytes: &mut [u8])
     ensures { bytes.new ≡ zeros (length bytes.old) }
@@ -59,7 +59,7 @@ pub fn blank(bytes: &mut [u8])
     bytes.fill(0);
 }
 
-/// Makes the first bytes 0.
+/// Sets the first `end` bytes to 0. The others stay.
 pub fn blank_front(bytes: &mut [u8], end: usize)
     requires { end ≤ length bytes.old }
     ensures before { take end bytes.new ≡ zeros end }
@@ -68,7 +68,7 @@ pub fn blank_front(bytes: &mut [u8], end: usize)
     blank(&mut bytes[..end]);
 }
 
-/// Makes the bytes from a place on 0.
+/// Sets the bytes from `at` on to 0. The others stay.
 pub fn blank_from(bytes: &mut [u8], at: usize)
     requires { at ≤ length bytes.old }
     ensures { bytes.new ≡ take at bytes.old ++ zeros (length bytes.old - at) }

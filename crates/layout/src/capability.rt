@@ -13,15 +13,17 @@ use model::{Access, Cap, Capability, Geometry};
 /// How many bytes a capability takes.
 pub const CAPABILITY_BYTES: usize = 24;
 
-// The three numbers of a capability's bytes: its tag, access, key and height as one; of the object
-// that it names, or its own; and its count.
+// The three numbers in a capability's bytes.
 #[derive(Clone, Copy)]
 struct Numbers {
+    // Its tag, access, key and height: in bits 0 to 7, 8 to 15, 16 to 31 and 32 to 39.
     head: u64,
+    // The object that it names, or the number that it is.
     object: u64,
     count: u64,
 }
 
+// Returns the numbers in the bytes of a capability.
 fn numbers_of(cap: Cap) -> Numbers
     ensures head { result.head ≡ head_number cap.what }
     ensures object { result.object ≡ number_of cap.what }
@@ -55,6 +57,8 @@ fn numbers_of(cap: Cap) -> Numbers
     }
 }
 
+// Whether an image of this geometry and age may hold a capability: its object is of its kind, and its
+// count at most the age. Without an object its count is 0.
 fn is_capability(geometry: Geometry, age: u64, cap: Cap) -> bool
     ensures { IsTrue result ↔ IsKeptCap geometry age cap }
 {
@@ -72,13 +76,14 @@ fn is_capability(geometry: Geometry, age: u64, cap: Cap) -> bool
     }
 }
 
-// A capability, and whether it has a spelling and that is of the numbers that were read.
+// A capability with the tag that was read, and whether it is the one that the bytes spell.
 #[derive(Drop)]
 struct Reading {
     what: Capability,
     is_spelt: bool,
 }
 
+// Returns `what`, and whether it has these numbers and an image of this geometry and age may hold it.
 #[inline(always)]
 fn read_as(what: Capability, numbers: Numbers, geometry: Geometry, age: u64) -> Reading
     ensures what { result.what ≡ what }
@@ -94,7 +99,8 @@ fn read_as(what: Capability, numbers: Numbers, geometry: Geometry, age: u64) -> 
     Reading { what, is_spelt }
 }
 
-// The capability with the tag that was read, of the fields that it has.
+// Returns the capability with the tag in `numbers`, made of the fields that its kind has, and whether
+// it has these numbers.
 #[inline(always)]
 fn assembled(
     access: Access,
@@ -135,7 +141,7 @@ fn assembled(
     }
 }
 
-/// Writes the 24 bytes of a capability.
+/// Writes the 24 bytes of a capability into `into`.
 pub fn encode_capability(cap: Cap, into: &mut [u8])
     requires { length into.old ≡ 24 }
     ensures { into.new ≡ capability_bytes cap }
@@ -146,9 +152,10 @@ pub fn encode_capability(cap: Cap, into: &mut [u8])
     put_number(into, 16, numbers.count);
 }
 
-/// Reads a capability from its 24 bytes. Its object has to be of its kind on a device of this
-/// geometry, and its count at most the age. All that is no spelling of such a capability is a
-/// `BadFrame`.
+/// Reads a capability from its 24 bytes. Its object must be of its kind on a device of this geometry,
+/// and its count at most the age.
+///
+/// Returns `BadFrame` if the bytes spell no such capability.
 #[inline(always)]
 pub fn decode_capability(bytes: &[u8], geometry: Geometry, age: u64) -> Result<Cap, BadImage>
     requires { length bytes.now ≡ 24 }

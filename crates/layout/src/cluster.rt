@@ -1,4 +1,4 @@
-// Nodes' frames in the sectors of a cluster.
+// The frames of nodes in a cluster.
 ghost use Rattle.std.specs.Prelude.{◌≡◌, ◌<◌, ℕ, length, drop};
 ghost use Rattle.layout.specs.Bytes.{zeros};
 ghost use Rattle.layout.specs.Shape.{shape_bytes};
@@ -6,13 +6,14 @@ ghost use Rattle.layout.specs.Shape.{shape_bytes};
 use crate::bytes::blank_from;
 use crate::shape::Shape;
 
-/// How many bytes a cluster of five nodes' frames has.
+/// How many bytes a cluster takes.
 pub const CLUSTER_BYTES: usize = 4096;
 
 // The bytes of a node's frame but for the zeros at its end.
 const PACKED_BYTES: usize = 800;
 
-/// Copies the 1024 bytes of a node's frame out of the 4096 of its cluster, where it has this rank.
+/// Copies a node's frame from the place of its rank in the 4096 bytes of a cluster into the 1024
+/// bytes of `node`.
 #[tactic(auto, using(crate::proofs::Clusters::front_long, crate::proofs::Clusters::part_long))]
 pub fn unpack_node(cluster: &[u8], rank: usize, node: &mut [u8])
     requires cluster { length cluster.now ≡ 4096 }
@@ -25,8 +26,8 @@ pub fn unpack_node(cluster: &[u8], rank: usize, node: &mut [u8])
     blank_from(node, PACKED_BYTES);
 }
 
-/// Copies a node's frame to the place of its rank in the 4096 bytes of a cluster. The frames of the
-/// other ranks stay.
+/// Copies the 1024 bytes of a node's frame to the place of its rank in the 4096 bytes of a cluster.
+/// The frames of the other ranks stay.
 #[tactic(auto, using(crate::proofs::Clusters::front_long, crate::proofs::Clusters::packed))]
 pub fn pack_node(node: &[u8], rank: usize, cluster: &mut [u8])
     requires node { length node.now ≡ 1024 }

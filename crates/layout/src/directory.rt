@@ -14,13 +14,14 @@ pub const ENTRY_BYTES: usize = 16;
 /// The greatest number of slots of a log half.
 pub const MAX_LOG: usize = 4096;
 
-/// Which object lies in which slot of a log half.
+/// An entry of a directory: an object, and its slot in a log half.
 #[derive(Clone, Copy)]
 pub struct Entry {
     pub object: u64,
     pub slot: u64,
 }
 
+// Whether an entry has an object and a slot of a device of this geometry.
 fn is_entry(geometry: Geometry, entry: Entry) -> bool
     ensures { IsTrue result ↔ IsEntry geometry entry }
 {
@@ -28,6 +29,7 @@ fn is_entry(geometry: Geometry, entry: Entry) -> bool
     is_object && entry.slot < geometry.log
 }
 
+// Whether the numbers of the objects rise from entry to entry.
 fn are_rising(entries: &[Entry]) -> bool
     ensures { IsTrue result ↔ AreRising entries.now }
 {
@@ -39,6 +41,7 @@ fn are_rising(entries: &[Entry]) -> bool
     true
 }
 
+// Whether no slot comes twice.
 fn have_own_slots(entries: &[Entry]) -> bool
     requires { All (λ e. e.slot < MAX_LOG) entries.now }
     ensures { IsTrue result ↔ HaveOwnSlots entries.now }
@@ -54,6 +57,7 @@ fn have_own_slots(entries: &[Entry]) -> bool
     true
 }
 
+// Whether entries are a directory: each is of the device, the objects rise, and no slot comes twice.
 fn is_directory(geometry: Geometry, entries: &[Entry]) -> bool
     requires { geometry.log ≤ MAX_LOG }
     ensures { IsTrue result ↔ IsDirectory geometry entries.now }
@@ -63,7 +67,7 @@ fn is_directory(geometry: Geometry, entries: &[Entry]) -> bool
         && have_own_slots(entries)
 }
 
-/// Writes a directory, 16 bytes for each entry.
+/// Writes a directory into `into`, 16 bytes for each entry.
 #[tactic(auto, using(crate::proofs::Directories::no_entry))]
 pub fn encode_directory(entries: &[Entry], into: &mut [u8])
     requires { length into.old ≡ 16 * length entries.now }
@@ -76,6 +80,7 @@ pub fn encode_directory(entries: &[Entry], into: &mut [u8])
     }
 }
 
+// Fills `into` with the entries in the bytes, 16 bytes for each, and checks none of them.
 fn read_entries(bytes: &[u8], into: &mut [Entry])
     requires { length bytes.now ≡ 16 * length into.old }
     ensures bytes { bytes.now ≡ directory_bytes into.new }
@@ -90,9 +95,10 @@ fn read_entries(bytes: &[u8], into: &mut [Entry])
     }
 }
 
-/// Reads a directory of as many entries as `into` has, 16 bytes for each. The numbers of the
-/// objects have to rise and be on the device, and no slot may come twice or be outside a log half.
-/// All that is no spelling of such a directory is a `BadDirectory`, which leaves any entries.
+/// Reads a directory of `into.len()` entries, 16 bytes for each. The numbers of the objects must rise
+/// and be on the device. No slot may come twice or lie outside a log half.
+///
+/// Returns `BadDirectory` if the bytes spell no such directory; then `into` may hold any entries.
 #[tactic(auto, using(crate::proofs::Directories::directory_fits, crate::proofs::Directories::one_directory))]
 pub fn decode_directory(
     bytes: &[u8],

@@ -25,7 +25,7 @@ pub struct Extent {
     pub length: u64,
 }
 
-// How many sectors the frames of `count` nodes take.
+// Returns how many sectors the frames of `count` nodes take.
 fn nodes_length(version: Version, count: u64) -> u64
     requires { count ≤ 8192 }
     ensures { result ≡ nodes_length version count }
@@ -36,7 +36,7 @@ fn nodes_length(version: Version, count: u64) -> u64
     }
 }
 
-/// The sectors of a range.
+/// Returns the sectors of a home range: 9 for each page, and those of its version for nodes.
 pub fn range_extent(version: Version, geometry: Geometry, range: HomeRange) -> Extent
     requires { range.count ≤ 8192 }
     ensures { result ≡ range_extent version geometry range }
@@ -52,7 +52,7 @@ pub fn range_extent(version: Version, geometry: Geometry, range: HomeRange) -> E
     }
 }
 
-/// The sectors of a log half: its slots and its directory.
+/// Returns the sectors of a log half from `sector` on: 9 for each slot, and those of its directory.
 pub fn half_extent(geometry: Geometry, sector: u64) -> Extent
     requires { geometry.log ≤ 4096 }
     ensures { result ≡ half_extent geometry sector }
@@ -63,7 +63,7 @@ pub fn half_extent(geometry: Geometry, sector: u64) -> Extent
     }
 }
 
-/// Writes the sectors of ranges and of two log halves.
+/// Fills `into` with the sectors of all ranges, then of both log halves.
 #[tactic(auto, using(std::proofs::lemmas::List::take_all, crate::proofs::Extents::two_set))]
 pub fn fill_extents(
     version: Version,
@@ -86,19 +86,21 @@ pub fn fill_extents(
     into[ranges.len() + 1] = half_extent(geometry, half_1);
 }
 
+// Whether an extent lies behind the headers, which end at sector 5, and before sector `total`.
 fn is_within(total: u64, extent: Extent) -> bool
     ensures { IsTrue result ↔ IsWithin total extent }
 {
     extent.sector >= 5 && extent.length <= total && extent.sector <= total - extent.length
 }
 
-/// Whether all lie behind the headers and before the end.
+/// Whether all extents lie behind the headers, which end at sector 5, and before sector `total`.
 pub fn are_within(total: u64, extents: &[Extent]) -> bool
     ensures { IsTrue result ↔ All (IsWithin total) extents.now }
 {
     extents.iter().all(|extent| is_within(total, *extent))
 }
 
+// Whether no sector is in both extents.
 fn is_apart(extent: Extent, other: Extent) -> bool
     requires first { extent.sector + extent.length ≤ 131072 }
     requires second { other.sector + other.length ≤ 131072 }
@@ -107,6 +109,7 @@ fn is_apart(extent: Extent, other: Extent) -> bool
     extent.sector + extent.length <= other.sector || other.sector + other.length <= extent.sector
 }
 
+// Whether no sector of an extent is in one of the others.
 fn is_apart_from_all(extent: Extent, others: &[Extent]) -> bool
     requires first { extent.sector + extent.length ≤ 131072 }
     requires others { All (λ e. e.sector + e.length ≤ 131072) others.now }
@@ -120,7 +123,7 @@ fn is_apart_from_all(extent: Extent, others: &[Extent]) -> bool
     true
 }
 
-/// Whether no sector is in two of them.
+/// Whether no sector is in two of the extents.
 pub fn are_apart(extents: &[Extent]) -> bool
     requires { All (λ e. e.sector + e.length ≤ 131072) extents.now }
     ensures { IsTrue result ↔ AreApart extents.now }

@@ -1,4 +1,4 @@
-// What a few bytes say of a sector that may be damaged.
+// Single fields of sectors that may be damaged.
 ghost use Rattle.std.specs.Prelude.{◌≡◌, ◌≤◌, length};
 ghost use Rattle.layout.specs.FrameReader.{header_from};
 ghost use Rattle.layout.specs.Image.{total_in, sequence_in};
@@ -7,7 +7,7 @@ use crate::bytes::number_at;
 use crate::front::decode_front;
 use model::ObjectHeader;
 
-/// The total of sectors in the sector of a superblock, whatever its other bytes are.
+/// Returns how many sectors the image takes, by the sector of its superblock. No other byte is checked.
 #[tactic(auto, using(crate::proofs::Numbers::number_reported))]
 pub fn total_in(bytes: &[u8]) -> u64
     requires { 64 ≤ length bytes.now }
@@ -16,7 +16,7 @@ pub fn total_in(bytes: &[u8]) -> u64
     number_at(bytes, 56)
 }
 
-/// The sequence number in the sector of a header, whatever its other bytes are.
+/// Returns the sequence number in the sector of a header. No other byte is checked.
 #[tactic(auto, using(crate::proofs::Numbers::number_reported))]
 pub fn sequence_in(bytes: &[u8]) -> u64
     requires { 16 ≤ length bytes.now }
@@ -25,7 +25,7 @@ pub fn sequence_in(bytes: &[u8]) -> u64
     number_at(bytes, 8)
 }
 
-/// The header in the first 32 bytes of a frame, whatever its other bytes are.
+/// Returns the header in the first 32 bytes of a frame. No other byte is checked.
 pub fn header_in(bytes: &[u8]) -> ObjectHeader
     requires { 32 ≤ length bytes.now }
     ensures { result ≡ header_from bytes.now }

@@ -10,12 +10,11 @@ use crate::node_frame::{decode_node_frame, encode_node_frame};
 use crate::page_frame::{decode_page_frame, encode_page_frame};
 use model::{Cap, ContentRef, Geometry, ObjectHeader};
 
-/// Reads the frame of an object: the 1024 bytes of a node's number or the 4608 of a page's. The
-/// slots of a node or an annex and the words of a page are left in `scratch`, and no memory is
-/// taken.
+/// Reads the frame of an object: 1024 bytes for a node's number, 4608 for a page's. It puts the slots
+/// of a node or an annex and the words of a page into `scratch`, and allocates nothing.
 ///
-/// The frame is one that can be kept at the age and the number. All that is no spelling of such a
-/// frame is a `BadFrame`, which leaves anything in `scratch`.
+/// Returns `BadFrame` if the bytes spell no frame that an image of this age may hold at this number.
+/// Then `scratch` may hold any slots and words.
 pub fn decode_frame(
     bytes: &[u8],
     geometry: Geometry,
@@ -37,9 +36,10 @@ pub fn decode_frame(
     }
 }
 
-/// Writes the frame of an object: the 1024 bytes of a node's number or the 4608 of a page's. What
-/// can't be kept at the number has no spelling: a page at a node's number is written with void
-/// slots, and anything but a page at a page's number with words of 0.
+/// Writes the frame of an object: 1024 bytes for a node's number, 4608 for a page's.
+///
+/// Content that no image may hold at the number is lost. For a page at a node's number it writes void
+/// slots; for anything but a page at a page's number, words of 0.
 pub fn encode_frame(
     geometry: Geometry,
     number: u64,

@@ -1,6 +1,5 @@
-// Frames of objects at a sector of any device, and sectors read and written as a whole. Whoever
-// calls says where a frame lies; how it is read and written is said here once: what a read and a
-// write do to the device, and why nothing is read.
+// Reading and writing the frames of objects, and whole sectors, of any device. The caller says where
+// a frame lies. The contracts say what each call does to the device, and when it fails.
 mod clusters;
 mod frames;
 mod sectors;

@@ -7,7 +7,7 @@ ghost use Rattle.layout.specs.Frame.{front_numbers, role_in};
 use crate::bytes::{number_at, put_number};
 use model::{ObjectHeader, Role};
 
-// The role with a number, or free.
+// Returns the role with a number, or `Free` if no role has it.
 fn role_in(number: u64) -> Role
     ensures { result ≡ role_in number }
 {
@@ -21,14 +21,14 @@ fn role_in(number: u64) -> Role
     }
 }
 
-/// Whether the counts of a frame are at most the age.
+/// Whether both counts of a header are at most the age.
 pub fn has_counts(header: ObjectHeader, age: u64) -> bool
     ensures { IsTrue result ↔ (IsCount age header.allocations × IsCount age header.calls) }
 {
     header.allocations <= age && header.calls <= age
 }
 
-/// Writes the 32 bytes of the front of a frame.
+/// Writes the 32 bytes of the front of a frame. The bytes behind them stay.
 pub fn encode_front(header: ObjectHeader, into: &mut [u8])
     requires { 32 ≤ length into.old }
     ensures before { take 32 into.new ≡ front_numbers (role_number header.role) header }
@@ -40,8 +40,8 @@ pub fn encode_front(header: ObjectHeader, into: &mut [u8])
     put_number(into, 24, header.owner);
 }
 
-/// Reads the front of a frame: its first eight bytes as one number, which are its role and seven
-/// zeros, and the header, which is of a free object where the number is none of a role.
+/// Reads the first 32 bytes of a frame. Returns the first eight as one number, and the header. In a
+/// frame the number is that of the role; if no role has it, the header's role is `Free`.
 pub fn decode_front(bytes: &[u8]) -> (u64, ObjectHeader)
     requires { 32 ≤ length bytes.now }
     ensures bytes { bytes.now ≡ front_numbers result.0 result.1 ++ drop 32 bytes.now }

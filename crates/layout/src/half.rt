@@ -2,7 +2,7 @@
 ghost use Rattle.std.specs.Prelude.{◌≡◌};
 ghost use Rattle.layout.specs.Half.{half_of};
 
-/// A half of the log. Checkpoints take turns in them.
+/// A half of the log. Checkpoints use the halves in turn.
 #[derive(Clone, Copy)]
 pub enum Half {
     First,
@@ -10,7 +10,7 @@ pub enum Half {
 }
 
 impl Half {
-    /// The half that holds the checkpoint of a generation: the first holds the even ones.
+    /// Returns the half that holds the checkpoint of a generation: the first holds the even ones.
     pub fn of(generation: u64) -> Half
         ensures { result ≡ half_of generation }
     {

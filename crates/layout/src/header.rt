@@ -10,20 +10,20 @@ use model::MAX_AGE;
 // The bytes of EROSHEAD as a number.
 const HEADER_MAGIC: u64 = 0x4441_4548_534f_5245;
 
-/// What a header says of the committed checkpoint.
+/// The header of a checkpoint.
 #[derive(Clone, Copy)]
 pub struct CheckpointHeader {
     /// Counts the headers written. If two headers are open, the one with the greater number counts.
     pub sequence: u64,
-    /// Counts the checkpoints committed.
+    /// The number of the saved state: a commit raises it by 1, a journaled page by 2.
     pub generation: u64,
     /// How many objects lie in the log.
     pub entries: u64,
-    /// How many invocations and checkpoints there were when it was made.
+    /// The age of the saved state: its invocations, checkpoints and journaled pages.
     pub age: u64,
 }
 
-// Whether the fields of a header are within their limits.
+// Whether the fields of a header are within their limits, if a log half has `room` slots.
 fn is_header(room: u64, header: CheckpointHeader) -> bool
     ensures { IsTrue result ↔ IsHeader room header }
 {
@@ -52,8 +52,8 @@ pub fn encode_header(header: CheckpointHeader, into: &mut [u8])
     put_number(into, 32, header.age);
 }
 
-/// Reads the 512 bytes of a header's sector, on a device whose log half has `room` slots. All that
-/// is no spelling of such a header is a `BadHeader`.
+/// Reads the 512 bytes of a header's sector, on a device whose log half has `room` slots. Returns
+/// `BadHeader` if the bytes spell no header within the limits of such a device.
 pub fn decode_header(bytes: &[u8], room: u64) -> Result<CheckpointHeader, BadImage>
     requires { length bytes.now ≡ 512 }
     ensures found { IfOk result (λ h. IsHeader room h × (bytes.now ≡ header_bytes h)) }

@@ -13,8 +13,8 @@ pub fn spell_one_value()
     ensures superblock { SpellOneSuperblock }
 {}
 
-/// Bytes that spell a frame are read as that frame, by the reader that takes any bytes. It does
-/// nothing: its contract is the law.
+/// From bytes that spell a frame, the reader of any bytes reads that frame. It does nothing: its
+/// contract is the law.
 pub fn what_is_spelt_is_read()
     ensures { SpeltIsRead }
 {}

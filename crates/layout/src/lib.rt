@@ -1,5 +1,5 @@
-//! The bytes of an image: each structure has one spelling, and a decoder takes no other bytes. Frames and sectors
-//! are read and written at a sector of any device.
+//! The bytes of an image. Each structure has one spelling, and its decoder accepts no other bytes. Other functions
+//! read and write frames and sectors of any device.
 #![tactic(auto)]
 
 mod bad_image;

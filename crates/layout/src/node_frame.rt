@@ -21,7 +21,7 @@ use model::{Cap, Capability, ContentRef, Geometry, ObjectHeader, Root, State};
 /// How many bytes a frame with the number of a node takes.
 pub const NODE_FRAME_BYTES: usize = 1024;
 
-// The number that a capability is, or 0.
+// Returns the number of a `Number` capability, or 0 for any other.
 fn number_held(cap: Cap) -> u64
     ensures { result ≡ number_held cap }
 {
@@ -31,6 +31,7 @@ fn number_held(cap: Cap) -> u64
     }
 }
 
+// Returns the `Number` capability with a number.
 fn number_cap(number: u64) -> Cap
     ensures { result ≡ number_cap number }
 {
@@ -40,6 +41,7 @@ fn number_cap(number: u64) -> Cap
     }
 }
 
+// Returns the state with a number, or `Waiting` if no other state has it.
 fn state_in(number: u64) -> State
     ensures { result ≡ state_in number }
 {
@@ -50,7 +52,7 @@ fn state_in(number: u64) -> State
     }
 }
 
-// The root of a process that 32 slots would be.
+// Returns the root of a process in 32 slots, and checks none of them.
 fn root_from(slots: &[Cap]) -> Root<Cap>
     requires { length slots.now ≡ 32 }
     ensures { result ≡ root_from slots.now }
@@ -69,7 +71,7 @@ fn root_from(slots: &[Cap]) -> Root<Cap>
     }
 }
 
-// The slots of a root in which something else than void may stand.
+// Returns the first 8 of a root's 32 slots. The others are void.
 fn root_slots(root: &Root<Cap>) -> [Cap; 8]
     ensures slots { result ≡ root_slots root.now }
     ensures words { length root.now.words ≡ 4 }
@@ -87,7 +89,7 @@ fn root_slots(root: &Root<Cap>) -> [Cap; 8]
     ]
 }
 
-// The body that a role's number and 32 slots would be.
+// Returns the body with a role's number in 32 slots, and checks none of them. Without a role it is free.
 fn body_in(role: u64, slots: &[Cap]) -> Body
     requires { length slots.now ≡ 32 }
     ensures { result ≡ body_in role slots.now }
@@ -103,6 +105,7 @@ fn body_in(role: u64, slots: &[Cap]) -> Body
     }
 }
 
+// Whether 32 slots are those of a root, and its space is one that a process may have.
 #[tactic(auto, using(crate::proofs::Frames::root_tail))]
 fn is_root(root: &Root<Cap>, slots: &[Cap]) -> bool
     requires { length slots.now ≡ 32 }
@@ -113,6 +116,7 @@ fn is_root(root: &Root<Cap>, slots: &[Cap]) -> bool
     root.space.what.may_be_space() && are_held(&held, slots)
 }
 
+// Whether a frame with this role's number, owner and 32 slots has this body.
 fn is_body(body: &Body, role: u64, owner: u64, slots: &[Cap]) -> bool
     requires { length slots.now ≡ 32 }
     ensures { IsTrue result ↔ IsBody role owner slots.now (content_of body.now slots.now []) }
@@ -127,7 +131,7 @@ fn is_body(body: &Body, role: u64, owner: u64, slots: &[Cap]) -> bool
     }
 }
 
-// Whether a frame whose role's number is 0 is that of a free number.
+// Whether 1024 bytes with this header and without a role are the frame of a free node.
 fn is_free_node(header: ObjectHeader, age: u64, bytes: &[u8]) -> bool
     requires { length bytes.now ≡ 1024 }
     ensures { IsTrue result ↔ (IsCount age header.allocations × IsCount age header.calls)
@@ -136,9 +140,11 @@ fn is_free_node(header: ObjectHeader, age: u64, bytes: &[u8]) -> bool
     has_counts(header, age) && header.owner == 0 && is_blank_from(bytes, 32)
 }
 
-/// Reads the 1024 bytes of a frame with the number of a node. The slots of a node or an annex are
-/// left in `scratch`. All that is no spelling of such a frame is a `BadFrame`, which leaves any
-/// slots.
+/// Reads the 1024 bytes of a frame with the number of a node. It puts the slots of a node or an annex
+/// into `scratch`.
+///
+/// Returns `BadFrame` if the bytes spell no such frame that an image of this geometry and age may
+/// hold. Then `scratch` may hold any slots.
 pub fn decode_node_frame(
     bytes: &[u8],
     geometry: Geometry,
@@ -171,7 +177,7 @@ pub fn decode_node_frame(
     }
 }
 
-// Writes capabilities into a frame behind its front, and zeros behind them.
+// Writes capabilities into a frame from byte 32 on, 24 bytes each, and zeros behind them.
 fn put_slots(caps: &[Cap], into: &mut [u8])
     requires few { length caps.now ≤ 32 }
     requires size { length into.old ≡ 1024 }
@@ -183,8 +189,8 @@ fn put_slots(caps: &[Cap], into: &mut [u8])
     blank_from(into, end);
 }
 
-/// Writes the 1024 bytes of a frame with the number of a node. A page has no spelling here: it is
-/// written as void slots.
+/// Writes the 1024 bytes of a frame with the number of a node. For a page, which no node's number may
+/// have, it writes void slots.
 pub fn encode_node_frame(header: ObjectHeader, content: ContentRef<'_>, into: &mut [u8])
     requires { length into.old ≡ 1024 }
     ensures { into.new ≡ node_frame_bytes (record { header = header; content = content_behind content.entry }) }

@@ -20,7 +20,7 @@ pub const PAGE_FRAME_BYTES: usize = 4608;
 // Where the words of a page begin.
 const FRONT_BYTES: usize = 512;
 
-// Reads 512 words one after the other.
+// Fills `into` with the 512 words in 4096 bytes.
 #[tactic(auto, using(crate::proofs::Pages::words_read))]
 fn read_words(bytes: &[u8], into: &mut [u64])
     requires bytes { length bytes.now ≡ 4096 }
@@ -31,6 +31,7 @@ fn read_words(bytes: &[u8], into: &mut [u64])
     LittleEndian::read_u64_into(bytes, into);
 }
 
+// Sets all words of a page to those in 4096 bytes.
 fn decode_words(bytes: &[u8], into: &mut Words)
     requires { length bytes.now ≡ 4096 }
     ensures words { AreKeptWords 512 into.new }
@@ -39,6 +40,7 @@ fn decode_words(bytes: &[u8], into: &mut Words)
     read_words(bytes, into.as_mut_slice());
 }
 
+// Writes words one after the other, 8 bytes each.
 fn encode_words(words: &[u64], into: &mut [u8])
     requires { length into.old ≡ 8 * length words.now }
     ensures { into.new ≡ words_bytes words.now }
@@ -46,7 +48,7 @@ fn encode_words(words: &[u64], into: &mut [u8])
     LittleEndian::write_u64_into(words, into);
 }
 
-// Whether a frame with this role's number and owner is that of a free number, by its words.
+// Whether 4608 bytes with this role's number and owner are the frame of a free page.
 fn is_free_page(role: u64, owner: u64, bytes: &[u8]) -> bool
     requires { length bytes.now ≡ 4608 }
     ensures { IsTrue result ↔ (role ≡ 0) × (owner ≡ 0) × (drop 512 bytes.now ≡ zeros 4096) }
@@ -54,8 +56,11 @@ fn is_free_page(role: u64, owner: u64, bytes: &[u8]) -> bool
     role == 0 && owner == 0 && is_blank_from(bytes, FRONT_BYTES)
 }
 
-/// Reads the 4608 bytes of a frame with the number of a page. The words of a page are left in
-/// `scratch`. All that is no spelling of such a frame is a `BadFrame`, which leaves any words.
+/// Reads the 4608 bytes of a frame with the number of a page. It puts the words of a page into
+/// `scratch`.
+///
+/// Returns `BadFrame` if the bytes spell no such frame that an image of this age may hold. Then
+/// `scratch` may hold any words.
 pub fn decode_page_frame(
     bytes: &[u8],
     age: u64,
@@ -81,7 +86,7 @@ pub fn decode_page_frame(
     Err(BadImage::BadFrame)
 }
 
-// Writes the front of a frame, and zeros up to the words.
+// Writes the front of a frame, and zeros from there to byte 512, where the words begin.
 fn put_front(header: ObjectHeader, into: &mut [u8])
     requires { length into.old ≡ 4608 }
     ensures before { take 512 into.new ≡ front_bytes header ++ zeros 480 }
@@ -91,7 +96,7 @@ fn put_front(header: ObjectHeader, into: &mut [u8])
     encode_front(header, into);
 }
 
-/// Writes the 4608 bytes of the frame of a page with these words.
+/// Writes the 4608 bytes of the frame of a page with these 512 words.
 pub fn encode_page(header: ObjectHeader, words: &[u64], into: &mut [u8])
     requires size { length into.old ≡ 4608 }
     requires words { length words.now ≡ 512 }
@@ -102,8 +107,8 @@ pub fn encode_page(header: ObjectHeader, words: &[u64], into: &mut [u8])
     encode_words(words, &mut into[FRONT_BYTES..]);
 }
 
-/// Writes the 4608 bytes of a frame with the number of a page. What is neither free nor a page has
-/// no spelling here: it is written as words of 0.
+/// Writes the 4608 bytes of a frame with the number of a page. For anything but a page it writes words
+/// of 0: only a free object may have that number too.
 pub fn encode_page_frame(header: ObjectHeader, content: ContentRef<'_>, into: &mut [u8])
     requires { length into.old ≡ 4608 }
     ensures { into.new ≡ page_frame_bytes (record { header = header; content = content_behind content.entry }) }

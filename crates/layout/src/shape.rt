@@ -1,4 +1,4 @@
-// How frames lie in their sectors.
+// The shapes of frames in their sectors.
 ghost use Rattle.std.specs.Prelude.{◌≡◌};
 ghost use Rattle.layout.specs.Shape.{shape_length};
 
@@ -7,15 +7,15 @@ ghost use Rattle.layout.specs.Shape.{shape_length};
 pub enum Shape {
     /// A node's frame in 2 sectors of its own.
     Node,
-    /// A node's frame in a cluster of 8 sectors, without the zeros at its end: the 800 bytes from
-    /// 800 times this rank on, which is below 5.
+    /// A node's frame in a cluster of 8 sectors, without the zeros at its end. It takes the 800 bytes
+    /// from 800 times this rank on. The rank is below 5.
     Packed(u64),
     /// A page's frame in 9 sectors of its own.
     Page,
 }
 
 impl Shape {
-    /// How many sectors these are.
+    /// Returns how many sectors these are.
     pub fn length(self) -> u64
         ensures { result ≡ shape_length self }
     {

@@ -10,7 +10,7 @@ use crate::bad_image::BadImage;
 use crate::capability::{CAPABILITY_BYTES, decode_capability, encode_capability};
 use model::{Cap, Geometry, Slots};
 
-// Whether all are void.
+// Whether all capabilities are void.
 fn are_void(caps: &[Cap]) -> bool
     ensures { IsTrue result ↔ All (λ c. c ≡ void_held) caps.now }
 {
@@ -18,13 +18,14 @@ fn are_void(caps: &[Cap]) -> bool
     caps.iter().all(|cap| *cap == void)
 }
 
+// Whether both slices hold the same capabilities.
 fn are_same(caps: &[Cap], others: &[Cap]) -> bool
     ensures { IsTrue result ↔ (caps.now ≡ others.now) }
 {
     caps == others
 }
 
-/// Whether 32 slots hold these capabilities first, and void ones behind them.
+/// Whether 32 slots hold `caps` first, and void capabilities behind them.
 pub fn are_held(caps: &[Cap], slots: &[Cap]) -> bool
     requires size { length slots.now ≡ 32 }
     requires few { length caps.now ≤ 32 }
@@ -33,7 +34,7 @@ pub fn are_held(caps: &[Cap], slots: &[Cap]) -> bool
     are_same(&slots[..caps.len()], caps) && are_void(&slots[caps.len()..])
 }
 
-/// Writes capabilities one after the other.
+/// Writes capabilities one after the other, 24 bytes each.
 #[tactic(auto, using(crate::proofs::SlotLists::slot_written))]
 pub fn encode_slots(caps: &[Cap], into: &mut [u8])
     requires { length into.old ≡ 24 * length caps.now }
@@ -45,7 +46,8 @@ pub fn encode_slots(caps: &[Cap], into: &mut [u8])
     }
 }
 
-/// Reads 32 capabilities.
+/// Reads 32 capabilities from 768 bytes. Returns `BadFrame` if one of them is not spelt there, or is one
+/// that an image of this geometry and age may not hold. Then `into` may hold any capabilities.
 pub fn decode_slots(
     bytes: &[u8],
     geometry: Geometry,

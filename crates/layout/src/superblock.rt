@@ -20,25 +20,29 @@ use device::MAX_SECTORS;
 use model::Geometry;
 use std::marker::Model;
 
-/// How many home ranges a device may have.
+/// The greatest number of home ranges.
 pub const MAX_RANGES: usize = 8;
 
 // The bytes of EROSCKPT as a number.
 const SUPERBLOCK_MAGIC: u64 = 0x5450_4b43_534f_5245;
 
+// How many bytes a home range takes.
 const RANGE_BYTES: usize = 24;
 
-// Where the ranges stand in the sector, and where the zeros behind them begin.
+// Where the ranges begin in the sector.
 const RANGES_AT: usize = 64;
 
+// Where the zeros behind them begin.
 const RANGES_END: usize = 256;
 
+// A range that is not used.
 const UNUSED: HomeRange = HomeRange {
     first: 0,
     count: 0,
     sector: 0,
 };
 
+// Whether the numbers of nodes, pages and log slots are within their limits.
 fn is_geometry(geometry: Geometry) -> bool
     ensures { IsTrue result ↔ IsGeometry geometry }
 {
@@ -48,6 +52,7 @@ fn is_geometry(geometry: Geometry) -> bool
     nodes && pages && log
 }
 
+// Whether a range begins at number `next`, is not empty, and is of nodes alone or of pages alone.
 fn is_next(geometry: Geometry, range: HomeRange, next: u64) -> bool
     requires { geometry.nodes + geometry.pages ≤ 8192 }
     ensures { IsTrue result ↔ IsNext geometry range next }
@@ -57,6 +62,7 @@ fn is_next(geometry: Geometry, range: HomeRange, next: u64) -> bool
     range.first == next && range.count > 0 && is_of_one_kind
 }
 
+// Whether the ranges have the numbers of all objects in their order, each once.
 #[tactic(auto, using(crate::proofs::Extents::not_covered))]
 fn do_cover(geometry: Geometry, ranges: &[HomeRange]) -> bool
     requires { IsGeometry geometry }
@@ -73,6 +79,7 @@ fn do_cover(geometry: Geometry, ranges: &[HomeRange]) -> bool
     next == end
 }
 
+// Whether a superblock may have these parts, as `Superblock::new` takes them.
 #[tactic(auto, using(crate::proofs::Extents::ranges_within))]
 fn is_plan(
     version: Version,
@@ -99,8 +106,8 @@ fn is_plan(
     are_within(total, used) && are_apart(used)
 }
 
-/// How much a device holds, and where. Only what fits the limits is a superblock: the ranges cover
-/// all objects, and no sector is in two ranges or halves of the log.
+/// How much a device holds, and where. Each superblock is within the limits of the format: its ranges
+/// cover all objects, and no sector is in two ranges or halves of the log.
 #[derive(Drop)]
 pub struct Superblock {
     version: Version,
@@ -125,8 +132,8 @@ impl Model for Superblock {
 }
 
 impl Superblock {
-    /// The superblock with these parts: the version of the layout, home ranges, the first sectors of both log
-    /// halves, and how many sectors the image takes. `None` where they are outside the limits.
+    /// Returns the superblock with these parts, or `None` exactly if they are outside the limits. `half_0` and
+    /// `half_1` are the first sectors of the log halves, and `total` is how many sectors the image takes.
     pub fn new(
         version: Version,
         geometry: Geometry,
@@ -157,7 +164,7 @@ impl Superblock {
         })
     }
 
-    /// Another superblock with the same parts.
+    /// Returns another superblock with the same parts.
     pub fn copy(&self) -> Self
         ensures { result ≡ self.now }
     {
@@ -172,7 +179,7 @@ impl Superblock {
         }
     }
 
-    /// The version of the layout.
+    /// Returns the version of the layout.
     pub fn version(&self) -> Version
         ensures value { result ≡ self.now.version }
         ensures fits { IsPlan self.now }
@@ -180,7 +187,7 @@ impl Superblock {
         self.version
     }
 
-    /// How many objects the device holds.
+    /// Returns how many nodes, pages and log slots there are.
     pub fn geometry(&self) -> Geometry
         ensures value { result ≡ self.now.geometry }
         ensures fits { IsPlan self.now }
@@ -188,7 +195,7 @@ impl Superblock {
         self.geometry
     }
 
-    /// The home ranges, in the order of their numbers.
+    /// Returns the home ranges, in the order of their numbers.
     pub fn ranges(&self) -> &[HomeRange]
         ensures value { result.now ≡ self.now.ranges }
         ensures fits { IsPlan self.now }
@@ -196,7 +203,7 @@ impl Superblock {
         &self.ranges[..self.used]
     }
 
-    /// The range that has a number.
+    /// Returns the range that has a number, or `None` if none has it.
     pub fn range_with(&self, number: u64) -> Option<HomeRange>
         ensures value { result ≡ range_with self.now.ranges number }
         ensures has { IfSome result (λ r. (r.first ≤ number) × (number < r.first + r.count)) }
@@ -205,7 +212,7 @@ impl Superblock {
         range_with(self.ranges(), number)
     }
 
-    // Which of the five of a cluster a number is, counted in its range.
+    // Returns the rank in its cluster, 0 to 4, that a number has if it is a node's.
     fn rank(&self, number: u64) -> u64
         ensures value { result ≡ rank_in (range_with self.now.ranges number) number }
         ensures below { result < 5 }
@@ -216,7 +223,7 @@ impl Superblock {
         }
     }
 
-    /// How the frame of an object lies in the sectors from where it begins, at home as in the log.
+    /// Returns the shape of the frame of an object, which is the same at home and in the log.
     pub fn shape(&self, number: u64) -> Shape
         ensures value { result ≡ shape_of self.now number }
         ensures fits { IsShapeFor self.now.geometry number result }
@@ -231,7 +238,7 @@ impl Superblock {
         }
     }
 
-    /// The first sector of a half of the log.
+    /// Returns the first sector of a half of the log.
     pub fn half(&self, half: Half) -> u64
         ensures value { result ≡ half_start self.now half }
         ensures fits { IsPlan self.now }
@@ -242,7 +249,7 @@ impl Superblock {
         }
     }
 
-    /// How many sectors the image takes.
+    /// Returns how many sectors the image takes.
     pub fn total(&self) -> u64
         ensures value { result ≡ self.now.total }
         ensures fits { IsPlan self.now }
@@ -251,6 +258,7 @@ impl Superblock {
     }
 }
 
+// Fills `into` with the ranges in the bytes, 24 bytes for each, and checks none of them.
 fn read_ranges(bytes: &[u8], into: &mut [HomeRange])
     requires { length bytes.now ≡ 24 * length into.old }
     ensures bytes { bytes.now ≡ ranges_bytes into.new }
@@ -266,6 +274,7 @@ fn read_ranges(bytes: &[u8], into: &mut [HomeRange])
     }
 }
 
+// Writes ranges one after the other, 24 bytes each.
 #[tactic(auto, using(crate::proofs::Superblocks::no_range))]
 fn write_ranges(ranges: &[HomeRange], into: &mut [u8])
     requires { length into.old ≡ 24 * length ranges.now }
@@ -279,6 +288,7 @@ fn write_ranges(ranges: &[HomeRange], into: &mut [u8])
     }
 }
 
+// Whether all ranges are unused.
 fn are_unused(ranges: &[HomeRange]) -> bool
     ensures { IsTrue result ↔ All (λ r. r ≡ unused) ranges.now }
 {
@@ -306,8 +316,8 @@ pub fn encode_superblock(superblock: &Superblock, into: &mut [u8])
     write_ranges(ranges, &mut into[RANGES_AT..end]);
 }
 
-// The version in a superblock's sector. `None` where the magic, the version or a byte behind the
-// ranges isn't a superblock's.
+// Returns the version in a superblock's sector. Returns `None` for another magic, a version other
+// than 1 and 2, or a byte behind the ranges that isn't 0.
 fn version_in(bytes: &[u8]) -> Option<Version>
     requires { length bytes.now ≡ 512 }
     ensures mark { IfSome result (λ _. HasMark bytes.now) }
@@ -322,8 +332,8 @@ fn version_in(bytes: &[u8]) -> Option<Version>
     Version::with_number(second % 4294967296)
 }
 
-// Reads the rest of a superblock's sector, whose magic and version are as they must be. `None`
-// where it is no spelling of a superblock.
+// Reads the rest of a superblock's sector, whose magic and version are right. Returns `None` if it
+// spells no superblock.
 fn read_plan(version: Version, bytes: &[u8]) -> Option<Superblock>
     requires size { length bytes.now ≡ 512 }
     requires mark { HasMark bytes.now }
@@ -350,9 +360,10 @@ fn read_plan(version: Version, bytes: &[u8]) -> Option<Superblock>
     Superblock::new(version, geometry, &ranges[..used], half_0, half_1, total)
 }
 
-/// Reads the 512 bytes of a superblock's sector. Another magic, a version other than 1 and 2, or a
-/// byte behind the ranges that isn't 0, is `NotASuperblock`; all else that is no spelling of a
-/// superblock is a `BadGeometry`.
+/// Reads the 512 bytes of a superblock's sector.
+///
+/// Returns `NotASuperblock` for another magic, a version other than 1 and 2, or a byte behind the
+/// ranges that isn't 0. Returns `BadGeometry` if the bytes spell no superblock for another reason.
 pub fn decode_superblock(bytes: &[u8]) -> Result<Superblock, BadImage>
     requires { length bytes.now ≡ 512 }
     ensures found { IfOk result (λ s. bytes.now ≡ superblock_bytes s) }

@@ -16,7 +16,7 @@ fn blank(bytes: &mut [u8])
     bytes.fill(0);
 }
 
-/// Makes the bytes of a cluster 0 that lie behind its first `nodes` places. The frames in these places stay.
+/// Sets the bytes behind the first `nodes` places of a cluster to 0. The frames in these places stay.
 #[tactic(auto, using(crate::proofs::Zeros::places_stay))]
 pub fn blank_behind(cluster: &mut [u8], nodes: u64)
     requires nodes { nodes ≤ 5 }

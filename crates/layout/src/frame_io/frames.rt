@@ -26,7 +26,7 @@ use model::{Cap, ContentRef, Geometry, ObjectHeader};
 const PLACES: u64 = 5;
 
 /// Fills the 1024 bytes of `node` with the frame of a rank in the cluster of 8 sectors from `at` on.
-/// It returns `Failed` exactly where the device failed; then `node` may hold any bytes.
+/// Returns `Failed` exactly if the device failed; then `node` may hold any bytes.
 pub fn read_packed<D: Device>(
     device: &mut D,
     at: u64,
@@ -48,7 +48,8 @@ pub fn read_packed<D: Device>(
     Ok(())
 }
 
-// Reads the frame of an object of this shape by way of a buffer of the frame's size.
+// Reads the frame of an object of this shape, as `read_frame` does, through a buffer of the frame's
+// size.
 #[inline(always)]
 fn read_buffered<D: Device>(
     device: &mut D,
@@ -80,12 +81,11 @@ fn read_buffered<D: Device>(
     Ok(read)
 }
 
-/// Reads the frame of an object of this shape from the sectors from `at` on. The slots of a node or
-/// an annex and the words of a page are left in `scratch`, and no memory is taken.
+/// Reads the frame of an object of this shape from the sectors from `at` on. It puts the slots of a
+/// node or an annex and the words of a page into `scratch`, and allocates nothing.
 ///
-/// It is refused by `Failed` exactly where the device failed, and by `BadImage::BadFrame` exactly
-/// where the sectors spell no frame that can be kept at the age. Either leaves anything in
-/// `scratch`.
+/// Returns `Failed` exactly if the device failed. Returns `BadFrame` exactly if the sectors spell no
+/// frame that an image of this age may hold. After either, `scratch` may hold any slots and words.
 pub fn read_frame<D: Device>(
     device: &mut D,
     at: u64,
@@ -114,9 +114,10 @@ pub fn read_frame<D: Device>(
     }
 }
 
-/// Reads the header of the frame that lies in the sectors from `at` on, which are its own, whatever
-/// else they hold: the first of them is read alone. It is refused exactly where the device failed. No memory is
-/// taken.
+/// Returns the header of the frame in the sectors from `at` on, which hold no other frame. It reads
+/// only the first of them, checks no other byte, and allocates nothing.
+///
+/// Returns `Failed` exactly if the device failed.
 #[tactic(auto, using(crate::proofs::Runs::header_at_is))]
 pub fn read_header<D: Device>(device: &mut D, at: u64) -> Result<ObjectHeader, Failed>
     requires inside { at < (D.disk device.old).sectors }
@@ -129,10 +130,10 @@ pub fn read_header<D: Device>(device: &mut D, at: u64) -> Result<ObjectHeader, F
     Ok(header_in(&first))
 }
 
-/// Writes the frame of a page with these words into the 9 sectors from `at` on, and touches those
-/// alone: a crash at any moment leaves all other sectors as they could have been left before. It is
-/// refused exactly where the device fails, and those sectors may then hold any bytes. No memory is
-/// taken.
+/// Writes the frame of a page with these words into the 9 sectors from `at` on, and allocates nothing.
+/// For all other sectors it changes neither their bytes nor what a crash may leave in them.
+///
+/// Returns `Failed` exactly if the device failed; then the 9 sectors may hold any bytes.
 pub fn write_page<D: Device>(
     device: &mut D,
     at: u64,
@@ -151,7 +152,8 @@ pub fn write_page<D: Device>(
     write_sectors(device, at, 9, &bytes)
 }
 
-// Writes the frame of an object of this shape by way of a buffer of the frame's size.
+// Writes the frame of an object of this shape, as `write_frame` does, through a buffer of the frame's
+// size.
 #[inline(always)]
 fn write_buffered<D: Device>(
     device: &mut D,
@@ -185,10 +187,11 @@ fn write_buffered<D: Device>(
     }
 }
 
-/// Writes the frame of an object of this shape into the sectors from `at` on, and touches those
-/// alone: a crash at any moment leaves all other sectors as they could have been left before. In a
-/// cluster all bytes beside the frame are 0. It is refused exactly where the device fails,
-/// and those sectors may then hold any bytes. No memory is taken.
+/// Writes the frame of an object of this shape into the sectors from `at` on, and allocates nothing.
+/// In a cluster it sets all bytes beside the frame to 0. For all other sectors it changes neither
+/// their bytes nor what a crash may leave in them.
+///
+/// Returns `Failed` exactly if the device failed; then the sectors of the shape may hold any bytes.
 pub fn write_frame<D: Device>(
     device: &mut D,
     at: u64,

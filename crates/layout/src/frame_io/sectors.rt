@@ -1,4 +1,4 @@
-// One read or one write of whole sectors, said of their bytes as a whole.
+// One read or one write of several sectors, with a contract over their bytes in one list.
 ghost use Rattle.std.specs.Prelude.{◌≡◌, ◌+◌, ◌*◌, ◌≤◌, length, OnOk};
 ghost use Rattle.device.specs.Calls.{Counts};
 ghost use Rattle.layout.specs.Image.{sectors_from};
@@ -6,8 +6,8 @@ ghost use Rattle.layout.specs.Calls.{ReadsOnly, WritesAt};
 
 use device::{Device, Failed};
 
-/// Fills `into` with `sectors` sectors from `at` on. It returns `Failed` exactly where the device
-/// failed; then `into` may hold any bytes.
+/// Fills `into` with `sectors` sectors from `at` on. Returns `Failed` exactly if the device failed;
+/// then `into` may hold any bytes.
 #[tactic(auto, using(crate::proofs::Runs::run_is))]
 pub fn read_sectors<D: Device>(
     device: &mut D,
@@ -26,7 +26,7 @@ pub fn read_sectors<D: Device>(
 }
 
 /// Writes `from` into `sectors` sectors from `at` on. Until a sync a crash may leave any bytes in
-/// them. It returns `Failed` exactly where the device failed; then they may hold any bytes.
+/// them. Returns `Failed` exactly if the device failed; then they may hold any bytes.
 #[tactic(auto, using(crate::proofs::Runs::run_is))]
 pub fn write_sectors<D: Device>(
     device: &mut D,
