@@ -29,6 +29,7 @@ pub use Rattle.layout.specs.Image.{HasBadDirectory, HasBadHeader, HasDirectory, 
 pub use Rattle.layout.specs.Image.{committed_of, committed_slot, directory_in, directory_sector, does_count, frame_in, frame_sector, option_at, sequence_in}
 pub use Rattle.layout.specs.Image.{shaped_at, slot_beside, slot_in, slot_sector, total_in}
 unfoldable pub use Rattle.layout.specs.Image.{sectors_from}
+pub use Rattle.layout.specs.Reason.{reason_number}
 pub use Rattle.layout.specs.Shape.{shape_bytes}
 pub use Rattle.layout.specs.Superblock.{HasMark, IsPlan, Plan, unused, version_number}
 unfoldable pub use Rattle.layout.specs.Superblock.{ranges_bytes, superblock_bytes}
@@ -75,7 +76,7 @@ pub use Rattle.image_explainer.specs.Finding.{HasRoot, IsConsistentOr, IsMatched
 pub use Rattle.image_explainer.specs.SectorBreaking.{BreaksDirectory, HoldsCap, IsFault}
 pub use Rattle.image_explainer.specs.SectorFinding.{BreaksSector, FitsOr, HasHeaderIn, HasNoneIn, IsAmong, IsCopy, IsWhole, IsWholeFrame, RefusesHeader, picked}
 pub use Rattle.image_explainer.specs.SectorFinding.{slot_of}
-pub use Rattle.image_explainer.specs.Text.{directory_part_text, frame_part_text, header_part_text, not_counted_text, place_text, reason_number}
+pub use Rattle.image_explainer.specs.Text.{directory_part_text, frame_part_text, header_part_text, not_counted_text, place_text}
 unfoldable pub use Rattle.image_explainer.specs.Text.{fault_text}
 pub use Rattle.image_explainer.specs.declared.fault.ImageFault.{ImageFault}
 pub use Rattle.image_explainer.specs.declared.fault.Misnamed.{Misnamed}

@@ -5,8 +5,7 @@ use Rattle.model.specs.declared.capability.Capability.TheVariants as cap
 use Rattle.model.specs.declared.object.Role.{Role}
 use Rattle.model.specs.declared.object.Role.TheVariants as role
 use Rattle.model.specs.Text.{capability_text, spaced}
-use Rattle.layout.specs.declared.bad_image.BadImage.{BadImage}
-use Rattle.layout.specs.declared.bad_image.BadImage.TheVariants as bad
+pub use Rattle.layout.specs.Reason.{reason_number}
 use Rattle.recovery.specs.declared.consistency.reason.Unbanked.{Unbanked}
 use Rattle.recovery.specs.declared.consistency.reason.Unbanked.TheVariants as unbanked
 use Rattle.image_explainer.specs.declared.sectors.fault.DirectoryPart.{DirectoryPart}
@@ -33,19 +32,6 @@ use Rattle.image_explainer.specs.Breaking.{reason_of}
 -- a word and a number
 abbrev pub numbered : List ℕ → ℕ → List ℕ
 numbered word n = spaced (word ∷ decimal n ∷ [])
-
--- the number of a reason to refuse an image, as `check` reports it
-abbrev pub reason_number : BadImage → ℕ
-reason_number bad.Small = 1
-reason_number bad.NotASuperblock = 2
-reason_number bad.BadGeometry = 3
-reason_number bad.NoHeader = 4
-reason_number bad.BadHeader = 5
-reason_number bad.BadDirectory = 6
-reason_number bad.BadFrame = 7
-reason_number bad.BadCapability = 8
-reason_number bad.BadProcess = 9
-reason_number bad.BadBank = 10
 
 abbrev pub superblock_text : SuperblockPart → List ℕ
 superblock_text superblock.Magic = codes "superblock: the magic is not EROSCKPT"

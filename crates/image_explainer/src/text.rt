@@ -1,7 +1,8 @@
 // The line about a fault.
 ghost use Rattle.std.specs.Prelude.{◌≡◌, ◌+◌, ◌++◌, ◌∷◌, ◌≤◌, codes, decimal, length};
+ghost use Rattle.layout.specs.Reason.{reason_number};
 ghost use Rattle.image_explainer.specs.Text.{fault_text, holder_text, kind_text, misnamed_text};
-ghost use Rattle.image_explainer.specs.Text.{place_text, reason_number, sectors_text, unbanked_text, unmatched_text};
+ghost use Rattle.image_explainer.specs.Text.{place_text, sectors_text, unbanked_text, unmatched_text};
 ghost use Rattle.image_explainer.specs.Text.{directory_part_text, directory_text, frame_part_text, frame_text};
 ghost use Rattle.image_explainer.specs.Text.{geometry_text, header_part_text, header_text, no_header_text};
 ghost use Rattle.image_explainer.specs.Text.{not_counted_text, numbered, superblock_text};
@@ -404,11 +405,11 @@ fn sector_reason_of(fault: SectorFault) -> BadImage
     }
 }
 
-/// The number of a reason to refuse an image, as `check` answers it.
+/// Returns the number of a reason to refuse an image: `BadImage::number`.
 pub fn reason_number(reason: BadImage) -> u64
     ensures { result ≡ reason_number reason }
 {
-    reason as u64
+    reason.number()
 }
 
 impl ImageFault {
@@ -448,7 +449,7 @@ impl ImageFault {
     {
         let mut line = self.place();
         line.push(b" (bad image");
-        line.number(reason_number(self.reason()));
+        line.number(self.reason().number());
         line.push(b")");
         line
     }

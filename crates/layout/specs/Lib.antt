@@ -18,3 +18,4 @@ pub mod Calls
 pub mod Clusters
 pub mod Fault
 pub mod Frames
+pub mod Reason

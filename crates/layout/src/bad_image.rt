@@ -1,4 +1,7 @@
 // The reasons to refuse an image.
+ghost use Rattle.std.specs.Prelude.{◌≡◌, ◌≤◌};
+ghost use Rattle.layout.specs.Reason.{reason_number};
+
 use thiserror::Error;
 
 /// A reason to refuse an image: the least of those that hold.
@@ -24,4 +27,14 @@ pub enum BadImage {
     BadProcess = 9,
     #[error("an object hasn't an owner within its limit")]
     BadBank = 10,
+}
+
+impl BadImage {
+    /// Returns the number of the reason: 1 to 10, in the order above.
+    pub fn number(self) -> u64
+        ensures value { result ≡ reason_number self }
+        ensures most { result ≤ 10 }
+    {
+        self as u64
+    }
 }

@@ -3,5 +3,5 @@ use Rattle.image_explainer.proofs.fault.ImageFault.line.Goals as goal
 
 pub returns-clause-text : goal.returns-clause-text
 returns-clause-text c =
-    said c.args.self c.reason.result c.reason_number.result c.place-line.result c.push.new.self c.number.new.self c.push-2.new.self
-    c.place-line.ensures.text c.push.ensures c.reason.ensures c.reason_number.ensures c.number.ensures.text c.push-2.ensures
+    said c.args.self c.reason.result c.number.result c.place-line.result c.push.new.self c.number-2.new.self c.push-2.new.self
+    c.place-line.ensures.text c.push.ensures c.reason.ensures c.number.ensures.value c.number-2.ensures.text c.push-2.ensures
