@@ -7,7 +7,7 @@ ghost use Rattle.layout.specs.Superblock.{IsPlan};
 ghost use Rattle.layout.specs.Frames.{IsObject};
 ghost use Rattle.home_ranges.specs.Home.{EndsInZeros, HaveHome};
 
-use layout::{HomeRange, Shape, Superblock, Version, blank_behind};
+use layout::{CLUSTER_NODES, CLUSTER_SECTORS, HomeRange, Shape, Superblock, Version, blank_behind};
 use model::Geometry;
 use std::marker::Model;
 
@@ -32,7 +32,7 @@ fn node_offset(version: Version, i: u64) -> u64
 {
     match version {
         Version::One => 2 * i,
-        Version::Two => 8 * (i / 5),
+        Version::Two => CLUSTER_SECTORS * (i / CLUSTER_NODES),
     }
 }
 
@@ -95,7 +95,10 @@ impl<'a> Home<'a> {
     {
         match self.superblock.range_with(number) {
             Some(range) => match self.shape(number) {
-                Shape::Packed(rank) => (range.count - (number - range.first)).min(5 - rank),
+                Shape::Packed(rank) => {
+                    let rest = range.count - (number - range.first);
+                    rest.min(CLUSTER_NODES - rank)
+                }
                 Shape::Node => 1,
                 Shape::Page => 1,
             },

@@ -17,12 +17,10 @@ ghost use Rattle.image_writer.specs.Homes.{AreFramesOf, LieAt};
 use device::{Device, Failed};
 use home_ranges::Home;
 use layout::{
-    CLUSTER_BYTES, NODE_FRAME_BYTES, Shape, encode_frame, pack_node, write_frame, write_sectors,
+    CLUSTER_BYTES, CLUSTER_SECTORS, NODE_FRAME_BYTES, Shape, encode_frame, pack_node, write_frame,
+    write_sectors,
 };
 use model::{Cap, Content, Geometry, ObjectHeader};
-
-// How many sectors a cluster takes.
-const CLUSTER_SECTORS: usize = 8;
 
 // Puts the frame of a node's number into the place of a rank in a cluster. Those of the other ranks stay.
 #[tactic(auto, using(layout::proofs::Clusters::node_end))]
@@ -111,7 +109,7 @@ fn write_cluster<D: Device>(
 {
     let mut cluster = [0; CLUSTER_BYTES];
     fill_cluster(home, number - rank, headers, contents, &mut cluster);
-    write_sectors(device, at, CLUSTER_SECTORS, &cluster)
+    write_sectors(device, at, CLUSTER_SECTORS as usize, &cluster)
 }
 
 /// Writes the frames of all objects with the home of `number` into the sectors from `at` on, as they lie at home.

@@ -9,8 +9,14 @@ use crate::shape::Shape;
 /// How many bytes a cluster takes.
 pub const CLUSTER_BYTES: usize = 4096;
 
-// The bytes of a node's frame but for the zeros at its end.
-const PACKED_BYTES: usize = 800;
+/// How many sectors a cluster takes.
+pub const CLUSTER_SECTORS: u64 = 8;
+
+/// How many frames of nodes a cluster has.
+pub const CLUSTER_NODES: u64 = 5;
+
+// How many bytes a node's frame takes without the zeros at its end.
+pub(crate) const PACKED_BYTES: usize = 800;
 
 /// Copies a node's frame from the place of its rank in the 4096 bytes of a cluster into the 1024
 /// bytes of `node`.

@@ -3,6 +3,7 @@ ghost use Rattle.std.specs.Prelude.{◌≡◌, ◌+◌, ◌<◌, ◌≤◌, ◌+
 ghost use Rattle.std.specs.List.{All};
 ghost use Rattle.layout.specs.Superblock.{nodes_length, range_extent, half_extent, IsWithin, IsApart, AreApart};
 
+use crate::cluster::{CLUSTER_NODES, CLUSTER_SECTORS};
 use crate::version::Version;
 use model::Geometry;
 
@@ -32,7 +33,7 @@ fn nodes_length(version: Version, count: u64) -> u64
 {
     match version {
         Version::One => 2 * count,
-        Version::Two => 8 * ((count + 4) / 5),
+        Version::Two => CLUSTER_SECTORS * ((count + CLUSTER_NODES - 1) / CLUSTER_NODES),
     }
 }
 

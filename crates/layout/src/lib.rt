@@ -29,7 +29,7 @@ mod version;
 pub use bad_image::BadImage;
 pub use body::{Body, Scratch};
 pub use capability::{CAPABILITY_BYTES, decode_capability, encode_capability};
-pub use cluster::{CLUSTER_BYTES, pack_node, unpack_node};
+pub use cluster::{CLUSTER_BYTES, CLUSTER_NODES, CLUSTER_SECTORS, pack_node, unpack_node};
 pub use directory::{ENTRY_BYTES, Entry, MAX_LOG, decode_directory, encode_directory};
 pub use extent::{Extent, HomeRange, half_extent, range_extent};
 pub use fields::{header_in, sequence_in, total_in};

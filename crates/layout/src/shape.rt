@@ -2,6 +2,8 @@
 ghost use Rattle.std.specs.Prelude.{◌≡◌};
 ghost use Rattle.layout.specs.Shape.{shape_length};
 
+use crate::cluster::CLUSTER_SECTORS;
+
 /// How the frame of an object lies in the sectors from where it begins.
 #[derive(Clone, Copy)]
 pub enum Shape {
@@ -21,7 +23,7 @@ impl Shape {
     {
         match self {
             Shape::Node => 2,
-            Shape::Packed(_) => 8,
+            Shape::Packed(_) => CLUSTER_SECTORS,
             Shape::Page => 9,
         }
     }

@@ -11,6 +11,7 @@ ghost use Rattle.layout.specs.Superblock.{half_start};
 
 use crate::bad_image::BadImage;
 use crate::bytes::{blank, is_blank_from, number_at, put_number};
+use crate::cluster::CLUSTER_NODES;
 use crate::extent::{Extent, HomeRange, are_apart, are_within, fill_extents};
 use crate::half::Half;
 use crate::homes::range_with;
@@ -218,7 +219,7 @@ impl Superblock {
         ensures below { result < 5 }
     {
         match self.range_with(number) {
-            Some(range) => (number - range.first) % 5,
+            Some(range) => (number - range.first) % CLUSTER_NODES,
             None => 0,
         }
     }

@@ -1,20 +1,11 @@
 // Zeros in a cluster.
 ghost use Rattle.std.specs.Prelude.{◌≡◌, ◌<◌, ◌≤◌, ℕ, length};
-ghost use Rattle.layout.specs.Bytes.{zeros};
 ghost use Rattle.layout.specs.declared.shape.Shape.TheVariants as shape;
 ghost use Rattle.layout.specs.Shape.{shape_bytes};
 ghost use Rattle.layout.specs.Clusters.{IsBlankBehind};
 
-// The bytes of a node's place in a cluster.
-const PLACE_BYTES: usize = 800;
-
-// Makes all bytes 0.
-#[tactic(auto, using(crate::proofs::Numbers::all_blank))]
-fn blank(bytes: &mut [u8])
-    ensures { bytes.new ≡ zeros (length bytes.old) }
-{
-    bytes.fill(0);
-}
+use crate::bytes::blank;
+use crate::cluster::PACKED_BYTES;
 
 /// Sets the bytes behind the first `nodes` places of a cluster to 0. The frames in these places stay.
 #[tactic(auto, using(crate::proofs::Zeros::places_stay))]
@@ -26,5 +17,5 @@ pub fn blank_behind(cluster: &mut [u8], nodes: u64)
         shape_bytes (shape.Packed rank) cluster.new ≡ shape_bytes (shape.Packed rank) cluster.old }
     ensures size { length cluster.new ≡ 4096 }
 {
-    blank(&mut cluster[PLACE_BYTES * nodes as usize..]);
+    blank(&mut cluster[PACKED_BYTES * nodes as usize..]);
 }

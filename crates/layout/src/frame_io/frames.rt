@@ -16,14 +16,11 @@ use crate::frame_io::clusters::blank_behind;
 use crate::frame_io::sectors::{read_sectors, write_sectors};
 use crate::open_fault::OpenFault;
 use crate::{
-    Body, CLUSTER_BYTES, NODE_FRAME_BYTES, PAGE_FRAME_BYTES, Scratch, Shape, decode_frame,
-    encode_frame, encode_page, header_in, pack_node, unpack_node,
+    Body, CLUSTER_BYTES, CLUSTER_NODES, CLUSTER_SECTORS, NODE_FRAME_BYTES, PAGE_FRAME_BYTES,
+    Scratch, Shape, decode_frame, encode_frame, encode_page, header_in, pack_node, unpack_node,
 };
 use device::{Device, Failed, SECTOR_SIZE};
 use model::{Cap, ContentRef, Geometry, ObjectHeader};
-
-// The places for nodes in a cluster.
-const PLACES: u64 = 5;
 
 /// Fills the 1024 bytes of `node` with the frame of a rank in the cluster of 8 sectors from `at` on.
 /// Returns `Failed` exactly if the device failed; then `node` may hold any bytes.
@@ -43,7 +40,7 @@ pub fn read_packed<D: Device>(
     ensures cause { Counts (D.disk device.old) (D.disk device.new) result }
 {
     let mut cluster = [0; CLUSTER_BYTES];
-    read_sectors(device, at, 8, &mut cluster)?;
+    read_sectors(device, at, CLUSTER_SECTORS as usize, &mut cluster)?;
     unpack_node(&cluster, rank as usize, node);
     Ok(())
 }
@@ -181,8 +178,8 @@ fn write_buffered<D: Device>(
         Shape::Packed(rank) => {
             let mut cluster = [0; CLUSTER_BYTES];
             pack_node(buffer, rank as usize, &mut cluster);
-            blank_behind(&mut cluster, PLACES);
-            write_sectors(device, at, 8, &cluster)
+            blank_behind(&mut cluster, CLUSTER_NODES);
+            write_sectors(device, at, CLUSTER_SECTORS as usize, &cluster)
         }
     }
 }
