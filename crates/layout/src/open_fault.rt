@@ -2,6 +2,7 @@
 use crate::BadImage;
 use device::Failed;
 use model::Refusal;
+use std::alloc::AllocError;
 use thiserror::Error;
 
 /// Why a device isn't opened, or something that it holds isn't read.
@@ -40,7 +41,22 @@ impl From<BadImage> for OpenFault {
     }
 }
 
-// Where objects are read to open a device, they are refused only by a failure or for want of memory.
+impl From<AllocError> for OpenFault {
+    ghost use Rattle.std.specs.Prelude.{◌≡◌};
+    ghost use Rattle.layout.specs.declared.open_fault.OpenFault.TheVariants.{NoMemory};
+
+    ghost from_gives = { λ _ e. e ≡ NoMemory };
+
+    fn from(_error: AllocError) -> OpenFault {
+        OpenFault::NoMemory
+    }
+}
+
+/// Returns `Failed` for `Fault`, and `NoMemory` for any other refusal.
+///
+/// Use it only for refusals of functions that do nothing but read objects. These get each refusal by
+/// `?`, from `Failed` (as `Fault`) or `AllocError` (as `NoMemory`), so no other comes here. The users
+/// are `check`, `recover` and `recover_in` of `recovery`, which read all objects of a store.
 impl From<Refusal> for OpenFault {
     ghost use Rattle.std.specs.Prelude.{◌≡◌, ◌↔◌};
     ghost use Rattle.layout.specs.declared.bad_image.BadImage.{BadImage};
