@@ -3,7 +3,7 @@ use Rattle.ckpt_log.proofs.Names.{nat_tests, ℕ, zero, suc, Bool, true, false, 
 use Rattle.ckpt_log.proofs.Names.{is_open, committed_of, committed_slot, committed_bytes, option_at, does_count, sequence_in, Image, Elsewhere, codes, cond}
 use Rattle.ckpt_log.proofs.Names.{w64, from_le_bytes, from_le_bytes-to_le_bytes_8, CheckpointHeader, Closed, Open, number, number_from, zeros, gate_bytes}
 use Rattle.ckpt_log.proofs.Names.{header_bytes, IsHeader, six, Agrees, elsewhere_on, HeaderSlot, slot_number, header_at, gate_at, header_sector, gate_sector}
-use Rattle.ckpt_log.proofs.Names.{closed_gate, Precedes, KeepsHeader, HasNew, IsOldOrNew}
+use Rattle.ckpt_log.proofs.Names.{closed_gate, Precedes, KeepsHeader, HasNew, IsOldOrNew, one_more}
 use Rattle.std.proofs.Common.{◌≡◌, ◌<◌, ◌≤◌, ◌+◌, ◌*◌, ◌%◌, ◌∙◌, ◌^◌, ◌++◌}
 use Rattle.std.specs.Prelude.{if◌then◌else◌, ◌==◌}
 
@@ -145,9 +145,6 @@ either_elsewhere {h} {old} {new} h0 = grind (arith, nat_tests)
 pub opened_new : {h : CheckpointHeader} {old new : Image} → h.sequence < 2 ^ 64 → Precedes old h → old (header_sector h) ≡ header_bytes h
     → Elsewhere (gate_sector h) 1 old new → new (gate_sector h) ≡ gate_bytes Open → HasNew h old new
 opened_new {h} {old} {new} fits next written e gate = open_new fits next written e (ap is_open gate)
-
-one_more : (b : Bool) → cond b 1 0 ≤ 1
-one_more b = grind (arith, nat_tests)
 
 -- there is a next sequence number
 pub next_fits : {room : ℕ} {h : CheckpointHeader} → IsHeader room h → h.sequence + 1 < 2 ^ 64

@@ -6,9 +6,9 @@ pub use Rattle.device.specs.Disk.{Disk, Image}
 pub use Rattle.device.specs.Moments.{Elapses, LeavesOnly, Peeks}
 pub use Rattle.layout.proofs.Directories.{directory_fits, one_directory}
 pub use Rattle.layout.proofs.Halves.{half_apart, half_within}
-pub use Rattle.layout.proofs.Headers.{six}
+pub use Rattle.layout.proofs.Headers.{one_more, six}
 pub use Rattle.layout.proofs.Images.{one_frame}
-pub use Rattle.layout.proofs.Sectors.{same_sectors}
+pub use Rattle.layout.proofs.Sectors.{one_from, same_sectors}
 pub use Rattle.layout.proofs.Shapes.{few_sectors, same_shaped}
 unfoldable pub use Rattle.layout.specs.Bytes.{number, number_from, zeros}
 pub use Rattle.layout.specs.Directory.{IsDirectory}
@@ -31,8 +31,8 @@ pub use Rattle.layout.specs.declared.open_fault.OpenFault.TheVariants.{Bad, Fail
 pub use Rattle.model.specs.Frame.{frame_at}
 pub use Rattle.model.specs.declared.frame.Frame.{Frame}
 pub use Rattle.model.specs.declared.geometry.Geometry.{Geometry}
-pub use Rattle.std.proofs.Common.{Bool, List, Option, Some, [], ap, append-nil, arith, drop, false, inl, length, length-take-le, refl, replicate, rules, subst}
-pub use Rattle.std.proofs.Common.{suc, sym, take, true, zero, ℕ}
+pub use Rattle.std.proofs.Common.{Bool, List, Option, Some, [], ap, arith, drop, false, inl, length, length-take-le, refl, replicate, rules, subst, suc, sym}
+pub use Rattle.std.proofs.Common.{take, true, zero, ℕ}
 pub use Rattle.std.proofs.Math.Seq.{take-append_seam}
 pub use Rattle.std.proofs.lemmas.Bool.{and_from, and_parts, eq-eqb, eqb-true}
 pub use Rattle.std.proofs.lemmas.Bool.Decides.{nat_tests}

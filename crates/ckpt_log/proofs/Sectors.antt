@@ -1,6 +1,6 @@
 -- One sector of a device.
-use Rattle.ckpt_log.proofs.Names.{ℕ, List, [], length, take, drop, refl, sym, ap, arith, append-nil, take_all, Image, Disk, Agrees, AreSectors, sectors_of}
-use Rattle.ckpt_log.proofs.Names.{sectors_from, LeavesOnly, CountsNow, ends}
+use Rattle.ckpt_log.proofs.Names.{ℕ, List, length, take, drop, sym, ap, arith, take_all, Image, Disk, Agrees, AreSectors, sectors_of, sectors_from, LeavesOnly}
+use Rattle.ckpt_log.proofs.Names.{CountsNow, ends, one_from}
 use Rattle.std.proofs.Common.{◌≡◌, ◌+◌, ◌*◌, ◌/◌, ◌++◌, ◌∙◌}
 
 pub one_sector : (bytes : List ℕ) → length bytes ≡ 512 → sectors_of bytes ≡ 1
@@ -17,10 +17,6 @@ sector_is image {at} {bytes} size are =
 pub seen_has : {old new : Disk} {P : Image → Type 0} → LeavesOnly old new P → CountsNow new → new.may_leave new.seen → P new.seen
 seen_has {old} {new} {P} run counts_now left = ends run counts_now new.seen left
 
-one_from : (image : Image) (at : ℕ) → sectors_from image at 1 ≡ image at ++ []
-unfolding sectors_from
-one_from image at = refl
-
 -- the bytes of one sector, where a read leaves the image
 pub read_is : {old new : Image} {at : ℕ} (bytes : List ℕ) → Agrees new old → sectors_from new at 1 ≡ bytes → bytes ≡ old at
-read_is {new} {at} bytes same is = sym is ∙ one_from new at ∙ append-nil (new at) ∙ same at
+read_is {new} {at} bytes same is = sym is ∙ one_from new at ∙ same at

@@ -252,10 +252,6 @@ module _ (count : ℕ) (words summary : List ℕ) (sums : IsSummed count words s
     pub has_word : (n : ℕ) → n < length marks → n / 64 < length seen
     has_word n within = omega (arith, count_is, ap length is_seen, sums.words_each)
 
-    -- the numbers of the words are machine numbers
-    pub few_words : 64 * length seen ≤ 2 ^ 64
-    few_words = omega (arith, ap length is_seen, sums.words_each, sums.fits)
-
     -- the same of what is seen
     pub mark_read : (n : ℕ) (b : Bool) → n < length marks → bit_of seen n ≡ digit b → b ≡ is_marked marks n
     mark_read n b within is_bit = rw (← is_marks) (mark_is count words n b (omega (arith, count_is)) (rw is_seen at is_bit))

@@ -1,5 +1,6 @@
 -- The names that the proofs here cite: of other crates, and of the definitions of this one.
 pub use Rattle.device.specs.Disk.{Image}
+pub use Rattle.layout.proofs.Extents.{range_at}
 pub use Rattle.layout.proofs.Halves.{apart_inside, apart_turned, half_at, itself, many}
 pub use Rattle.layout.proofs.Shapes.{same_shaped}
 pub use Rattle.layout.proofs.SlotsOf.{found_slot}
@@ -22,13 +23,12 @@ pub use Rattle.layout.specs.declared.shape.Shape.TheVariants.{Node, Packed, Page
 pub use Rattle.layout.specs.declared.version.Version.{Version}
 pub use Rattle.layout.specs.declared.version.Version.TheVariants.{Two}
 pub use Rattle.model.specs.declared.geometry.Geometry.{Geometry}
-pub use Rattle.std.proofs.Common.{Bool, List, None, Option, Result, Some, [], ap, arith, false, get_or, inl, inr, length, min, nat_lt, refl, rules, subst, suc}
-pub use Rattle.std.proofs.Common.{sym, true, zero, ℕ}
+pub use Rattle.std.proofs.Common.{Bool, List, None, Option, Result, Some, [], ap, arith, false, get_or, inl, inr, length, min, nat_lt, refl, subst, suc, sym}
+pub use Rattle.std.proofs.Common.{true, zero, ℕ}
 pub use Rattle.std.proofs.lemmas.Bool.{cases_eq, cases_lt, eq-eqb, ne_eqb}
 pub use Rattle.std.proofs.lemmas.Bool.Decides.{nat_tests}
 pub use Rattle.std.proofs.lemmas.List.{get_or-map, get_or_append_left, length-map}
 pub use Rattle.std.proofs.lemmas.Option.{same_Some}
-pub use Rattle.std.proofs.lemmas.Result.{on_ok_weaker}
 pub use Rattle.std.specs.Prelude.{OnOk, ⊤}
 pub use Rattle.home_ranges.specs.Home.{EndsInZeros, HaveHome, HoldsHome}
 pub use Rattle.home_ranges.specs.Laws.{NumbersAreApart, PlacesAreApart, PlacesAreWithin, PlacesSpareLog, home_extent}

@@ -5,12 +5,9 @@ use Rattle.home_ranges.proofs.Names.{First, Second, Shape, Node, Packed, Page, V
 use Rattle.home_ranges.proofs.Names.{shape_of, place_length, sectors_from, node_shape, shape_bytes, shape_length, Plan, IsPlan, Cover, IsOfOneKind, IsWithin}
 use Rattle.home_ranges.proofs.Names.{IsApart, IsInside, extent_at, extents, range_extent, half_extent, half_start, itself, apart_inside, apart_turned, many}
 use Rattle.home_ranges.proofs.Names.{half_at, IsObject, EndsInZeros, HaveHome, HoldsHome, home_extent, PlacesAreWithin, PlacesAreApart, NumbersAreApart}
-use Rattle.home_ranges.proofs.Names.{PlacesSpareLog, same_Some}
+use Rattle.home_ranges.proofs.Names.{PlacesSpareLog, same_Some, range_at}
 use Rattle.std.proofs.Common.{◌≡◌, ◌⊎◌, ◌+◌, ◌-◌, ◌/◌, ◌%◌, ◌<◌, ◌≤◌, ◌∷◌, ◌∙◌}
 use Rattle.std.specs.Prelude.{if◌then◌else◌}
-
-abbrev pub range_at : List HomeRange → ℕ → HomeRange
-range_at rs i = get_or rs i (record { first = 0; count = 0; sector = 0 })
 
 -- a range has a number, and all of its numbers are of one kind
 pub record Has (g : Geometry) (r : HomeRange) (number : ℕ) : Type 0 where

@@ -1,9 +1,9 @@
 -- Homes that several numbers share.
 use Rattle.home_ranges.proofs.Names.{nat_tests, ℕ, nat_lt, sym, arith, HomeRange, Shape, Packed, Page, Two, home_place, shape_of, node_shape, Plan, IsPlan}
-use Rattle.home_ranges.proofs.Names.{IsObject}
+use Rattle.home_ranges.proofs.Names.{IsObject, range_at}
 use Rattle.std.proofs.Common.{◌≡◌, ◌-◌, ◌%◌, ◌<◌, ◌≤◌, ◌∙◌}
 use Rattle.std.specs.Prelude.{if◌then◌else◌}
-use Rattle.home_ranges.proofs.Places.{range_at, Has, found, found_too, place_is, shape_is, one_range, IsOwn, ranked_in, one_cluster}
+use Rattle.home_ranges.proofs.Places.{Has, found, found_too, place_is, shape_is, one_range, IsOwn, ranked_in, one_cluster}
 use Rattle.home_ranges.proofs.Places.{beside}
 
 -- ---- what lies between two numbers that share a home has it too

@@ -1,5 +1,4 @@
 mod Names
-mod Numbers
 mod SectorCopies
 mod Directories
 mod Frames

@@ -1,28 +1,9 @@
 -- A superblock has its mark, and an image with one is large enough.
-use Rattle.image_explainer.proofs.Names.{nat_tests, ℕ, List, [], length, replicate, take, drop, refl, sym, ap, subst, append_assoc, length-append, take_at}
-use Rattle.image_explainer.proofs.Names.{drop_at, arith, codes, length-replicate, Image, HomeRange, half_number, number, zeros, HasPlan, IsTooSmall, HasMark}
-use Rattle.image_explainer.proofs.Names.{IsPlan, Plan, ranges_bytes, superblock_bytes, unused, version_number, total_reported}
+use Rattle.image_explainer.proofs.Names.{nat_tests, ℕ, List, length, replicate, take, drop, refl, sym, ap, subst, append_assoc, length-append, take_at, drop_at}
+use Rattle.image_explainer.proofs.Names.{arith, codes, length-replicate, Image, HomeRange, half_number, number, zeros, HasPlan, IsTooSmall, HasMark, IsPlan}
+use Rattle.image_explainer.proofs.Names.{Plan, ranges_bytes, superblock_bytes, unused, version_number, total_reported, length-number, length-half}
+use Rattle.image_explainer.proofs.Names.{length-ranges}
 use Rattle.std.proofs.Common.{◌≡◌, ◌-◌, ◌*◌, ◌∷◌, ◌++◌, ◌∙◌}
-
-long : (n : ℕ) → length (number n) ≡ 8
-unfolding number
-long n = refl
-
-half : (n : ℕ) → length (half_number n) ≡ 4
-unfolding half_number
-half n = refl
-
-no_range : length (ranges_bytes []) ≡ 0
-unfolding ranges_bytes
-no_range = refl
-
-cons_range : (r : HomeRange) (rs : List HomeRange) → ranges_bytes (r ∷ rs) ≡ number r.first ++ (number r.count ++ (number r.sector ++ ranges_bytes rs))
-unfolding ranges_bytes
-cons_range r rs = simp append_assoc
-
-ranges_long : (rs : List HomeRange) → length (ranges_bytes rs) ≡ 24 * length rs
-ranges_long [] = no_range
-ranges_long (r ∷ rs) = grind (arith, nat_tests, cons_range, length-append, long, ranges_long rs)
 
 deep : (a b c d e f g h i j z : List ℕ) →
     a ++ b ++ c ++ d ++ e ++ f ++ g ++ h ++ i ++ j ++ z ≡ a ++ (b ++ (c ++ (d ++ (e ++ (f ++ (g ++ (h ++ (i ++ (j ++ z)))))))))
@@ -33,7 +14,7 @@ module _ (p : Plan) (is : IsPlan p) where
   all_ranges = p.ranges ++ replicate (8 - length p.ranges) unused
 
   eight : length (ranges_bytes all_ranges) ≡ 192
-  eight = grind (arith, nat_tests, ranges_long, length-append, length-replicate)
+  eight = grind (arith, nat_tests, length-ranges, length-append, length-replicate)
 
   abbrev rest : List ℕ
   rest = number p.geometry.nodes ++
@@ -55,7 +36,7 @@ module _ (p : Plan) (is : IsPlan p) where
   ends = refl
 
   front_long : length front ≡ 256
-  front_long = grind (arith, nat_tests, length-append, half, long, eight)
+  front_long = grind (arith, nat_tests, length-append, length-half, length-number, eight)
 
   pub marked : HasMark (superblock_bytes p)
   marked = record {
@@ -64,7 +45,7 @@ module _ (p : Plan) (is : IsPlan p) where
       p.version,
       ap (λ (b : List ℕ). take 4 (drop 8 b)) begins
           ∙ ap (take 4) (drop_at (codes "EROSCKPT") (half_number (version_number p.version) ++ (half_number (length p.ranges) ++ rest)) 8 refl)
-          ∙ take_at (half_number (version_number p.version)) (half_number (length p.ranges) ++ rest) 4 (half (version_number p.version)),
+          ∙ take_at (half_number (version_number p.version)) (half_number (length p.ranges) ++ rest) 4 (length-half (version_number p.version)),
     );
     blank = ap (drop 256) ends ∙ drop_at front (zeros 256) 256 front_long;
   }

@@ -1,6 +1,5 @@
 -- The names that the proofs here cite: of other crates, and of the definitions of this one.
 pub use Rattle.byteorder.specs.Endian.{little_number}
-pub use Rattle.byteorder.specs.Numbers.{little_from-take}
 pub use Rattle.capability.proofs.References.{not_annex, not_node, not_root}
 pub use Rattle.capability.specs.Parts.{Parts, frames_of}
 pub use Rattle.checkpoint.specs.Opened.{OnlyReads, Refuses}
@@ -15,6 +14,8 @@ pub use Rattle.layout.proofs.Denoted.{frames_not_bad}
 pub use Rattle.layout.proofs.Directories.{directory_fits, entry_read, none_read, one_directory}
 pub use Rattle.layout.proofs.Halves.{half_within}
 pub use Rattle.layout.proofs.Images.{same_directory, same_header, same_plan}
+pub use Rattle.layout.proofs.Numbers.{length-number, number_read}
+pub use Rattle.layout.proofs.Superblocks.{length-half, length-ranges}
 pub use Rattle.layout.proofs.Totals.{total_reported}
 unfoldable pub use Rattle.layout.specs.Bytes.{half_number, number, zeros}
 pub use Rattle.layout.specs.Calls.{ReadsOnly}
@@ -60,13 +61,11 @@ pub use Rattle.recovery.specs.Denotes.{saved_of}
 pub use Rattle.recovery.specs.Noted.{AreNoted}
 pub use Rattle.recovery.specs.declared.consistency.processes.Noted.{Noted}
 pub use Rattle.std.proofs.Common.{Bool, ControlFlow, Err, List, None, Ok, Option, Result, Some, [], ap, append-nil, append_assoc, arith, drop, drop_at, false}
-pub use Rattle.std.proofs.Common.{get_or, inl, inr, length, length-append, nat_le, refl, replicate, slice_index_or, subst, suc, sym, take, take-add, take_at}
-pub use Rattle.std.proofs.Common.{true, zero, ℕ, ⊎_elim}
-pub use Rattle.std.proofs.lemmas.Bool.{cases_lt, lt-ltb}
+pub use Rattle.std.proofs.Common.{inl, inr, length, length-append, nat_le, refl, replicate, slice_index_or, subst, suc, sym, take, take-add, take_at, true}
+pub use Rattle.std.proofs.Common.{zero, ℕ, ⊎_elim}
+pub use Rattle.std.proofs.lemmas.Bool.{cases_lt}
 pub use Rattle.std.proofs.lemmas.Bool.Decides.{nat_tests}
-pub use Rattle.std.proofs.lemmas.List.{drop-drop, get_or-drop, get_or-take, get_or_default, get_or_past, length-drop, length-replicate, length-take}
-pub use Rattle.std.proofs.lemmas.List.{take-append-drop, take_rest}
-pub use Rattle.std.proofs.lemmas.Nat.{le_bytes_8}
+pub use Rattle.std.proofs.lemmas.List.{drop-drop, get_or_default, get_or_past, length-replicate, take_rest}
 pub use Rattle.std.specs.ControlFlow.{MatchControlFlow}
 pub use Rattle.std.specs.List.{All}
 pub use Rattle.std.specs.Prelude.{IfNone, IfSome, codes, decimal, ⊤}

@@ -1,12 +1,9 @@
 -- What is wrong with the size of an image or with its superblock.
-use Rattle.image_explainer.proofs.Names.{nat_tests, ℕ, Bool, List, ControlFlow, MatchControlFlow, refl, sym, ap, inl, arith, lt-ltb, Image, HasPlan, total_in}
-use Rattle.image_explainer.proofs.Names.{IsPlan, Plan, superblock_bytes, total_reported, SectorFault, IsFault, BreaksSector, ⊤}
+use Rattle.image_explainer.proofs.Names.{nat_tests, ℕ, List, ControlFlow, MatchControlFlow, arith, Image, HasPlan, total_in, IsPlan, Plan, superblock_bytes}
+use Rattle.image_explainer.proofs.Names.{total_reported, SectorFault, IsFault, BreaksSector, ⊤}
 use Rattle.std.proofs.Common.{◌≡◌, ◌<◌, ◌≤◌}
 use Rattle.std.specs.Prelude.{if◌then◌else◌}
 use Rattle.image_explainer.specs.declared.sectors.fault.SectorFault.TheVariants as fault
-
-pub few_sectors : (size : ℕ) (image : Image) → size < 5 → IsFault size image (fault.Small size 5)
-few_sectors size image few = (inl few, (refl, ap (λ (t : Bool). if t then 5 else total_in (image 0)) (sym (lt-ltb size 5 few)), few))
 
 module _ (size : ℕ) (image : Image) (sector : List ℕ) (is : sector ≡ image 0) (least : 5 ≤ size) where
   pub too_small : (needed : ℕ) → needed ≡ total_in sector → size < needed → IsFault size image (fault.Small size needed)

@@ -1,6 +1,6 @@
 -- What is laid out may be laid out again.
-use Rattle.image_writer.proofs.Names.{ℕ, List, [], length, get_or, set, take, drop, map, append_assoc, arith, append-nil, drop_all, drop_more, length-map}
-use Rattle.image_writer.proofs.Names.{length-set, take_all, take_more_set, Geometry, HomeRange, Plan, IsPlan, Cover, NumberRange, MayBeLaid, numbers_of, placed}
+use Rattle.image_writer.proofs.Names.{ℕ, List, [], length, set, take, drop, map, append_assoc, arith, append-nil, drop_all, drop_more, length-map, length-set}
+use Rattle.image_writer.proofs.Names.{take_all, take_more_set, Geometry, HomeRange, Plan, IsPlan, Cover, NumberRange, MayBeLaid, numbers_of, placed, range_at}
 use Rattle.std.proofs.Common.{◌≡◌, ◌+◌, ◌<◌, ◌≤◌, ◌∷◌, ◌++◌}
 
 cover_numbers : (g : Geometry) (n : ℕ) (rs : List HomeRange) → Cover g n rs → Cover g n (map (placed 0) (map numbers_of rs))
@@ -15,9 +15,6 @@ may_be_laid p fits = search (arith, length-map, cover_numbers)
 pub record NumbersTo (rs : List HomeRange) (into : List NumberRange) (i : ℕ) : Type 0 where
   pub size : length into ≡ length rs
   pub rest : map numbers_of rs ≡ take i into ++ map numbers_of (drop i rs)
-
-abbrev pub range_at : List HomeRange → ℕ → HomeRange
-range_at rs i = get_or rs i (record { first = 0; count = 0; sector = 0 })
 
 pub numbers_more : (rs : List HomeRange) (into : List NumberRange) (i : ℕ) → i < length rs → NumbersTo rs into i →
     NumbersTo rs (set into i (numbers_of (range_at rs i))) (i + 1)

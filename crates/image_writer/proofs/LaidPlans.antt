@@ -1,7 +1,7 @@
 -- What is laid out one behind the other is a plan.
 use Rattle.image_writer.proofs.Names.{nat_tests, ℕ, zero, suc, Bool, List, [], length, map, refl, sym, subst, arith, lt-ltb, le-ltb, All, Geometry, Extent}
-use Rattle.image_writer.proofs.Names.{HomeRange, Version, One, Two, Cover, IsPlan, IsWithin, AreApart, extent_at, extents, half_extent, nodes_length}
-use Rattle.image_writer.proofs.Names.{range_extent, NumberRange, MayBeLaid, behind, half_length, laid, placed, plan_from, sectors_of}
+use Rattle.image_writer.proofs.Names.{Version, One, Two, Cover, IsPlan, IsWithin, AreApart, extent_at, extents, half_extent, nodes_length, range_extent}
+use Rattle.image_writer.proofs.Names.{NumberRange, MayBeLaid, behind, half_length, laid, placed, plan_from, sectors_of, cover_within}
 use Rattle.std.proofs.Common.{◌≡◌, ◌⊎◌, ◌+◌, ◌-◌, ◌*◌, ◌<◌, ◌≤◌, ◌∷◌, ◌++◌}
 use Rattle.std.specs.Prelude.{if◌then◌else◌}
 use Rattle.image_writer.proofs.Laying.{cons_behind, cons_laid, length_laid, none_behind, none_laid}
@@ -77,14 +77,10 @@ range_takes : (v : Version) (g : Geometry) (r : NumberRange) (n : ℕ) → r.fir
     → sectors_of v g r + sectors_from g (n + r.count) ≤ sectors_from g n + 8
 range_takes v g r n first some kind few = search (arith, lt-ltb, few_more, le-ltb)
 
-covered_within : (g : Geometry) (n : ℕ) (rs : List HomeRange) → Cover g n rs → n ≤ g.nodes + g.pages
-covered_within g n [] c = omega (arith, c)
-covered_within g n (r ∷ rs) c = let rest = covered_within g (n + r.count) rs c.1 in omega (arith, rest)
-
 behind_few : (v : Version) (g : Geometry) (n at : ℕ) (rs : List NumberRange) → Cover g n (map (placed 0) rs) →
     behind v g at rs ≤ at + sectors_from g n + 8 * length rs
 behind_few v g n at [] c = let none = none_behind v g at in omega (arith, none)
-behind_few v g n at (r ∷ rs) c = grind (arith, nat_tests, covered_within, range_takes, cons_behind, behind_few v g (n + r.count) (at + sectors_of v g r) rs c.1)
+behind_few v g n at (r ∷ rs) c = grind (arith, nat_tests, cover_within, range_takes, cons_behind, behind_few v g (n + r.count) (at + sectors_of v g r) rs c.1)
 
 module _ (v : Version) (g : Geometry) (rs : List NumberRange) (may : MayBeLaid g rs) where
   abbrev halves : List Extent
@@ -130,7 +126,7 @@ second_total g rs = let end = second_behind g 5 5 rs in omega (arith, end)
 
 counts_few : (g : Geometry) (n : ℕ) (rs : List NumberRange) → Cover g n (map (placed 0) rs) → All (λ r. r.count ≤ g.nodes + g.pages) rs
 counts_few g n [] c k d lt = absurd (omega (arith, lt))
-counts_few g n (r ∷ rs) c zero d lt = let rest = covered_within g (n + r.count) (map (placed 0) rs) c.1 in omega (arith, rest)
+counts_few g n (r ∷ rs) c zero d lt = let rest = cover_within g (n + r.count) (map (placed 0) rs) c.1 in omega (arith, rest)
 counts_few g n (r ∷ rs) c (suc k) d lt = counts_few g (n + r.count) rs c.1 k d (omega (arith, lt))
 
 pub few_counts : (g : Geometry) (rs : List NumberRange) → MayBeLaid g rs → All (λ r. r.count ≤ 8192) rs

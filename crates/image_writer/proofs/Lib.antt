@@ -7,5 +7,4 @@ mod LaidPlans
 mod Laying
 pub mod OldImages
 mod Ranks
-mod SingleSectors
 mod SlotFrames

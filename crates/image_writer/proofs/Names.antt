@@ -11,9 +11,10 @@ pub use Rattle.device.specs.Calls.{Agrees, Elsewhere, IsTorn}
 pub use Rattle.device.specs.Disk.{Disk, Image}
 pub use Rattle.device.specs.Moments.{LeavesOnly}
 pub use Rattle.home_ranges.proofs.FrameSlots.{frame_slot_entry}
-pub use Rattle.home_ranges.proofs.Places.{IsOwn, alone, one_before, one_length, places_apart, places_spare_log, places_within, ranked, zeros_in}
+pub use Rattle.home_ranges.proofs.Places.{IsOwn, alone, one_before, one_length, places_apart, places_spare_log, places_within, ranked}
 pub use Rattle.home_ranges.proofs.Shared.{begins}
 pub use Rattle.home_ranges.specs.Home.{HaveHome}
+pub use Rattle.layout.proofs.Extents.{cover_within, range_at}
 pub use Rattle.layout.proofs.Halves.{half_within}
 pub use Rattle.layout.proofs.Sectors.{same_sectors}
 pub use Rattle.layout.proofs.Shapes.{few_sectors, same_shaped}

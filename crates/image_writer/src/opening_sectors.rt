@@ -17,7 +17,7 @@ use layout::{
 };
 
 // Writes a sector before the gates, which are closed. No other sector changes.
-#[tactic(auto, using(crate::proofs::SingleSectors::alone))]
+#[tactic(auto, using(layout::proofs::Sectors::one_from))]
 fn write_sector<D: Device>(device: &mut D, at: u64, bytes: &[u8]) -> Result<(), Failed>
     requires one { length bytes.now ≡ 512 }
     requires before { at < 2 }
@@ -89,7 +89,7 @@ pub(crate) fn write_opening_sectors<D: Device>(
 }
 
 // Writes the gate of the first header. No other sector changes.
-#[tactic(auto, using(crate::proofs::SingleSectors::alone))]
+#[tactic(auto, using(layout::proofs::Sectors::one_from))]
 fn write_gate<D: Device>(device: &mut D, gate: Gate) -> Result<(), Failed>
     requires inside { 5 ≤ (D.disk device.old).sectors }
     ensures written { OnOk result ((D.disk device.new).seen 2 ≡ gate_bytes gate) }

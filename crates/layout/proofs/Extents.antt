@@ -48,10 +48,11 @@ pub record CoveredTo (g : Geometry) (rs : List HomeRange) (i next : ℕ) : Type 
   pub goes_on : Cover g next (drop i rs) → Cover g 0 rs
   pub went_on : Cover g 0 rs → Cover g next (drop i rs)
 
-abbrev range_at : List HomeRange → ℕ → HomeRange
+abbrev pub range_at : List HomeRange → ℕ → HomeRange
 range_at rs i = get_or rs i (record { first = 0; count = 0; sector = 0 })
 
-cover_within : (g : Geometry) (n : ℕ) (rs : List HomeRange) → Cover g n rs → n ≤ g.nodes + g.pages
+-- they begin at a number of an object, or end there
+pub cover_within : (g : Geometry) (n : ℕ) (rs : List HomeRange) → Cover g n rs → n ≤ g.nodes + g.pages
 cover_within g n [] c = omega (arith, c)
 cover_within g n (r ∷ rs) c = let rest = cover_within g (n + r.count) rs c.1 in omega arith
 

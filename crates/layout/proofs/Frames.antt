@@ -99,7 +99,7 @@ slots_put old mid new caps k few len size is put =
 state_again : (s : State) → state_in (state_number s) ≡ s
 state_again s = grind (arith, nat_tests)
 
-abbrev root_of : State → List ℕ → ℕ → ℕ → Cap → Root Cap
+abbrev pub root_of : State → List ℕ → ℕ → ℕ → Cap → Root Cap
 root_of s ws key annex space = record { state = s; words = ws; key = key; annex = annex; space = space }
 
 root_again : (s : State) (ws : List ℕ) (key annex : ℕ) (space : Cap) → length ws ≡ 4 → key < 2 ^ 16

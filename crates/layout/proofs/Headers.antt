@@ -28,7 +28,7 @@ pub five_read : (bytes : List ℕ) (m a b c d : ℕ) → bytes ≡ number m ++ d
     → drop 24 bytes ≡ number c ++ drop 32 bytes → drop 32 bytes ≡ number d ++ drop 40 bytes → bytes ≡ stream (m ∷ a ∷ b ∷ c ∷ d ∷ []) (drop 40 bytes)
 five_read bytes m a b c d em ea eb ec ed = grind (arith, nat_tests)
 
-one_more : (b : Bool) → cond b 1 0 ≤ 1
+pub one_more : (b : Bool) → cond b 1 0 ≤ 1
 one_more b = grind (arith, nat_tests)
 
 sequence_fits : (room : ℕ) (h : CheckpointHeader) → IsHeader room h → h.sequence < 2 ^ 64
@@ -42,9 +42,6 @@ pub record HasFields (h : CheckpointHeader) (m : ℕ) (found : CheckpointHeader)
   pub magic_is : m ≡ 0x4441_4548_534f_5245
   pub header_is : found ≡ h
   pub rest_is : rest ≡ zeros 472
-
-abbrev made : ℕ → ℕ → ℕ → ℕ → CheckpointHeader
-made a b c d = record { sequence = a; generation = b; entries = c; age = d }
 
 pub spelt_header : (room : ℕ) (bytes rest : List ℕ) (m : ℕ) (found h : CheckpointHeader) → AllFit (m ∷ fields found)
     → bytes ≡ stream (m ∷ fields found) rest → IsHeader room h → bytes ≡ header_bytes h → HasFields h m found rest

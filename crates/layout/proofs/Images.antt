@@ -1,7 +1,7 @@
 -- An image denotes at most one saved state.
 use Rattle.layout.proofs.Names.{nat_tests, ℕ, Some, List, length, sym, ap, inl, inr, arith, cases_lt, same_lists, get_or_default, Frame, Geometry, frame_at}
 use Rattle.layout.proofs.Names.{blank_frame, Entry, CheckpointHeader, header_bytes, Plan, Image, IsFrameOf, HasPlan, HasHeader, HasDirectory, frame_in}
-use Rattle.layout.proofs.Names.{SavedState, Encodes}
+use Rattle.layout.proofs.Names.{SavedState, Encodes, same_Some}
 use Rattle.std.proofs.Common.{◌≡◌, ◌+◌, ◌<◌, ◌∙◌}
 use Rattle.layout.proofs.Headers.{one_header}
 use Rattle.layout.proofs.Directories.{one_directory, directory_fits}
@@ -23,14 +23,11 @@ one_frame g age object bytes e f ie if =
           one_page_frame age e f pe.0 pf.0 (sym pe.1 ∙ pf.1)
     ]
 
-same_some : (x y : List ℕ) → Some x ≡ Some y → x ≡ y
-same_some x y e = cc
-
 pub same_plan : (image : Image) (size : ℕ) (p q : Plan) → HasPlan image size p → HasPlan image size q → p ≡ q
 same_plan image size p q hp hq = one_plan p q hp.fits hq.fits (sym hp.spelt ∙ hq.spelt)
 
 pub same_header : (image : Image) (p : Plan) (g h : CheckpointHeader) → HasHeader image p g → HasHeader image p h → g ≡ h
-same_header image p g h hg hh = one_header p.geometry.log g h hg.fits hh.fits (same_some (header_bytes g) (header_bytes h) (sym hg.spelt ∙ hh.spelt))
+same_header image p g h hg hh = one_header p.geometry.log g h hg.fits hh.fits (same_Some (header_bytes g) (header_bytes h) (sym hg.spelt ∙ hh.spelt))
 
 pub same_directory : (image : Image) (p : Plan) (h : CheckpointHeader) (ds es : List Entry) → HasDirectory image p h ds → HasDirectory image p h es → ds ≡ es
 same_directory image p h ds es hd he = grind (arith, nat_tests, one_directory, directory_fits)

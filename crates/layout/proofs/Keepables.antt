@@ -6,6 +6,7 @@ use Rattle.layout.proofs.Names.{is_free, state_number, IsOfKind, number_cap, roo
 use Rattle.layout.proofs.Names.{HoldsPage, IsFront, IsNodeFrame, IsPageFrame, IsFrameOf}
 use Rattle.std.proofs.Common.{◌≡◌, ◌+◌, ◌^◌, ◌<◌, ◌≤◌, ◌∷◌, ◌++◌, ◌∙◌}
 use Rattle.std.specs.Prelude.{if◌then◌else◌}
+use Rattle.layout.proofs.Frames.{root_of}
 use Rattle.model.specs.declared.object.Content.TheVariants as content
 use Rattle.model.specs.declared.object.Role.TheVariants as role
 
@@ -25,9 +26,6 @@ state_fits s = grind (arith, nat_tests)
 
 numbers_kept : (g : Geometry) (age : ℕ) (ws : List ℕ) → All (λ w. w < 2 ^ 64) ws → Kept g age (map number_cap ws)
 numbers_kept g age ws each = search (All-map, All-weaker, number_kept)
-
-abbrev root_of : State → List ℕ → ℕ → ℕ → Cap → Root Cap
-root_of s ws key annex space = record { state = s; words = ws; key = key; annex = annex; space = space }
 
 root_slots_kept : (g : Geometry) (age : ℕ) (r : Root Cap) → AreKeptWords 4 r.words → r.key < 2 ^ 16 → r.annex < 2 ^ 64 → IsKeptCap g age r.space →
     AreKeptSlots g age (slots_of (content.Root r))
@@ -91,31 +89,19 @@ may_be_kept g age n (content.Bank limit) lt are follows = (lt, (are.each 0 void_
 holds_page : (g : Geometry) (age n : ℕ) (c : Content Cap) → g.nodes ≤ n → IsOfKind g n c → MayBeKept g age c → HoldsPage c
 holds_page g age n c le kind may = grind (arith, nat_tests)
 
-page_may_be_kept : (g : Geometry) (age n : ℕ) (c : Content Cap) → g.nodes ≤ n → n < g.nodes + g.pages → HoldsPage c → IsOfKind g n c × MayBeKept g age c
-page_may_be_kept g age n c le lt holds = grind (arith, nat_tests)
-
 -- ---- frames
 
 free_role : (c : Content Cap) → IsTrue (is_free c) → role_of c ≡ role.Free
 free_role c t = grind (arith, nat_tests)
 
-role_free : (c : Content Cap) → role_of c ≡ role.Free → IsTrue (is_free c)
-role_free c e = grind (arith, nat_tests)
-
 front_of : (g : Geometry) (age : ℕ) (f : Frame) → IsKept g age f → IsFront age f
 front_of g age f is = grind (arith, nat_tests, free_role)
-
-kept_of : (g : Geometry) (age : ℕ) (f : Frame) → IsFront age f → MayBeKept g age f.content → IsKept g age f
-kept_of g age f is may = grind (arith, nat_tests, role_free)
 
 pub node_keepable : (g : Geometry) (age n : ℕ) (f : Frame) → n < g.nodes → IsNodeFrame g age f → IsKeepable g age n f
 node_keepable g age n f lt is = grind (arith, nat_tests, may_be_kept g age n f.content lt is.slots is.follows)
 
 pub keepable_node : (g : Geometry) (age n : ℕ) (f : Frame) → n < g.nodes → IsKeepable g age n f → IsNodeFrame g age f
 keepable_node g age n f lt is = grind (arith, nat_tests, front_of, slots_kept, follows_role)
-
-pub page_keepable : (g : Geometry) (age n : ℕ) (f : Frame) → g.nodes ≤ n → n < g.nodes + g.pages → IsPageFrame age f → IsKeepable g age n f
-page_keepable g age n f le lt is = grind (arith, nat_tests, page_may_be_kept, kept_of)
 
 pub keepable_page : (g : Geometry) (age n : ℕ) (f : Frame) → g.nodes ≤ n → IsKeepable g age n f → IsPageFrame age f
 keepable_page g age n f le is = record { front = front_of g age f is.kept; holds = holds_page g age n f.content le is.kind is.kept.content }

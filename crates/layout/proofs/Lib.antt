@@ -1,5 +1,5 @@
 mod Names
-mod Numbers
+pub mod Numbers
 mod Capabilities
 pub mod Headers
 mod SlotLists
@@ -7,8 +7,8 @@ mod Frames
 mod Pages
 mod Keepables
 pub mod Directories
-mod Extents
-mod Superblocks
+pub mod Extents
+pub mod Superblocks
 pub mod Images
 pub mod Sectors
 pub mod Halves

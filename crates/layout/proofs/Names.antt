@@ -36,6 +36,7 @@ pub use Rattle.std.proofs.lemmas.List.Elements.{All-append, All-cons, All-from_r
 pub use Rattle.std.proofs.lemmas.List.Elements.{All-tail, All-weaker}
 pub use Rattle.std.proofs.lemmas.List.FromFn.{get_or-map-range_with_len, length-map-range_with_len}
 pub use Rattle.std.proofs.lemmas.Nat.{from_le_bytes-to_le_bytes_4, from_le_bytes-to_le_bytes_8, le_bytes_8, le_or_l, le_or_r}
+pub use Rattle.std.proofs.lemmas.Option.{same_Some}
 pub use Rattle.std.proofs.lemmas.Result.{IfErr-weaker, IfOk-weaker, err_from_is_err_and}
 pub use Rattle.std.proofs.lemmas.Slice.{between-put_mid, between_is, drop-put_mid, take-put_mid, take-put_mid_below}
 pub use Rattle.std.proofs.lemmas.Slice.Eq.{slice_eq-Decides}

@@ -1,5 +1,6 @@
 -- Bytes that are sectors of an image.
 use Rattle.layout.proofs.Names.{[], ℕ, zero, suc, List, length, take, drop, refl, sym, ap, subst, arith, take-append-drop, drop-drop, Image, sectors_from}
+use Rattle.layout.proofs.Names.{append-nil}
 use Rattle.std.proofs.Common.{◌≡◌, ◌+◌, ◌*◌, ◌/◌, ◌%◌, ◌<◌, ◌∷◌, ◌++◌, ◌∙◌, length-drop}
 
 no_bytes : (bytes : List ℕ) → length bytes ≡ 0 → [] ≡ bytes
@@ -25,6 +26,11 @@ sectors_are image at (suc n) bytes size same =
 pub whole_sectors : (image : Image) (at : ℕ) (bytes : List ℕ) → length bytes % 512 ≡ 0 →
     ((i : ℕ) → i < length bytes / 512 → take 512 (drop (512 * i) bytes) ≡ image (at + i)) → sectors_from image at (length bytes / 512) ≡ bytes
 whole_sectors image at bytes whole same = sectors_are image at (length bytes / 512) bytes (omega arith) same
+
+-- the bytes of one sector
+pub one_from : (image : Image) (at : ℕ) → sectors_from image at 1 ≡ image at
+unfolding sectors_from
+one_from image at = append-nil (image at)
 
 same_rest : (at n : ℕ) (old new : Image) → ((i : ℕ) → i < suc n → new (at + i) ≡ old (at + i)) → (i : ℕ) → i < n → new (at + 1 + i) ≡ old (at + 1 + i)
 same_rest at n old new same i lt =

@@ -1,9 +1,9 @@
 -- Capabilities one after the other.
 use Rattle.layout.proofs.Names.{nat_tests, [], ℕ, List, length, get_or, set, take, drop, refl, sym, ap, append_assoc, arith, replicate, All, between}
-use Rattle.layout.proofs.Names.{same_lists, take_rest, length-replicate, get_or-replicate, drop_more, take_more, take_more_set, take_all, take_at, drop_at}
-use Rattle.layout.proofs.Names.{append-nil, length-append, length-set, length-take, length-drop, take-append-drop, take-add, flat_map-append, All-push}
-use Rattle.layout.proofs.Names.{All-replicate, All-nil, All-head, All-tail, All-same, take-put_mid, Cap, Geometry, void_held, IsKeptCap, AreKeptSlots, number}
-use Rattle.layout.proofs.Names.{short_number, capability_bytes, head_bytes, slots_bytes}
+use Rattle.layout.proofs.Names.{same_lists, take_rest, length-replicate, get_or-replicate, drop_more, take_more, take_more_set, take_at, drop_at, append-nil}
+use Rattle.layout.proofs.Names.{length-append, length-set, length-take, length-drop, take-append-drop, take-add, flat_map-append, All-push, All-replicate}
+use Rattle.layout.proofs.Names.{All-nil, All-head, All-tail, All-same, take-put_mid, Cap, Geometry, void_held, IsKeptCap, AreKeptSlots, number, short_number}
+use Rattle.layout.proofs.Names.{capability_bytes, head_bytes, slots_bytes}
 use Rattle.std.proofs.Common.{◌≡◌, ◌+◌, ◌-◌, ◌*◌, ◌<◌, ◌≤◌, ◌∷◌, ◌++◌, ◌∙◌}
 use borrow.Rule.Slice.PartMut.{put_mid}
 use Rattle.layout.proofs.Capabilities.{one_capability}
@@ -65,10 +65,6 @@ slot_read g age bytes into i c lt before fits is =
 
 pub none_read : (g : Geometry) (age : ℕ) (bytes : List ℕ) (into : List Cap) → length into ≡ 32 → AreRead g age bytes into 0
 none_read g age bytes into len = record { bytes_are = sym slots_bytes-nil; each = All-nil (IsKeptCap g age); count = len }
-
-pub all_read : (g : Geometry) (age : ℕ) (bytes : List ℕ) (into : List Cap) (i : ℕ) → 32 ≤ i → length bytes ≡ 768 → AreRead g age bytes into i →
-    AreKeptSlots g age into × (bytes ≡ slots_bytes into)
-all_read g age bytes into i done len was = grind (arith, nat_tests, take_all, All-same)
 
 pub piece_is : (bytes : List ℕ) (at : ℕ) → between at (at + 24) bytes ≡ take 24 (drop at bytes)
 piece_is bytes at = let size : at + 24 - at ≡ 24 = omega arith in ap (λ (n : ℕ). take n (drop at bytes)) size

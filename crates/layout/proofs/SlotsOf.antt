@@ -1,6 +1,6 @@
 -- The slots that a directory gives.
 use Rattle.layout.proofs.Names.{nat_tests, [], ℕ, zero, suc, Bool, Some, None, List, length, refl, sym, ap, subst, inl, inr, arith, cases_eq, eq-eqb, ne_eqb}
-use Rattle.layout.proofs.Names.{Entry, entry_at, AreRising, slot_in}
+use Rattle.layout.proofs.Names.{same_Some, Entry, entry_at, AreRising, slot_in}
 use Rattle.std.proofs.Common.{◌≡◌, ◌+◌, ◌<◌, ◌∷◌, ◌∙◌}
 use Rattle.std.specs.Prelude.{if◌then◌else◌}
 
@@ -17,13 +17,10 @@ slot_here e es n is = ap (λ (b : Bool). if b then Some e.slot else slot_in es n
 pub slot_behind : (e : Entry) (es : List Entry) (n : ℕ) → (e.object ≡ n → ⊥) → slot_in (e ∷ es) n ≡ slot_in es n
 slot_behind e es n other = ap (λ (b : Bool). if b then Some e.slot else slot_in es n) (ne_eqb e.object n other)
 
-same_some : (a b : ℕ) → Some a ≡ Some b → a ≡ b
-same_some a b e = cc
-
 pub found_slot : (es : List Entry) (n s : ℕ) → slot_in es n ≡ Some s → HasSlot es n s
 found_slot [] n s is = absurd cc
 found_slot (e ∷ es) n s is = elim (cases_eq e.object n) [
-  | inl same ↦ record { index = 0; within = omega arith; object_is = same; slot_is = same_some e.slot s (sym (slot_here e es n same) ∙ is) }
+  | inl same ↦ record { index = 0; within = omega arith; object_is = same; slot_is = same_Some e.slot s (sym (slot_here e es n same) ∙ is) }
   | inr other ↦
       let rest = found_slot es n s (sym (slot_behind e es n other) ∙ is) in
       record { index = suc rest.index; within = omega (arith, rest.within); object_is = rest.object_is; slot_is = rest.slot_is }

@@ -121,7 +121,7 @@ halves_number : (v n : ℕ) → v < 2 ^ 32 → n < 2 ^ 32 → half_number v ++ h
 unfolding number half_number
 halves_number v n fv fn = grind (arith, nat_tests, le_bytes_8, small_8)
 
-length-half : (n : ℕ) → length (half_number n) ≡ 4
+pub length-half : (n : ℕ) → length (half_number n) ≡ 4
 unfolding half_number
 length-half n = refl
 

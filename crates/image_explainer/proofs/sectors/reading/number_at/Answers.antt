@@ -1,6 +1,5 @@
-use Rattle.image_explainer.proofs.Names.{ap, arith, take_rest, little_number}
+use Rattle.image_explainer.proofs.Names.{ap, arith, take_rest, little_number, number_read}
 use Rattle.std.proofs.Common.{◌∙◌}
-use Rattle.image_explainer.proofs.Numbers.{number_read}
 use Rattle.image_explainer.proofs.sectors.reading.number_at.Goals as goal
 
 pub returns-clause-rest : goal.returns-clause-rest
