@@ -15,7 +15,6 @@ mod table;
 mod turn;
 mod whole_store;
 
-pub use checkpoint::{Checkpoint, OpenFault, OpenRefused};
 pub use durable::{Durable, Opened};
 pub use intake::Intake;
 pub use read::superblock_of;

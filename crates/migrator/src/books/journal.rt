@@ -126,23 +126,4 @@ impl Books {
         self.put_page(device, number, header, words)?;
         self.save_first(device, spare, number, age)
     }
-
-    /// Reads the saved header of a page, and saves the page with other words.
-    pub(crate) fn journal<D: Device>(
-        &mut self,
-        device: &mut D,
-        spare: &mut Directory,
-        number: u64,
-        words: &[u64],
-        age: u64,
-    ) -> Result<(), Failed>
-        requires idle { IsIdle (D.disk device.old) self.old }
-        requires may { MayJournal age number (stored_on (D.disk device.old) self.old).saved }
-        requires words { length words.now ≡ 512 }
-        ensures { Publishes (D.disk device.old) (D.disk device.new) self.old self.new
-            (on_snapshots (journaled age number words.now) (stored_on (D.disk device.old) self.old)) result }
-    {
-        let header = self.saved_header(device, number)?;
-        self.save_page(device, spare, number, header, words, age)
-    }
 }

@@ -1,16 +1,15 @@
 // One page is saved beside the checkpoints.
-ghost use Rattle.std.specs.Prelude.{◌≡◌, ◌⊎◌, ◌+◌, None, option_map, true, IfOk, OnOk, OnErr, IsErrOf};
+ghost use Rattle.std.specs.Prelude.{◌≡◌, ◌+◌, None, IfOk, OnOk, OnErr};
 ghost use Rattle.device.specs.Calls.{Counts};
 ghost use Rattle.model.specs.Frame.{frame_at};
 ghost use Rattle.layout.specs.Frames.{IsObject};
-ghost use Rattle.checkpoint.specs.Refused.{IsJournalAnswer, IsRefused};
 ghost use Rattle.checkpoint.specs.Saved.{LeavesEither, journaled_saved};
 ghost use Rattle.checkpoint.specs.Snapshots.{journaled};
-ghost use Rattle.migrator.specs.Durable.{stored_of, is_sound, left_of, MayJournal, ReadsStore, on_snapshots};
+ghost use Rattle.migrator.specs.Durable.{stored_of, is_sound, MayJournal, ReadsStore, on_snapshots};
 
 use crate::durable::Durable;
 use device::{Device, Failed};
-use model::{ObjectHeader, Refusal, WORDS, Words};
+use model::{ObjectHeader, WORDS};
 
 impl<D: Device> Durable<D> {
     /// The header of the saved frame of an object, where all that is saved is home. One sector is
@@ -60,46 +59,6 @@ impl<D: Device> Durable<D> {
         let Ok(()) = books.save_page(device, &mut self.spare, number, header, &words[..], age)
         else {
             return Err(Failed);
-        };
-        Ok(self.books.header.generation)
-    }
-
-    /// Saves a page with other words, at an age, and leaves what it is else and all other objects
-    /// as they are saved: one page is durable without a checkpoint. Answers its generation, the
-    /// one after the next, in which it is the one entry. It takes no memory.
-    ///
-    /// It is refused by `CheckpointRunning` exactly where a checkpoint is on its way, and else by
-    /// `MigrationPending` exactly where something saved isn't home. It returns `Fault` exactly
-    /// where the device failed; then a crash leaves what was saved before, or that with the
-    /// page.
-    pub fn journal(&mut self, number: u64, words: &Words, age: u64) -> Result<u64, Refusal>
-        requires sound { is_sound D.disk self.old }
-        requires ready { (stored_of D.disk self.old).frozen ≡ None
-            → (stored_of D.disk self.old).saved.entries ≡ 0
-            → MayJournal age number (stored_of D.disk self.old).saved }
-        ensures journaled { OnOk result (stored_of D.disk self.new
-            ≡ on_snapshots (journaled age number words.now) (stored_of D.disk self.old)) }
-        ensures unchanged { OnErr result (stored_of D.disk self.new ≡ stored_of D.disk self.old) }
-        ensures untouched { IsRefused result → self.new ≡ self.old }
-        ensures plan { self.new.books.plan ≡ self.old.books.plan }
-        ensures answer { IsJournalAnswer (D.disk self.old.beneath) (D.disk self.new.beneath)
-            (option_map left_of (stored_of D.disk self.old).frozen)
-            (stored_of D.disk self.old).saved true true true result }
-        ensures sound { IsErrOf result Refusal.Fault ⊎ is_sound D.disk self.new }
-        ensures size { (D.disk self.new.beneath).sectors ≡ (D.disk self.old.beneath).sectors }
-        ensures any_moment { LeavesEither (D.disk self.old.beneath) (D.disk self.new.beneath)
-            (stored_of D.disk self.old).saved
-            (journaled_saved age number words.now (stored_of D.disk self.old).saved) }
-    {
-        if self.books.size.is_some() {
-            return Err(Refusal::CheckpointRunning);
-        }
-        if self.books.header.entries != 0 {
-            return Err(Refusal::MigrationPending);
-        }
-        let (books, device) = (&mut self.books, &mut self.device);
-        let Ok(()) = books.journal(device, &mut self.spare, number, words.as_slice(), age) else {
-            return Err(Refusal::Fault);
         };
         Ok(self.books.header.generation)
     }
