@@ -1,7 +1,7 @@
 -- The names that the proofs here cite: of other crates, and of the definitions of this one.
 pub use Rattle.checkpoint.proofs.Lists.{maps_same}
 pub use Rattle.checkpoint.specs.Opened.{IsBadFor, OnlyReads}
-pub use Rattle.checkpoint.specs.Saved.{Holds, LeavesEither, LeavesSaved, SavedFrames, kept_of, most, with_words}
+pub use Rattle.checkpoint.specs.Saved.{Holds, LeavesEither, LeavesOneOf, LeavesSaved, SavedFrames, kept_of, most, with_words}
 pub use Rattle.checkpoint.specs.Snapshots.{MayCommit, Snapshots, all_moved, committed, journaled, next_saved, replaced}
 pub use Rattle.ckpt_log.proofs.Places.{directories_inside, frames_in_slots, halves_apart, halves_within, next_follows, slots_apart, slots_inside}
 pub use Rattle.ckpt_log.proofs.SavedStates.{frames_behind, new_denoted, old_denoted, same_saved}
@@ -76,7 +76,7 @@ pub use Rattle.std.specs.List.{range_with_len}
 pub use Rattle.std.specs.Prelude.{IfErr, IsErr, OnErr, OnOk, is_err, option_map, replicate, slice_set}
 pub use Rattle.std.specs.Vec.{vec_capacity}
 pub use Rattle.migrator.specs.Completed.{AreComplete, IsComplete, IsFilled, Keeps, KeepsOne}
-pub use Rattle.migrator.specs.Durable.{DurableState, FrozenPuts, GoesOnDisk, HasUnwritten, IsDurable, IsHome, IsKept, IsLesser, IsReadable, IsRunning}
+pub use Rattle.migrator.specs.Durable.{Commits, DurableState, FrozenPuts, GoesOnDisk, HasUnwritten, IsDurable, IsHome, IsKept, IsLesser, IsReadable, IsRunning}
 pub use Rattle.migrator.specs.Durable.{IsSoundOn, LeavesState, MayHaveUnwritten, MayJournal, MayPut, Migrates, MovedBy, Publishes, PutsFrame, ReadsStore, Stays}
 pub use Rattle.migrator.specs.Durable.{Stored, Stores, below_at, first_bytes, first_frame, freezing_puts, frozen_generation, frozen_of, frozen_put}
 pub use Rattle.migrator.specs.Durable.{generation_after, home_header, is_sound, left_of, newest, next_header, on_snapshots, puts, replaced_header, saved_state}

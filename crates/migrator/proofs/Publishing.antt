@@ -9,6 +9,7 @@ use Rattle.migrator.proofs.Names.{directory_extent, next_follows, old_denoted, n
 use Rattle.migrator.proofs.Names.{Stays, AreKeepable, AreComplete, Keeps, committed, next_saved, FrozenPuts, frozen_generation, frozen_of, next_header, seen_by}
 use Rattle.migrator.proofs.Names.{puts, on_snapshots, adopted, entries_of, arith, Counts, Publishes, SavedFrames, LeavesSaved, LeavesEither, Stored, IsSoundOn}
 use Rattle.migrator.proofs.Names.{zero, suc, [], length, replicate, Place, Nowhere, IsRunning, SparesKept, place_at, Spares, Frame, Geometry, IsKeepable}
+use Rattle.migrator.proofs.Names.{Commits, LeavesOneOf, same_Some, option_map, on_ok_weaker}
 use Rattle.std.specs.Prelude.{if◌then◌else◌, ◌==◌}
 use Rattle.std.proofs.Common.{◌≡◌, ◌⊎◌, ◌∙◌, ◌+◌, ◌*◌, ◌%◌, ◌∷◌, ◌≤◌}
 use Rattle.migrator.proofs.Putting.{half_spares, homes_spare, idle_half, none_spares}
@@ -235,6 +236,23 @@ module _ {disk : Disk} {b : Books} {next : CheckpointHeader} {es : List Entry} (
         moments,
         err_counts failed counts,
       )
+
+-- what is published then are the frozen frames
+pub commits_by : {T E : Type 0} {old new : Disk} {b c : Books} {k age : ℕ} {r : Result T E} → MayCommitAt old b k age →
+    Publishes old new b c (on_snapshots (committed puts age (frozen_of (seen_by old.seen b) b k)) (stored_on old b)) r → Commits old new b c age r
+commits_by {old = old} {new = new} {b = b} {c = c} {k = k} {age = age} {r = r} may is = record {
+  stands = is.stands;
+  stored = λ f some. subst (λ (g : FrozenPuts). OnOk r (stored_on new c ≡ on_snapshots (committed puts age g) (stored_on old b)))
+      (same_Some (frozen_of (seen_by old.seen b) b k) f (sym (ap (option_map (frozen_of (seen_by old.seen b) b)) may.running) ∙ some)) is.stored;
+  generation = on_ok_weaker r (λ e. ap (λ (s : Stored). s.saved.generation) e) is.stored;
+  unchanged = is.unchanged;
+  plan = is.plan;
+  sound = is.sound;
+  size = is.size;
+  any_moment = subst (λ (o : Option ℕ). LeavesOneOf old new (stored_on old b).saved
+      (option_map (λ f. next_saved puts age f (stored_on old b).saved) (option_map (frozen_of (seen_by old.seen b) b) o))) (sym may.running) is.any_moment;
+  cause = is.cause;
+}
 
 -- ---- where no checkpoint is on its way
 

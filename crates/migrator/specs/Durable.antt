@@ -4,7 +4,7 @@ use Rattle.migrator.specs.Names.{frame_at, Image, Disk, Agrees, Narrows, Peeks, 
 use Rattle.migrator.specs.Names.{entry_at, IsHeader, Packed, shape_of, SavedState, Encodes, slot_sector, AreSpelt}
 use Rattle.migrator.specs.Names.{state_in, Plan, IsPlan, SavedFrames, kept_of, LeavesSaved, FrozenView, Snapshots}
 use Rattle.migrator.specs.Names.{freezing, IsObject, IsKeepable, most, Counts, LeavesEither, Result, OnOk, OnErr, moved}
-use Rattle.migrator.specs.Names.{moved_saved}
+use Rattle.migrator.specs.Names.{moved_saved, LeavesOneOf, committed, next_saved}
 use Rattle.std.specs.Prelude.{◌≡◌, ◌⊎◌, ◌+◌, ◌-◌, ◌^◌, ◌<◌, ◌≤◌}
 use Rattle.model.specs.declared.object.Role.TheVariants as role
 use Rattle.migrator.specs.Gathered.{IsCopied}
@@ -257,6 +257,20 @@ pub record Publishes {T E : Type 0} (old new : Disk) (b c : Books) (next : Store
   pub sound : OnOk result (IsSoundOn new c)
   pub size : new.sectors ≡ old.sectors
   pub any_moment : LeavesEither old new (stored_on old b).saved next.saved
+  pub cause : Counts old new result
+
+-- the frozen frames are saved at an age; where the device failed, nothing that is stored changed
+pub record Commits {T E : Type 0} (old new : Disk) (b c : Books) (age : ℕ) (result : Result T E) : Type 0 where
+  pub stands : IsDurable new c
+  pub stored : (f : FrozenPuts) → (stored_on old b).frozen ≡ Some f →
+      OnOk result (stored_on new c ≡ on_snapshots (committed puts age f) (stored_on old b))
+  pub generation : OnOk result (c.header.generation ≡ b.header.generation + 1)
+  pub unchanged : OnErr result (stored_on new c ≡ stored_on old b)
+  pub plan : c.plan ≡ b.plan
+  pub sound : OnOk result (IsSoundOn new c)
+  pub size : new.sectors ≡ old.sectors
+  pub any_moment : LeavesOneOf old new (stored_on old b).saved
+      (option_map (λ f. next_saved puts age f (stored_on old b).saved) (stored_on old b).frozen)
   pub cause : Counts old new result
 
 -- count more of the saved objects are home, and nothing else changes

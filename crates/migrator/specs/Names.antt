@@ -1,8 +1,8 @@
 -- The names of other crates that the definitions here cite.
 pub use Rattle.capability.specs.Parts.{Parts}
 pub use Rattle.checkpoint.specs.Opened.{OnlyReads}
-pub use Rattle.checkpoint.specs.Saved.{Holds, LeavesEither, LeavesSaved, SavedFrames, kept_of, most}
-pub use Rattle.checkpoint.specs.Snapshots.{FrozenView, Snapshots, freezing, moved, moved_saved, next_saved}
+pub use Rattle.checkpoint.specs.Saved.{Holds, LeavesEither, LeavesOneOf, LeavesSaved, SavedFrames, kept_of, most}
+pub use Rattle.checkpoint.specs.Snapshots.{FrozenView, Snapshots, committed, freezing, moved, moved_saved, next_saved}
 pub use Rattle.checkpoint.specs.Store.{View}
 pub use Rattle.ckpt_log.specs.Commit.{header_sector}
 pub use Rattle.ckpt_log.specs.Places.{directory_extent, place_extent}

@@ -133,17 +133,17 @@ impl Books {
         )
     }
 
-    // Drops what was put of an object for the checkpoint on its way, which writes `size` objects, and writes the
-    // cluster that the device failed to write.
-    fn tear<D: Device>(&mut self, device: &mut D, size: u64, number: u64) -> Result<(), Failed>
+    // Drops what was put of an object for the checkpoint on its way, and writes the cluster that the device failed to
+    // write.
+    fn tear<D: Device>(&mut self, device: &mut D, number: u64) -> Result<(), Failed>
         requires stands { IsDurable (D.disk device.old) self.old }
-        requires running { self.old.size ≡ Some size }
         requires object { IsObject self.old.plan.geometry number }
-        requires room { HasFreeSlot size (puts_in (seen_by (D.disk device.old).seen self.old) self.old.plan
+        requires room { (size : ℕ) × (self.old.size ≡ Some size)
+            × HasFreeSlot size (puts_in (seen_by (D.disk device.old).seen self.old) self.old.plan
             (frozen_generation self.old) self.old.frozen) number }
         ensures torn { Stores (D.disk device.old) (D.disk device.new) self.old self.new
             (with_frozen number Broken (stored_on (D.disk device.old) self.old)) }
-        ensures size { self.new.size ≡ Some size }
+        ensures size { self.new.size ≡ self.old.size }
         ensures written { OnOk result (self.new.unwritten ≡ None) }
         ensures cause { Counts (D.disk device.old) (D.disk device.new) result }
     {
@@ -156,12 +156,11 @@ impl Books {
     fn put_written<D: Device>(
         &mut self,
         device: &mut D,
-        size: u64,
         number: u64,
         header: ObjectHeader,
         content: ContentRef<'_>,
     ) -> Result<(), Failed>
-        requires may { MayPut (D.disk device.old) self.old size number
+        requires may { (size : ℕ) × MayPut (D.disk device.old) self.old size number
             (record { header = header; content = content_behind content }) }
         requires written { self.old.unwritten ≡ None }
         ensures { PutsFrame (D.disk device.old) (D.disk device.new) self.old self.new
@@ -180,25 +179,24 @@ impl Books {
         )
     }
 
-    /// Writes the frame of an object for the checkpoint on its way, which writes `size` objects, into a slot of its
-    /// own in the half of the log that nothing saved lies in. After `Failed` the slot may hold any bytes.
-    #[tactic(auto, using(crate::proofs::PutFrames::puts_none, crate::proofs::PutFrames::may_put_torn))]
+    /// Writes the frame of an object for the checkpoint on its way into a slot of its own, in the half of the log that
+    /// nothing saved lies in. After `Failed` the slot may hold any bytes.
+    #[tactic(auto, using(crate::proofs::PutFrames::puts_none))]
     pub(crate) fn put_running<D: Device>(
         &mut self,
         device: &mut D,
-        size: u64,
         number: u64,
         header: ObjectHeader,
         content: ContentRef<'_>,
     ) -> Result<(), Failed>
-        requires { MayPut (D.disk device.old) self.old size number
+        requires { (size : ℕ) × MayPut (D.disk device.old) self.old size number
             (record { header = header; content = content_behind content }) }
         ensures { PutsFrame (D.disk device.old) (D.disk device.new) self.old self.new
             (record { header = header; content = content_behind content.entry })
             (λ put. with_frozen number put (stored_on (D.disk device.old) self.old)) result }
     {
-        self.tear(device, size, number)?;
-        self.put_written(device, size, number, header, content)
+        self.tear(device, number)?;
+        self.put_written(device, number, header, content)
     }
 
     /// Freezes what was put: a checkpoint of `size` objects is on its way.

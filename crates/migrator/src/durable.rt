@@ -98,9 +98,9 @@ impl<D: Device> Durable<D> {
     {
         match self.books.size {
             None => Err(Refusal::NoCheckpoint),
-            Some(size) => match self
+            Some(_) => match self
                 .books
-                .put_running(&mut self.device, size, number, header, content)
+                .put_running(&mut self.device, number, header, content)
             {
                 Ok(()) => Ok(()),
                 Err(Failed) => Err(Refusal::Fault),
@@ -170,10 +170,7 @@ impl<D: Device> Durable<D> {
         if left != 0 {
             return Err(Refusal::NotStable(left));
         }
-        let Ok(()) = self
-            .books
-            .commit(&mut self.device, &mut self.spare, size, age)
-        else {
+        let Ok(()) = self.books.commit(&mut self.device, &mut self.spare, age) else {
             return Err(Refusal::Fault);
         };
         Ok(self.books.header.generation)

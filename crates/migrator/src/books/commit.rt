@@ -1,8 +1,7 @@
 // The commit of a checkpoint.
-ghost use Rattle.std.specs.Prelude.{◌≡◌};
+ghost use Rattle.std.specs.Prelude.{◌≡◌, ℕ};
 ghost use Rattle.layout.specs.Header.{IsHeader};
-ghost use Rattle.checkpoint.specs.Snapshots.{committed};
-ghost use Rattle.migrator.specs.Durable.{Publishes, frozen_of, next_header, on_snapshots, puts, seen_by, stored_on};
+ghost use Rattle.migrator.specs.Durable.{Commits, next_header};
 ghost use Rattle.migrator.specs.Saving.{MayCommitAt};
 
 use crate::books::Books;
@@ -24,18 +23,15 @@ impl Books {
         }
     }
 
-    /// Commits the checkpoint on its way. It writes `size` objects, and all of them were put.
+    /// Commits the checkpoint on its way, of which all objects were put.
     pub(crate) fn commit<D: Device>(
         &mut self,
         device: &mut D,
         spare: &mut Directory,
-        size: u64,
         age: u64,
     ) -> Result<(), Failed>
-        requires { MayCommitAt (D.disk device.old) self.old size age }
-        ensures { Publishes (D.disk device.old) (D.disk device.new) self.old self.new
-            (on_snapshots (committed puts age (frozen_of (seen_by (D.disk device.old).seen self.old) self.old size))
-            (stored_on (D.disk device.old) self.old)) result }
+        requires { (size : ℕ) × MayCommitAt (D.disk device.old) self.old size age }
+        ensures { Commits (D.disk device.old) (D.disk device.new) self.old self.new age result }
     {
         let header = self.next_header(age);
         spare.fill(&self.frozen);

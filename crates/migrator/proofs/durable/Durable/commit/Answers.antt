@@ -37,16 +37,18 @@ commit-requires g c =
     let none : c.in-Some.size - c.whole.result ≡ 0 = search rules in
     let ready = subst (λ t. (f : FrozenPuts) → (stored_of g.D.Device.disk t).frozen ≡ Some f → MayCommit puts c.args.age f (stored_of g.D.Device.disk t).saved)
     (sym c.self.view_is) c.requires.ready in
-    let may = ready (frozen_of (seen_by disk.seen b) b c.in-Some.size) (ap (option_map (frozen_of (seen_by disk.seen b) b)) c.in-Some.is) in
-    search (
-      c.self.invariant,
-      c.in-Some.is,
-      none,
-      c.whole.ensures,
-      arith,
-      subst (λ t. is_sound g.D.Device.disk t) (sym c.self.view_is) c.requires.sound,
-      may,
-      may.keepable (sym (left_is c.in-Some.size c.self.invariant c.whole.ensures) ∙ none),
+    let may = ready (frozen_of (seen_by disk.seen b) b c.in-Some.size) (ap (option_map (frozen_of (seen_by disk.seen b) b)) c.in-Some.is) in (
+      c.in-Some.size,
+      search (
+        c.self.invariant,
+        c.in-Some.is,
+        none,
+        c.whole.ensures,
+        arith,
+        subst (λ t. is_sound g.D.Device.disk t) (sym c.self.view_is) c.requires.sound,
+        may,
+        may.keepable (sym (left_is c.in-Some.size c.self.invariant c.whole.ensures) ∙ none),
+      ),
     )
 
 pub returns-clause-stable : goal.returns-clause-stable
