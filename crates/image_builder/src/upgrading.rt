@@ -25,7 +25,7 @@ use checkpoint::{OpenFault, OpenRefused};
 use device::Device;
 use image_writer::{lay_out_again, write_saved};
 use layout::{CheckpointHeader, Entry, Version};
-use migrator::{Durable, WholeStore, superblock_of};
+use migrator::{Durable, WholeStore, read_superblock};
 use model::{Cap, Content, ObjectHeader};
 use recovery::recover;
 use std::alloc::{AllocError, Global};
@@ -45,7 +45,7 @@ pub fn upgraded_sectors<D: Device>(device: &mut D) -> Result<u64, OpenFault>
     ensures reads { ReadsOnly (D.disk device.old) (D.disk device.new) }
     ensures cause { CountsOpen (D.disk device.old) (D.disk device.new) result }
 {
-    match superblock_of(device) {
+    match read_superblock(device) {
         Ok(superblock) => Ok(lay_out_again(Version::Two, &superblock).total()),
         Err(why) => Err(why),
     }

@@ -6,7 +6,7 @@ use Rattle.migrator.proofs.Names.{half_extent, half_within, length_read, read_at
 use Rattle.migrator.proofs.Names.{place_extent, directory_extent, frames_behind, directories_inside, Place, Nowhere, Whole, place_at, slot_of, taken_count}
 use Rattle.migrator.proofs.Names.{whole_count, entries_of, Put, put_at, put_or, overlaid, slot_bytes, puts_in, ArePut, most, Books, IsDurable}
 use Rattle.migrator.proofs.Names.{frozen_generation, working_generation, committed, generation_after, Stored, saved_state, frozen_of, stored_in, IsRunning}
-use Rattle.migrator.proofs.Names.{IsKept, next_header, puts, on_snapshots, AreComplete, MayAdopt, SavesOnly, SparesKept, adopted, SparesFrames, Spares}
+use Rattle.migrator.proofs.Names.{IsIntact, next_header, puts, on_snapshots, AreComplete, MayAdopt, SavesOnly, SparesKept, adopted, SparesFrames, Spares}
 use Rattle.migrator.proofs.Names.{maps_same, IsSoundOn}
 use Rattle.std.proofs.Common.{◌≡◌, ◌+◌, ◌-◌, ◌^◌, ◌<◌, ◌≤◌, ◌∙◌}
 use Rattle.std.specs.Prelude.{◌==◌}
@@ -23,15 +23,15 @@ abbrev pub header_extent : CheckpointHeader → Extent
 header_extent h = record { sector = header_sector h; length = 2 }
 
 -- all that is kept lies behind the headers
-pub headers_spare : {size : ℕ} {image : Image} {b : Books} (h : CheckpointHeader) → IsKept size image b → SparesKept b (header_extent h)
+pub headers_spare : {size : ℕ} {image : Image} {b : Books} (h : CheckpointHeader) → IsIntact size image b → SparesKept b (header_extent h)
 headers_spare {size} {image} {b} h kept = grind (arith, nat_tests, frames_behind, homes_behind, places_within, half_within)
 
-module _ {size : ℕ} {b : Books} {next : CheckpointHeader} {old new : Image} (kept : IsKept size old b) (only : SavesOnly b.plan next old new)
+module _ {size : ℕ} {b : Books} {next : CheckpointHeader} {old new : Image} (kept : IsIntact size old b) (only : SavesOnly b.plan next old new)
     (spares : SparesKept b (directory_extent b.plan next.generation next.entries)) where
-  between_kept : IsKept size only.between b
+  between_kept : IsIntact size only.between b
   between_kept = kept_on size spares only.directory kept
 
-  pub kept_saves : IsKept size new b
+  pub kept_saves : IsIntact size new b
   kept_saves = kept_on size (headers_spare next between_kept) only.header between_kept
 
   pub stored_saves : stored_in new b ≡ stored_in old b
@@ -65,13 +65,14 @@ next_fits {age} b is later most few small = let more = one_more (b.header.entrie
 -- ---- the frames that are saved next
 
 -- the frozen frames' places are a directory
-pub frozen_fits : {size : ℕ} {image : Image} {b : Books} → IsKept size image b → IsDirectory b.plan.geometry (entries_of b.frozen)
+pub frozen_fits : {size : ℕ} {image : Image} {b : Books} → IsIntact size image b → IsDirectory b.plan.geometry (entries_of b.frozen)
 frozen_fits {b} kept =
     entries_directory kept.frozen.table kept.frozen.count kept.frozen.few
     (omega (arith, kept.plan.geometry.most_nodes, kept.plan.geometry.most_pages)) kept.plan.geometry.most_log
 
 -- all that was put is whole
-module _ {size : ℕ} {image : Image} {b : Books} (k : ℕ) (kept : IsKept size image b) (running : b.size ≡ Some k) (stable : k ≤ whole_count b.frozen) where
+module _ {size : ℕ} {image : Image} {b : Books} (k : ℕ) (kept : IsIntact size image b) (running : b.frozen_size ≡ Some k)
+    (stable : k ≤ whole_count b.frozen) where
   pub was : IsRunning b (Some k)
   was = subst (IsRunning b) running kept.running
 
@@ -135,7 +136,7 @@ module _ {size : ℕ} {image : Image} {b : Books} (k : ℕ) (kept : IsKept size 
 
 -- ---- a commit
 
-module _ (disk : Disk) {b : Books} (k : ℕ) (kept : IsKept disk.sectors disk.seen b) (running : b.size ≡ Some k) (stable : k ≤ whole_count b.frozen)
+module _ (disk : Disk) {b : Books} (k : ℕ) (kept : IsIntact disk.sectors disk.seen b) (running : b.frozen_size ≡ Some k) (stable : k ≤ whole_count b.frozen)
     (complete : AreComplete disk.seen b.plan (frozen_generation b) (entries_of b.frozen)) {age : ℕ} (later : b.header.age < age) (most_age : age ≤ 2 ^ 62)
     (keepable : AreKeepable b.plan.geometry age
     (overlaid (puts_in disk.seen b.plan (frozen_generation b) b.frozen) (frames_read disk.seen b.plan b.header.generation b.directory))) where
@@ -182,7 +183,7 @@ module _ (disk : Disk) {b : Books} (k : ℕ) (kept : IsKept disk.sectors disk.se
   no_place : ArePut disk.seen b.plan (frozen_generation b + 1) blank
   no_place = grind (arith, nat_tests, length-replicate, tally-blank, blank_table, none)
 
-  committed_kept : IsKept disk.sectors disk.seen after
+  committed_kept : IsIntact disk.sectors disk.seen after
   committed_kept = record {
     readable = search (
       kept,

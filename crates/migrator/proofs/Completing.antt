@@ -3,7 +3,7 @@ use Rattle.migrator.proofs.Names.{Holds, nat_tests, IsDurable, seen_by, stored_o
 use Rattle.migrator.proofs.Names.{subst, arith, Image, Disk, IsTorn, AreKeepable, Entry, Extent, CheckpointHeader, entry_at, half_sector, count_of, IsInside}
 use Rattle.migrator.proofs.Names.{half_extent, found_slot, own_slot, Whole, place_at, slot_of, entries_of, AreComplete, Keeps, Unwritten, mended, IfUnwritten}
 use Rattle.migrator.proofs.Names.{Put, slot_bytes, puts_in, Books, frozen_generation, working_generation, stored_in, frozen_of, next_saved, next_header}
-use Rattle.migrator.proofs.Names.{saved_state, IsKept, LeavesState, MayHaveUnwritten, LeavesSaved, kept_of, Spares, puts, Touches, SparesPuts, Result, []}
+use Rattle.migrator.proofs.Names.{saved_state, IsIntact, LeavesState, MayHaveUnwritten, LeavesSaved, kept_of, Spares, puts, Touches, SparesPuts, Result, []}
 use Rattle.migrator.proofs.Names.{length, inl, inr, cases_eq, OnOk, OnErr, Elsewhere, image_of, sectors_of, elsewhere_on, OnlyNow, Shape, Packed, IsDirectory}
 use Rattle.migrator.proofs.Names.{home_place, shape_of, bytes_at, sectors_from, shaped_at, slot_in, slot_sector, shape_bytes, Plan, IsPlan, IsApart}
 use Rattle.migrator.proofs.Names.{apart_inside, whole_sectors, IsObject, IsOwn, alone, ranked, begins, place_extent, frames_in_slots, halves_within}
@@ -17,7 +17,8 @@ use Rattle.migrator.proofs.PlacesApart.{touches_on, spares_other, home_apart, fo
 use Rattle.migrator.proofs.Putting.{other_parity, half_spares, homes_spare, later_half}
 use Rattle.migrator.proofs.Tables.{slot_entries, set_here, set_there, slot_kept}
 
-module _ {old new : Disk} {b : Books} {was now : Option Unwritten} {k : ℕ} (kept : IsKept old.sectors (mended old.seen was) b) (running : b.size ≡ Some k)
+module _ {old new : Disk} {b : Books} {was now : Option Unwritten} {k : ℕ} (kept : IsIntact old.sectors (mended old.seen was) b)
+    (running : b.frozen_size ≡ Some k)
     (keeps : Keeps b.plan (frozen_generation b) (entries_of b.frozen) old was new now) where
   abbrev before : Image
   before = mended old.seen was
@@ -53,7 +54,7 @@ module _ {old new : Disk} {b : Books} {was now : Option Unwritten} {k : ℕ} (ke
   stored_after = stored_same after before b (puts_stay b.plan (working_generation b) b.working working_spares keeps.elsewhere) puts_after
       (state_stays spares.frames keeps.elsewhere)
 
-  kept_after : IsKept old.sectors after b
+  kept_after : IsIntact old.sectors after b
   kept_after = record {
     readable = readable_stays spares.frames keeps.elsewhere kept.readable;
     few = kept.few;
@@ -65,8 +66,8 @@ module _ {old new : Disk} {b : Books} {was now : Option Unwritten} {k : ℕ} (ke
     working = are_put_on b.plan (working_generation b) b.working working_spares keeps.elsewhere kept.working;
   }
 
-  pub mid_kept : IsKept new.sectors after b
-  mid_kept = subst (λ (size : ℕ). IsKept size after b) (sym keeps.touches.size) kept_after
+  pub mid_kept : IsIntact new.sectors after b
+  mid_kept = subst (λ (size : ℕ). IsIntact size after b) (sym keeps.touches.size) kept_after
 
   touches : Touches extent.sector extent.length (mended_disk old was) (mended_disk new now)
   touches = search (keeps.touches, leaves_mended was now (IsTorn extent.sector extent.length old) keeps.touches.any_moment)
@@ -85,25 +86,25 @@ module _ {old new : Disk} {b : Books} {was now : Option Unwritten} {k : ℕ} (ke
         search (is, running, sym (slot_entries b.frozen entry.object) ∙ own)
 
 -- what is kept doesn't depend on what is unwritten
-pub kept_with : {size : ℕ} {image : Image} {b : Books} {o : Option Unwritten} → IsKept size image b → IsKept size image (record b { unwritten = o })
+pub kept_with : {size : ℕ} {image : Image} {b : Books} {o : Option Unwritten} → IsIntact size image b → IsIntact size image (record b { unwritten = o })
 kept_with kept = search
 
 -- once all slots are complete, nothing is unwritten, and nothing changes
 pub record IsCompleted (old : Disk) (image : Image) (b : Books) (k : ℕ) (mid : Disk) : Type 0 where
-  pub kept : IsKept mid.sectors mid.seen b
+  pub kept : IsIntact mid.sectors mid.seen b
   pub size : mid.sectors ≡ old.sectors
   pub frozen : frozen_of mid.seen b k ≡ frozen_of image b k
   pub stored : stored_in mid.seen b ≡ stored_in image b
   pub sound : LeavesState old (saved_state image b) → LeavesState mid (saved_state mid.seen b)
   pub any_moment : LeavesState old (saved_state image b) → LeavesSaved old mid (kept_of (saved_state image b))
 
-pub ready : {old mid : Disk} {b : Books} {was now : Option Unwritten} {k : ℕ} → IsKept old.sectors (mended old.seen was) b → b.size ≡ Some k →
+pub ready : {old mid : Disk} {b : Books} {was now : Option Unwritten} {k : ℕ} → IsIntact old.sectors (mended old.seen was) b → b.frozen_size ≡ Some k →
     Keeps b.plan (frozen_generation b) (entries_of b.frozen) old was mid now → now ≡ None → IsCompleted old (mended old.seen was) b k mid
 ready {old} {mid} {b} {was} {now} {k} kept running keeps none =
     let goes = goes_after kept running keeps {c = b} refl refl refl in
     let image : mended mid.seen now ≡ mid.seen = unmended none in
     record {
-      kept = subst (λ (i : Image). IsKept mid.sectors i b) image (mid_kept kept running keeps);
+      kept = subst (λ (i : Image). IsIntact mid.sectors i b) image (mid_kept kept running keeps);
       size = keeps.touches.size;
       frozen = ap (λ (i : Image). frozen_of i b k) (sym image) ∙ frozen_after kept running keeps;
       stored = ap (λ (i : Image). stored_in i b) (sym image) ∙ stored_after kept running keeps;
@@ -323,7 +324,7 @@ all_complete image p generation es each n s is_n none beside = search (arith, fo
 -- ---- where nothing is unwritten
 
 -- no checkpoint is on its way
-pub none_idle : (b : Books) (o : Option Unwritten) → MayHaveUnwritten b o → b.size ≡ None → o ≡ None
+pub none_idle : (b : Books) (o : Option Unwritten) → MayHaveUnwritten b o → b.frozen_size ≡ None → o ≡ None
 none_idle b o has idle = grind (arith, nat_tests)
 
 -- then no books have any

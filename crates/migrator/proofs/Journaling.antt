@@ -5,8 +5,8 @@ use Rattle.migrator.proofs.Names.{IsDirectory, entry_at, IsFrameOf, page_frame_b
 use Rattle.migrator.proofs.Names.{sectors_from, shaped_at, bytes_at, count_of, frames_read, AreSpelt, Plan, IsPlan, IsInside, half_extent, slot_behind}
 use Rattle.migrator.proofs.Names.{length_read, read_at, spelt_same, spelt_at, bytes_spelt, Shape, home_place, shape_of, IsShapeFor, WritesAt, slot_extent}
 use Rattle.migrator.proofs.Names.{directory_extent, slots_inside, most, with_words, Books, IsDurable, frozen_generation, working_generation, FrozenPuts}
-use Rattle.migrator.proofs.Names.{journaled, replaced, stored_in, stored_on, IsKept, replaced_header, on_snapshots, first_bytes, first_frame, beside_frame_slot}
-use Rattle.migrator.proofs.Names.{alone, IsHeaderOf, MayAdopt, SparesKept, adopted, mended, MayJournal, directories_inside}
+use Rattle.migrator.proofs.Names.{journaled, replaced, stored_in, stored_on, IsIntact, replaced_header, on_snapshots, first_bytes, first_frame}
+use Rattle.migrator.proofs.Names.{beside_frame_slot, alone, IsHeaderOf, MayAdopt, SparesKept, adopted, mended, MayJournal, directories_inside}
 use Rattle.std.proofs.Common.{◌≡◌, ◌+◌, ◌%◌, ◌^◌, ◌<◌, ◌≤◌, ◌∷◌, ◌∙◌}
 use Rattle.std.specs.Prelude.{◌==◌}
 use Rattle.model.specs.declared.object.Content.TheVariants as content
@@ -34,7 +34,7 @@ page_spelt p {age} {n} image at {f} le is written = grind (arith, nat_tests)
 
 -- ---- where all that is saved is home
 
-module _ {size : ℕ} {image : Image} {b : Books} (kept : IsKept size image b) (home : b.header.entries ≡ 0) where
+module _ {size : ℕ} {image : Image} {b : Books} (kept : IsIntact size image b) (home : b.header.entries ≡ 0) where
   none_saved : (n : ℕ) → frame_slot_in b.plan b.directory n ≡ None
   none_saved n = no_entries b.plan b.directory n (kept.count ∙ home)
 
@@ -55,7 +55,7 @@ module _ {size : ℕ} {image : Image} {b : Books} (kept : IsKept size image b) (
   saved_keepable {n} lt = rw (read_at image b.plan b.header.generation b.directory n lt) (kept.saved n lt).0
 
 -- the header that was read of its home is the saved one
-pub header_read : {old : Image} {size : ℕ} (new : Image) {b : Books} → IsKept size old b → b.header.entries ≡ 0 → {n at : ℕ} {shape : Shape} →
+pub header_read : {old : Image} {size : ℕ} (new : Image) {b : Books} → IsIntact size old b → b.header.entries ≡ 0 → {n at : ℕ} {shape : Shape} →
     n < count_of b.plan → at ≡ home_place b.plan n → shape ≡ shape_of b.plan n → IsShapeFor b.plan.geometry n shape
     → (bytes_at new (home_place b.plan n) b.plan n ≡ bytes_at old (home_place b.plan n) b.plan n) → {header : ObjectHeader} → IsHeaderOf new at shape header →
     header ≡ (frame_at (stored_in old b).saved.frames n).header
@@ -66,7 +66,7 @@ header_read {old} {size} new {b} kept home {n} {at} lt place shape_is fits same 
 
 -- ---- and no checkpoint is on its way
 
-module _ {size : ℕ} {image : Image} {b : Books} (kept : IsKept size image b) (free : b.size ≡ None) (home : b.header.entries ≡ 0) where
+module _ {size : ℕ} {image : Image} {b : Books} (kept : IsIntact size image b) (free : b.frozen_size ≡ None) (home : b.header.entries ≡ 0) where
   -- the half of the saved generation lies apart from all that is kept
   spares_half : (g : ℕ) {e : Extent} → g % 2 ≡ b.header.generation % 2 → IsInside e (half_extent b.plan.geometry (half_sector b.plan g)) → SparesKept b e
   spares_half g {e} same inside =
@@ -79,7 +79,7 @@ module _ {size : ℕ} {image : Image} {b : Books} (kept : IsKept size image b) (
 
 -- ---- a page is written into the first slot of that half
 
-module _ {old new : Disk} {b : Books} (is : IsDurable old b) (free : b.size ≡ None) (home : b.header.entries ≡ 0)
+module _ {old new : Disk} {b : Books} (is : IsDurable old b) (free : b.frozen_size ≡ None) (home : b.header.entries ≡ 0)
     (writes : WritesAt (slot_sector b.plan b.header.generation 0) 9 old new) where
   mended_writes : WritesAt (slot_sector b.plan b.header.generation 0) 9 (mended_disk old b.unwritten) (mended_disk new b.unwritten)
   mended_writes = writes_mended b.unwritten writes
@@ -94,7 +94,7 @@ module _ {old new : Disk} {b : Books} (is : IsDurable old b) (free : b.size ≡ 
   page_stays =
       let apart = spares_log b.header b.directory b.header.generation is.kept.plan is.kept.count home inside in
       search (
-        subst (λ (size : ℕ). IsKept size (mended new.seen b.unwritten) b) (sym writes.size) (kept_on old.sectors spares mended_writes.elsewhere is.kept),
+        subst (λ (size : ℕ). IsIntact size (mended new.seen b.unwritten) b) (sym writes.size) (kept_on old.sectors spares mended_writes.elsewhere is.kept),
         is.unwritten,
         stored_stays old.sectors spares mended_writes.elsewhere,
         goes_seen (goes_spared {b = b} {c = b} refl refl refl apart (touches mended_writes)),
@@ -130,7 +130,7 @@ none_frozen : (f g : ℕ → FrozenPuts) (o : Option ℕ) → o ≡ None → opt
 none_frozen f g o is = grind (arith, nat_tests)
 
 module _ {disk : Disk} {b : Books} {n age : ℕ} (may : MayReplace disk b n age) where
-  kept : IsKept disk.sectors disk.seen b
+  kept : IsIntact disk.sectors disk.seen b
   kept = idle_kept (replaced_header age b) (one_entry n) may.stands may.free
 
   abbrev again : ℕ

@@ -3,7 +3,7 @@ use Rattle.migrator.proofs.Names.{nat_tests, IsRunning, ℕ, refl, subst, Image,
 use Rattle.migrator.proofs.Names.{LeavesState, GoesOnDisk, kept_of, Holds, LeavesSaved, Spares, Touches, None, List, set, arith, range_with_len, same_lists}
 use Rattle.migrator.proofs.Names.{length-set, get_or-set_same, get_or-set_other, length-map-range_with_len, get_or-map-range_with_len, Elsewhere, entry_at}
 use Rattle.migrator.proofs.Names.{count_of, Plan, IsPlan, IsApart, spelt_same, home_extent, one_length, Place, Nowhere, Whole, place_at, slot_bytes, put_of}
-use Rattle.migrator.proofs.Names.{puts_in, ArePut, maps_same, frozen_generation, working_generation, stored_in, IsHome, IsKept, SparesFrames, SparesKept}
+use Rattle.migrator.proofs.Names.{puts_in, ArePut, maps_same, frozen_generation, working_generation, stored_in, IsHome, IsIntact, SparesFrames, SparesKept}
 use Rattle.migrator.proofs.Names.{SparesPuts, IsReadable, CheckpointHeader, Entry}
 use Rattle.std.specs.Prelude.{map}
 use Rattle.std.proofs.Common.{◌≡◌, ◌<◌}
@@ -95,10 +95,10 @@ module _ (size : ℕ) {b : Books} {e : Extent} {old new : Image} (spares : Spare
   pub stored_stays : stored_in new b ≡ stored_in old b
   stored_stays = grind (arith, nat_tests, stored_same, puts_stay, state_stays)
 
-  object_fits : IsKept size old b → {i : ℕ} → i < b.moved → (entry_at b.directory i).object < count_of b.plan
+  object_fits : IsIntact size old b → {i : ℕ} → i < b.moved → (entry_at b.directory i).object < count_of b.plan
   object_fits kept {i} lt = (kept.directory.each i (record { object = 0; slot = 0 }) (omega (arith, lt, kept.few, kept.count))).object
 
-  pub kept_on : IsKept size old b → IsKept size new b
+  pub kept_on : IsIntact size old b → IsIntact size new b
   kept_on kept =
       let moved : (i : ℕ) → i < b.moved → IsHome new b.plan b.header.generation b.directory i =
       λ i lt. home_stays b spares.frames change i kept.plan (object_fits kept lt) (spares.homes i lt) (kept.moved i lt) in
@@ -110,5 +110,5 @@ module _ (size : ℕ) {b : Books} {e : Extent} {old new : Image} (spares : Spare
       )
 
 -- where no checkpoint is on its way nothing is frozen
-pub nowhere_frozen : {size : ℕ} {image : Image} {b : Books} → IsKept size image b → b.size ≡ None → (n : ℕ) → place_at b.frozen n ≡ Nowhere
+pub nowhere_frozen : {size : ℕ} {image : Image} {b : Books} → IsIntact size image b → b.frozen_size ≡ None → (n : ℕ) → place_at b.frozen n ≡ Nowhere
 nowhere_frozen {b} kept idle = subst (IsRunning b) idle kept.running

@@ -2,8 +2,8 @@
 use Rattle.migrator.proofs.Names.{nat_tests, ℕ, Option, Some, None, List, length, refl, sym, ap, subst, arith, Image, Disk, LeavesOnly, leaves_on, entry_at}
 use Rattle.migrator.proofs.Names.{count_of, Plan, IsPlan, apart_turned, own_slot, home_place, place_length, places_apart, MovedBy, home_extent, place_extent}
 use Rattle.migrator.proofs.Names.{Place, slot_of, IsTable, taken_count, IsCopied, IsFirst, SavedFrames, Holds, Books, IsDurable, seen_by, Stored, GoesOnDisk}
-use Rattle.migrator.proofs.Names.{stored_in, stored_on, IsHome, IsRunning, IsKept, Spares, Touches, SparesPuts, SparesKept, Unwritten, mended, is_err, Migrates}
-use Rattle.migrator.proofs.Names.{Publishes, ⊎_elim, all_moved, IsSoundOn, IsLesser, on_snapshots, Result, Ok, Err, IsErr, Counts, MayFinish, []}
+use Rattle.migrator.proofs.Names.{stored_in, stored_on, IsHome, IsRunning, IsIntact, Spares, Touches, SparesPuts, SparesKept, Unwritten, mended, is_err}
+use Rattle.migrator.proofs.Names.{Migrates, Publishes, ⊎_elim, all_moved, IsSoundOn, IsLesser, on_snapshots, Result, Ok, Err, IsErr, Counts, MayFinish, []}
 use Rattle.migrator.proofs.Names.{CheckpointHeader, IsDirectory, IsHeader, frame_in, frame_slot_in, AreSpelt, half_within, read_same, spelt_same}
 use Rattle.migrator.proofs.Names.{frame_slot_entry, directory_extent, home_header, MayAdopt, adopted}
 use Rattle.std.proofs.Common.{◌≡◌, ◌+◌, ◌-◌, ◌<◌, ◌≤◌, ◌∙◌, ◌⊎◌}
@@ -20,8 +20,8 @@ use Rattle.migrator.proofs.Committing.{directory_spares}
 not_running : (b : Books) (o : Option ℕ) → IsRunning b o → 0 < b.header.entries → o ≡ None
 not_running b o running some = grind (arith, nat_tests)
 
-pub no_checkpoint : {size : ℕ} {image : Image} {b : Books} → IsKept size image b → 0 < b.header.entries → b.size ≡ None
-no_checkpoint {b} kept some = not_running b b.size kept.running some
+pub no_checkpoint : {size : ℕ} {image : Image} {b : Books} → IsIntact size image b → 0 < b.header.entries → b.frozen_size ≡ None
+no_checkpoint {b} kept some = not_running b b.frozen_size kept.running some
 
 -- sectors that hold no frame that was put: a home
 puts_home : {p : Plan} (generation : ℕ) {m : ℕ} {ps : List Place} → IsPlan p → IsTable ps → taken_count ps ≤ p.geometry.log → m < count_of p →
@@ -34,12 +34,12 @@ abbrev pub moved_books : Books → ℕ → Books
 moved_books b k = record b { moved = b.moved + k }
 
 -- one more is home
-moved_one : {size : ℕ} {image : Image} {b : Books} → IsKept size image b → b.moved < b.header.entries →
-    IsHome image b.plan b.header.generation b.directory b.moved → IsKept size image (moved_books b 1)
+moved_one : {size : ℕ} {image : Image} {b : Books} → IsIntact size image b → b.moved < b.header.entries →
+    IsHome image b.plan b.header.generation b.directory b.moved → IsIntact size image (moved_books b 1)
 moved_one {size} {image} {b} kept some home = grind (arith, nat_tests)
 
 module _ {old : Disk} (new : Disk) {b : Books} (is : IsDurable old b) (some : b.moved < b.header.entries) where
-  none : b.size ≡ None
+  none : b.frozen_size ≡ None
   none = no_checkpoint is.kept (omega (arith, some))
 
   written : b.unwritten ≡ None
@@ -67,8 +67,8 @@ module _ {old : Disk} (new : Disk) {b : Books} (is : IsDurable old b) (some : b.
     spares_all : SparesKept b (home_extent b.plan object)
     spares_all = grind (arith, nat_tests, spares, places_apart, in_list, object_fits, none_spares, nowhere_frozen, none, puts_home)
 
-    kept_new : IsKept new.sectors (seen_by new.seen b) b
-    kept_new = subst (λ (k : ℕ). IsKept k (seen_by new.seen b) b) (sym touches.size) (kept_on old.sectors spares_all seen_touches.elsewhere is.kept)
+    kept_new : IsIntact new.sectors (seen_by new.seen b) b
+    kept_new = subst (λ (k : ℕ). IsIntact k (seen_by new.seen b) b) (sym touches.size) (kept_on old.sectors spares_all seen_touches.elsewhere is.kept)
 
     stored_new : stored_on new b ≡ stored_on old b
     stored_new = stored_stays old.sectors spares_all seen_touches.elsewhere
@@ -199,13 +199,13 @@ home_fits : {room : ℕ} {h : CheckpointHeader} → IsHeader room h → 0 < h.en
 home_fits {room} {h} is some = grind (arith, nat_tests)
 
 module _ {disk : Disk} {b : Books} (may : MayFinish disk b) where
-  idle : b.size ≡ None
+  idle : b.frozen_size ≡ None
   idle = no_checkpoint may.stands.kept may.some
 
   abbrev header : CheckpointHeader
   header = home_header b.header
 
-  kept : IsKept disk.sectors disk.seen b
+  kept : IsIntact disk.sectors disk.seen b
   kept = idle_kept header [] may.stands idle
 
   -- an object's home frame is its saved frame

@@ -76,11 +76,11 @@ pub use Rattle.std.specs.List.{range_with_len}
 pub use Rattle.std.specs.Prelude.{IfErr, IsErr, OnErr, OnOk, is_err, option_map, replicate, slice_set}
 pub use Rattle.std.specs.Vec.{vec_capacity}
 pub use Rattle.migrator.specs.Completed.{AreComplete, IsComplete, IsFilled, Keeps, KeepsOne}
-pub use Rattle.migrator.specs.Durable.{Commits, DurableState, FrozenPuts, GoesOnDisk, HasUnwritten, IsDurable, IsHome, IsKept, IsLesser, IsReadable, IsRunning}
-pub use Rattle.migrator.specs.Durable.{IsSoundOn, LeavesState, MayHaveUnwritten, MayJournal, MayPut, Migrates, MovedBy, Publishes, PutsFrame, ReadsStore, Stays}
-pub use Rattle.migrator.specs.Durable.{Stored, Stores, below_at, first_bytes, first_frame, freezing_puts, frozen_generation, frozen_of, frozen_put}
-pub use Rattle.migrator.specs.Durable.{generation_after, home_header, is_sound, left_of, newest, next_header, on_snapshots, puts, replaced_header, saved_state}
-pub use Rattle.migrator.specs.Durable.{seen_by, stored_in, stored_of, stored_on, with_frozen, with_working, working_generation}
+pub use Rattle.migrator.specs.Durable.{Commits, DurableState, FrozenPuts, GoesOnDisk, HasUnwritten, IsDurable, IsHome, IsIntact, IsLesser, IsReadable}
+pub use Rattle.migrator.specs.Durable.{IsRunning, IsSoundOn, LeavesState, MayHaveUnwritten, MayJournal, MayPut, Migrates, MovedBy, Publishes, PutsFrame}
+pub use Rattle.migrator.specs.Durable.{ReadsStore, Stays, Stored, Stores, below_at, first_bytes, first_frame, freezing_puts, frozen_generation, frozen_of}
+pub use Rattle.migrator.specs.Durable.{frozen_put, generation_after, home_header, is_sound, left_of, newest, next_header, on_snapshots, puts, replaced_header}
+pub use Rattle.migrator.specs.Durable.{saved_state, seen_by, stored_in, stored_of, stored_on, with_frozen, with_working, working_generation}
 pub use Rattle.migrator.specs.Gathered.{HasZerosAt, IsCopied, IsFirst, IsGathered}
 pub use Rattle.migrator.specs.Headers.{IsHeaderOf}
 pub use Rattle.migrator.specs.Mended.{IfUnwritten, IsSpeltIn, Unwritten, mended, unwritten_of}

@@ -5,7 +5,7 @@ use Rattle.migrator.proofs.Names.{IsSpelt, AreSpelt, frame_read, frames_read, st
 use Rattle.migrator.proofs.Names.{length, length-map-range_with_len, Stays, Option, Some, None, ap, option_map, frame_at, Place, Whole, place_at, slot_of}
 use Rattle.migrator.proofs.Names.{put_or, put_of, ArePut, Geometry, Failed, Agrees, Counts, IsFrameOf, one_frame, CountsOpen, IsRefused, Holds, Books}
 use Rattle.migrator.proofs.Names.{DurableState, frozen_generation, working_generation, below_at, frozen_put, frozen_of, newest, IsRunning, stored_in}
-use Rattle.migrator.proofs.Names.{saved_state, IsKept, ReadsStore, IsDurable, Bool, nat_lt, ObjectHeader, Shape, Node, Packed, Page, frame_length, frame_from}
+use Rattle.migrator.proofs.Names.{saved_state, IsIntact, ReadsStore, IsDurable, Bool, nat_lt, ObjectHeader, Shape, Node, Packed, Page, frame_length, frame_from}
 use Rattle.migrator.proofs.Names.{header_from, sectors_from, shaped_at, header_is, IsHeaderAt, lt_true, lt_false, IsHeaderOf, Result, append-nil, IfErr}
 use Rattle.migrator.proofs.Names.{BadImage, entry_at, AreRising, IsTooSmall, total_in, slot_in, IsPlan, superblock_bytes, own_slot, rising_to, no_slot}
 use Rattle.migrator.proofs.Names.{total_reported, HasNoPlan, IsUnplanned, take, replicate, length-replicate, length_read, Nowhere, Absent, IsSoundOn, IsRead}
@@ -90,8 +90,8 @@ module _ (old new : Disk) (b : Books) (reads : ReadsOnly old new) where
   seen : new.seen ≡ old.seen
   seen = agrees_is new.seen old.seen reads.seen
 
-  fetched_kept : IsKept old.sectors old.seen b → IsKept new.sectors new.seen b
-  fetched_kept kept = subst (λ (i : Image). IsKept new.sectors i b) (sym seen) (subst (λ (k : ℕ). IsKept k old.seen b) (sym reads.size) kept)
+  fetched_kept : IsIntact old.sectors old.seen b → IsIntact new.sectors new.seen b
+  fetched_kept kept = subst (λ (i : Image). IsIntact new.sectors i b) (sym seen) (subst (λ (k : ℕ). IsIntact k old.seen b) (sym reads.size) kept)
 
   fetched_stored : stored_in new.seen b ≡ stored_in old.seen b
   fetched_stored = ap (λ (i : Image). stored_in i b) seen
@@ -117,7 +117,7 @@ frozen_is : (image : Image) (b : Books) (o : Option ℕ) {n : ℕ} → n < count
 frozen_is image b o {n} lt running = grind (arith, nat_tests, put_is)
 
 -- the frame below, by the place of the frozen one
-pub below_by : {size : ℕ} {image : Image} {b : Books} {n : ℕ} {place : Place} → n < count_of b.plan → IsKept size image b → place_at b.frozen n ≡ place
+pub below_by : {size : ℕ} {image : Image} {b : Books} {n : ℕ} {place : Place} → n < count_of b.plan → IsIntact size image b → place_at b.frozen n ≡ place
     → put_or (put_of image b.plan (frozen_generation b) n place) (frame_at (stored_in image b).saved.frames n) ≡ below_at (stored_in image b) n
 below_by {size} {image} {b} {n} {place} lt kept at = grind (arith, nat_tests, frozen_is)
 
@@ -202,7 +202,7 @@ module _ {old new : Disk} {p : Plan} {h : CheckpointHeader} {es : List Entry} {f
   read_new : IsRead new.seen p h es
   read_new = subst (λ (i : Image). IsRead i p h es) same read
 
-  first_kept : IsKept new.sectors new.seen (first_books p h es fs ws)
+  first_kept : IsIntact new.sectors new.seen (first_books p h es fs ws)
   first_kept = record {
     readable = record {
       plan = plan.fits;

@@ -1,8 +1,8 @@
 -- A directory is written, and a header is published over it.
 use Rattle.migrator.proofs.Names.{IfOk-from_err, nat_tests, Snapshots, generation_after, working_generation, IsDirectory, IsHeader, AreSpelt, IsInside}
-use Rattle.migrator.proofs.Names.{half_extent, half_sector, half_start, directories_inside, First, Second, ArePut, slot_bytes, bytes_at, ap, IsDurable, IsKept}
-use Rattle.migrator.proofs.Names.{Books, MayAdopt, Option, Unwritten, mended, saved_state, stored_in, stored_on, ℕ, Result, Ok, Err, List, refl, sym, subst}
-use Rattle.migrator.proofs.Names.{inl, inr, ⊎_elim, OnOk, OnErr, Image, Disk, Elsewhere, Only, LeavesOnly, agrees_is, leaves_weaker, leaves_on, Entry}
+use Rattle.migrator.proofs.Names.{half_extent, half_sector, half_start, directories_inside, First, Second, ArePut, slot_bytes, bytes_at, ap, IsDurable}
+use Rattle.migrator.proofs.Names.{IsIntact, Books, MayAdopt, Option, Unwritten, mended, saved_state, stored_in, stored_on, ℕ, Result, Ok, Err, List, refl, sym}
+use Rattle.migrator.proofs.Names.{subst, inl, inr, ⊎_elim, OnOk, OnErr, Image, Disk, Elsewhere, Only, LeavesOnly, agrees_is, leaves_weaker, leaves_on, Entry}
 use Rattle.migrator.proofs.Names.{CheckpointHeader, directory_bytes, IsFrameOf, Encodes, SavedState, frame_in, directory_in, directory_sector, directory_length}
 use Rattle.migrator.proofs.Names.{state_in, Plan, length_read, read_at, spelt_same, WritesAt, header_sector, CommitsOne, Precedes, HasNew, IsOld, IsReady}
 use Rattle.migrator.proofs.Names.{directory_extent, next_follows, old_denoted, new_denoted, LeavesState, SavesOnly, IsErr, Extent, Touches, None, MayCommitAt}
@@ -20,8 +20,8 @@ use Rattle.migrator.proofs.Kept.{are_put_same, goes_seen, nowhere_frozen}
 
 -- ---- where nothing is unwritten, the device has all
 
-pub kept_raw : {disk : Disk} {b : Books} → b.unwritten ≡ None → IsDurable disk b → IsKept disk.sectors disk.seen b
-kept_raw {disk} {b} none is = subst (λ (o : Option Unwritten). IsKept disk.sectors (mended disk.seen o) b) none is.kept
+pub kept_raw : {disk : Disk} {b : Books} → b.unwritten ≡ None → IsDurable disk b → IsIntact disk.sectors disk.seen b
+kept_raw {disk} {b} none is = subst (λ (o : Option Unwritten). IsIntact disk.sectors (mended disk.seen o) b) none is.kept
 
 pub stored_raw : (disk : Disk) (b : Books) → b.unwritten ≡ None → (c : Books) → c.unwritten ≡ b.unwritten → stored_on disk c ≡ stored_in disk.seen c
 stored_raw disk b none c same = ap (λ (o : Option Unwritten). stored_in (mended disk.seen o) c) (same ∙ none)
@@ -133,7 +133,7 @@ module _ {old mid : Disk} {b : Books} {o : Option Unwritten} {k age : ℕ} (may 
   abbrev frozen : FrozenPuts
   frozen = frozen_of (seen_by old.seen b) b k
 
-  was : IsKept old.sectors (seen_by old.seen b) b
+  was : IsIntact old.sectors (seen_by old.seen b) b
   was = may.stands.kept
 
   pub mid_stays : Stays old mid b (record b { unwritten = o })
@@ -143,7 +143,7 @@ module _ {old mid : Disk} {b : Books} {o : Option Unwritten} {k age : ℕ} (may 
     now : IsCompleted old (seen_by old.seen b) b k mid
     now = ready was may.running keeps none
 
-    kept : IsKept mid.sectors mid.seen books
+    kept : IsIntact mid.sectors mid.seen books
     kept = kept_raw none mid_stays.stands
 
     keepable : AreKeepable b.plan.geometry age (next_saved puts age (frozen_of mid.seen b k) (stored_in mid.seen b).saved).frames
@@ -200,10 +200,10 @@ module _ {disk : Disk} {b : Books} {next : CheckpointHeader} {es : List Entry} (
   abbrev after : Books
   after = adopted next es b
 
-  raw_kept : IsKept disk.sectors disk.seen b
+  raw_kept : IsIntact disk.sectors disk.seen b
   raw_kept = kept_raw may.written may.stands
 
-  kept_then : {c : Books} → c.unwritten ≡ b.unwritten → IsKept disk.sectors new.seen c → IsKept new.sectors (mended new.seen c.unwritten) c
+  kept_then : {c : Books} → c.unwritten ≡ b.unwritten → IsIntact disk.sectors new.seen c → IsIntact new.sectors (mended new.seen c.unwritten) c
   kept_then {c} same kept = grind (arith, nat_tests)
 
   moments : LeavesEither disk new (stored_on disk b).saved (stored_on disk after).saved
@@ -259,7 +259,7 @@ commits_by {old = old} {new = new} {b = b} {c = c} {k = k} {age = age} {r = r} m
 -- the same but for the header and the directory
 abbrev pub with_header : Books → CheckpointHeader → List Entry → Books
 with_header b next es =
-    record { plan = b.plan; header = next; directory = es; moved = 0; frozen = b.frozen; size = b.size; working = b.working; unwritten = b.unwritten }
+    record b { header = next; directory = es; moved = 0 }
 
 no_places : (ps : List Place) → ((n : ℕ) → place_at ps n ≡ Nowhere) → replicate (length ps) Nowhere ≡ ps
 no_places [] none = refl
@@ -275,14 +275,14 @@ after_same g h o same = grind (arith, nat_tests)
 half_put : {image : Image} {p : Plan} {g h : ℕ} {ps : List Place} → h % 2 ≡ g % 2 → ArePut image p g ps → ArePut image p h ps
 half_put {image} {p = plan} {g} {h} same are = are_put_same (λ n s lt is. slot_same image plan h g same s n) are
 
-module _ {disk : Disk} {b : Books} (next : CheckpointHeader) (es : List Entry) (is : IsDurable disk b) (idle : b.size ≡ None) where
+module _ {disk : Disk} {b : Books} (next : CheckpointHeader) (es : List Entry) (is : IsDurable disk b) (idle : b.frozen_size ≡ None) where
   none : b.unwritten ≡ None
   none = none_idle b b.unwritten is.unwritten idle
 
   blank : (n : ℕ) → place_at b.frozen n ≡ Nowhere
   blank = nowhere_frozen is.kept idle
 
-  pub idle_kept : IsKept disk.sectors disk.seen b
+  pub idle_kept : IsIntact disk.sectors disk.seen b
   idle_kept = kept_raw none is
 
   idle_books : with_header b next es ≡ adopted next es b
@@ -302,14 +302,14 @@ module _ {disk : Disk} {b : Books} (next : CheckpointHeader) (es : List Entry) (
     inside : IsInside sectors (half_extent b.plan.geometry (half_sector b.plan next.generation))
     inside = directories_inside b.plan next.generation next.entries header.entries
 
-    kept_next : IsKept disk.sectors disk.seen (with_header b next es)
+    kept_next : IsIntact disk.sectors disk.seen (with_header b next es)
     kept_next = record {
       readable = search (header, count, directory, spelt);
       few = omega arith;
       moved = λ i less. absurd (omega (arith, less));
       frozen = half_put (omega (arith, parity)) idle_kept.frozen;
       running = subst (IsRunning (with_header b next es)) (sym idle) blank;
-      working = half_put (after_same next.generation b.header.generation b.size parity) idle_kept.working;
+      working = half_put (after_same next.generation b.header.generation b.frozen_size parity) idle_kept.working;
     }
 
     spares : SparesKept b sectors

@@ -4,8 +4,8 @@ use Rattle.migrator.proofs.Names.{length, set, refl, sym, ap, subst, arith, OnOk
 use Rattle.migrator.proofs.Names.{half_sector, place_length, slot_sector, count_of, IsInside, half_extent, bytes_spelt, WritesAt, place_extent, most, Keeps}
 use Rattle.migrator.proofs.Names.{Books, Place, Torn, Whole, slot_of, IsDurable, IsRunning, Stored, frozen_generation, seen_by, stored_in, stored_on}
 use Rattle.migrator.proofs.Names.{with_frozen, with_working, working_generation, Unwritten, mended, Put, Broken, Kept, HasFreeSlot, ArePut, puts_in, slot_bytes}
-use Rattle.migrator.proofs.Names.{slot_frame, Touches, entries_of, slot_for, Counts, IsKept, Spares, SparesKept, on_err_weaker, get_or-set_same, same_Some, Err}
-use Rattle.migrator.proofs.Names.{IsErr, counts_on}
+use Rattle.migrator.proofs.Names.{slot_frame, Touches, entries_of, slot_for, Counts, IsIntact, Spares, SparesKept, on_err_weaker, get_or-set_same, same_Some}
+use Rattle.migrator.proofs.Names.{Err, IsErr, counts_on}
 use Rattle.std.proofs.Common.{◌≡◌, ◌⊎◌, ◌∙◌, ◌+◌, ◌<◌, ◌≤◌}
 use Rattle.std.specs.Prelude.{if◌then◌else◌}
 use Rattle.migrator.proofs.Completing.{entry_of, held_after, without, working_again, goes_after, kept_with, mid_kept, stored_after, keeps_written}
@@ -37,24 +37,24 @@ putting false n x s = with_frozen n x s
 -- there is a slot for an object
 abbrev HasSlot : Bool → Books → ℕ → Type 0
 HasSlot true b n = slot_for b.working n < b.plan.geometry.log
-HasSlot false b n = (k : ℕ) × (b.size ≡ Some k) × (slot_for b.frozen n < k)
+HasSlot false b n = (k : ℕ) × (b.frozen_size ≡ Some k) × (slot_for b.frozen n < k)
 
-slot_low : (since : Bool) {size : ℕ} {image : Image} {b : Books} (n : ℕ) → IsKept size image b → HasSlot since b n →
+slot_low : (since : Bool) {size : ℕ} {image : Image} {b : Books} (n : ℕ) → IsIntact size image b → HasSlot since b n →
     slot_for (places since b) n < b.plan.geometry.log
 slot_low since {size} {image} {b} n kept has = grind (arith, nat_tests)
 
-same_places : (since : Bool) {size : ℕ} {image : Image} {b : Books} → IsKept size image b → IsKept size image (with_places since b (places since b))
+same_places : (since : Bool) {size : ℕ} {image : Image} {b : Books} → IsIntact size image b → IsIntact size image (with_places since b (places since b))
 same_places since {size} {image} {b} kept = grind (arith, nat_tests)
 
-are_put : (since : Bool) {size : ℕ} {image : Image} (b : Books) (ps : List Place) → IsKept size image (with_places since b ps) →
+are_put : (since : Bool) {size : ℕ} {image : Image} (b : Books) (ps : List Place) → IsIntact size image (with_places since b ps) →
     ArePut image b.plan (generation_of since b) ps
 are_put since {size} {image} b ps kept = grind (arith, nat_tests)
 
 -- the place of an object is another, with its slot
-module _ {first : ℕ} {was : Image} {b : Books} (n : ℕ) (q : Place) (before : IsKept first was b) where
+module _ {first : ℕ} {was : Image} {b : Books} (n : ℕ) (q : Place) (before : IsIntact first was b) where
   kept_places : (since : Bool) {size : ℕ} {image : Image} (ps : List Place) → n < length (places since b) → HasSlot since b n →
-      slot_of q ≡ Some (slot_for (places since b) n) → IsKept size image (with_places since b ps) →
-      ArePut image b.plan (generation_of since b) (set (places since b) n q) → IsKept size image (with_places since b (set (places since b) n q))
+      slot_of q ≡ Some (slot_for (places since b) n) → IsIntact size image (with_places since b ps) →
+      ArePut image b.plan (generation_of since b) (set (places since b) n q) → IsIntact size image (with_places since b (set (places since b) n q))
   kept_places true ps lt has slot kept are = search
   kept_places false ps lt has slot kept are =
       let runs : IsRunning b (Some has.0) = subst (IsRunning b) has.1 before.running in
@@ -70,14 +70,14 @@ pub put_twice : (since : Bool) (s : Stored) (n : ℕ) (x y : Put) → putting si
 put_twice since s n x y = grind (arith, nat_tests, set_twice)
 
 -- what was put of an object is given up
-module _ (since : Bool) {size : ℕ} {image : Image} {b : Books} {n : ℕ} (kept : IsKept size image b) (lt : n < count_of b.plan) (has : HasSlot since b n) where
+module _ (since : Bool) {size : ℕ} {image : Image} {b : Books} {n : ℕ} (kept : IsIntact size image b) (lt : n < count_of b.plan) (has : HasSlot since b n) where
   are : ArePut image b.plan (generation_of since b) (places since b)
   are = are_put since b (places since b) (same_places since kept)
 
   in_list : n < length (places since b)
   in_list = omega (arith, lt, are.count)
 
-  tear_kept : IsKept size image (with_places since b (set (places since b) n (Torn (slot_for (places since b) n))))
+  tear_kept : IsIntact size image (with_places since b (set (places since b) n (Torn (slot_for (places since b) n))))
   tear_kept = kept_places n (Torn (slot_for (places since b) n)) kept since (places since b) in_list has refl (same_places since kept)
       (torn_put are lt (slot_low since n kept has))
 
@@ -85,13 +85,13 @@ module _ (since : Bool) {size : ℕ} {image : Image} {b : Books} {n : ℕ} (kept
   tear_stored = grind (arith, nat_tests, stored_put, puts_set, are, slot_low)
 
 -- the sectors of its slot are none of the others
-saved_spares : (since : Bool) {size : ℕ} {image : Image} {b : Books} {e : Extent} → IsKept size image b →
+saved_spares : (since : Bool) {size : ℕ} {image : Image} {b : Books} {e : Extent} → IsIntact size image b →
     IsInside e (half_extent b.plan.geometry (half_sector b.plan (generation_of since b))) → Spares b.plan b.header b.directory e
-saved_spares true {b = b} kept inside = saved_working b.size kept kept.running inside
+saved_spares true {b = b} kept inside = saved_working b.frozen_size kept kept.running inside
 saved_spares false {b = b} kept inside =
     spares_other b.header (frozen_generation b) kept.plan kept.directory kept.header.entries (other_parity b.header.generation) inside
 
-all_spared : (since : Bool) {size : ℕ} {image : Image} {b : Books} {n : ℕ} → IsKept size image b → HasSlot since b n → n < length (places since b) →
+all_spared : (since : Bool) {size : ℕ} {image : Image} {b : Books} {n : ℕ} → IsIntact size image b → HasSlot since b n → n < length (places since b) →
     IsInside (place_extent b.plan (generation_of since b) (slot_for (places since b) n) n)
     (half_extent b.plan.geometry (half_sector b.plan (generation_of since b))) →
     SparesKept (with_places since b (set (places since b) n (Torn (slot_for (places since b) n))))
@@ -100,7 +100,7 @@ all_spared true {b = b} kept has lt inside =
     search (
       (saved_spares true kept inside).frames,
       homes_spare (working_generation b) kept inside,
-      frozen_working b.size kept kept.running inside,
+      frozen_working b.frozen_size kept kept.running inside,
       slots_spare b.plan (working_generation b) kept.working.table lt,
     )
 all_spared false {b = b} kept has lt inside =
@@ -112,7 +112,7 @@ all_spared false {b = b} kept has lt inside =
     )
 
 -- a frame is written into its slot
-module _ (since : Bool) {old new : Disk} {b : Books} {n : ℕ} (f : Frame) (kept : IsKept old.sectors old.seen b) (lt : n < count_of b.plan)
+module _ (since : Bool) {old new : Disk} {b : Books} {n : ℕ} (f : Frame) (kept : IsIntact old.sectors old.seen b) (lt : n < count_of b.plan)
     (has : HasSlot since b n)
     (writes : WritesAt (slot_sector b.plan (generation_of since b) (slot_for (places since b) n)) (place_length b.plan n) old new) where
   abbrev g : ℕ
@@ -130,8 +130,8 @@ module _ (since : Bool) {old new : Disk} {b : Books} {n : ℕ} (f : Frame) (kept
   spared : SparesKept torn (place_extent b.plan g slot n)
   spared = all_spared since kept has (in_list since kept lt has) inside
 
-  stays_kept : IsKept new.sectors new.seen torn
-  stays_kept = subst (λ (size : ℕ). IsKept size new.seen torn) (sym writes.size) (kept_on old.sectors spared writes.elsewhere (tear_kept since kept lt has))
+  stays_kept : IsIntact new.sectors new.seen torn
+  stays_kept = subst (λ (size : ℕ). IsIntact size new.seen torn) (sym writes.size) (kept_on old.sectors spared writes.elsewhere (tear_kept since kept lt has))
 
   stays_stored : stored_in new.seen torn ≡ putting since n Broken (stored_in old.seen b)
   stays_stored = stored_stays old.sectors spared writes.elsewhere ∙ tear_stored since kept lt has
@@ -141,7 +141,7 @@ module _ (since : Bool) {old new : Disk} {b : Books} {n : ℕ} (f : Frame) (kept
         × (slot_frame new.seen b.plan g slot n ≡ f)
     spelt = bytes_spelt b.plan.geometry most n (slot_bytes new.seen b.plan g slot n) f keepable written
 
-    put_kept : IsKept new.sectors new.seen (with_places since b (set (places since b) n (Whole slot)))
+    put_kept : IsIntact new.sectors new.seen (with_places since b (set (places since b) n (Whole slot)))
     put_kept = kept_places n (Whole slot) kept since (set (places since b) n (Torn slot)) (in_list since kept lt has) has refl stays_kept
         (mended_put (places since b) n slot (are_put since b (set (places since b) n (Torn slot)) stays_kept) lt spelt.0)
 
@@ -157,7 +157,7 @@ module _ (since : Bool) {old new : Disk} {b : Books} {n : ℕ} (f : Frame) (kept
   -- its outcome, whether or not the device failed
   put_either : {T : Type 0} (r : Result T Failed) (ps : List Place) → IsKeepable b.plan.geometry most n f → OnOk r (ps ≡ set (places since b) n (Whole slot)) →
       OnErr r (ps ≡ set (places since b) n (Torn slot)) → OnOk r (slot_bytes new.seen b.plan g slot n ≡ frame_bytes b.plan.geometry n f) →
-      IsKept new.sectors new.seen (with_places since b ps)
+      IsIntact new.sectors new.seen (with_places since b ps)
       × OnOk r (stored_in new.seen (with_places since b ps) ≡ putting since n (Kept f) (stored_in old.seen b))
       × OnErr r (stored_in new.seen (with_places since b ps) ≡ putting since n Broken (stored_in old.seen b))
   put_either {T} r ps keepable ok err written = grind (arith, nat_tests, put_kept, put_stored, stays_kept, stays_stored)
@@ -183,7 +183,7 @@ module _ {old : Disk} {b : Books} {n : ℕ} (is : IsDurable old b) (lt : n < cou
 
 -- ---- for the checkpoint on its way
 
-module _ {old : Disk} {b : Books} {k n : ℕ} (is : IsDurable old b) (size : b.size ≡ Some k) (lt : n < count_of b.plan)
+module _ {old : Disk} {b : Books} {k n : ℕ} (is : IsDurable old b) (size : b.frozen_size ≡ Some k) (lt : n < count_of b.plan)
     (has : HasFreeSlot k (puts_in (seen_by old.seen b) b.plan (frozen_generation b) b.frozen) n) where
   was : IsRunning b (Some k)
   was = subst (IsRunning b) size is.kept.running
@@ -204,7 +204,7 @@ module _ {old : Disk} {b : Books} {k n : ℕ} (is : IsDurable old b) (size : b.s
     has_slot : HasSlot false b n
     has_slot = (k, size, frozen_low)
 
-    mid : IsKept new.sectors (mended new.seen o) b
+    mid : IsIntact new.sectors (mended new.seen o) b
     mid = mid_kept is.kept size keeps
 
     pub torn_stores : Stores old new b (record b { frozen = set b.frozen n (Torn (slot_for b.frozen n)); unwritten = o })
@@ -224,7 +224,7 @@ pub frozen_puts : {T : Type 0} {old new : Disk} {b : Books} {n k : ℕ} {f : Fra
     → PutsFrame old new b (record b { frozen = ps }) f (λ put. with_frozen n put (stored_on old b)) r
 frozen_puts {old = old} {new = new} {b = b} {n = n} {k = k} {f = f} {r = r} may none writes counts {ps} ok err written =
     let is = may.stands in
-    let has : (j : ℕ) × (b.size ≡ Some j) × (slot_for b.frozen n < j) = (k, may.running, frozen_low is may.running may.object may.room) in
+    let has : (j : ℕ) × (b.frozen_size ≡ Some j) × (slot_for b.frozen n < j) = (k, may.running, frozen_low is may.running may.object may.room) in
     let wrote = writes_mended b.unwritten writes in
     let read = on_ok_weaker r (λ is_written. ap (λ (image : Image). slot_bytes image b.plan (frozen_generation b) (slot_for b.frozen n) n) (unmended none)
     ∙ is_written) written in
@@ -238,14 +238,14 @@ unwritten_low {disk} {b} is u some =
 
 -- ---- what was put of an object is given up: its slot stays
 
-torn_room : (old mid : Disk) (b c : Books) {size n : ℕ} → b.size ≡ Some size → c.size ≡ Some size →
+torn_room : (old mid : Disk) (b c : Books) {size n : ℕ} → b.frozen_size ≡ Some size → c.frozen_size ≡ Some size →
     stored_on mid c ≡ with_frozen n Broken (stored_on old b) → n < count_of b.plan
     → HasFreeSlot size (puts_in (seen_by mid.seen c) c.plan (frozen_generation c) c.frozen) n
 torn_room old mid b c {size} {n} running still torn known = grind (arith, nat_tests, length_puts, same_Some, get_or-set_same)
 
 -- it may then be put
 pub may_put_torn : {old mid : Disk} {a b : Books} {k n : ℕ} {f : Frame} → MayPut old a k n f → Stores old mid a b (with_frozen n Broken (stored_on old a)) →
-    b.size ≡ Some k → MayPut mid b k n f
+    b.frozen_size ≡ Some k → MayPut mid b k n f
 may_put_torn {old} {mid} {a} {b} {k} {n} {f} may torn still = grind (arith, nat_tests, torn_room)
 
 -- the device failed before

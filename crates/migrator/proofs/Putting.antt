@@ -4,8 +4,8 @@ use Rattle.migrator.proofs.Names.{same_lists, length-set, length-map-range_with_
 use Rattle.migrator.proofs.Names.{count_of, entry_at, Plan, IsPlan, IsApart, IsInside, half_extent, apart_inside, home_extent, slot_extent, place_extent}
 use Rattle.migrator.proofs.Names.{frames_in_slots, slots_apart, Place, Nowhere, Torn, Whole, place_at, slot_of, has_slot, has_frame, tally, taken_count}
 use Rattle.migrator.proofs.Names.{whole_count, slot_or, slot_for, IsTable, Put, Absent, Kept, put_at, kept_frame, held_slot, sum_of, kept_count, HasFreeSlot}
-use Rattle.migrator.proofs.Names.{slot_bytes, slot_frame, put_of, puts_in, ArePut, most, Books, frozen_generation, generation_after, IsRunning, IsKept, Spares}
-use Rattle.migrator.proofs.Names.{SparesPuts, working_generation, replicate, length-replicate, get_or-replicate, stored_in, freezing_puts}
+use Rattle.migrator.proofs.Names.{slot_bytes, slot_frame, put_of, puts_in, ArePut, most, Books, frozen_generation, generation_after, IsRunning, IsIntact}
+use Rattle.migrator.proofs.Names.{Spares, SparesPuts, working_generation, replicate, length-replicate, get_or-replicate, stored_in, freezing_puts}
 use Rattle.std.proofs.Common.{◌≡◌, ◌⊎◌, ◌+◌, ◌%◌, ◌<◌, ◌≤◌, ◌∷◌, ◌∙◌}
 use Rattle.migrator.proofs.Tables.{some_has, tally-set, table_set, set_here, set_there}
 use Rattle.migrator.proofs.Kept.{map_set, nowhere_frozen}
@@ -121,11 +121,11 @@ pub other_parity : (g : ℕ) → g % 2 ≡ (g + 1) % 2 → ⊥
 other_parity g same = omega (arith, same)
 
 -- while a checkpoint is on its way, what is put since lies in the other half
-pub later_half : (b : Books) {k : ℕ} → b.size ≡ Some k → working_generation b % 2 ≡ frozen_generation b % 2 → ⊥
+pub later_half : (b : Books) {k : ℕ} → b.frozen_size ≡ Some k → working_generation b % 2 ≡ frozen_generation b % 2 → ⊥
 later_half b {k} running same = grind (arith, nat_tests)
 
 -- and where none is, in the half of the saved generation no longer
-pub idle_half : (b : Books) → b.size ≡ None → (g : ℕ) → g % 2 ≡ b.header.generation % 2 → working_generation b % 2 ≡ g % 2 → ⊥
+pub idle_half : (b : Books) → b.frozen_size ≡ None → (g : ℕ) → g % 2 ≡ b.header.generation % 2 → working_generation b % 2 ≡ g % 2 → ⊥
 idle_half b none g same is = grind (arith, nat_tests)
 
 -- frames in the other slots of a half lie apart from the slot of an object
@@ -151,21 +151,21 @@ pub none_spares : (p : Plan) (generation : ℕ) (ps : List Place) (e : Extent) �
 none_spares p generation ps e none n s lt is = let never : Nowhere ≡ Whole s = sym (none n) ∙ is in absurd cc
 
 -- what is saved lies apart from the half of the working frames
-pub saved_working : {size : ℕ} {image : Image} {b : Books} (o : Option ℕ) {e : Extent} → IsKept size image b → IsRunning b o →
+pub saved_working : {size : ℕ} {image : Image} {b : Books} (o : Option ℕ) {e : Extent} → IsIntact size image b → IsRunning b o →
     IsInside e (half_extent b.plan.geometry (half_sector b.plan (generation_after b.header.generation o))) → Spares b.plan b.header b.directory e
 saved_working {b} None {e} kept running inside =
     spares_other b.header (b.header.generation + 1) kept.plan kept.directory kept.header.entries (other_parity b.header.generation) inside
 saved_working {b} (Some k) {e} kept running inside = spares_log b.header b.directory (b.header.generation + 1 + 1) kept.plan kept.count running.0 inside
 
 -- and so do the frozen frames
-pub frozen_working : {size : ℕ} {image : Image} {b : Books} (o : Option ℕ) {e : Extent} → IsKept size image b → IsRunning b o →
+pub frozen_working : {size : ℕ} {image : Image} {b : Books} (o : Option ℕ) {e : Extent} → IsIntact size image b → IsRunning b o →
     IsInside e (half_extent b.plan.geometry (half_sector b.plan (generation_after b.header.generation o))) → SparesPuts b.plan (frozen_generation b) b.frozen e
 frozen_working {b} None {e} kept running inside = none_spares b.plan (frozen_generation b) b.frozen e running
 frozen_working {b} (Some k) {e} kept running inside =
     half_spares (frozen_generation b) (b.header.generation + 1 + 1) kept.plan (other_parity (b.header.generation + 1)) kept.frozen.table kept.frozen.few inside
 
 -- the homes of objects lie apart from both halves
-pub homes_spare : {size : ℕ} {image : Image} {b : Books} (generation : ℕ) {e : Extent} → IsKept size image b →
+pub homes_spare : {size : ℕ} {image : Image} {b : Books} (generation : ℕ) {e : Extent} → IsIntact size image b →
     IsInside e (half_extent b.plan.geometry (half_sector b.plan generation)) → (i : ℕ) → i < b.moved
     → IsApart (home_extent b.plan (entry_at b.directory i).object) e
 homes_spare {b} generation {e} kept inside i lt =
@@ -218,14 +218,14 @@ pub blank_put : {image : Image} {p : Plan} {a b : ℕ} {ps : List Place} → Are
 blank_put {image} {p} {a} {b} {ps} are none = grind (arith, nat_tests)
 
 abbrev pub frozen_books : Books → ℕ → Books
-frozen_books b k = record b { frozen = b.working; size = Some k; working = b.frozen }
+frozen_books b k = record b { frozen = b.working; frozen_size = Some k; working = b.frozen }
 
-module _ (size : ℕ) (image : Image) (b : Books) (k : ℕ) (none : b.size ≡ None) (kept : IsKept size image b) where
+module _ (size : ℕ) (image : Image) (b : Books) (k : ℕ) (none : b.frozen_size ≡ None) (kept : IsIntact size image b) where
   generation : working_generation b ≡ frozen_generation b
   generation = ap (generation_after b.header.generation) none
 
   pub freeze_kept : b.header.entries ≡ 0 → sum_of held_slot (puts_in image b.plan (working_generation b) b.working) ≤ k → k ≤ b.plan.geometry.log →
-      IsKept size image (frozen_books b k)
+      IsIntact size image (frozen_books b k)
   freeze_kept home enough few = grind (arith, nat_tests, held_taken, generation, blank_put, nowhere_frozen)
 
   pub freeze_stored : stored_in image (frozen_books b k) ≡ freezing_puts k (stored_in image b)

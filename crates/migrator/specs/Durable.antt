@@ -33,7 +33,7 @@ generation_after generation None = generation + 1
 generation_after generation (Some size) = generation + 1 + 1
 
 abbrev pub working_generation : Books → ℕ
-working_generation b = generation_after b.header.generation b.size
+working_generation b = generation_after b.header.generation b.frozen_size
 
 -- ---- the three maps of frames
 
@@ -82,7 +82,7 @@ frozen_of image b size = record { put = puts_in image b.plan (frozen_generation 
 abbrev pub stored_in : Image → Books → Stored
 stored_in image b = record {
   working = puts_in image b.plan (working_generation b) b.working;
-  frozen = option_map (frozen_of image b) b.size;
+  frozen = option_map (frozen_of image b) b.frozen_size;
   saved = kept_of (saved_state image b);
   to_move = b.header.entries - b.moved;
 }
@@ -122,14 +122,14 @@ pub record IsReadable (size : ℕ) (image : Image) (p : Plan) (h : CheckpointHea
   pub directory : IsDirectory p.geometry es
   pub saved : AreSpelt image p h.age h.generation es
 
--- what is kept of the store on `size` sectors, whatever failed: without header and superblock
-pub record IsKept (size : ℕ) (image : Image) (b : Books) : Type 0 where
+-- an image on `size` sectors has all that the books name but the header and the superblock, whatever failed
+pub record IsIntact (size : ℕ) (image : Image) (b : Books) : Type 0 where
   pub readable : IsReadable size image b.plan b.header b.directory
   pub open readable use *
   pub few : b.moved ≤ b.header.entries
   pub moved : (i : ℕ) → i < b.moved → IsHome image b.plan b.header.generation b.directory i
   pub frozen : ArePut image b.plan (frozen_generation b) b.frozen
-  pub running : IsRunning b b.size
+  pub running : IsRunning b b.frozen_size
   pub working : ArePut image b.plan (working_generation b) b.working
 
 -- a cluster is unwritten only in a commit that failed: that of the slot of a frozen node
@@ -145,14 +145,14 @@ pub record IsUnwrittenOf (p : Plan) (generation : ℕ) (o : Option ℕ) (ps : Li
   pub shape : shape_of p object ≡ Packed rank
 
 abbrev pub HasUnwritten : Books → Unwritten → Type 0
-HasUnwritten b u = IsUnwrittenOf b.plan (frozen_generation b) b.size b.frozen u
+HasUnwritten b u = IsUnwrittenOf b.plan (frozen_generation b) b.frozen_size b.frozen u
 
 abbrev pub IfUnwrittenOf : Plan → ℕ → Option ℕ → List Place → Option Unwritten → Type 0
 IfUnwrittenOf p generation o ps None = ⊤
 IfUnwrittenOf p generation o ps (Some u) = IsUnwrittenOf p generation o ps u
 
 abbrev pub MayHaveUnwritten : Books → Option Unwritten → Type 0
-MayHaveUnwritten b o = IfUnwrittenOf b.plan (frozen_generation b) b.size b.frozen o
+MayHaveUnwritten b o = IfUnwrittenOf b.plan (frozen_generation b) b.frozen_size b.frozen o
 
 -- what a device and the books over it hold
 abbrev pub stored_on : Disk → Books → Stored
@@ -160,7 +160,7 @@ stored_on disk b = stored_in (seen_by disk.seen b) b
 
 -- what always holds of a device and the books over it
 pub record IsDurable (disk : Disk) (b : Books) : Type 0 where
-  pub kept : IsKept disk.sectors (seen_by disk.seen b) b
+  pub kept : IsIntact disk.sectors (seen_by disk.seen b) b
   pub unwritten : MayHaveUnwritten b b.unwritten
 
 -- each crash now leaves what is saved
@@ -234,7 +234,7 @@ Stays old new b c = Stores old new b c (stored_on old b)
 -- a frame may be put for the checkpoint on its way, which writes `size` objects
 pub record MayPut (disk : Disk) (b : Books) (size n : ℕ) (f : Frame) : Type 0 where
   pub stands : IsDurable disk b
-  pub running : b.size ≡ Some size
+  pub running : b.frozen_size ≡ Some size
   pub object : IsObject b.plan.geometry n
   pub keepable : IsKeepable b.plan.geometry most n f
   pub room : HasFreeSlot size (puts_in (seen_by disk.seen b) b.plan (frozen_generation b) b.frozen) n

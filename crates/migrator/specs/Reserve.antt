@@ -31,7 +31,7 @@ first_books p h es fs ws = record {
   directory = take h.entries es;
   moved = 0;
   frozen = fs;
-  size = None;
+  frozen_size = None;
   working = ws;
   unwritten = None;
 }

@@ -7,7 +7,7 @@ use Rattle.std.specs.Prelude.{◌≡◌, ◌+◌, ◌<◌, ◌≤◌, ◌^◌}
 use Rattle.migrator.specs.declared.books.Books.{Books}
 use Rattle.migrator.specs.declared.table.Place.{Place}
 use Rattle.migrator.specs.declared.table.Place.TheVariants.{Nowhere, Whole}
-use Rattle.migrator.specs.Durable.{IsDurable, IsKept, frozen_generation, working_generation, IsSoundOn, frozen_of}
+use Rattle.migrator.specs.Durable.{IsDurable, IsIntact, frozen_generation, working_generation, IsSoundOn, frozen_of}
 use Rattle.migrator.specs.Durable.{first_bytes, first_frame, puts, seen_by, stored_on}
 use Rattle.migrator.specs.Table.{place_at, whole_count}
 use Rattle.migrator.specs.Spared.{Spares, SparesFrames}
@@ -38,7 +38,7 @@ adopted next es b = record {
   directory = es;
   moved = 0;
   frozen = replicate (length b.frozen) Nowhere;
-  size = None;
+  frozen_size = None;
   working = b.working;
   unwritten = b.unwritten;
 }
@@ -49,7 +49,7 @@ pub record MayAdopt (disk : Disk) (b : Books) (next : CheckpointHeader) (es : Li
   pub written : b.unwritten ≡ None
   pub sound : IsSoundOn disk b
   pub follows : b.header.sequence + 1 ≡ next.sequence
-  pub kept : IsKept disk.sectors disk.seen (adopted next es b)
+  pub kept : IsIntact disk.sectors disk.seen (adopted next es b)
   -- the directory is written apart from what is saved, from all that the books name, and from all that they name then
   pub apart : Spares b.plan b.header b.directory (directory_extent b.plan next.generation next.entries)
   pub spares : SparesKept b (directory_extent b.plan next.generation next.entries)
@@ -60,7 +60,7 @@ pub record MayAdopt (disk : Disk) (b : Books) (next : CheckpointHeader) (es : Li
 -- the checkpoint on its way writes `size` objects, all were put, and may be saved at an age
 pub record MayCommitAt (disk : Disk) (b : Books) (size age : ℕ) : Type 0 where
   pub stands : IsDurable disk b
-  pub running : b.size ≡ Some size
+  pub running : b.frozen_size ≡ Some size
   pub stable : size ≤ whole_count b.frozen
   pub sound : IsSoundOn disk b
   pub later : b.header.age < age
@@ -78,7 +78,7 @@ pub record MayFinish (disk : Disk) (b : Books) : Type 0 where
 -- no checkpoint is on its way, and all that is saved is home
 pub record IsIdle (disk : Disk) (b : Books) : Type 0 where
   pub stands : IsDurable disk b
-  pub free : b.size ≡ None
+  pub free : b.frozen_size ≡ None
   pub home : b.header.entries ≡ 0
   pub sound : IsSoundOn disk b
 

@@ -11,7 +11,7 @@ ghost use Rattle.layout.specs.Calls.{WritesAt};
 ghost use Rattle.layout.specs.Clusters.{HasZerosBeside};
 ghost use Rattle.layout.specs.Frames.{IsObject};
 ghost use Rattle.checkpoint.specs.Saved.{most};
-ghost use Rattle.migrator.specs.Durable.{IsDurable, IsKept, MayPut, PutsFrame, Stores, frozen_generation, left_of};
+ghost use Rattle.migrator.specs.Durable.{IsDurable, IsIntact, MayPut, PutsFrame, Stores, frozen_generation, left_of};
 ghost use Rattle.migrator.specs.Durable.{seen_by, stored_in};
 ghost use Rattle.migrator.specs.Durable.{stored_on, with_frozen, with_working, working_generation};
 ghost use Rattle.migrator.specs.Put.{Broken, HasFreeSlot, puts_in, slot_bytes};
@@ -44,10 +44,10 @@ pub(crate) struct Books {
     pub directory: Directory,
     /// How many of its entries are home.
     pub moved: u64,
-    /// The slots of the checkpoint on its way.
+    /// The slots of the frozen checkpoint.
     pub frozen: Table,
-    /// How many objects that checkpoint writes.
-    pub size: Option<u64>,
+    /// How many objects the frozen checkpoint writes, if one is frozen.
+    pub frozen_size: Option<u64>,
     /// The slots of the frames that were put since it began.
     pub working: Table,
     /// A cluster that the device failed to write.
@@ -95,7 +95,7 @@ impl Books {
         requires { IsHeader self.now.plan.geometry.log self.now.header }
         ensures { result ≡ working_generation self.now }
     {
-        match self.size {
+        match self.frozen_size {
             None => self.header.generation + 1,
             Some(_) => self.header.generation + 2,
         }
@@ -133,17 +133,17 @@ impl Books {
         )
     }
 
-    // Drops what was put of an object for the checkpoint on its way, and writes the cluster that the device failed to
-    // write.
-    fn tear<D: Device>(&mut self, device: &mut D, number: u64) -> Result<(), Failed>
+    // Marks an object's frozen slot as torn, which drops the frame that was put there. Then writes the cluster that the
+    // device failed to write, if there is one.
+    fn tear_and_write_back<D: Device>(&mut self, device: &mut D, number: u64) -> Result<(), Failed>
         requires stands { IsDurable (D.disk device.old) self.old }
         requires object { IsObject self.old.plan.geometry number }
-        requires room { (size : ℕ) × (self.old.size ≡ Some size)
+        requires room { (size : ℕ) × (self.old.frozen_size ≡ Some size)
             × HasFreeSlot size (puts_in (seen_by (D.disk device.old).seen self.old) self.old.plan
             (frozen_generation self.old) self.old.frozen) number }
         ensures torn { Stores (D.disk device.old) (D.disk device.new) self.old self.new
             (with_frozen number Broken (stored_on (D.disk device.old) self.old)) }
-        ensures size { self.new.size ≡ self.old.size }
+        ensures size { self.new.frozen_size ≡ self.old.frozen_size }
         ensures written { OnOk result (self.new.unwritten ≡ None) }
         ensures cause { Counts (D.disk device.old) (D.disk device.new) result }
     {
@@ -195,30 +195,30 @@ impl Books {
             (record { header = header; content = content_behind content.entry })
             (λ put. with_frozen number put (stored_on (D.disk device.old) self.old)) result }
     {
-        self.tear(device, number)?;
+        self.tear_and_write_back(device, number)?;
         self.put_written(device, number, header, content)
     }
 
     /// Freezes what was put: a checkpoint of `size` objects is on its way.
     pub(crate) fn freeze(&mut self, size: u64)
-        requires idle { self.old.size ≡ None }
+        requires idle { self.old.frozen_size ≡ None }
         requires home { self.old.header.entries ≡ 0 }
         ensures { self.new ≡ record self.old {
           frozen = self.old.working;
-          size = Some size;
+          frozen_size = Some size;
           working = self.old.frozen;
         } }
     {
         mem::swap(&mut self.frozen, &mut self.working);
-        self.size = Some(size);
+        self.frozen_size = Some(size);
     }
 
     /// How many objects of the checkpoint on its way have no frame yet.
     pub(crate) fn left(&self) -> Option<u64>
-        requires { (size : ℕ) × (image : Image) × IsKept size image self.now }
+        requires { (size : ℕ) × (image : Image) × IsIntact size image self.now }
         ensures { (image : Image) → result ≡ option_map left_of (stored_in image self.now).frozen }
     {
-        match self.size {
+        match self.frozen_size {
             None => None,
             Some(size) => Some(size - self.frozen.whole()),
         }

@@ -16,8 +16,8 @@ ghost use Rattle.migrator.specs.Gathered.{HasZerosAt, IsFirst};
 ghost use Rattle.migrator.specs.Mended.{IfUnwritten, IsSpeltIn, Unwritten, mended};
 ghost use Rattle.migrator.specs.Spared.{Touches};
 
+use crate::first_in_cluster::is_first;
 use crate::gather::gather;
-use crate::turn::is_first;
 use ckpt_log::Log;
 use device::{Device, Failed};
 use home_ranges::Home;

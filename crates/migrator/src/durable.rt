@@ -96,7 +96,7 @@ impl<D: Device> Durable<D> {
             (option_map left_of (stored_of D.disk self.old).frozen) result }
         ensures goes_on { GoesOn D.disk self.old self.new }
     {
-        match self.books.size {
+        match self.books.frozen_size {
             None => Err(Refusal::NoCheckpoint),
             Some(_) => match self
                 .books
@@ -124,7 +124,7 @@ impl<D: Device> Durable<D> {
         ensures plan { self.new.books.plan ≡ self.old.books.plan }
         ensures sound { is_sound D.disk self.old → is_sound D.disk self.new }
     {
-        if self.books.size.is_some() {
+        if self.books.frozen_size.is_some() {
             return Err(Refusal::CheckpointRunning);
         }
         if self.books.header.entries != 0 {
@@ -163,7 +163,7 @@ impl<D: Device> Durable<D> {
             (option_map (λ f. next_saved puts age f (stored_of D.disk self.old).saved)
             (stored_of D.disk self.old).frozen) }
     {
-        let Some(size) = self.books.size else {
+        let Some(size) = self.books.frozen_size else {
             return Err(Refusal::NoCheckpoint);
         };
         let left = size - self.books.frozen.whole();

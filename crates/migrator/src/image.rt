@@ -12,7 +12,7 @@ ghost use Rattle.layout.specs.Fault.{CountsOpen};
 ghost use Rattle.checkpoint.specs.Opened.{IsBadFor, OnlyReads};
 
 use crate::intake::Intake;
-use crate::read::{read_saved, superblock_of};
+use crate::read::{read_saved, read_superblock};
 use ckpt_log::Log;
 use device::Device;
 use layout::{CheckpointHeader, Entry, OpenFault, Scratch, Superblock};
@@ -51,7 +51,7 @@ fn take_frame<D: Device, I: Intake>(
 }
 
 // Syncs a device, and reads its superblock.
-pub(crate) fn read_plan<D: Device>(device: &mut D) -> Result<Superblock, OpenFault>
+pub(crate) fn sync_and_read_superblock<D: Device>(device: &mut D) -> Result<Superblock, OpenFault>
     ensures found { IfOk result (λ s.
         HasPlan (D.disk device.old).seen (D.disk device.old).sectors s) }
     ensures durable { OnOk result (Only (D.disk device.new).seen (D.disk device.new)) }
@@ -61,7 +61,7 @@ pub(crate) fn read_plan<D: Device>(device: &mut D) -> Result<Superblock, OpenFau
     ensures cause { CountsOpen (D.disk device.old) (D.disk device.new) result }
 {
     match device.sync() {
-        Ok(()) => superblock_of(device),
+        Ok(()) => read_superblock(device),
         Err(_) => Err(OpenFault::Failed),
     }
 }

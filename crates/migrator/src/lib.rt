@@ -7,15 +7,15 @@ mod copy;
 mod directory;
 mod durable;
 mod find;
+mod first_in_cluster;
 mod gather;
 mod image;
 mod intake;
 mod read;
 mod table;
-mod turn;
 mod whole_store;
 
 pub use durable::{Durable, Opened};
 pub use intake::Intake;
-pub use read::superblock_of;
+pub use read::read_superblock;
 pub use whole_store::{AllObjects, WholeStore};

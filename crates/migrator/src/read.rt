@@ -27,7 +27,7 @@ use model::ObjectHeader;
 /// Reads the superblock of a device, and no other sector. It is refused by `Failed` exactly where
 /// the device failed, and else by the least of the first three reasons that holds. It takes no
 /// memory.
-pub fn superblock_of<D: Device>(device: &mut D) -> Result<Superblock, OpenFault>
+pub fn read_superblock<D: Device>(device: &mut D) -> Result<Superblock, OpenFault>
     ensures found { IfOk result (λ s.
         HasPlan (D.disk device.old).seen (D.disk device.old).sectors s) }
     ensures refused { IfErr result (λ e.

@@ -31,7 +31,7 @@ impl Books {
         mem::swap(&mut self.directory, entries);
         self.header = next;
         self.moved = 0;
-        self.size = None;
+        self.frozen_size = None;
         self.frozen.clear();
         Ok(())
     }

@@ -9,7 +9,7 @@ ghost use Rattle.migrator.specs.Saving.{MayFinish};
 use crate::books::Books;
 use crate::copy::copy_home;
 use crate::directory::Directory;
-use crate::turn::is_first;
+use crate::first_in_cluster::is_first;
 use device::{Device, Failed};
 use layout::{CheckpointHeader, PAGE_FRAME_BYTES};
 

@@ -15,7 +15,7 @@ use crate::books::Books;
 use crate::cluster_buffer::ClusterBuffer;
 use crate::directory::{Directory, blank_entries};
 use crate::durable::Durable;
-use crate::image::{read_image, read_plan};
+use crate::image::{read_image, sync_and_read_superblock};
 use crate::intake::Intake;
 use crate::table::{Place, Table};
 use checkpoint::{OpenFault, OpenRefused};
@@ -139,7 +139,7 @@ fn first_books(
         directory: Directory::of(saved, header.entries),
         moved: 0,
         frozen: tables.frozen,
-        size: None,
+        frozen_size: None,
         working: tables.working,
         unwritten: buffer,
     }
@@ -180,7 +180,7 @@ fn read_into<D: Device, I: Intake>(
     }
 }
 
-// Reads it with a scratch buffer, and with what takes the frames.
+// Makes an intake and a scratch buffer, and reads the whole image of the superblock `plan` with them (`read_into`).
 #[tactic(auto, using(crate::proofs::Opening::reads_none))]
 fn read_with_sink<D: Device, I: Intake>(
     alloc: Global,
@@ -224,7 +224,7 @@ fn read_parts<D: Device, I: Intake>(
     ensures only_reads { OnlyReads (D.disk device.old) (D.disk device.new) }
     ensures cause { CountsOpen (D.disk device.old) (D.disk device.new) result }
 {
-    match read_plan(device) {
+    match sync_and_read_superblock(device) {
         Ok(superblock) => match Reserve::new(alloc, superblock.geometry()) {
             Ok(reserve) => read_with_sink(alloc, device, superblock, reserve, memory),
             Err(_) => Err(OpenFault::NoMemory),

@@ -10,7 +10,7 @@ left_is : {disk : Disk} {b : Books} (size : ℕ) {whole : ℕ} → IsDurable dis
     size - whole ≡ left_of (frozen_of (seen_by disk.seen b) b size)
 left_is {disk} {b} size stands whole = rw (whole, ← kept_whole (seen_by disk.seen b) b.plan (frozen_generation b) b.frozen stands.kept.frozen.count)
 
-reported : {disk : Disk} {b : Books} {size whole : ℕ} → IsDurable disk b → b.size ≡ Some size → whole ≡ whole_count b.frozen →
+reported : {disk : Disk} {b : Books} {size whole : ℕ} → IsDurable disk b → b.frozen_size ≡ Some size → whole ≡ whole_count b.frozen →
     option_map left_of (stored_on disk b).frozen ≡ Some (size - whole)
 reported {disk} {b} {size} stands is whole = rw (is, left_is size stands whole)
 

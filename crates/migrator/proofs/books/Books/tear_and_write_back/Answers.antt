@@ -1,7 +1,7 @@
 use Rattle.std.proofs.Common.{ap}
 use Rattle.migrator.proofs.Completing.{either_of}
 use Rattle.migrator.proofs.PutFrames.{torn_stores, unwritten_low}
-use Rattle.migrator.proofs.books.Books.tear.Goals as goal
+use Rattle.migrator.proofs.books.Books.tear_and_write_back.Goals as goal
 
 pub write-requires : goal.write-requires
 write-requires g c = record { inside = unwritten_low c.requires.stands }

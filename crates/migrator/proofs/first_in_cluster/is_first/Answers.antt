@@ -1,6 +1,6 @@
 use Rattle.std.proofs.Common.{◌∙◌, sym}
 use Rattle.migrator.proofs.PlacesApart.{first_of, not_same}
-use Rattle.migrator.proofs.turn.is_first.Goals as goal
+use Rattle.migrator.proofs.first_in_cluster.is_first.Goals as goal
 
 pub returns-clause-yes : goal.returns-clause-yes
 returns-clause-yes c tested =

@@ -1,7 +1,7 @@
 use Rattle.migrator.proofs.Names.{rules, arith, err_from_is_err_and}
 use Rattle.std.proofs.Common.{◌<◌, ◌≤◌}
 use Rattle.migrator.proofs.Opening.{sector_is, total_small, plan_refused, plan_read}
-use Rattle.migrator.proofs.read.superblock_of.Goals as goal
+use Rattle.migrator.proofs.read.read_superblock.Goals as goal
 
 pub returns-then-total_in-sectors-clause-refused : goal.returns-then-total_in-sectors-clause-refused
 returns-then-total_in-sectors-clause-refused g c =

@@ -1,6 +1,6 @@
 use Rattle.migrator.proofs.Names.{agrees_is}
 use Rattle.migrator.proofs.Opening.{refused_plan}
-use Rattle.migrator.proofs.image.read_plan.Goals as goal
+use Rattle.migrator.proofs.image.sync_and_read_superblock.Goals as goal
 
 pub returns-in-Ok-clause-refused : goal.returns-in-Ok-clause-refused
 returns-in-Ok-clause-refused g c = rw (
@@ -8,4 +8,4 @@ returns-in-Ok-clause-refused g c = rw (
       (g.D.Device.disk c.args.device.now).seen c.sync.ensures.seen,
   ← c.sync.ensures.size,
 )
-    (refused_plan c.superblock_of.result (g.D.Device.disk c.sync.new.self).seen (g.D.Device.disk c.sync.new.self).sectors c.superblock_of.ensures.refused)
+    (refused_plan c.read_superblock.result (g.D.Device.disk c.sync.new.self).seen (g.D.Device.disk c.sync.new.self).sectors c.read_superblock.ensures.refused)

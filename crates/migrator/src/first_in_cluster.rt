@@ -1,4 +1,4 @@
-// The turns of the homes: one for all entries that share it.
+// The first entry of a cluster: with it the whole cluster is completed, or copied home.
 ghost use Rattle.std.specs.Prelude.{◌≡◌, ◌<◌, ◌-◌, true, false, length};
 ghost use Rattle.layout.specs.Directory.{IsDirectory, entry_at};
 ghost use Rattle.layout.specs.Homes.{home_place};
@@ -7,7 +7,7 @@ ghost use Rattle.migrator.specs.Gathered.{IsFirst};
 use home_ranges::Home;
 use layout::{Entry, Superblock};
 
-/// Whether an entry is the first of those whose objects have its object's home.
+/// Whether this is the first entry of its cluster.
 pub(crate) fn is_first(plan: &Superblock, entries: &[Entry], index: usize) -> bool
     requires directory { IsDirectory plan.now.geometry entries.now }
     requires within { index < length entries.now }
