@@ -11,7 +11,7 @@ ghost use Rattle.migrator.specs.Durable.{stored_of};
 
 use crate::frozen::{own_body, put_body};
 use crate::frozen_state::{FrozenState, state_by};
-use crate::headers::Headers;
+use crate::headers::FrozenHeaders;
 use crate::staging::Staging;
 use cache_entries::Entries;
 use capability::{Fresh, ObjectTable, RootChange};
@@ -39,15 +39,15 @@ pub struct Cache<D: Device> {
     table: ObjectTable,
     /// The numbers written since the last freeze.
     touched: NumberSet,
-    /// The count of `touched`.
-    count: u64,
+    /// How many numbers are touched.
+    touched_count: u64,
     /// The touched numbers whose present frame isn't in the log.
     dirty: NumberSet,
     entries: Entries,
     /// The numbers whose frozen frame isn't in the log.
     pending: NumberSet,
     /// The headers of pending numbers as they were frozen.
-    frozen_headers: Headers,
+    frozen_headers: FrozenHeaders,
     /// How many objects of the frozen checkpoint `stabilize` has yet to reach.
     left: u64,
     /// A frozen body that is in no entry, and perhaps no longer in its slot.
@@ -81,7 +81,7 @@ impl<D: Device> Model for Cache<D> {
 
     ghost invariant = { λ s. IsCache (stored_of D.disk s.durable)
         (memory_of s.table s.frozen_headers s.touched s.dirty s.pending s.entries.at s.staging)
-        s.left s.count };
+        s.left s.touched_count };
 }
 
 impl<D: Device> Cache<D> {

@@ -11,11 +11,11 @@ use std::marker::Model;
 
 /// Headers by number. A pending object has the header that it had at the freeze.
 #[derive(Drop)]
-pub(crate) struct Headers {
+pub(crate) struct FrozenHeaders {
     items: Vec<ObjectHeader>,
 }
 
-impl Model for Headers {
+impl Model for FrozenHeaders {
     ghost use Rattle.std.specs.Prelude.{List};
     ghost use Rattle.model.specs.declared.frame.ObjectHeader.{ObjectHeader};
 
@@ -38,12 +38,12 @@ fn copy_marked(frozen: &mut [ObjectHeader], table: &ObjectTable, marks: &NumberS
     }
 }
 
-impl Headers {
+impl FrozenHeaders {
     /// A copy of the headers. Fails only if memory runs out.
-    pub(crate) fn new(alloc: Global, headers: &[ObjectHeader]) -> Result<Headers, AllocError>
+    pub(crate) fn new(alloc: Global, headers: &[ObjectHeader]) -> Result<FrozenHeaders, AllocError>
         ensures { IfOk result (λ frozen. frozen ≡ headers.now) }
     {
-        Ok(Headers {
+        Ok(FrozenHeaders {
             items: headers.to_vec(alloc)?,
         })
     }

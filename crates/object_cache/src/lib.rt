@@ -7,11 +7,11 @@ mod cache;
 mod frozen;
 mod frozen_state;
 mod headers;
+mod number_sets;
 mod policy;
 mod saved_objects;
 mod staging;
 mod store;
-mod touched;
 
 pub use cache_entries::Capacity;
 pub use policy::{KeepAll, KeepRecent, Policy};

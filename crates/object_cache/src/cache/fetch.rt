@@ -150,7 +150,7 @@ impl<D: Device> Cache<D> {
             return Ok(());
         }
         let read = self.read_all_in(fetched);
-        // The numbers of the order are those that have an entry.
+        // Proof only: brings in that the numbers of the order are those that have an entry.
         self.len();
         read
     }

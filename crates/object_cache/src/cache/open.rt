@@ -4,7 +4,7 @@ ghost use Rattle.migrator.specs.Durable.{stored_of};
 ghost use Rattle.object_cache.specs.StoreState.{AreAll, HoldBodies, IsJustOpened, IsOpenOver};
 
 use crate::cache::Cache;
-use crate::headers::Headers;
+use crate::headers::FrozenHeaders;
 use crate::staging::Staging;
 use cache_entries::Entries;
 use capability::ObjectTable;
@@ -40,7 +40,7 @@ impl Marks {
 // All the memory of a store, except that for the headers of all objects and for the entries.
 #[derive(Drop)]
 struct Reserve {
-    frozen_headers: Headers,
+    frozen_headers: FrozenHeaders,
     marks: Marks,
     staging: Staging,
     scratch: Scratch,
@@ -58,7 +58,7 @@ impl Reserve {
         ensures staging { IfOk result (λ reserve. reserve.staging ≡ None) }
     {
         Ok(Reserve {
-            frozen_headers: Headers::new(alloc, headers)?,
+            frozen_headers: FrozenHeaders::new(alloc, headers)?,
             marks: Marks::new(alloc, headers.len())?,
             staging: Staging::new(alloc)?,
             scratch: Scratch::new(alloc)?,
@@ -92,7 +92,7 @@ impl<D: Device> Cache<D> {
                     durable,
                     table: ObjectTable::new(headers),
                     touched: marks.touched,
-                    count: 0,
+                    touched_count: 0,
                     dirty: marks.dirty,
                     entries,
                     pending: marks.pending,

@@ -12,7 +12,7 @@ ghost use Rattle.cache_entries.specs.Order.{used_in_turn};
 
 use crate::cache::Cache;
 use crate::frozen_state::FrozenState;
-use crate::touched::{are_ready, fresh_count, mark};
+use crate::number_sets::{add_all, contains_all, count_missing};
 use capability::MAX_FETCHED;
 use device::Device;
 use model::Refusal;
@@ -26,7 +26,7 @@ impl<D: Device> Cache<D> {
         ensures announced { result ≡ true → (n : ℕ) → Contains written.now n → IsAnnouncedIn self.now n }
         ensures within { IsWithinLog D.disk self.now }
     {
-        are_ready(&self.dirty, written)
+        contains_all(&self.dirty, written)
     }
 
     // Marks numbers as touched and dirty. None of their present bodies may also be an unwritten frozen body. `LogFull`
@@ -50,13 +50,13 @@ impl<D: Device> Cache<D> {
         ensures cause { IsErrOf result Refusal.Fault → ⊥ }
         ensures refusals { IfErr result IsUnprepared }
     {
-        let fresh = fresh_count(&self.touched, written);
-        if fresh > self.durable.geometry().log - self.count {
+        let fresh = count_missing(&self.touched, written);
+        if fresh > self.durable.geometry().log - self.touched_count {
             return Err(Refusal::LogFull);
         }
-        mark(&mut self.touched, written);
-        mark(&mut self.dirty, written);
-        self.count += fresh;
+        add_all(&mut self.touched, written);
+        add_all(&mut self.dirty, written);
+        self.touched_count += fresh;
         Ok(())
     }
 
@@ -73,7 +73,7 @@ impl<D: Device> Cache<D> {
         }
     }
 
-    // Does this for the numbers of a list.
+    // Calls `keep_one_apart` for each number of a list.
     pub(crate) fn keep_all_apart(&mut self, written: &[u64])
         requires { All (λ n. n < length self.old.headers) written.now }
         ensures apart { (n : ℕ) → Contains written.now n → frozen_state_at self.new.frozen_state n ≢ Shared }

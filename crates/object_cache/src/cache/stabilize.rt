@@ -39,6 +39,7 @@ impl<D: Device> Cache<D> {
         ensures continues { GoesOnIn D.disk self.old self.new }
         ensures cause { Counts (D.disk self.old.durable.beneath) (D.disk self.new.durable.beneath) result }
     {
+        // Proof only: brings in the invariant.
         let _ = &self.durable;
         if let FrozenState::Nothing = self.frozen_state(number) {
             self.take_below(number)?;
@@ -64,7 +65,7 @@ impl<D: Device> Cache<D> {
         }
     }
 
-    // Does this, and lowers `left` by one.
+    // Calls `put_next`, and lowers `left` by one if it didn't fail.
     fn put_one(&mut self) -> Result<(), Refusal>
         requires { (f : FrozenFrames) × (self.old.frozen ≡ Some f) × (0 < f.left) }
         ensures put { OnOk result (PutsBy D.disk self.old self.new 1) }

@@ -147,13 +147,13 @@ impl<D: Device> Cache<D> {
         ensures beneath { self.new.durable.beneath ≡ self.old.durable.beneath }
         ensures sound { (view_of D.disk self.old).is_sound → (view_of D.disk self.new).is_sound }
     {
-        let size = self.count;
+        let size = self.touched_count;
         self.durable.freeze(size)?;
         self.frozen_headers.take_marked(&self.table, &self.dirty);
         mem::swap(&mut self.pending, &mut self.dirty);
         self.dirty.clear();
         self.touched.clear();
-        self.count = 0;
+        self.touched_count = 0;
         self.left = size;
         Ok(size)
     }

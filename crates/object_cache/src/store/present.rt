@@ -47,7 +47,7 @@ impl<D: Device, P: Policy> Frames for Store<D, P> {
         ensures later { (parts_of D.disk self.old).failures ≤ (parts_of D.disk self.new).failures }
         ensures snapshots { OnlyFetches (parts_of D.disk) (ContinuesIn P.KEEPS_ALL D.disk) self.old self.new }
     {
-        // A use of a field makes the invariant known here.
+        // Proof only: brings in the invariant.
         let _ = &self.cache;
         if P::KEEPS_ALL {
             return Ok(());

@@ -7,12 +7,12 @@ use Rattle.object_cache.proofs.cache.Cache.announce.Goals as goal
 pub invariant_of-self : goal.invariant_of-self
 invariant_of-self g c =
     let i = c.self.inside in
-    let few : i.count + c.fresh_count-fresh.result ≤ (stored_of g.D.Device.disk i.durable).saved.geometry.log = search rules in
-    let counted : i.count + c.fresh_count-fresh.result ≡ touched_count (touching i.touched c.args.written.now) = omega
-    (arith, c.fresh_count-fresh.ensures, c.self.invariant.counted) in
-    rw (c.mark.ensures.marked, c.mark-2.ensures.marked) (mark_stands g.D.Device.disk c.self.view_is c.self.invariant c.args.written.now
+    let few : i.touched_count + c.count_missing-fresh.result ≤ (stored_of g.D.Device.disk i.durable).saved.geometry.log = search rules in
+    let counted : i.touched_count + c.count_missing-fresh.result ≡ touched_count (touching i.touched c.args.written.now) = omega
+    (arith, c.count_missing-fresh.ensures, c.self.invariant.counted) in
+    rw (c.add_all.ensures.marked, c.add_all-2.ensures.marked) (mark_stands g.D.Device.disk c.self.view_is c.self.invariant c.args.written.now
     (λ n has. All-contains (λ k. k < length c.args.self.now.headers) c.args.written.now n c.requires.known has) c.requires.apart
-    (i.count + c.fresh_count-fresh.result) counted few)
+    (i.touched_count + c.count_missing-fresh.result) counted few)
 
 pub returns : goal.returns
 returns g c =
@@ -23,19 +23,19 @@ returns g c =
     let grows : touched_count s.touched ≤ touched_count (touching s.touched ns) =
     omega (
       arith,
-      c.fresh_count-fresh.ensures,
+      c.count_missing-fresh.ensures,
       ap (λ t. touched_count t.touched) c.self.view_is,
       ap (λ t. touched_count (touching t.touched ns)) c.self.view_is,
     ) in
     record {
-      marked = rw (c.mark.ensures.marked, c.mark-2.ensures.marked) seen;
+      marked = rw (c.add_all.ensures.marked, c.add_all-2.ensures.marked) seen;
       unchanged = search rules;
-      announced = rw (c.mark.ensures.marked, c.mark-2.ensures.marked)
+      announced = rw (c.add_all.ensures.marked, c.add_all-2.ensures.marked)
           (λ n has. subst (λ t. IsAnnouncedIn t n) (sym seen) (marked_announced g.D.Device.disk c.self.view_is c.self.invariant ns n (known n has) has));
-      fetched = rw (c.mark.ensures.marked, c.mark-2.ensures.marked)
+      fetched = rw (c.add_all.ensures.marked, c.add_all-2.ensures.marked)
           (λ n there. subst (λ t. IsFetchedIn t n) (sym seen) (record { header = there.header; content = there.content; cached = there.cached }));
       within = search rules;
-      continues = rw (c.mark.ensures.marked, c.mark-2.ensures.marked) (subst (GoesOnIn g.D.Device.disk s) (sym seen)
+      continues = rw (c.add_all.ensures.marked, c.add_all-2.ensures.marked) (subst (GoesOnIn g.D.Device.disk s) (sym seen)
           (mark_continues g.D.Device.disk g.met.D.Device.only_now s (touching s.touched ns) (touching s.dirty ns) grows));
       full = search rules;
       cause = search rules;

@@ -10,7 +10,7 @@ invariant_of-self g c =
     let i = c.self.inside in
     whichever c.promote.result
     (λ e. IsCache (stored_of g.D.Device.disk i.durable) (memory_of i.table i.frozen_headers i.touched i.dirty i.pending e.at i.staging)
-    i.left i.count)
+    i.left i.touched_count)
     c.promote.new.self (used_now c.args.number i.entries) i.entries c.promote.ensures.used c.promote.ensures.unchanged c.self.invariant c.self.invariant
 
 pub returns : goal.returns
