@@ -2,15 +2,15 @@
 use Rattle.object_cache.proofs.Names.{ℕ, zero, suc, Bool, true, false, true≢false, cond, List, [], length, map, replicate, Option, Some, None, option_map, refl}
 use Rattle.object_cache.proofs.Names.{sym, ap, subst, arith, count_by, range_with_len, length-replicate, same_lists, ext_get_or, length-map-range_with_len}
 use Rattle.object_cache.proofs.Names.{get_or-map-range_with_len, sum_by-cons, none-some, same_Some, Cap, Frame, ObjectHeader, Content, Role, blank_frame}
-use Rattle.object_cache.proofs.Names.{frame_at, frames_in, header_at, AreKeepable, touched_count, untouched, object_count, Disk, role_of, Put, Absent, Broken}
-use Rattle.object_cache.proofs.Names.{freezing, all_frozen, freezing_puts, put_at, put_or, held_slot, sum_of, most, DurableState, Stored, below_at, frozen_put}
-use Rattle.object_cache.proofs.Names.{stored_of, maps_same, frame_in, length_in, Entry, entry_at, Memory, mark_at, masked, put_body, content_at, present_at}
-use Rattle.object_cache.proofs.Names.{newest_body, below_body, frozen_body, frozen_frame, frozen_at, contents_in, frozen_in, StoreState, IsCache, AreFrozen}
-use Rattle.object_cache.proofs.Names.{snapshots_of, cache_of, frozen_seen, is_kept, left_of, sum_by-replicate, get_or_default}
+use Rattle.object_cache.proofs.Names.{frames_in, header_at, AreKeepable, touched_count, untouched, object_count, Disk, role_of, Put, Absent, Broken, freezing}
+use Rattle.object_cache.proofs.Names.{all_frozen, freezing_puts, put_at, put_or, held_slot, sum_of, most, DurableState, Stored, below_at, stored_of, maps_same}
+use Rattle.object_cache.proofs.Names.{frame_in, length_in, Entry, entry_at, Memory, mark_at, masked, put_body, content_at, present_at, newest_body, below_body}
+use Rattle.object_cache.proofs.Names.{frozen_body, frozen_frame, frozen_at, contents_in, frozen_in, StoreState, IsCache, AreFrozen, snapshots_of, cache_of}
+use Rattle.object_cache.proofs.Names.{frozen_seen, is_kept, left_of, sum_by-replicate, get_or_default}
 use Rattle.std.proofs.Common.{◌≡◌, ◌<◌, ◌≤◌, ◌||◌, ◌∷◌, ◌∙◌}
 use Rattle.model.specs.declared.object.Content.TheVariants as content
 use Rattle.object_cache.proofs.Marking.{alike}
-use Rattle.object_cache.proofs.Objects.{content_in}
+use Rattle.object_cache.proofs.Objects.{content_in, saved_below}
 use Rattle.object_cache.proofs.Puts.{held_touched}
 use Rattle.object_cache.proofs.Caching.{no_staging}
 use Rattle.object_cache.proofs.Outcomes.{none_of}
@@ -59,12 +59,9 @@ module _ {s : Stored} {m : Memory} {left count : ℕ} (is : IsCache s m left cou
   abbrev now : Memory
   now = frozen_memory fh m
 
-  below_was : (n : ℕ) → below_at s n ≡ frame_at s.saved.frames n
-  below_was n = ap (λ o. put_or (frozen_put o n) (frame_at s.saved.frames n)) none
-
   -- what lies below now is the newest there was
   below_now : (n : ℕ) → below_body begun now n ≡ newest_body s m n
-  below_now n = search (arith, no_staging, none, below_was, put_or_body)
+  below_now n = search (arith, no_staging, none, saved_below, put_or_body)
 
   content_same : (n : ℕ) → content_at begun now n ≡ content_at s m n
   content_same n = rw (alike (length s.working) n Absent, below_now n)
@@ -86,7 +83,7 @@ module _ {s : Stored} {m : Memory} {left count : ℕ} (is : IsCache s m left cou
 
   frozen_by : (n : ℕ) → n < length m.headers → (b t : Bool) → mark_at m.dirty n ≡ b → mark_at m.touched n ≡ t →
       frozen_frame b (header_at fh n) (frozen_body (entry_at m.entries n) false (below_body begun now n)) (below_at begun n) ≡ present_at s m n
-  frozen_by n within b t dirty touched = search (arith, body_now, none, below_was)
+  frozen_by n within b t dirty touched = search (arith, body_now, none, saved_below)
 
   frozen_now : (n : ℕ) → n < length m.headers → frozen_at begun now n ≡ present_at s m n
   frozen_now n within = rw (alike (length m.touched) n false) (frozen_by n within (mark_at m.dirty n) (mark_at m.touched n) refl refl)

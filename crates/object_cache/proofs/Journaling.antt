@@ -13,7 +13,7 @@ use Rattle.model.specs.declared.object.Role.TheVariants as role
 use Rattle.checkpoint.specs.Journal as journal
 use Rattle.object_cache.proofs.Freezing.{put_or_body}
 use Rattle.object_cache.proofs.Outcomes.{IsSeenAs, none_of}
-use Rattle.object_cache.proofs.Objects.{content_in, stored_next}
+use Rattle.object_cache.proofs.Objects.{content_in, saved_below, stored_next}
 use Rattle.object_cache.proofs.Caching.{no_staging}
 
 as_page : (o : Option Entry) (c : Content Cap) → present_body o role.Page c ≡ entry_body o c
@@ -38,14 +38,11 @@ module _ {s : Stored} {m : Memory} {left count : ℕ} (is : IsCache s m left cou
     within : n < length s.saved.frames
     within = let known = known_page m.headers n role_is in omega (arith, known, is.headers, is.frames)
 
-    below_was : (k : ℕ) → below_at s k ≡ frame_at s.saved.frames k
-    below_was k = ap (λ o. put_or (frozen_put o k) (frame_at s.saved.frames k)) none
-
     below_now : (k : ℕ) → below_at after k ≡ frame_at (set s.saved.frames n page) k
     below_now k = ap (λ o. put_or (frozen_put o k) (frame_at (set s.saved.frames n page) k)) none
 
     below_other : (k : ℕ) → k ≢ n → below_at after k ≡ below_at s k
-    below_other k other = below_now k ∙ get_or-set_other s.saved.frames n k page blank_frame other ∙ sym (below_was k)
+    below_other k other = below_now k ∙ get_or-set_other s.saved.frames n k page blank_frame other ∙ sym (saved_below s none k)
 
     below_here : below_at after n ≡ page
     below_here = below_now n ∙ get_or-set_same s.saved.frames n page blank_frame within
@@ -84,7 +81,7 @@ module _ {s : Stored} {m : Memory} {left count : ℕ} (is : IsCache s m left cou
 
     -- of a page that wasn't written since, the frame that is saved was that of the page now
     unwritten_here : n < length m.headers → mark_at m.touched n ≡ false → below_at s n ≡ below_at after n
-    unwritten_here inside untouched = search (arith, frozen_was, below_was, page_is, below_here)
+    unwritten_here inside untouched = search (arith, frozen_was, none, saved_below, page_is, below_here)
 
     pub journal_stands : IsCache (on_snapshots (journaled age n (words_in (content_at s m n))) s) m left count
     journal_stands = search (arith, present_same, frozen_was, cases_eq, unwritten_here, below_other, frozen_now, none-some, length-set)

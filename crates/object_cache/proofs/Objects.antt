@@ -7,7 +7,7 @@ use Rattle.object_cache.proofs.Names.{IsSome, length-set, get_or-map-range_with_
 use Rattle.object_cache.proofs.Names.{Role, blank_header, held_at, Disk, DurableState, stored_of, with_entry, changing, present_of, AreOrdered, StoreState}
 use Rattle.object_cache.proofs.Names.{IsBounded, IsAnnouncedIn, IsFetchedIn, cache_of, cached_in, cached_at, with_content_in, map-set_same, [], cases_lt}
 use Rattle.object_cache.proofs.Names.{ext_get_or, get_or_append_left, get_or_at, IsWhole, frozen_seen, some_map, newest, Ok, Err, Result, AreObjectsOf}
-use Rattle.object_cache.proofs.Names.{AllObjects, IfOk, parts_of}
+use Rattle.object_cache.proofs.Names.{AllObjects, IfOk, parts_of, below_at, frame_at, frozen_put, put_or}
 use Rattle.std.proofs.Common.{◌≡◌, ◌≢◌, ◌⊎◌, ◌<◌, ◌∙◌, ◌+◌, ◌∷◌, ◌++◌}
 use Rattle.object_cache.proofs.Outcomes.{IsSeenAs, none_of}
 use Rattle.model.specs.declared.object.Role.TheVariants as role
@@ -16,6 +16,10 @@ use Rattle.model.specs.declared.object.Content.TheVariants as content
 -- what holds of one number, and of each other one, holds of all
 pub of_each : {P : ℕ → Type 0} (n : ℕ) → P n → ((k : ℕ) → k ≢ n → P k) → (k : ℕ) → P k
 of_each {P} n here other k = search (arith, cases_eq)
+
+-- if nothing is frozen, the saved frame lies below
+pub saved_below : (s : Stored) → s.frozen ≡ None → (n : ℕ) → below_at s n ≡ frame_at s.saved.frames n
+saved_below s none n = ap (λ o. put_or (frozen_put o n) (frame_at s.saved.frames n)) none
 
 -- ---- the same objects and frozen frames, in another memory over another durable store
 

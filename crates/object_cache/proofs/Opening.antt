@@ -1,16 +1,16 @@
 -- A store is made over a device that was opened: all objects are as they are saved.
 use Rattle.object_cache.proofs.Names.{inl, inr, ℕ, Bool, false, true≢false, List, [], length, replicate, Option, None, option_map, refl, sym, ap, subst, arith}
 use Rattle.object_cache.proofs.Names.{get_or-map, cases_lt, ext_get_or, get_or_past, length-map, length-replicate, none-some, Frame, ObjectHeader, blank_frame}
-use Rattle.object_cache.proofs.Names.{frame_at, frames_in, header_at, headers, untouched, object_count, Image, Disk, Absent, put_at, put_or, SavedFrames, Holds}
-use Rattle.object_cache.proofs.Names.{OpensDurable, DurableState, Stored, below_at, frozen_put, stored_of, HaveTheirRoles, OpensStore, Entry, entry_at, Memory}
-use Rattle.object_cache.proofs.Names.{memory_of, content_at, present_at, frozen_at, contents_in, StoreState, IsCache, IsJustOpened, IsOpenOver, AreAll}
-use Rattle.object_cache.proofs.Names.{HoldBodies, EntriesState, bodies_of, cache_of, parts_of, view_of, Some, length-set, length-append, get_or-set_same}
-use Rattle.object_cache.proofs.Names.{get_or-set_other, get_or_append_left, get_or_at, same_Some, Content, Cap, new_entry, with_new, AreTaken, AreInserted}
-use Rattle.object_cache.proofs.Names.{HaveRoom, IsUnkept, TakenState, true, changing, with_body, with_entry, is_some, all_of}
+use Rattle.object_cache.proofs.Names.{frame_at, frames_in, header_at, headers, untouched, object_count, Image, Disk, Absent, put_at, SavedFrames, Holds}
+use Rattle.object_cache.proofs.Names.{OpensDurable, DurableState, Stored, stored_of, HaveTheirRoles, OpensStore, Entry, entry_at, Memory, memory_of, content_at}
+use Rattle.object_cache.proofs.Names.{present_at, frozen_at, contents_in, StoreState, IsCache, IsJustOpened, IsOpenOver, AreAll, HoldBodies, EntriesState}
+use Rattle.object_cache.proofs.Names.{bodies_of, cache_of, parts_of, view_of, Some, length-set, length-append, get_or-set_same, get_or-set_other}
+use Rattle.object_cache.proofs.Names.{get_or_append_left, get_or_at, same_Some, Content, Cap, new_entry, with_new, AreTaken, AreInserted, HaveRoom, IsUnkept}
+use Rattle.object_cache.proofs.Names.{TakenState, true, changing, with_body, with_entry, is_some, all_of}
 use Rattle.std.proofs.Common.{◌≡◌, ◌∷◌, ◌∙◌, ◌<◌, ◌≤◌, ◌+◌, ◌++◌}
 use Rattle.object_cache.proofs.Freezing.{masked_same, none_counted}
 use Rattle.object_cache.proofs.Marking.{alike}
-use Rattle.object_cache.proofs.Objects.{content_in, contents_count, cached_entry}
+use Rattle.object_cache.proofs.Objects.{content_in, contents_count, cached_entry, saved_below}
 use Rattle.model.specs.declared.object.Content.TheVariants as content
 use Rattle.object_cache.proofs.PutsOut.{dropping}
 
@@ -38,20 +38,17 @@ module _ (s : Stored) (hs fh : List ObjectHeader) (fh_count : length fh ≡ leng
   unput_here : (n : ℕ) → put_at s.working n ≡ Absent
   unput_here n = ap (λ ps. put_at ps n) is.working ∙ alike (length s.saved.frames) n Absent
 
-  below_is : (n : ℕ) → below_at s n ≡ frame_at s.saved.frames n
-  below_is n = ap (λ o. put_or (frozen_put o n) (frame_at s.saved.frames n)) is.idle
-
   header_is : (n : ℕ) → header_at hs n ≡ (frame_at s.saved.frames n).header
   header_is n = ap (λ xs. header_at xs n) is.headers_are ∙ get_or-map (λ f. f.header) s.saved.frames n blank_frame
 
   content_is : (n : ℕ) → content_at s m n ≡ (frame_at s.saved.frames n).content
-  content_is n = search (arith, unput_here, below_is, header_is, masked_same)
+  content_is n = search (arith, unput_here, is.idle, saved_below, header_is, masked_same)
 
   present_is : (n : ℕ) → present_at s m n ≡ frame_at s.saved.frames n
   present_is n = search (arith, header_is, content_is)
 
   frozen_is : (n : ℕ) → frozen_at s m n ≡ frame_at s.saved.frames n
-  frozen_is n = rw (alike (length hs) n false) (below_is n)
+  frozen_is n = rw (alike (length hs) n false) (saved_below s is.idle n)
 
   open_contents : contents_in s m ≡ bodies_of s.saved.frames
   open_contents = ext_get_or content.Free (contents_in s m) (bodies_of s.saved.frames)
