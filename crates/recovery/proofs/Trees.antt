@@ -3,17 +3,14 @@ use Rattle.recovery.proofs.Names.{nat_tests, ℕ, zero, suc, Bool, true, List, [
 use Rattle.recovery.proofs.Names.{MatchOption, nat_eq, Contains, list_any, range_with_len, eqb-true, eq-eqb, get_or-map-range_with_len}
 use Rattle.recovery.proofs.Names.{length-map-range_with_len, Contains-from_any, Frame, ObjectHeader, Geometry, chain, usage, frame_at, objects_of, AreKeepable}
 use Rattle.recovery.proofs.Names.{is_bank, limit_in, content_at, IsTree, HaveTheirRoles, Parts, frames_of, objects_in, keepable_roles, Unbanked, AreBanked}
-use Rattle.recovery.proofs.Names.{AreLimited, AreOwned, IsAboveLimit, IsUnbanked, owner_of, role_at}
-use Rattle.std.proofs.Common.{◌≡◌, ◌≢◌, ◌↔◌, ◌<◌, ◌≤◌, ◌||◌, ◌∷◌, ◌∙◌}
+use Rattle.recovery.proofs.Names.{AreLimited, AreOwned, IsAboveLimit, IsUnbanked, owner_of, role_at, or_right}
+use Rattle.std.proofs.Common.{◌≡◌, ◌≢◌, ◌↔◌, ◌<◌, ◌≤◌, ◌∷◌, ◌∙◌}
 use Rattle.std.specs.Prelude.{None, Option, Some}
 use Rattle.model.specs.declared.object.Role.TheVariants as role
 use Rattle.recovery.specs.declared.consistency.reason.Unbanked.TheVariants as why
 use Rattle.recovery.proofs.Sound.{kept_at}
 use Rattle.recovery.proofs.Standing.{bank_role, free_role, limit_is, owner_is, role_bank, role_free}
 use Rattle.recovery.proofs.Tables.{bank_known, role_known}
-
-after : (a b : Bool) → b ≡ true → (a || b) ≡ true
-after a b so = grind (arith, nat_tests)
 
 -- a number in a list, and the test for it
 any_of : (xs : List ℕ) → Contains xs 0 → list_any (nat_eq 0) xs ≡ true
@@ -22,7 +19,7 @@ any_of xs h = go xs h.0 h.1 h.2
     go : (ys : List ℕ) (k : ℕ) → k < length ys → slice_index_or ys k 0 ≡ 0 → list_any (nat_eq 0) ys ≡ true
     go [] k inside at = absurd (omega arith)
     go (y ∷ ys) zero inside at = rw (eq-eqb 0 y (sym at)) refl
-    go (y ∷ ys) (suc k) inside at = after (nat_eq 0 y) (list_any (nat_eq 0) ys) (go ys k (omega arith) at)
+    go (y ∷ ys) (suc k) inside at = or_right (nat_eq 0 y) (list_any (nat_eq 0) ys) (go ys k (omega arith) at)
 
 pub reaches : (b : Bool) (xs : List ℕ) (P : Type 0) → b ≡ list_any (nat_eq 0) xs → P → IsTrue b ↔ (P → Contains xs 0)
 reaches b xs P is p = (
