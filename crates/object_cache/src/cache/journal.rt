@@ -96,10 +96,9 @@ fn may_journal<D: Device>(
     if !is_of_page(header.role) {
         return Err(Refusal::NotJournaled(Unjournaled::NotPage));
     }
-    match page_saved(durable, number, header.allocations) {
-        Ok(Some(saved)) => Ok(saved),
-        Ok(None) => Err(Refusal::NotJournaled(Unjournaled::Renewed)),
-        Err(_) => Err(Refusal::Fault),
+    match page_saved(durable, number, header.allocations)? {
+        Some(saved) => Ok(saved),
+        None => Err(Refusal::NotJournaled(Unjournaled::Renewed)),
     }
 }
 
@@ -136,10 +135,8 @@ fn save_read<D: Device>(
     ensures { SavesPage D.disk durable.old durable.new number age
         (words_in (newest (stored_of D.disk durable.old) number).content) result }
 {
-    match durable.fetch(number, scratch) {
-        Ok(_) => durable.save_page(number, header, scratch.words.as_array(), age),
-        Err(_) => Err(Failed),
-    }
+    durable.fetch(number, scratch)?;
+    durable.save_page(number, header, scratch.words.as_array(), age)
 }
 
 // Saves a page with its present words: those in its entry, or else those on the device.
@@ -199,10 +196,8 @@ fn journal_page<D: Device>(
 {
     let header = table.header(number);
     let saved = may_journal(durable, header, number < table.count(), number)?;
-    match save_present(durable, entries, scratch, saved, number, age) {
-        Ok(generation) => Ok(generation),
-        Err(_) => Err(Refusal::Fault),
-    }
+    let generation = save_present(durable, entries, scratch, saved, number, age)?;
+    Ok(generation)
 }
 
 impl<D: Device> Cache<D> {

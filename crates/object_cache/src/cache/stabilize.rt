@@ -73,13 +73,9 @@ impl<D: Device> Cache<D> {
         ensures failed { IfErr result (λ e. e ≡ Refusal.Fault) }
         ensures cause { Counts (D.disk self.old.durable.beneath) (D.disk self.new.durable.beneath) result }
     {
-        match self.put_next() {
-            Ok(()) => {
-                self.left -= 1;
-                Ok(())
-            }
-            Err(_) => Err(Refusal::Fault),
-        }
+        self.put_next()?;
+        self.left -= 1;
+        Ok(())
     }
 
     // Calls `put_one` `count` times, up to its first fault.
