@@ -70,7 +70,7 @@ pub use Rattle.std.proofs.lemmas.Bool.Decides.{nat_tests}
 pub use Rattle.std.proofs.lemmas.List.{drop_all, drop_at, get_or-replicate, get_or-set_other, get_or-set_same, get_or_default, get_or_past, length-map}
 pub use Rattle.std.proofs.lemmas.List.{length-replicate, length-set, map-set, nil_from_length, same_lists, take_all}
 pub use Rattle.std.proofs.lemmas.List.FromFn.{get_or-map-range_with_len, length-map-range_with_len, map-range_with_len_more}
-pub use Rattle.std.proofs.lemmas.Option.{same_Some}
+pub use Rattle.std.proofs.lemmas.Option.{none-some, same_Some}
 pub use Rattle.std.proofs.lemmas.Result.{IfErr-weaker, IfOk-from_err, IfOk-weaker, err_from_is_err_and, on_err_weaker, on_ok_weaker}
 pub use Rattle.std.specs.List.{range_with_len}
 pub use Rattle.std.specs.Prelude.{IfErr, IsErr, OnErr, OnOk, is_err, option_map, replicate, slice_set}

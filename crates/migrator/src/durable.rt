@@ -163,10 +163,9 @@ impl<D: Device> Durable<D> {
             (option_map (λ f. next_saved puts age f (stored_of D.disk self.old).saved)
             (stored_of D.disk self.old).frozen) }
     {
-        let Some(size) = self.books.frozen_size else {
+        let Some(left) = self.books.left() else {
             return Err(Refusal::NoCheckpoint);
         };
-        let left = size - self.books.frozen.whole();
         if left != 0 {
             return Err(Refusal::NotStable(left));
         }

@@ -1,77 +1,72 @@
-use Rattle.migrator.proofs.Names.{MayCommit, rules, ap, sym, subst, refl, arith, ℕ, Some, option_map, Disk, Books, FrozenPuts, IsDurable, IsRunning, puts}
-use Rattle.migrator.proofs.Names.{frozen_generation, frozen_of, is_sound, left_of, seen_by, stored_of, stored_on, whole_count}
-use Rattle.std.proofs.Common.{◌≡◌, ◌∙◌, ◌-◌, ◌<◌}
+use Rattle.migrator.proofs.Names.{MayCommit, rules, ap, sym, subst, refl, arith, ℕ, Option, Some, None, option_map, Image, Books, FrozenPuts, puts, same_Some}
+use Rattle.migrator.proofs.Names.{frozen_generation, frozen_of, is_sound, left_of, seen_by, stored_in, stored_of, none-some}
+use Rattle.std.proofs.Common.{◌≡◌, ◌∙◌, ◌<◌}
 use Rattle.migrator.proofs.Putting.{kept_whole}
-use Rattle.migrator.proofs.Tables.{whole_taken}
 use Rattle.migrator.proofs.durable.Durable.commit.Goals as goal
 
--- what is left of the checkpoint on its way
-left_is : {disk : Disk} {b : Books} (size : ℕ) {whole : ℕ} → IsDurable disk b → whole ≡ whole_count b.frozen →
-    size - whole ≡ left_of (frozen_of (seen_by disk.seen b) b size)
-left_is {disk} {b} size stands whole = rw (whole, ← kept_whole (seen_by disk.seen b) b.plan (frozen_generation b) b.frozen stands.kept.frozen.count)
-
-reported : {disk : Disk} {b : Books} {size whole : ℕ} → IsDurable disk b → b.frozen_size ≡ Some size → whole ≡ whole_count b.frozen →
-    option_map left_of (stored_on disk b).frozen ≡ Some (size - whole)
-reported {disk} {b} {size} stands is whole = rw (is, left_is size stands whole)
-
-pub overflow_sub-left : goal.overflow_sub-left
-overflow_sub-left g c =
-    let b = c.self.inside.books in
-    let was = subst (IsRunning b) c.in-Some.is c.self.invariant.kept.running in
-    let less = whole_taken b.frozen in
-    omega (arith, was.1, less, c.whole.ensures)
+-- if nothing is left to put, a checkpoint is frozen, and all its objects were put
+frozen_size : (image : Image) (b : Books) → option_map left_of (stored_in image b).frozen ≡ Some 0 →
+    (size : ℕ) × (b.frozen_size ≡ Some size) × (left_of (frozen_of image b size) ≡ 0)
+frozen_size image b none = by b.frozen_size refl none
+  where
+    by : (o : Option ℕ) → b.frozen_size ≡ o → option_map left_of (option_map (frozen_of image b) o) ≡ Some 0 →
+        (size : ℕ) × (b.frozen_size ≡ Some size) × (left_of (frozen_of image b size) ≡ 0)
+    by None is left = absurd (none-some 0 left)
+    by (Some k) is left = (k, is, same_Some (left_of (frozen_of image b k)) 0 left)
 
 pub returns-then-left-ne0-clause-answer : goal.returns-then-left-ne0-clause-answer
 returns-then-left-ne0-clause-answer g c =
-    let some : 0 < c.in-Some.size - c.whole.result = search rules in (
+    let image = seen_by (g.D.Device.disk c.self.inside.device).seen c.self.inside.books in
+    let some : 0 < c.in-Some.left = search rules in (
       refl,
-      subst (λ t. option_map left_of (stored_of g.D.Device.disk t).frozen ≡ Some (c.in-Some.size - c.whole.result)) c.self.view_is
-          (reported c.self.invariant c.in-Some.is c.whole.ensures),
+      subst (λ t. option_map left_of (stored_of g.D.Device.disk t).frozen ≡ Some c.in-Some.left) c.self.view_is
+          (sym (c.left.ensures image) ∙ c.in-Some.is),
       some,
     )
 
 pub commit-requires : goal.commit-requires
 commit-requires g c =
-    let disk = g.D.Device.disk c.self.inside.device in
     let b = c.self.inside.books in
-    let none : c.in-Some.size - c.whole.result ≡ 0 = search rules in
+    let image = seen_by (g.D.Device.disk c.self.inside.device).seen b in
+    let none : c.in-Some.left ≡ 0 = search rules in
+    let size = frozen_size image b (sym (c.left.ensures image) ∙ c.in-Some.is ∙ ap Some none) in
+    let whole = kept_whole image b.plan (frozen_generation b) b.frozen c.self.invariant.kept.frozen.count in
     let ready = subst (λ t. (f : FrozenPuts) → (stored_of g.D.Device.disk t).frozen ≡ Some f → MayCommit puts c.args.age f (stored_of g.D.Device.disk t).saved)
     (sym c.self.view_is) c.requires.ready in
-    let may = ready (frozen_of (seen_by disk.seen b) b c.in-Some.size) (ap (option_map (frozen_of (seen_by disk.seen b) b)) c.in-Some.is) in (
-      c.in-Some.size,
-      search (
-        c.self.invariant,
-        c.in-Some.is,
-        none,
-        c.whole.ensures,
-        arith,
-        subst (λ t. is_sound g.D.Device.disk t) (sym c.self.view_is) c.requires.sound,
-        may,
-        may.keepable (sym (left_is c.in-Some.size c.self.invariant c.whole.ensures) ∙ none),
-      ),
+    let may = ready (frozen_of image b size.0) (ap (option_map (frozen_of image b)) size.1) in (
+      size.0,
+      record {
+        stands = c.self.invariant;
+        running = size.1;
+        stable = omega (arith, whole, size.2);
+        sound = subst (λ t. is_sound g.D.Device.disk t) (sym c.self.view_is) c.requires.sound;
+        later = may.later;
+        most = may.most;
+        keepable = may.keepable size.2;
+      },
     )
 
 pub returns-clause-stable : goal.returns-clause-stable
 returns-clause-stable g c =
     let b = c.self.inside.books in
     let image = seen_by (g.D.Device.disk c.self.inside.device).seen b in
-    let none : c.in-Some.size - c.whole.result ≡ 0 = search rules in
-    subst (λ t. (f : FrozenPuts) × ((stored_of g.D.Device.disk t).frozen ≡ Some f) × (left_of f ≡ 0)) c.self.view_is (
-      frozen_of image b c.in-Some.size,
-      ap (option_map (frozen_of image b)) c.in-Some.is,
-      sym (left_is c.in-Some.size c.self.invariant c.whole.ensures) ∙ none,
-    )
+    let none : c.in-Some.left ≡ 0 = search rules in
+    let size = frozen_size image b (sym (c.left.ensures image) ∙ c.in-Some.is ∙ ap Some none) in
+    subst (λ t. (f : FrozenPuts) × ((stored_of g.D.Device.disk t).frozen ≡ Some f) × (left_of f ≡ 0)) c.self.view_is
+    (frozen_of image b size.0, ap (option_map (frozen_of image b)) size.1, size.2)
 
 pub returns-clause-answer : goal.returns-clause-answer
 returns-clause-answer g c =
-    let none : c.in-Some.size - c.whole.result ≡ 0 = search rules in
+    let image = seen_by (g.D.Device.disk c.self.inside.device).seen c.self.inside.books in
+    let none : c.in-Some.left ≡ 0 = search rules in
     let over = subst (λ t. option_map left_of (stored_of g.D.Device.disk t).frozen ≡ Some 0) c.self.view_is
-    (reported c.self.invariant c.in-Some.is c.whole.ensures ∙ ap Some none) in
+    (sym (c.left.ensures image) ∙ c.in-Some.is ∙ ap Some none) in
     (search rules, over, search rules)
 
 pub returns-in_default-commit-clause-answer : goal.returns-in_default-commit-clause-answer
 returns-in_default-commit-clause-answer g c =
-    let none : c.in-Some.size - c.whole.result ≡ 0 = search rules in
+    let image = seen_by (g.D.Device.disk c.self.inside.device).seen c.self.inside.books in
+    let none : c.in-Some.left ≡ 0 = search rules in
     let over = subst (λ t. option_map left_of (stored_of g.D.Device.disk t).frozen ≡ Some 0) c.self.view_is
-    (reported c.self.invariant c.in-Some.is c.whole.ensures ∙ ap Some none) in
+    (sym (c.left.ensures image) ∙ c.in-Some.is ∙ ap Some none) in
     (search rules, over)
