@@ -98,13 +98,11 @@ impl<D: Device> Durable<D> {
     {
         match self.books.frozen_size {
             None => Err(Refusal::NoCheckpoint),
-            Some(_) => match self
-                .books
-                .put_running(&mut self.device, number, header, content)
-            {
-                Ok(()) => Ok(()),
-                Err(Failed) => Err(Refusal::Fault),
-            },
+            Some(_) => {
+                self.books
+                    .put_running(&mut self.device, number, header, content)?;
+                Ok(())
+            }
         }
     }
 
@@ -169,9 +167,7 @@ impl<D: Device> Durable<D> {
         if left != 0 {
             return Err(Refusal::NotStable(left));
         }
-        let Ok(()) = self.books.commit(&mut self.device, &mut self.spare, age) else {
-            return Err(Refusal::Fault);
-        };
+        self.books.commit(&mut self.device, &mut self.spare, age)?;
         Ok(self.books.header.generation)
     }
 }

@@ -60,10 +60,8 @@ pub(crate) fn sync_and_read_superblock<D: Device>(device: &mut D) -> Result<Supe
     ensures only_reads { OnlyReads (D.disk device.old) (D.disk device.new) }
     ensures cause { CountsOpen (D.disk device.old) (D.disk device.new) result }
 {
-    match device.sync() {
-        Ok(()) => read_superblock(device),
-        Err(_) => Err(OpenFault::Failed),
-    }
+    device.sync()?;
+    read_superblock(device)
 }
 
 // Reads the saved frames of all objects, which are taken.

@@ -56,10 +56,7 @@ impl<D: Device> Durable<D> {
         ensures cause { Counts (D.disk self.old.beneath) (D.disk self.new.beneath) result }
     {
         let (books, device) = (&mut self.books, &mut self.device);
-        let Ok(()) = books.save_page(device, &mut self.spare, number, header, &words[..], age)
-        else {
-            return Err(Failed);
-        };
+        books.save_page(device, &mut self.spare, number, header, &words[..], age)?;
         Ok(self.books.header.generation)
     }
 }

@@ -1,5 +1,5 @@
 use Rattle.migrator.proofs.Names.{MayCommit, rules, ap, sym, subst, refl, arith, ℕ, Option, Some, None, option_map, Image, Books, FrozenPuts, puts, same_Some}
-use Rattle.migrator.proofs.Names.{frozen_generation, frozen_of, is_sound, left_of, seen_by, stored_in, stored_of, none-some}
+use Rattle.migrator.proofs.Names.{frozen_generation, frozen_of, is_sound, left_of, seen_by, stored_in, stored_of, none-some, err_from_is_err_and}
 use Rattle.std.proofs.Common.{◌≡◌, ◌∙◌, ◌<◌}
 use Rattle.migrator.proofs.Putting.{kept_whole}
 use Rattle.migrator.proofs.durable.Durable.commit.Goals as goal
@@ -63,10 +63,11 @@ returns-clause-answer g c =
     (sym (c.left.ensures image) ∙ c.in-Some.is ∙ ap Some none) in
     (search rules, over, search rules)
 
-pub returns-in_default-commit-clause-answer : goal.returns-in_default-commit-clause-answer
-returns-in_default-commit-clause-answer g c =
+pub returns-in_err-commit-clause-answer : goal.returns-in_err-commit-clause-answer
+returns-in_err-commit-clause-answer g c =
+    let p = err_from_is_err_and c.from_residual.result c.from_residual.ensures.1 in
     let image = seen_by (g.D.Device.disk c.self.inside.device).seen c.self.inside.books in
     let none : c.in-Some.left ≡ 0 = search rules in
     let over = subst (λ t. option_map left_of (stored_of g.D.Device.disk t).frozen ≡ Some 0) c.self.view_is
     (sym (c.left.ensures image) ∙ c.in-Some.is ∙ ap Some none) in
-    (search rules, over)
+    rw (p.1, p.2) (search rules, over)
