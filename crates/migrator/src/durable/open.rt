@@ -31,6 +31,9 @@ pub struct Opened<D: Device, I: Intake> {
     pub taken: I,
 }
 
+// The five structs below are each built by one function and taken apart by the next. They are here for the prover: a
+// function that takes memory has an exit for each call that may fail, and is proved for all values that it owns there.
+
 // Memory for the saved directory, and for another.
 #[derive(Drop)]
 struct Directories {

@@ -15,6 +15,9 @@ use migrator::Durable;
 use model::ObjectHeader;
 use std::alloc::{AllocError, Global};
 
+// `Marks` and `Reserve` are each built by one function and taken apart by the next. They are here for the prover: a
+// function that takes memory has an exit for each call that may fail, and is proved for all values that it owns there.
+
 // The touched, dirty and pending numbers: none.
 #[derive(Drop)]
 struct Marks {

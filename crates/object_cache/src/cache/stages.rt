@@ -116,6 +116,8 @@ impl<D: Device> Cache<D> {
             (view_of D.disk self.old).snapshots.saved
             (next_saved whole age f (view_of D.disk self.old).snapshots.saved) }
     {
+        // `Durable::commit` takes this decision by its own count, which is lower after an eviction wrote frozen frames
+        // early. The count here is the model's, and where it is 0 the other is too.
         let Some(left) = self.left() else {
             return Err(Refusal::NoCheckpoint);
         };
