@@ -1,17 +1,17 @@
 -- The names of other crates that the definitions here cite.
-pub use Rattle.capability.specs.Changes.{changed, message_of, outcome_by, written_of}
+pub use Rattle.capability.specs.Changes.{changed, message_of, outcome_by, reply_of_code, written_of}
 pub use Rattle.capability.specs.Parts.{IsUnchanged, Parts, Renews, frames_of, objects_in}
 pub use Rattle.capability.specs.declared.order.Caller.{Caller}
 pub use Rattle.capability.specs.declared.order.Change.{Change}
 pub use Rattle.capability.specs.declared.order.OrderPlan.{OrderPlan}
 pub use Rattle.capability.specs.declared.order.Reply.{Reply}
-pub use Rattle.model.specs.Capability.{named}
+pub use Rattle.model.specs.Capability.{named, union}
 pub use Rattle.model.specs.Invoke.{Effect, after_gate, ordered, sent_by}
 unfoldable pub use Rattle.model.specs.Invoke.{deliver, invoke}
 pub use Rattle.model.specs.Keepable.{IsKeptCap, IsSoundFrames}
 pub use Rattle.model.specs.Machine.{touched_count, touching}
 pub use Rattle.model.specs.Object.{is_node}
-pub use Rattle.model.specs.Order.{IsNoBankOrder}
+pub use Rattle.model.specs.Order.{IsNoBankOrder, reduces}
 unfoldable pub use Rattle.model.specs.Order.{order}
 pub use Rattle.model.specs.OrderOutcome.{OrderOutcome}
 unfoldable pub use Rattle.model.specs.Revoke.{consume}

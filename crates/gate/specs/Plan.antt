@@ -2,9 +2,10 @@
 use Rattle.gate.specs.Names.{ℕ, Option, None, Some, List, IsTrue, Capability, Number, Page, Node, Space, Process}
 use Rattle.gate.specs.Names.{Geometry, Object, Arguments, named, OrderOutcome, IsNoBankOrder, IsKeptCap, is_node}
 use Rattle.gate.specs.Names.{IsSpace, annex_at, content_at, is_process, Change, OrderPlan, changed, outcome_by}
-use Rattle.gate.specs.Names.{written_of, numbers_of, MayMake}
-use Rattle.std.specs.Prelude.{◌≡◌, ◌⊎◌, ◌<◌, ◌≤◌}
+use Rattle.gate.specs.Names.{written_of, numbers_of, MayMake, reply_of_code, union, reduces, []}
+use Rattle.std.specs.Prelude.{◌≡◌, ◌⊎◌, ◌<◌, ◌≤◌, ◌∷◌, if◌then◌else◌}
 use Rattle.capability.specs.declared.order.Change.TheVariants as change
+use Rattle.model.specs.declared.order.ResultCode.TheVariants as code
 
 -- the outcome of an order on one object, as planned
 abbrev pub outcome_of : List Object → OrderPlan → OrderOutcome
@@ -15,6 +16,23 @@ pub record ChangesAs (os : List Object) (plan : OrderPlan) (outcome : OrderOutco
   pub code : outcome.code ≡ plan.reply.code
   pub objects : outcome.objects ≡ changed os (written_of plan.change) plan.change
   pub written : outcome.written ≡ written_of plan.change
+
+-- a page, node or space capability with its own restrictions and those of a word; none if the word is no access
+abbrev pub reduced : Capability → ℕ → Option Capability
+reduced (Page o a) w = if reduces w then Some (Page o (union a w)) else None
+reduced (Node o a) w = if reduces w then Some (Node o (union a w)) else None
+reduced (Space o h a) w = if reduces w then Some (Space o h (union a w)) else None
+reduced _ w = None
+
+-- the plan of the order that reduces a capability by a word
+abbrev pub reduction : Capability → ℕ → OrderPlan
+reduction c w = elim (reduced c w) [
+  | Some less ↦ record {
+    reply = record { code = code.Done; words = 0 ∷ 0 ∷ 0 ∷ []; capability = less };
+    change = change.Nothing;
+  }
+  | None ↦ record { reply = reply_of_code code.BadIndex; change = change.Nothing }
+]
 
 -- each process has the annex that it has in other objects
 abbrev pub HaveAnnexesOf : List Object → List Object → Type 0

@@ -13,5 +13,6 @@ mod node;
 mod orders;
 mod page;
 mod process;
+mod reducing;
 
 pub use invocation::invoke;

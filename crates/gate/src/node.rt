@@ -6,7 +6,7 @@ ghost use Rattle.model.specs.Order.{fetched, node_order, on_node, stored};
 ghost use Rattle.capability.specs.Parts.{objects_in};
 ghost use Rattle.gate.specs.Plan.{outcome_of, ChangesAs, IsFor};
 
-use crate::page::reduction;
+use crate::reducing::plan_reduction;
 use bitflags::Flags;
 use capability::{Change, Frames, OrderPlan, objects};
 use model::{Access, Arguments, Capability, MAX_HEIGHT, NodeOrder, ResultCode, SLOTS};
@@ -107,13 +107,9 @@ pub fn on_node<F: Frames>(
             OrderPlan::given(fetched(access, held))
         }
         NodeOrder::Store => stored(object, access, arguments, arguments.capability),
-        NodeOrder::Reduce => match reduction(arguments.first) {
-            None => OrderPlan::refused(ResultCode::BadIndex),
-            Some(less) => OrderPlan::given(Capability::Node {
-                object,
-                access: access.union(less),
-            }),
-        },
+        NodeOrder::Reduce => {
+            plan_reduction(Capability::Node { object, access }, arguments.first)
+        }
         NodeOrder::MakeSpace => space(object, access, arguments),
         NodeOrder::PutNumber => {
             let number = Capability::Number(arguments.second);

@@ -10,8 +10,9 @@ ghost use Rattle.capability.specs.Parts.{frames_of, objects_in};
 ghost use Rattle.gate.specs.Plan.{outcome_of, process_named, ChangesAs, HaveAnnexesOf, IsFor, IsPlain};
 
 use crate::node::{node_order, on_node};
-use crate::page::{on_page, page_order, reduction};
+use crate::page::{on_page, page_order};
 use crate::process::{on_process, process_order};
+use crate::reducing::plan_reduction;
 use bitflags::Flags;
 use capability::{Frames, OrderPlan};
 use model::{Access, Arguments, Capability, ResultCode};
@@ -38,14 +39,12 @@ fn on_space(object: u64, height: u8, access: Access, word: u64, arguments: Argum
     if word != REDUCE_SPACE {
         return OrderPlan::refused(ResultCode::NoOrder);
     }
-    match reduction(arguments.first) {
-        None => OrderPlan::refused(ResultCode::BadIndex),
-        Some(less) => OrderPlan::given(Capability::Space {
-            object,
-            height,
-            access: access.union(less),
-        }),
-    }
+    let space = Capability::Space {
+        object,
+        height,
+        access,
+    };
+    plan_reduction(space, arguments.first)
 }
 
 // The tag of a capability, for the order that classifies.

@@ -1,11 +1,11 @@
 // Orders on pages.
-ghost use Rattle.std.specs.Prelude.{◌≡◌, if◌then◌else◌, List};
+ghost use Rattle.std.specs.Prelude.{◌≡◌, List};
 ghost use Rattle.model.specs.declared.object.Object.{Object};
-ghost use Rattle.model.specs.Order.{on_page, page_order, reduces};
-ghost use Rattle.model.specs.Capability.{union};
+ghost use Rattle.model.specs.Order.{on_page, page_order};
 ghost use Rattle.capability.specs.Parts.{objects_in};
 ghost use Rattle.gate.specs.Plan.{outcome_of, ChangesAs, IsFor};
 
+use crate::reducing::plan_reduction;
 use bitflags::Flags;
 use capability::{Change, Frames, OrderPlan, objects};
 use model::{Access, Arguments, Capability, PageOrder, ResultCode, WORDS};
@@ -19,36 +19,6 @@ pub fn page_order(word: u64) -> Option<PageOrder>
         2 => Some(PageOrder::Write),
         3 => Some(PageOrder::Reduce),
         _ => None,
-    }
-}
-
-/// The access by which a word reduces a capability: read-only, or read-only and weak.
-pub fn reduction(word: u64) -> Option<Access>
-    ensures { result ≡ (if reduces word then Some (record { 0 = word }) else None) }
-{
-    match word {
-        1 => Some(Access::READ_ONLY),
-        3 => Some(Access::weak()),
-        _ => None,
-    }
-}
-
-// Plans a reduction of a page capability.
-#[tactic(auto, unfolding(model::specs::Order::on_page))]
-fn reduced(object: u64, access: Access, arguments: Arguments) -> OrderPlan
-    ensures only { (os : List Object)
-        → IsFor os (Capability.Page object access) arguments result.change }
-    ensures outcome { (os : List Object)
-        → outcome_of os result ≡ on_page os object access PageOrder.Reduce arguments }
-    ensures change { (os : List Object)
-        → ChangesAs os result (on_page os object access PageOrder.Reduce arguments) }
-{
-    match reduction(arguments.first) {
-        None => OrderPlan::refused(ResultCode::BadIndex),
-        Some(less) => OrderPlan::given(Capability::Page {
-            object,
-            access: access.union(less),
-        }),
     }
 }
 
@@ -89,6 +59,8 @@ pub fn on_page<F: Frames>(
                 word: arguments.second,
             })
         }
-        PageOrder::Reduce => reduced(object, access, arguments),
+        PageOrder::Reduce => {
+            plan_reduction(Capability::Page { object, access }, arguments.first)
+        }
     }
 }
