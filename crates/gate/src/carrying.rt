@@ -1,6 +1,7 @@
 // A planned order is carried out.
 ghost use Rattle.std.specs.Prelude.{◌≡◌, ℕ, ◌+◌, ◌<◌, ◌≤◌, ◌^◌, drop, length, IsTrue};
 ghost use Rattle.std.specs.List.{All};
+ghost use Rattle.model.specs.declared.command.Invocation.{Invocation};
 ghost use Rattle.model.specs.Keepable.{AreCurrent, AreKeepable};
 ghost use Rattle.model.specs.World.{annex_at, is_process, is_running_process};
 ghost use Rattle.model_laws.proofs.SoundOrders.{IsNow};
@@ -14,7 +15,7 @@ ghost use Rattle.gate.specs.Plan.{FitsCap, MayChange, fetched_of};
 use crate::change::make;
 use crate::delivery::deliver;
 use capability::{Caller, Change, OrderPlan, PresentFrames, Reply, roots};
-use model::{Capability, Invocation, Message, Operation, State};
+use model::{Capability, Message, Operation, State};
 use space_bank::Banks;
 
 // The count of numbers that an invocation of a kernel object writes itself.
@@ -29,7 +30,7 @@ fn writer_count(operation: Operation) -> usize
 }
 
 // Before the order: a process that returns becomes available.
-fn leave<F: PresentFrames>(store: &mut F, caller: Caller)
+fn set_state_before_order<F: PresentFrames>(store: &mut F, caller: Caller)
     requires process { IsTrue (is_process (objects_in (F.parts store.old)) caller.process) }
     requires fetched { F.IsFetched store.old caller.process }
     requires announced { (caller.operation ≡ Operation.Send → ⊥)
@@ -144,7 +145,6 @@ fn answer<F: PresentFrames>(store: &mut F, caller: Caller, replying: Reply)
 pub fn carry_out<F: PresentFrames>(
     store: &mut F,
     banks: &mut Banks,
-    invocation: &Invocation,
     caller: Caller,
     plan: OrderPlan,
 )
@@ -154,8 +154,8 @@ pub fn carry_out<F: PresentFrames>(
     requires running { IsTrue (is_running_process
         (objects_in (F.parts store.old)) caller.process) }
     requires annex { caller.annex ≡ annex_at (objects_in (F.parts store.old)) caller.process }
-    requires planned { IsPlanned (F.parts store.old).geometry (objects_in (F.parts store.old))
-        invocation.now caller plan banks.old.listed }
+    requires planned { (i : Invocation) × IsPlanned (F.parts store.old).geometry
+        (objects_in (F.parts store.old)) i caller plan banks.old.listed }
     requires announced { All (F.IsAnnounced store.old) banks.old.listed }
     requires fetched { F.IsFetched store.old caller.process × F.IsFetched store.old caller.annex
         × All (F.IsFetched store.old) (fetched_of plan.change) }
@@ -174,7 +174,7 @@ pub fn carry_out<F: PresentFrames>(
         → AreKeepable (F.parts store.old).geometry (age + 1) (frames_of (F.parts store.new)) }
     ensures beside { GoesOnBeside F.parts F.ContinuesTo store.old store.new }
 {
-    leave(store, caller);
+    set_state_before_order(store, caller);
     change(store, banks, writer_count(caller.operation), plan.change);
     answer(store, caller, plan.reply);
 }

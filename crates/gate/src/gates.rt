@@ -1,5 +1,6 @@
 // Invocations through gates: start and resume capabilities.
-ghost use Rattle.std.specs.Prelude.{◌≡◌, ◌+◌, ◌<◌, ◌^◌, ℕ, length, true, ◌||◌, IfSome, None, OnOk, IsTrue};
+ghost use Rattle.std.specs.Prelude.{◌≡◌, ◌+◌, ◌<◌, ◌^◌, ◌≤◌, ◌∷◌, ℕ, [], length, take, true, ◌||◌, IfSome, None, OnOk};
+ghost use Rattle.std.specs.Prelude.{IsTrue};
 ghost use Rattle.model.specs.declared.command.Command.TheVariants as command;
 ghost use Rattle.model.specs.Frame.{header_at};
 ghost use Rattle.model.specs.Invoke.{after_gate, can_start};
@@ -18,7 +19,6 @@ use crate::looking::{all_sent, look_at_process};
 use capability::{Caller, Frames, PresentFrames, objects, roots};
 use model::{Capability, Invocation, Message, Operation, Refusal, ResultCode, State};
 use space_bank::Banks;
-use std::marker::Model;
 
 /// An invoked gate: its process, its key, and whether it works only once.
 #[derive(Clone, Copy)]
@@ -67,52 +67,22 @@ fn message(invocation: &Invocation, sent: [Capability; 4], key: u16) -> Message
     }
 }
 
-/// The numbers that an invocation writes, three at most.
-#[derive(Drop)]
-pub struct Written {
-    numbers: [u64; 3],
-    count: usize,
-}
-
-impl Model for Written {
-    ghost use Rattle.std.specs.Prelude.{ℕ, List, ◌≤◌, take};
-
-    ghost Value = { List ℕ };
-
-    ghost view = { λ w. take w.count w.numbers };
-
-    ghost invariant = { λ w. w.count ≤ 3 };
-}
-
-impl Written {
-    /// What an invocation through the gate of a process writes: that process and its annex, and
-    /// the one that calls or returns.
-    pub fn through(operation: Operation, process: u64, receiver: u64, annex: u64) -> Written
-        ensures { result ≡ written_through operation process receiver annex }
-    {
-        match operation {
-            Operation::Send => Written {
-                numbers: [receiver, annex, process],
-                count: 2,
-            },
-            Operation::Call | Operation::Return => Written {
-                numbers: [receiver, annex, process],
-                count: 3,
-            },
-        }
-    }
-
-    /// The numbers.
-    pub fn as_slice(&self) -> &[u64]
-        ensures { result.now ≡ self.now }
-    {
-        &self.numbers[..self.count]
+// How many of the receiver, its annex and the caller an invocation through a gate writes: one that
+// sends doesn't write the caller.
+fn written_count(operation: Operation) -> usize
+    ensures within { result ≤ 3 }
+    ensures written { (process receiver annex : ℕ)
+        → take result (receiver ∷ annex ∷ process ∷ []) ≡ written_through operation process receiver annex }
+{
+    match operation {
+        Operation::Send => 2,
+        Operation::Call | Operation::Return => 3,
     }
 }
 
 // Announces what an invocation through a gate writes, and fetches it.
 #[tactic(auto, using(crate::proofs::Effects::all_through))]
-fn announce<F: PresentFrames>(
+fn announce_gate<F: PresentFrames>(
     store: &mut F,
     invocation: &Invocation,
     receiver: u64,
@@ -132,14 +102,13 @@ fn announce<F: PresentFrames>(
     ensures prepares { Prepares F.parts F.ContinuesTo store.old store.new
         (written_through invocation.now.operation invocation.now.process receiver annex) result }
 {
-    let process = invocation.process;
-    let written = Written::through(invocation.operation, process, receiver, annex);
-    store.prepare(&[process, receiver, annex], written.as_slice())
+    let all = [receiver, annex, invocation.process];
+    store.prepare(&all, &all[..written_count(invocation.operation)])
 }
 
 // The state of the process that invokes changes: one that calls waits, and one that returns is
 // available.
-fn leave<F: PresentFrames>(store: &mut F, invocation: &Invocation)
+fn set_state_at_gate<F: PresentFrames>(store: &mut F, invocation: &Invocation)
     requires process { IsTrue (is_process
         (objects_in (F.parts store.old)) invocation.now.process) }
     requires fetched { F.IsFetched store.old invocation.now.process }
@@ -193,7 +162,7 @@ fn enter<F: PresentFrames>(
         → AreKeepable (F.parts store.old).geometry (age + 1) (frames_of (F.parts store.new)) }
     ensures snapshots { KeepsRest F.parts F.IsFetched F.IsAnnounced F.ContinuesTo store.old store.new }
 {
-    leave(store, invocation);
+    set_state_at_gate(store, invocation);
     let message = message(invocation, sent, gate.key);
     deliver(store, gate.process, message);
     if gate.is_resume {
@@ -244,7 +213,7 @@ pub fn invoke_gate<F: PresentFrames>(
     if !can_enter(store, invocation, gate) {
         return Err(Refusal::Stalled);
     }
-    announce(store, invocation, gate.process, annex)?;
+    announce_gate(store, invocation, gate.process, annex)?;
     enter(store, invocation, gate, annex, sent);
     Ok(None)
 }

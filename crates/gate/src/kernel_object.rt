@@ -144,7 +144,7 @@ fn fetched_by(caller: Caller, change: Change) -> [u64; 4]
 }
 
 // Announces the listed numbers. Fetches the process, its annex, and what the change needs.
-fn announce<F: PresentFrames>(
+fn announce_order<F: PresentFrames>(
     store: &mut F,
     listed: &[u64],
     caller: Caller,
@@ -189,7 +189,7 @@ pub fn invoke_order<F: PresentFrames>(
         (objects_in (F.parts store.new)) banks.new }
 {
     let plan = plan_order(store, banks, invocation, caller)?;
-    announce(store, banks.listed(), caller, plan.change)?;
-    carry_out(store, banks, invocation, caller, plan);
+    announce_order(store, banks.listed(), caller, plan.change)?;
+    carry_out(store, banks, caller, plan);
     Ok(Some(plan.reply.code))
 }

@@ -18,8 +18,8 @@ can_enter-requires-clause-process g c =
     subst (λ (us : List Object). is_process us c.args.gate.process ≡ true) (sym (looked_objects (looked_as c.in_ok-annex.ensures.fetches.snapshots)))
     (gate_process (g.F.Frames.parts c.args.store.now) c.requires.sound c.args.gate c.requires.requested c.requires.gate)
 
-pub announce-requires : goal.announce-requires
-announce-requires g c =
+pub announce_gate-requires : goal.announce_gate-requires
+announce_gate-requires g c =
     let old = g.F.Frames.parts c.args.store.now in
     let there : ReadsAs old (g.F.Frames.parts c.look_at_process.new.store) = looked_as c.in_ok-annex.ensures.fetches.snapshots in
     let process = gate_process old c.requires.sound c.args.gate c.requires.requested c.requires.gate in
@@ -35,7 +35,7 @@ announce-requires g c =
 pub enter-requires-clause-receiver : goal.enter-requires-clause-receiver
 enter-requires-clause-receiver g c =
     subst (λ (us : List Object). is_process us c.args.gate.process ≡ true)
-    (sym (looked_objects (only_reads_again (looked_as c.in_ok-annex.ensures.fetches.snapshots) (prepared_as c.in_ok-announce.ensures.prepares))))
+    (sym (looked_objects (only_reads_again (looked_as c.in_ok-annex.ensures.fetches.snapshots) (prepared_as c.in_ok-announce_gate.ensures.prepares))))
     (gate_process (g.F.Frames.parts c.args.store.now) c.requires.sound c.args.gate c.requires.requested c.requires.gate)
 
 pub enter-requires-clause-calls : goal.enter-requires-clause-calls
@@ -44,7 +44,7 @@ enter-requires-clause-calls g c =
 
 pub enter-requires-clause-current : goal.enter-requires-clause-current
 enter-requires-clause-current g c =
-    (looked_sound (only_reads_again (looked_as c.in_ok-annex.ensures.fetches.snapshots) (prepared_as c.in_ok-announce.ensures.prepares))
+    (looked_sound (only_reads_again (looked_as c.in_ok-annex.ensures.fetches.snapshots) (prepared_as c.in_ok-announce_gate.ensures.prepares))
     c.requires.sound).1.current
 
 pub returns-then-not-can_enter : goal.returns-then-not-can_enter
@@ -56,24 +56,24 @@ returns-then-not-can_enter g c =
     (sym (c.if-not-can_enter.ensures ∙ ap (λ (us : List Object). c.args.gate.is_resume || can_start us i c.args.gate.process)
     (looked_objects (looked_as c.in_ok-annex.ensures.fetches.snapshots)))))
 
-pub returns-in_err-announce : goal.returns-in_err-announce
-returns-in_err-announce g c =
+pub returns-in_err-announce_gate : goal.returns-in_err-announce_gate
+returns-in_err-announce_gate g c =
     let old = g.F.Frames.parts c.args.store.now in
     let i = c.args.invocation.now in
     let os = objects_in old in
     let can = sym (c.if-not-can_enter.ensures ∙ ap (λ (us : List Object). c.args.gate.is_resume || can_start us i c.args.gate.process)
     (looked_objects (looked_as c.in_ok-annex.ensures.fetches.snapshots))) in
-    let p = err_from_is_err_and c.from_residual-in_err-announce.result c.from_residual-in_err-announce.ensures.1 in
-    rw (p.1, p.2) (unannounced i g.met.F.Frames.continues_twice c.announce.new.store c.in_ok-annex.ensures.fetches
+    let p = err_from_is_err_and c.from_residual-in_err-announce_gate.result c.from_residual-in_err-announce_gate.ensures.1 in
+    rw (p.1, p.2) (unannounced i g.met.F.Frames.continues_twice c.announce_gate.new.store c.in_ok-annex.ensures.fetches
     _ (effect_through os i c.args.gate) (gate_invoked old.geometry os i c.args.caller c.args.gate c.requires.requested c.requires.gate c.requires.key can)
-    (ap (written_through i.operation i.process c.args.gate.process) c.in_ok-annex.ensures.annex.0) _ c.in_err-announce.ensures.prepares)
+    (ap (written_through i.operation i.process c.args.gate.process) c.in_ok-annex.ensures.annex.0) _ c.in_err-announce_gate.ensures.prepares)
 
 pub returns : goal.returns
 returns g c =
     let old = g.F.Frames.parts c.args.store.now in
     let only_reads : ReadsAs old (g.F.Frames.parts c.look_at_process.new.store) = looked_as c.in_ok-annex.ensures.fetches.snapshots in
-    let mid = g.F.Frames.parts c.announce.new.store in
-    let there : ReadsAs old mid = only_reads_again only_reads (prepared_as c.in_ok-announce.ensures.prepares) in
+    let mid = g.F.Frames.parts c.announce_gate.new.store in
+    let there : ReadsAs old mid = only_reads_again only_reads (prepared_as c.in_ok-announce_gate.ensures.prepares) in
     let i = c.args.invocation.now in
     let os = objects_in old in
     let can = sym (c.if-not-can_enter.ensures ∙ ap (λ (us : List Object). c.args.gate.is_resume || can_start us i c.args.gate.process)
@@ -89,8 +89,8 @@ returns g c =
     let other = subst (λ (k : Capability). IsNoBankOrder k (slice_index i.words 0)) (sym c.requires.gate ∙ c.requires.requested.invoked)
     (gate_no_bank c.args.gate (slice_index i.words 0)) in
     carried_out i g.met.F.Frames.continues_twice c.enter.new.store c.in_ok-annex.ensures.fetches
-    _ effect invoked (ap (written_through i.operation i.process c.args.gate.process) c.in_ok-annex.ensures.annex.0) c.announce.new.store tt
-    c.in_ok-announce.ensures.prepares
+    _ effect invoked (ap (written_through i.operation i.process c.args.gate.process) c.in_ok-annex.ensures.annex.0) c.announce_gate.new.store tt
+    c.in_ok-announce_gate.ensures.prepares
     snapshots.failures snapshots.touched snapshots.geometry snapshots.continues objects c.requires.fits c.requires.running c.enter.ensures.current
     (λ age young. c.enter.ensures.keepable age young fits)
     (renews_invoked old mid (g.F.Frames.parts c.enter.new.store) i effect c.requires.sound there c.requires.fits c.requires.running other invoked objects

@@ -8,8 +8,8 @@ use Rattle.gate.proofs.Standing.{running_process, renews_looked, ReadsAs, reques
 use Rattle.gate.proofs.Standing.{looked_objects, looked_sound, only_reads_again, now_sound, prepared_as}
 use Rattle.gate.proofs.kernel_object.invoke_order.Goals as goal
 
-pub announce-requires : goal.announce-requires
-announce-requires g c =
+pub announce_order-requires : goal.announce_order-requires
+announce_order-requires g c =
     let old = g.F.Frames.parts c.args.store.now in
     let now = g.F.Frames.parts c.plan_order.new.store in
     let only_reads : ReadsAs old now = looked_as c.in_ok-plan.ensures.fetches.snapshots in
@@ -34,8 +34,8 @@ pub carry_out-requires : goal.carry_out-requires
 carry_out-requires g c =
     let old = g.F.Frames.parts c.args.store.now in
     let only_reads : ReadsAs old (g.F.Frames.parts c.plan_order.new.store) = looked_as c.in_ok-plan.ensures.fetches.snapshots in
-    let mid = g.F.Frames.parts c.announce.new.store in
-    let there : ReadsAs old mid = only_reads_again only_reads (prepared_as c.in_ok-announce.ensures.prepares) in
+    let mid = g.F.Frames.parts c.announce_order.new.store in
+    let there : ReadsAs old mid = only_reads_again only_reads (prepared_as c.in_ok-announce_order.ensures.prepares) in
     let os = objects_in old in
     let i = c.args.invocation.now in
     let caller = c.args.caller in
@@ -50,16 +50,17 @@ carry_out-requires g c =
       counted = counted_listed c.in_ok-plan.ensures.kept (counted_looked there c.requires.counted);
       running = subst (λ (us : List Object). IsTrue (is_running_process us caller.process)) (sym same) running;
       annex = c.requires.requested.annex ∙ annex_requested old mid i caller there c.requires.requested.process;
-      planned = subst (λ (X : Type 0). X) (λ k. IsPlanned (sym there.geometry k) (sym same k) i caller plan banks.listed) c.in_ok-plan.ensures.planned;
-      announced = subst (λ (ns : List ℕ). All (g.F.PresentFrames.IsAnnounced c.announce.new.store) ns) c.listed.ensures c.in_ok-announce.ensures.announced;
-      fetched = c.in_ok-announce.ensures.fetched;
+      planned = (i, subst (λ (X : Type 0). X) (λ k. IsPlanned (sym there.geometry k) (sym same k) i caller plan banks.listed) c.in_ok-plan.ensures.planned);
+      announced = subst (λ (ns : List ℕ). All (g.F.PresentFrames.IsAnnounced c.announce_order.new.store) ns) c.listed.ensures
+          c.in_ok-announce_order.ensures.announced;
+      fetched = c.in_ok-announce_order.ensures.fetched;
       after = subst (λ (X : Type 0). X)
           (λ k. IsNow (sym there.geometry k) (ordered_by (sym same k) caller (drop (writer_count caller.operation) banks.listed) plan)) after;
     }
 
-pub returns-in_err-announce-clause-invoked : goal.returns-in_err-announce-clause-invoked
-returns-in_err-announce-clause-invoked g c =
-    let p = err_from_is_err_and c.from_residual-in_err-announce.result c.from_residual-in_err-announce.ensures.1 in
+pub returns-in_err-announce_order-clause-invoked : goal.returns-in_err-announce_order-clause-invoked
+returns-in_err-announce_order-clause-invoked g c =
+    let p = err_from_is_err_and c.from_residual-in_err-announce_order.result c.from_residual-in_err-announce_order.ensures.1 in
     let old = g.F.Frames.parts c.args.store.now in
     let os = objects_in old in
     let i = c.args.invocation.now in
@@ -67,15 +68,15 @@ returns-in_err-announce-clause-invoked g c =
     let root = running_process os caller.process (subst (λ (q : ℕ). IsTrue (is_running_process os q)) (sym c.requires.requested.process) c.requires.running) in
     let written = order_written c.requires.requested c.in_ok-plan.ensures.planned root
     in
-    rw (p.1, p.2) (unannounced i g.met.F.Frames.continues_twice c.announce.new.store c.in_ok-plan.ensures.fetches
+    rw (p.1, p.2) (unannounced i g.met.F.Frames.continues_twice c.announce_order.new.store c.in_ok-plan.ensures.fetches
     _ (on_kernel_object old.geometry os i) (object_invoked old.geometry os i caller c.requires.requested c.requires.object) (c.listed.ensures ∙ written) _
-    c.in_err-announce.ensures.prepares)
+    c.in_err-announce_order.ensures.prepares)
 
 pub returns-clause-invoked : goal.returns-clause-invoked
 returns-clause-invoked g c =
     let old = g.F.Frames.parts c.args.store.now in
     let only_reads : ReadsAs old (g.F.Frames.parts c.plan_order.new.store) = looked_as c.in_ok-plan.ensures.fetches.snapshots in
-    let there : ReadsAs old (g.F.Frames.parts c.announce.new.store) = only_reads_again only_reads (prepared_as c.in_ok-announce.ensures.prepares) in
+    let there : ReadsAs old (g.F.Frames.parts c.announce_order.new.store) = only_reads_again only_reads (prepared_as c.in_ok-announce_order.ensures.prepares) in
     let os = objects_in old in
     let i = c.args.invocation.now in
     let caller = c.args.caller in
@@ -90,8 +91,8 @@ returns-clause-invoked g c =
     (few_objects old c.requires.sound c.requires.few)) in
     carried_out i g.met.F.Frames.continues_twice c.carry_out.new.store c.in_ok-plan.ensures.fetches
     _ (on_kernel_object old.geometry os i) (object_invoked old.geometry os i caller c.requires.requested c.requires.object) (c.listed.ensures ∙ written)
-    c.announce.new.store tt
-    c.in_ok-announce.ensures.prepares beside.failures beside.touched beside.geometry beside.continues
+    c.announce_order.new.store tt
+    c.in_ok-announce_order.ensures.prepares beside.failures beside.touched beside.geometry beside.continues
     (c.carry_out.ensures.objects ∙ ap (λ (us : List Object). finished us caller (drop (writer_count caller.operation) listed) plan) (looked_objects there)
     ∙ sym (order_objects c.requires.requested planned root))
     c.requires.fits c.requires.running c.carry_out.ensures.current (λ age young. c.carry_out.ensures.keepable age young fits)

@@ -1,4 +1,4 @@
-use Rattle.gate.proofs.gates.leave.Goals as goal
+use Rattle.gate.proofs.gates.set_state_at_gate.Goals as goal
 
 pub returns-in-Call-clause-keepable : goal.returns-in-Call-clause-keepable
 returns-in-Call-clause-keepable g c age k = c.set_state.ensures.keepable age tt k

@@ -1,6 +1,6 @@
 use Rattle.std.proofs.Common.{arith}
 use Rattle.gate.proofs.Effects.{contained, on_ok}
-use Rattle.gate.proofs.kernel_object.announce.Goals as goal
+use Rattle.gate.proofs.kernel_object.announce_order.Goals as goal
 
 pub returns-clause-fetched : goal.returns-clause-fetched
 returns-clause-fetched g c =
