@@ -1,11 +1,11 @@
 -- What is counted, as a process that returns becomes available, after the reply, and after an invocation with no bank's order.
 use Rattle.gate.proofs.Names.{nat_tests, ℕ, Bool, true, false, List, Result, Ok, Err, drop, length, refl, sym, subst, arith, IsTrue, OnOk, OnErr, slice_index}
-use Rattle.gate.proofs.Names.{All, Bank, Invocation, Operation, Call, Return, Send, Geometry, Object, Arguments, objects_of, deliver, AreCurrent, AreKeepable}
+use Rattle.gate.proofs.Names.{All, Bank, Invocation, Operation, Call, Return, Send, Geometry, Object, Arguments, deliver, AreCurrent, AreKeepable}
 use Rattle.gate.proofs.Names.{IsSoundFrames, is_running, IsNoBankOrder, IsSound, NamesItsKind, Fits, World, annex_at, is_process, is_running_process}
-use Rattle.gate.proofs.Names.{register_at, root_at, deliver_frame, invocation_frame, state_sound, IsNow, held_to, SameFrame, frame_refl, tests_at, usage_same}
-use Rattle.gate.proofs.Names.{Caller, OrderPlan, Reply, message_of, AreSound, IsUnchanged, Parts, frames_of, objects_in, AreCounted, BanksState, MayAsk}
-use Rattle.gate.proofs.Names.{writer_count, writers, IsPlanned, answered, AreEnough, state_before, MayChange, Invokes, IsRequested}
-use Rattle.std.proofs.Common.{◌≡◌, ◌+◌, ◌++◌, ◌≤◌, ◌&&◌, ◌∙◌, if◌then◌else◌}
+use Rattle.gate.proofs.Names.{register_at, root_at, deliver_frame, invocation_frame, state_sound, held_to, SameFrame, frame_refl, tests_at, usage_same, Caller}
+use Rattle.gate.proofs.Names.{OrderPlan, Reply, message_of, AreSound, IsUnchanged, Parts, frames_of, objects_in, AreCounted, BanksState, MayAsk, writer_count}
+use Rattle.gate.proofs.Names.{writers, IsPlanned, answered, AreEnough, state_before, MayChange, Invokes, IsRequested}
+use Rattle.std.proofs.Common.{◌≡◌, ◌++◌, ◌≤◌, if◌then◌else◌}
 use Rattle.model.specs.declared.command.Command.TheVariants as command
 use Rattle.gate.proofs.Effects.{frame_before}
 use Rattle.gate.proofs.Standing.{running_process, same_frames, ReadsAs, looked_objects, looked_sound, now_sound}

@@ -3,12 +3,12 @@ use Rattle.gate.proofs.Names.{nat_tests, ℕ, zero, suc, Bool, List, Option, Non
 use Rattle.gate.proofs.Names.{Capability, Start, Resume, Invocation, Operation, Call, Return, Send, Frame, Geometry, Object, Available, Arguments, ResultCode}
 use Rattle.gate.proofs.Names.{objects_of, Effect, can_start, invoke, on_kernel_object, ordered, through_gate, AreCurrent, AreKeepable, IsSoundFrames, world_at}
 use Rattle.gate.proofs.Names.{touching, touched_count, order, OrderOutcome, consume, IsSound, object_count, Fits, World, annex_at, is_process}
-use Rattle.gate.proofs.Names.{is_running_process, register_at, with_state, state_frame, invocation_keeps, ordered_keeps, order_keeps, IsNow, held_to, SameFrame}
-use Rattle.gate.proofs.Names.{frame_refl, Caller, OrderPlan, Reply, changed, writer_count, writers, Invokes, IsRequested, IsKernelObject, Overfills}
-use Rattle.gate.proofs.Names.{result_code, IsPlanned, answered, arguments_of, finished, ordered_by, state_before, FitsCap, fetched_of, true, false, slice_set}
-use Rattle.gate.proofs.Names.{All-map, All-set, sent_by, NamesItsKind, AreSound, Parts, objects_in, Gate, entered, gate_capability, received, written_through}
-use Rattle.gate.proofs.Names.{[], Result, Ok, Err, OnOk, Contains, IfOk, IsErrOf, OnErr, IsUnchanged, IsUnprepared, Prepares, Renews, frames_of, Invoked}
-use Rattle.gate.proofs.Names.{FetchesOrFails, Failed, IsErr, IsOfGate, Refusal, unrisen}
+use Rattle.gate.proofs.Names.{is_running_process, register_at, state_frame, invocation_keeps, ordered_keeps, order_keeps, IsNow, held_to, SameFrame, frame_refl}
+use Rattle.gate.proofs.Names.{Caller, OrderPlan, Reply, changed, writer_count, writers, Invokes, IsRequested, IsKernelObject, Overfills, result_code, IsPlanned}
+use Rattle.gate.proofs.Names.{answered, arguments_of, finished, ordered_by, state_before, FitsCap, fetched_of, true, false, slice_set, All-map, All-set}
+use Rattle.gate.proofs.Names.{sent_by, NamesItsKind, AreSound, Parts, objects_in, Gate, entered, gate_capability, received, written_through, [], Result, Ok}
+use Rattle.gate.proofs.Names.{Err, OnOk, Contains, IfOk, IsErrOf, OnErr, IsUnchanged, IsUnprepared, Prepares, Renews, frames_of, Invoked, FetchesOrFails}
+use Rattle.gate.proofs.Names.{Failed, IsErr, IsOfGate, Refusal, unrisen}
 use Rattle.std.proofs.Common.{◌≡◌, ◌+◌, ◌++◌, ◌^◌, ◌<◌, ◌≤◌, ◌∙◌, if◌then◌else◌, ◌||◌, ◌∷◌, ◌⊎◌}
 use Rattle.model.specs.declared.command.Command.TheVariants as command
 use Rattle.model.specs.declared.answer.Refusal.TheVariants as refusal

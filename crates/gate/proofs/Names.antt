@@ -67,7 +67,7 @@ pub use Rattle.space_bank.specs.Banks.{AreCounted, BanksState, MayAsk}
 pub use Rattle.space_bank.specs.Carrying.{IsForBank, MayMake, PlansAs}
 pub use Rattle.space_bank.specs.Planning.{writer_count, writers}
 pub use Rattle.std.proofs.Common.{Bool, Err, List, None, Ok, Option, Result, Some, [], ap, arith, drop, false, get_or, length, refl, rules, subst, suc, sym}
-pub use Rattle.std.proofs.Common.{true, zero, ℕ, ⊎_elim}
+pub use Rattle.std.proofs.Common.{true, zero, ℕ}
 pub use Rattle.std.proofs.Math.ListN.{get_or-map}
 pub use Rattle.std.proofs.Math.Seq.{map-set_same}
 pub use Rattle.std.proofs.lemmas.Bool.Decides.{nat_tests}

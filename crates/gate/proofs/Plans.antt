@@ -4,12 +4,12 @@ use Rattle.gate.proofs.Names.{Content, Object, State, after_gate, free, is_root,
 use Rattle.gate.proofs.Names.{consume, resumes, void_where, without, annex_at, content_at, is_process, root_at, with_content, with_root, with_slot, with_state}
 use Rattle.gate.proofs.Names.{with_word, root_frame, set_frame, slot_frame, word_frame, SameFrame, frame_refl, Change, changed, IsOfProcess, IsWithinObject}
 use Rattle.gate.proofs.Names.{Bool, true, false, Option, None, Some, Access, Bank, Node, Page, Geometry, Arguments, BankOrder, on_bank, NodeOrder, PageOrder}
-use Rattle.gate.proofs.Names.{OrderOutcome, refused, bank_order, node_order, on_node, on_page, order, LooksAtWords, ⊎_elim, drop, length, subst, arith}
-use Rattle.gate.proofs.Names.{slice_index, All, option_to_list, is_annex, is_bank, is_node, NamesItsKind, object_count, Fits, register_at, used_within}
-use Rattle.gate.proofs.Names.{annex_kept, written_within, all_words, held_sent, AreArguments, IsNow, IsHeld, Waits, held_to, tests_at, BankChange, Caller}
-use Rattle.gate.proofs.Names.{OrderPlan, outcome_by, target_of, written_of, numbers_of, IsForBank, MayMake, PlansAs, writer_count, writers, IsRequested}
-use Rattle.gate.proofs.Names.{IsPlanned, Plans, arguments_of, ChangesAs, FitsCap, HaveAnnexesOf, IsFor, MayChange, MayEdit, MayHold, fetched_of, node_named}
-use Rattle.gate.proofs.Names.{outcome_of, process_named, annex_used, node_used, root_used, AreEnough, held_void}
+use Rattle.gate.proofs.Names.{OrderOutcome, refused, bank_order, node_order, on_node, on_page, order, LooksAtWords, drop, length, subst, arith, slice_index}
+use Rattle.gate.proofs.Names.{All, option_to_list, is_annex, is_bank, is_node, NamesItsKind, object_count, Fits, register_at, used_within, annex_kept}
+use Rattle.gate.proofs.Names.{written_within, all_words, held_sent, AreArguments, IsNow, IsHeld, Waits, held_to, tests_at, BankChange, Caller, OrderPlan}
+use Rattle.gate.proofs.Names.{outcome_by, target_of, written_of, numbers_of, IsForBank, MayMake, PlansAs, writer_count, writers, IsRequested, IsPlanned, Plans}
+use Rattle.gate.proofs.Names.{arguments_of, ChangesAs, FitsCap, HaveAnnexesOf, IsFor, MayChange, MayEdit, MayHold, fetched_of, node_named, outcome_of}
+use Rattle.gate.proofs.Names.{process_named, annex_used, node_used, root_used, AreEnough, held_void}
 use Rattle.std.proofs.Common.{◌≡◌, ◌∙◌, ◌^◌, ◌<◌, ◌++◌}
 use Rattle.model.specs.declared.object.Content.TheVariants as content
 use Rattle.capability.specs.declared.order.Change.TheVariants as change

@@ -8,8 +8,7 @@ use Rattle.gate.proofs.Names.{root_number, FitsCap, Result, objects_of, IsSoundF
 use Rattle.gate.proofs.Names.{OnlyFetches, Prepares, length_objects, keepable_later, KeepsSoundFrames, Invocation, IsRequested, slot_at, slice_index, Effect}
 use Rattle.gate.proofs.Names.{invoke, IsNoBankOrder, Fits, invocation_frame, SameFrame, tests_at, Renews, SameAllocations, SameFree, renews_after, renews_none}
 use Rattle.gate.proofs.Names.{Gate, gate_capability}
-use Rattle.std.proofs.Common.{◌≡◌, ◌<◌, ◌&&◌, ◌∷◌, ◌∙◌, ◌^◌, ◌≤◌, ◌+◌, ◌-◌}
-use Rattle.std.specs.Prelude.{if◌then◌else◌}
+use Rattle.std.proofs.Common.{◌≡◌, ◌<◌, ◌∷◌, ◌∙◌, ◌^◌, ◌≤◌, ◌+◌, ◌-◌}
 use Rattle.model.specs.declared.command.Command.TheVariants as command
 
 pub annex_known : (p : Parts) (n : ℕ) → IsTrue (is_annex (content_at (objects_in p) n)) → n < length p.headers

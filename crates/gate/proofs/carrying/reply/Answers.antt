@@ -1,5 +1,4 @@
 use Rattle.gate.proofs.Names.{refl, Void, FitsCap}
-use Rattle.std.proofs.Common.{◌∙◌}
 use Rattle.gate.proofs.Effects.{all_four}
 use Rattle.gate.proofs.carrying.reply.Goals as goal
 

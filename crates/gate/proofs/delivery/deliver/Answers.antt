@@ -1,6 +1,6 @@
 use Rattle.gate.proofs.Names.{rules, get_or, subst, sym, ℕ, List, Object, Geometry, FitsCap, with_slots_from, keeps_twice, with_message, refl, Message, deliver}
 use Rattle.gate.proofs.Names.{annex_at}
-use Rattle.std.proofs.Common.{◌∙◌, ◌≡◌}
+use Rattle.std.proofs.Common.{◌≡◌}
 use Rattle.gate.proofs.Standing.{fits_kept, in_geometry}
 use Rattle.gate.proofs.delivery.deliver.Goals as goal
 

@@ -1,5 +1,4 @@
 use Rattle.gate.proofs.Names.{rules, process_known}
-use Rattle.std.proofs.Common.{◌<◌, ◌∙◌}
 use Rattle.gate.proofs.Standing.{annex_known, both_known}
 use Rattle.gate.proofs.looking.look_at_process.Goals as goal
 
