@@ -78,7 +78,7 @@ pub use Rattle.std.specs.Option.{option_to_list}
 pub use Rattle.std.specs.Prelude.{IfOk, IsErr, IsErrOf, IsTrue, OnErr, OnOk, slice_index, slice_index_or, slice_set}
 pub use Rattle.gate.specs.Invoke.{Invoked, Invokes, IsKernelObject, IsOfGate, IsRequested, KeepsSoundFrames, Overfills, entered, gate_capability, received}
 pub use Rattle.gate.specs.Invoke.{result_code, written_through}
-pub use Rattle.gate.specs.Ordering.{AreEnough, IsPlanned, LooksAtWords, Plans, answered, arguments_of, finished, ordered_by, state_before}
+pub use Rattle.gate.specs.Ordering.{AreEnough, IsPlanned, Plans, ReadsOnlyWords, answered, arguments_of, finished, ordered_by, state_before}
 pub use Rattle.gate.specs.Plan.{ChangesAs, FitsCap, HaveAnnexesOf, IsFor, IsOfProcess, IsWithinObject, MayChange, MayEdit, MayHold, fetched_of, node_named}
 pub use Rattle.gate.specs.Plan.{outcome_of, process_named}
 pub use Rattle.gate.specs.declared.gates.Gate.{Gate}

@@ -4,7 +4,7 @@ use Rattle.gate.proofs.Names.{Content, Object, State, after_gate, free, is_root,
 use Rattle.gate.proofs.Names.{consume, resumes, void_where, without, annex_at, content_at, is_process, root_at, with_content, with_root, with_slot, with_state}
 use Rattle.gate.proofs.Names.{with_word, root_frame, set_frame, slot_frame, word_frame, SameFrame, frame_refl, Change, changed, IsOfProcess, IsWithinObject}
 use Rattle.gate.proofs.Names.{Bool, true, false, Option, None, Some, Access, Bank, Node, Page, Geometry, Arguments, BankOrder, on_bank, NodeOrder, PageOrder}
-use Rattle.gate.proofs.Names.{OrderOutcome, refused, bank_order, node_order, on_node, on_page, order, LooksAtWords, drop, length, subst, arith, slice_index}
+use Rattle.gate.proofs.Names.{OrderOutcome, refused, bank_order, node_order, on_node, on_page, order, ReadsOnlyWords, drop, length, subst, arith, slice_index}
 use Rattle.gate.proofs.Names.{All, option_to_list, is_annex, is_bank, is_node, NamesItsKind, object_count, Fits, register_at, used_within, annex_kept}
 use Rattle.gate.proofs.Names.{written_within, all_words, held_sent, AreArguments, IsNow, IsHeld, Waits, held_to, tests_at, BankChange, Caller, OrderPlan}
 use Rattle.gate.proofs.Names.{outcome_by, target_of, written_of, numbers_of, IsForBank, MayMake, PlansAs, writer_count, writers, IsRequested, IsPlanned, Plans}
@@ -101,9 +101,9 @@ not_both b is other = grind (arith, nat_tests)
 abbrev with_sent : Arguments → Capability → Arguments
 with_sent a sent = record { first = a.first; second = a.second; capability = sent }
 
--- an order that stays with another capability looks at the words alone
+-- an order that stays with another capability reads the words alone
 by_words : (c : Capability) (w : ℕ) → ((g : Geometry) (us : List Object) (a : Arguments) (sent : Capability) →
-    order g us c w a ≡ order g us c w (with_sent a sent)) → LooksAtWords c w
+    order g us c w a ≡ order g us c w (with_sent a sent)) → ReadsOnlyWords c w
 by_words c w same g us a b first second = grind (arith, nat_tests)
 
 -- an outcome by the order that is found stays if that of each found order does
@@ -119,7 +119,7 @@ page_found : (us : List Object) (o : ℕ) (access : Access) (a : Arguments) (sen
 unfolding on_page
 page_found us o access a sent requested = grind (arith, nat_tests)
 
-pub page_words : (o : ℕ) (access : Access) (w : ℕ) → LooksAtWords (Page o access) w
+pub page_words : (o : ℕ) (access : Access) (w : ℕ) → ReadsOnlyWords (Page o access) w
 unfolding order
 page_words o access w = grind (arith, nat_tests, by_words, same_found, page_found)
 
@@ -128,7 +128,7 @@ node_found : (us : List Object) (o : ℕ) (access : Access) (a : Arguments) (sen
 unfolding on_node
 node_found us o access a sent requested other = grind (arith, nat_tests)
 
-pub node_words : (o : ℕ) (access : Access) (w : ℕ) → (node_order w ≡ Some node.Store → ⊥) → LooksAtWords (Node o access) w
+pub node_words : (o : ℕ) (access : Access) (w : ℕ) → (node_order w ≡ Some node.Store → ⊥) → ReadsOnlyWords (Node o access) w
 unfolding order
 node_words o access w other = grind (arith, nat_tests, by_words, same_found, node_found)
 
@@ -137,7 +137,7 @@ bank_found : (g : Geometry) (us : List Object) (b : ℕ) (a : Arguments) (sent :
 unfolding on_bank
 bank_found g us b a sent requested other = grind (arith, nat_tests)
 
-pub bank_words : (b w : ℕ) → (bank_order w ≡ Some bank.Free → ⊥) → LooksAtWords (Bank b) w
+pub bank_words : (b w : ℕ) → (bank_order w ≡ Some bank.Free → ⊥) → ReadsOnlyWords (Bank b) w
 unfolding order
 bank_words b w other = grind (arith, nat_tests, by_words, same_found, bank_found)
 

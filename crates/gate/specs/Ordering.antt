@@ -15,9 +15,9 @@ arguments_of os i = record {
   capability = slice_index_or (sent_by os i) 0 Void;
 }
 
--- an order that looks only at the two words of its arguments
-abbrev pub LooksAtWords : Capability → ℕ → Type 0
-LooksAtWords c w = (g : Geometry) (us : List Object) (a b : Arguments) → a.first ≡ b.first → a.second ≡ b.second →
+-- an order that reads only the two words of its arguments
+abbrev pub ReadsOnlyWords : Capability → ℕ → Type 0
+ReadsOnlyWords c w = (g : Geometry) (us : List Object) (a b : Arguments) → a.first ≡ b.first → a.second ≡ b.second →
     order g us c w a ≡ order g us c w b
 
 -- Arguments with which the order of an invocation does what it does with those of the invocation: the same words, and

@@ -15,7 +15,7 @@ ghost use Rattle.gate.specs.Invoke.{Invoked};
 ghost use Rattle.gate.specs.Plan.{FitsCap};
 
 use crate::delivery::deliver;
-use crate::looking::{all_sent, look_at_process};
+use crate::reading::{all_sent, fetch_process};
 use capability::{Caller, Frames, PresentFrames, objects, roots};
 use model::{Capability, Invocation, Message, Operation, Refusal, ResultCode, State};
 use space_bank::Banks;
@@ -209,7 +209,7 @@ pub fn invoke_gate<F: PresentFrames>(
     ensures { Invoked F.parts F.ContinuesTo store.old store.new invocation.now result }
 {
     let sent = all_sent(store, invocation, caller.annex);
-    let annex = look_at_process(store, banks, gate.process)?;
+    let annex = fetch_process(store, banks, gate.process)?;
     if !can_enter(store, invocation, gate) {
         return Err(Refusal::Stalled);
     }

@@ -8,7 +8,7 @@ ghost use Rattle.gate.specs.Invoke.{Invoked, TellsState};
 
 use crate::gates::{gate_of, invoke_gate};
 use crate::kernel_object::invoke_order;
-use crate::looking::{look_at_process, numbers_fit};
+use crate::reading::{fetch_process, numbers_fit};
 use capability::{Caller, PresentFrames, objects, roots};
 use model::{Invocation, Refusal, ResultCode};
 use space_bank::Banks;
@@ -42,10 +42,11 @@ pub fn invoke<F: PresentFrames>(
     ensures counted { AreCounted (F.parts store.new).geometry
         (objects_in (F.parts store.new)) banks.new }
 {
+    // Proof only: these two bring in invariants, of the invocation and of the object table.
     invocation.can_be_spelt();
     numbers_fit(store);
     let process = invocation.process;
-    let annex = look_at_process(store, banks, process)?;
+    let annex = fetch_process(store, banks, process)?;
     if !roots::is_running(store, process) {
         return Err(Refusal::NotRunning);
     }

@@ -18,8 +18,8 @@ ghost use Rattle.gate.specs.Plan.{fetched_of};
 
 use crate::banking::requested_bank;
 use crate::carrying::carry_out;
-use crate::looking::{look_at_named, needed_arguments};
 use crate::orders::plan;
+use crate::reading::{fetch_named, needed_arguments};
 use capability::{BankChange, Caller, Change, Frames, OrderPlan, PresentFrames};
 use device::Failed;
 use model::{Capability, Invocation, Refusal, ResultCode};
@@ -62,7 +62,7 @@ fn plan_object_order<F: Frames>(
     ensures fetches { FetchesOrFails F.parts F.ContinuesTo store.old store.new result }
 {
     let arguments = needed_arguments(store, invocation, caller.annex, caller.invoked);
-    look_at_named(store, banks, caller.invoked)?;
+    fetch_named(store, banks, caller.invoked)?;
     let plan = plan(store, caller.invoked, invocation.words[0], arguments);
     list_target(banks, plan.change);
     Ok(plan)

@@ -8,11 +8,11 @@ mod delivery;
 mod gates;
 mod invocation;
 mod kernel_object;
-mod looking;
 mod node;
 mod orders;
 mod page;
 mod process;
+mod reading;
 mod reducing;
 
 pub use invocation::invoke;

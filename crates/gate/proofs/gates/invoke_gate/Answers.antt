@@ -6,12 +6,12 @@ use Rattle.gate.proofs.Standing.{running_process, gate_no_bank, renews_invoked, 
 use Rattle.gate.proofs.Standing.{looked_as, looked_number, looked_objects, looked_sound, only_reads_again, now_sound, prepared_as}
 use Rattle.gate.proofs.gates.invoke_gate.Goals as goal
 
-pub look_at_process-requires-clause-process : goal.look_at_process-requires-clause-process
-look_at_process-requires-clause-process g c =
+pub fetch_process-requires-clause-process : goal.fetch_process-requires-clause-process
+fetch_process-requires-clause-process g c =
     gate_process (g.F.Frames.parts c.args.store.now) c.requires.sound c.args.gate c.requires.requested c.requires.gate
 
-pub look_at_process-requires-clause-annex : goal.look_at_process-requires-clause-annex
-look_at_process-requires-clause-annex g c = search (rules, annex_there, gate_process)
+pub fetch_process-requires-clause-annex : goal.fetch_process-requires-clause-annex
+fetch_process-requires-clause-annex g c = search (rules, annex_there, gate_process)
 
 pub can_enter-requires-clause-process : goal.can_enter-requires-clause-process
 can_enter-requires-clause-process g c =
@@ -21,11 +21,11 @@ can_enter-requires-clause-process g c =
 pub announce_gate-requires : goal.announce_gate-requires
 announce_gate-requires g c =
     let old = g.F.Frames.parts c.args.store.now in
-    let there : ReadsAs old (g.F.Frames.parts c.look_at_process.new.store) = looked_as c.in_ok-annex.ensures.fetches.snapshots in
+    let there : ReadsAs old (g.F.Frames.parts c.fetch_process.new.store) = looked_as c.in_ok-annex.ensures.fetches.snapshots in
     let process = gate_process old c.requires.sound c.args.gate c.requires.requested c.requires.gate in
     let i = c.args.invocation.now in
     record {
-      keepable = keepable_most (g.F.Frames.parts c.look_at_process.new.store) (looked_sound there c.requires.sound);
+      keepable = keepable_most (g.F.Frames.parts c.fetch_process.new.store) (looked_sound there c.requires.sound);
       process = looked_number there i.process (process_known old i.process (running_process (objects_in old) i.process c.requires.running));
       receiver = looked_number there c.args.gate.process (process_known old c.args.gate.process process);
       annex = looked_number there c.in_ok-annex.annex
@@ -51,7 +51,7 @@ pub returns-then-not-can_enter : goal.returns-then-not-can_enter
 returns-then-not-can_enter g c =
     let old = g.F.Frames.parts c.args.store.now in
     let i = c.args.invocation.now in
-    found_stalled i g.met.F.Frames.continues_twice c.look_at_process.new.store c.in_ok-annex.ensures.fetches
+    found_stalled i g.met.F.Frames.continues_twice c.fetch_process.new.store c.in_ok-annex.ensures.fetches
     (gate_stalled old.geometry (objects_in old) i c.args.caller c.args.gate c.requires.requested c.requires.gate
     (sym (c.if-not-can_enter.ensures ∙ ap (λ (us : List Object). c.args.gate.is_resume || can_start us i c.args.gate.process)
     (looked_objects (looked_as c.in_ok-annex.ensures.fetches.snapshots)))))
@@ -71,7 +71,7 @@ returns-in_err-announce_gate g c =
 pub returns : goal.returns
 returns g c =
     let old = g.F.Frames.parts c.args.store.now in
-    let only_reads : ReadsAs old (g.F.Frames.parts c.look_at_process.new.store) = looked_as c.in_ok-annex.ensures.fetches.snapshots in
+    let only_reads : ReadsAs old (g.F.Frames.parts c.fetch_process.new.store) = looked_as c.in_ok-annex.ensures.fetches.snapshots in
     let mid = g.F.Frames.parts c.announce_gate.new.store in
     let there : ReadsAs old mid = only_reads_again only_reads (prepared_as c.in_ok-announce_gate.ensures.prepares) in
     let i = c.args.invocation.now in

@@ -9,8 +9,8 @@ plan-plan-requires-clause-process g c p is = search (rules, looked_as, register_
 pub returns-clause-planned : goal.returns-clause-planned
 returns-clause-planned g c =
     let old = g.F.Frames.parts c.args.store.now in
-    let now = g.F.Frames.parts c.look_at_named.new.store in
-    let only_reads : ReadsAs old now = looked_as c.in_ok-look_at_named.ensures.fetches.snapshots in
+    let now = g.F.Frames.parts c.fetch_named.new.store in
+    let only_reads : ReadsAs old now = looked_as c.in_ok-fetch_named.ensures.fetches.snapshots in
     object_planned old.geometry (objects_in old) (objects_in now) c.args.invocation.now c.args.caller c.plan-plan.result c.needed_arguments-arguments.result
     c.args.banks.now.listed c.list_target.new.banks.listed
     (looked_objects only_reads) (now_sound old c.requires.sound) (few_objects old c.requires.sound c.requires.few) c.requires.fits c.requires.requested

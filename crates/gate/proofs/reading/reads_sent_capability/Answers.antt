@@ -3,7 +3,7 @@ use Rattle.std.proofs.Common.{◌≡◌, ◌∙◌}
 use Rattle.model.specs.declared.order.BankOrder.TheVariants as bank
 use Rattle.model.specs.declared.order.NodeOrder.TheVariants as node
 use Rattle.gate.proofs.Plans.{bank_words, node_words, not_both, page_words}
-use Rattle.gate.proofs.looking.looks_at_sent.Goals as goal
+use Rattle.gate.proofs.reading.reads_sent_capability.Goals as goal
 
 pub returns-in-Page : goal.returns-in-Page
 returns-in-Page c is = rw c.in-Page.is (page_words c.in-Page.object c.in-Page.access c.args.word)

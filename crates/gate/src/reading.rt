@@ -8,7 +8,7 @@ ghost use Rattle.model.specs.Sound.{NamesItsKind};
 ghost use Rattle.model.specs.World.{annex_at, content_at, is_process};
 ghost use Rattle.capability.specs.Parts.{frames_of, objects_in};
 ghost use Rattle.space_bank.specs.Banks.{AreCounted};
-ghost use Rattle.gate.specs.Ordering.{AreEnough, LooksAtWords, arguments_of};
+ghost use Rattle.gate.specs.Ordering.{AreEnough, ReadsOnlyWords, arguments_of};
 ghost use Rattle.capability.specs.Parts.{FetchesOrFails};
 ghost use Rattle.gate.specs.Plan.{process_named};
 
@@ -20,7 +20,7 @@ use model::{Arguments, BankOrder, Capability, Invocation, NodeOrder};
 use space_bank::Banks;
 
 /// Fetches a process and its annex. Returns the annex.
-pub fn look_at_process<F: Frames>(store: &mut F, banks: &Banks, process: u64) -> Result<u64, Failed>
+pub fn fetch_process<F: Frames>(store: &mut F, banks: &Banks, process: u64) -> Result<u64, Failed>
     requires keepable { AreKeepable (F.parts store.old).geometry u64.MAX
         (frames_of (F.parts store.old)) }
     requires process { IsTrue (is_process (objects_in (F.parts store.old)) process) }
@@ -43,7 +43,7 @@ pub fn look_at_process<F: Frames>(store: &mut F, banks: &Banks, process: u64) ->
 /// process.
 #[tactic(auto, using(crate::proofs::Standing::named_known, crate::proofs::Standing::one_known))]
 #[inline(always)]
-pub fn look_at_named<F: Frames>(
+pub fn fetch_named<F: Frames>(
     store: &mut F,
     banks: &Banks,
     capability: Capability,
@@ -62,7 +62,7 @@ pub fn look_at_named<F: Frames>(
     ensures fetches { FetchesOrFails F.parts F.ContinuesTo store.old store.new result }
 {
     if let Capability::Process(process) = capability {
-        look_at_process(store, banks, process)?;
+        fetch_process(store, banks, process)?;
         return Ok(());
     }
     match capability.named() {
@@ -86,10 +86,10 @@ pub fn order_arguments<F: Frames>(store: &F, invocation: &Invocation, annex: u64
     }
 }
 
-// Whether an order looks at the capability that is sent. If not, it does the same with any other.
+// Whether an order reads the capability that is sent. If not, it does the same with any other.
 #[inline(always)]
-fn looks_at_sent(invoked: Capability, word: u64) -> bool
-    ensures { result ≡ false → LooksAtWords invoked word }
+fn reads_sent_capability(invoked: Capability, word: u64) -> bool
+    ensures { result ≡ false → ReadsOnlyWords invoked word }
 {
     match invoked {
         Capability::Page { .. } => false,
@@ -100,7 +100,7 @@ fn looks_at_sent(invoked: Capability, word: u64) -> bool
 }
 
 /// Arguments with which an order does what it does with those of the invocation. The capability that
-/// is sent is read only if the order looks at it. The annex of the process is fetched.
+/// is sent is read only if the order reads it. The annex of the process is fetched.
 #[inline(always)]
 pub fn needed_arguments<F: Frames>(
     store: &F,
@@ -113,7 +113,7 @@ pub fn needed_arguments<F: Frames>(
         ≡ annex_at (objects_in (F.parts store.now)) invocation.now.process }
     ensures { AreEnough (objects_in (F.parts store.now)) invocation.now invoked result }
 {
-    if looks_at_sent(invoked, invocation.words[0]) {
+    if reads_sent_capability(invoked, invocation.words[0]) {
         return order_arguments(store, invocation, annex);
     }
     let [_, first, second, _] = invocation.words;
