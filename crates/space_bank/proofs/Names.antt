@@ -73,7 +73,7 @@ pub use Rattle.std.specs.Prelude.{IsTrue, nat_le, nat_lt, slice_index, slice_ind
 pub use Rattle.std.specs.Vec.{vec_capacity}
 pub use Rattle.space_bank.specs.Allocating.{allocated_by, allocating, count_of, given_by, is_deep, made_for, new_at, new_of, numbers_of, process_at}
 pub use Rattle.space_bank.specs.Banks.{AreCounted, BanksState, KeepsObjects, MayServe}
-pub use Rattle.space_bank.specs.Carrying.{AreTransferred, CarriesOut, GivesUp, IsMade, IsMadeUnder, IsPlanned, MakesOne, MakesTwo, MayGiveUp, MayMake, PlansAs}
+pub use Rattle.space_bank.specs.Carrying.{AreTransferred, CarriesOut, Frees, IsMade, IsMadeUnder, IsPlanned, MakesOne, MakesTwo, MayFree, MayMake, PlansAs}
 pub use Rattle.space_bank.specs.Carrying.{Transfers, marks_of}
 pub use Rattle.space_bank.specs.Chains.{IsRaised, IsShifted, MayShift}
 pub use Rattle.space_bank.specs.Counting.{AreKept, AreMarked, kept_number}

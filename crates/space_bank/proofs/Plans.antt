@@ -9,7 +9,7 @@ use Rattle.space_bank.proofs.Names.{Fresh, bank_changed, reply_of_code, freed_al
 use Rattle.space_bank.proofs.Names.{under_alike, IsNow, SameFrame, chain_same, usage_same, keepable_count, root_number, New, allocated_by, allocating, count_of}
 use Rattle.space_bank.proofs.Names.{is_deep, made_for, new_at, new_of, process_at, IsPlanned, MayMake, PlansAs, annex_among, annex_of, not, range_with_len}
 use Rattle.space_bank.proofs.Names.{false≢true, are_free, is_free, is_member, NamesItsKind, member_head, member_tail, owner_bank, tree_of, AllDiffer}
-use Rattle.space_bank.proofs.Names.{filter_once, found_in, tests_at, MakeProcess, IsFreshAt, numbers_of, GivesUp, Transfers, IsMadeUnder, MayGiveUp}
+use Rattle.space_bank.proofs.Names.{filter_once, found_in, tests_at, MakeProcess, IsFreshAt, numbers_of, Frees, Transfers, IsMadeUnder, MayFree}
 use Rattle.space_bank.proofs.Names.{false_from_ne_true, or_cases, is_under, object_at, destroyed_fits, freed_fits, freed_set, under_found, under_given_up}
 use Rattle.space_bank.proofs.Names.{under_once, usage_destroyed, usage_freed, IsTree, chain_banks, chain_longer, chain_nonempty, chain_once, chain_shorter}
 use Rattle.space_bank.proofs.Names.{chain_zero}
@@ -248,7 +248,7 @@ annex_kept {p} {s} {b} c h sent = grind (arith, nat_tests)
 
 -- what a capability frees, where a bank owns it
 pub freed_list : (g : Geometry) (os : List Object) (b : ℕ) (c : Capability) (list : List ℕ) → IsNow g os → IsTrue (is_bank (content_at os b)) →
-    NamesItsKind os c → freed_by os c ≡ list → 0 < length list → owner_at os (slice_index list 0) ≡ b → MayGiveUp os b list
+    NamesItsKind os c → freed_by os c ≡ list → 0 < length list → owner_at os (slice_index list 0) ≡ b → MayFree os b list
 freed_list g os b c [] h is names frees some own = absurd (omega arith)
 freed_list g os b c (n ∷ ns) h is names frees some own =
     let set = freed_set g os h.frame c n ns names frees in
@@ -274,7 +274,7 @@ module _ (os : List Object) (t : IsTree os) (b : ℕ) (is : IsTrue (is_bank (con
 
 -- a bank with all that is under it
 pub destroyed_gives : (g : Geometry) (os : List Object) (b : ℕ) → IsNow g os → IsTrue (is_bank (content_at os b)) → b ≢ 0 →
-    MayGiveUp os (owner_at os b) (under os b)
+    MayFree os (owner_at os b) (under os b)
 destroyed_gives g os b h is on = record {
   once = once_of_differ (under os b) (under_once os b);
   used = (under_given_up g os h.frame b is on).used;
@@ -345,18 +345,18 @@ module _ {p : Parts} {s : BanksState} {b : ℕ} (h : MayServe p s b) {us : List 
       (made_alike (objects_in p) us frame p.geometry b kind ∙ some) (deep_alike (objects_in p) us frame p.geometry b kind ∙ short)
 
   pub may_free : (c : Capability) (n : ℕ) (ns : List ℕ) → NamesItsKind (objects_in p) c → freed_by (objects_in p) c ≡ n ∷ ns → owner_at (objects_in p) n ≡ b →
-      GivesUp us (n ∷ ns) b
+      Frees us (n ∷ ns) b
   may_free c n ns names some own = record {
     bank = bank_there;
-    gives = freed_list p.geometry us b c (n ∷ ns) now bank_there (names_there (objects_in p) us frame c n ns some names)
+    may = freed_list p.geometry us b c (n ∷ ns) now bank_there (names_there (objects_in p) us frame c n ns some names)
         (freed_alike (objects_in p) us frame c ∙ some) (omega arith) ((frame.alike n).owner ∙ own);
   }
 
-  pub may_destroy : b ≢ 0 → (above : ℕ) → above ≡ owner_at (objects_in p) b → GivesUp us (under (objects_in p) b) above
+  pub may_destroy : b ≢ 0 → (above : ℕ) → above ≡ owner_at (objects_in p) b → Frees us (under (objects_in p) b) above
   may_destroy on above is =
       rw (is ∙ sym (frame.alike b).owner) (record {
         bank = owner_bank us (tree_of p.geometry us now.frame) b bank_there;
-        gives = subst (λ (ns : List ℕ). MayGiveUp us (owner_at us b) ns) (under_alike (objects_in p) us frame b)
+        may = subst (λ (ns : List ℕ). MayFree us (owner_at us b) ns) (under_alike (objects_in p) us frame b)
             (destroyed_gives p.geometry us b now bank_there on);
       })
 

@@ -4,7 +4,7 @@ use Rattle.space_bank.proofs.Names.{header_at, is_free, is_member, rescind, cont
 use Rattle.space_bank.proofs.Names.{⊎_elim, cases_lt, zero, suc, [], drop, take, length, refl, subst, IsTrue, slice_index, slice_index_or, All, eq-eqb}
 use Rattle.space_bank.proofs.Names.{false_from_ne_true, false≢true, take_rest, list_any_at, Geometry, chain, usage, AreCurrent, AreKeepable, free, is_bank}
 use Rattle.space_bank.proofs.Names.{is_root, limit_in, names_member, void_where, without, object_at, AllDiffer, member_tail, free_rescinded, at_rescind, IsOnce}
-use Rattle.space_bank.proofs.Names.{KeepsRest, frames_of, IsMapped, without_mapped, AreCounted, BanksState, KeepsObjects, CarriesOut, MayGiveUp, MayServe}
+use Rattle.space_bank.proofs.Names.{KeepsRest, frames_of, IsMapped, without_mapped, AreCounted, BanksState, KeepsObjects, CarriesOut, MayFree, MayServe}
 use Rattle.space_bank.proofs.Names.{marks_of, IsRaised, is_marked, add-one, slice_set, ext_get_or, get_or-set_other, get_or-set_same, length-map, transferred}
 use Rattle.space_bank.proofs.Names.{inherited, owned_by, owner_at, owned_found, used_where, returned_fits, usage_returned, chain_banks, chain_once, member_head}
 use Rattle.space_bank.proofs.Names.{owner_bank, all_members, found_in, only_member, stands_in, at_map, AreTransferred}
@@ -135,7 +135,7 @@ module _ {p : Parts} {s : BanksState} {b : ℕ} (asks : MayServe p s b) (n : ℕ
   serve_calls = omega (arith, few_calls p.geometry asks.sound.0 p asks.sound.1.keepable n known, asks.sound.1.sound.age)
 
 -- what the banks of the chain account for is enough
-pub enough_used : {p : Parts} {s : BanksState} {above : ℕ} {list : List ℕ} → MayServe p s above → MayGiveUp (objects_in p) above list
+pub enough_used : {p : Parts} {s : BanksState} {above : ℕ} {list : List ℕ} → MayServe p s above → MayFree (objects_in p) above list
     → (x : ℕ) → is_member (chain (objects_in p) above) x ≡ true → length list ≤ slice_index s.usages x
 enough_used {p} {s} {above} {list} asks gives x member =
     let bank = chain_bank asks x member in
@@ -190,7 +190,7 @@ pub released_then : {banks : List ℕ} {count : ℕ} {s r v : BanksState} {nodes
 released_then {banks} {count} {s} {r} {v} {nodes} {pages} set raised kept same nodes_same pages_same marks = grind (arith, nat_tests)
 
 -- what is left once a list is given up
-pub ended_carried : {p q : Parts} {s t : BanksState} {above : ℕ} {list : List ℕ} → MayServe p s above → MayGiveUp (objects_in p) above list
+pub ended_carried : {p q : Parts} {s t : BanksState} {above : ℕ} {list : List ℕ} → MayServe p s above → MayFree (objects_in p) above list
     → IsReleased (chain (objects_in p) above) (length list) s t list → objects_in q ≡ rescind list (objects_in p)
     → AreCurrent (frames_of q) → ((age : ℕ) → age + 1 < 2 ^ 64 → AreKeepable p.geometry age (frames_of p) → AreKeepable p.geometry (age + 1) (frames_of q))
     → CarriesOut p q t

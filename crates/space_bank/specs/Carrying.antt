@@ -28,9 +28,9 @@ pub record CarriesOut (old new : Parts) (s : BanksState) : Type 0 where
   pub keepable : (age : ℕ) → age + 1 < 2 ^ 64 → AreKeepable old.geometry age (frames_of old) →
       AreKeepable old.geometry (age + 1) (frames_of new)
 
--- A list can be given up: it has no number twice, each number has an object, and no bank of the chain of above is in
+-- A list can be freed: it has no number twice, each number has an object, and no bank of the chain of above is in
 -- it. A bank outside the list accounted for the whole list if it is in that chain, and for nothing of it if it isn't.
-pub record MayGiveUp (os : List Object) (above : ℕ) (list : List ℕ) : Type 0 where
+pub record MayFree (os : List Object) (above : ℕ) (list : List ℕ) : Type 0 where
   pub once : IsOnce list
   pub used : (n : ℕ) → is_member list n ≡ true → is_free (content_at os n) ≡ false
   pub apart : (x : ℕ) → IsTrue (is_member (chain os above) x) → is_member list x ≡ false
@@ -69,9 +69,9 @@ pub record MakesTwo (g : Geometry) (os : List Object) (list : List ℕ) (r a b :
   pub place : r < g.nodes
   pub annex_place : a < g.nodes
 
-pub record GivesUp (os : List Object) (list : List ℕ) (above : ℕ) : Type 0 where
+pub record Frees (os : List Object) (list : List ℕ) (above : ℕ) : Type 0 where
   pub bank : IsTrue (is_bank (content_at os above))
-  pub gives : MayGiveUp os above list
+  pub may : MayFree os above list
 
 pub record Transfers (os : List Object) (list : List ℕ) (b : ℕ) : Type 0 where
   pub bank : IsTrue (is_bank (content_at os b))
@@ -82,7 +82,7 @@ pub record Transfers (os : List Object) (list : List ℕ) (b : ℕ) : Type 0 whe
 abbrev pub MayMake : Geometry → List Object → List ℕ → BankChange → Type 0
 MayMake g os list (bank.Make n f b) = MakesOne g os list n f b
 MayMake g os list (bank.MakeProcess r a b) = MakesTwo g os list r a b
-MayMake g os list (bank.GiveUp above) = GivesUp os list above
+MayMake g os list (bank.GiveUp above) = Frees os list above
 MayMake g os list (bank.Transfer b) = Transfers os list b
 
 -- a change that an order of a bank may make

@@ -14,10 +14,10 @@ use capability::{Fresh, PresentFrames};
 use model::{Capability, Content, Role};
 
 impl Banks {
-    /// Makes a free number, fetched and announced, a page, a node or a bank that `bank` owns. No limit in the
-    /// chain of `bank` may be reached, and a new bank needs fewer than 16 banks in it.
+    // Makes a free number, fetched and announced, a page, a node or a bank that `bank` owns. No
+    // limit in the chain of `bank` may be reached, and a new bank needs fewer than 16 banks in it.
     #[tactic(auto, using(crate::proofs::Tallies::free_role))]
-    pub fn allocate<F: PresentFrames>(
+    pub(crate) fn allocate<F: PresentFrames>(
         &mut self,
         store: &mut F,
         number: u64,

@@ -40,7 +40,7 @@ impl Banks {
             BankChange::MakeProcess { root, annex, bank } => {
                 self.new_process(store, root, annex, bank)
             }
-            BankChange::GiveUp { above } => self.give_up(store, skip, above),
+            BankChange::GiveUp { above } => self.free_listed(store, skip, above),
             BankChange::Transfer { bank } => self.return_to_parent(store, skip, bank),
         }
     }

@@ -11,7 +11,7 @@ ghost use Rattle.space_bank.specs.Banks.{MayServe};
 ghost use Rattle.space_bank.specs.Chains.{IsRaised, IsShifted, MayShift};
 
 use crate::banks::Banks;
-use crate::walking::MAX_CHAIN;
+use crate::walking::{MAX_CHAIN, owner};
 use capability::Frames;
 
 /// Adds `more` to the usage of each bank in a chain, and subtracts `less`.
@@ -36,7 +36,7 @@ pub(crate) fn shift<F: Frames>(usages: &mut [u64], store: &F, bank: u64, more: u
         if current == 0 {
             return;
         }
-        current = store.table().header(current).owner;
+        current = owner(store, current);
     }
 }
 

@@ -1,5 +1,5 @@
 //! Space banks: how many objects each accounts for, which numbers are free, and the orders that
-//! allocate and give up.
+//! allocate and free.
 #![tactic(auto)]
 
 mod allocating;
@@ -7,7 +7,7 @@ mod banks;
 mod carrying;
 mod chains;
 mod counting;
-mod giving_up;
+mod freeing;
 mod listing;
 mod marking;
 mod planning;

@@ -1,4 +1,4 @@
-use Rattle.space_bank.proofs.Names.{rules, owner_read}
+use Rattle.space_bank.proofs.Names.{rules}
 use Rattle.space_bank.proofs.Tallies.{climb_starts, climbs_on, shifted_last, shifting_starts, shifts_on, still_fits}
 use Rattle.space_bank.proofs.chains.shift.Goals as goal
 
@@ -19,8 +19,7 @@ returns-then-current-eq0 g c = search (rules, shifted_last)
 pub loop-step-preserved : goal.loop-step-preserved
 loop-step-preserved g c =
     let at = c.loop-step.invariant in
-    rw (owner_read (g.F.Frames.parts c.args.store.now) c.table.result.now c.header-current.result c.loop-step.current c.table.ensures c.header-current.ensures)
-    (record {
+    rw c.owner-current.ensures (record {
       climbs = climbs_on c.requires.tree at.climbs c.if-current-eq0.false;
       shifting = shifts_on c.requires.tree at.climbs c.requires.each c.requires.fits at.shifting c.if-current-eq0.false;
     })

@@ -1,5 +1,4 @@
-use Rattle.space_bank.proofs.Names.{ℕ, List, length, Vec, Global, vec_len, ap, sym, refl, arith, vec_capacity, objects_in, HasNoneUsed}
-use Rattle.space_bank.proofs.Names.{IsNextUsed, is_listed}
+use Rattle.space_bank.proofs.Names.{ℕ, List, length, Vec, Global, vec_len, ap, sym, refl, arith, vec_capacity, objects_in, HasNoneUsed, IsNextUsed, is_listed}
 use Rattle.std.proofs.Common.{◌∙◌, ◌++◌}
 use Rattle.space_bank.proofs.Missing.{listed_more, listed_same, listed_whole, free_not_listed, listed_inner, listed_up_to}
 use Rattle.space_bank.proofs.listing.list_all.Goals as goal

@@ -1,5 +1,4 @@
 use Rattle.space_bank.proofs.Names.{rules, set-append_left, set-append_right}
-use Rattle.std.proofs.Common.{◌<◌, ◌++◌, ◌∙◌}
 use Rattle.space_bank.proofs.marking.mark.Goals as goal
 
 pub returns-then-number-first_page-clause-marks : goal.returns-then-number-first_page-clause-marks

@@ -1,5 +1,4 @@
 use Rattle.space_bank.proofs.Names.{rules, refl}
-use Rattle.std.proofs.Common.{◌∙◌}
 use Rattle.model.specs.declared.order.BankOrder.TheVariants as bank
 use Rattle.space_bank.proofs.Plans.{planned_replying, remaining_there}
 use Rattle.space_bank.proofs.banks.Banks.plan.Goals as goal

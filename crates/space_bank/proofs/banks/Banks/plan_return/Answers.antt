@@ -1,5 +1,4 @@
-use Rattle.space_bank.proofs.Names.{rules, [], append_assoc, length-append}
-use Rattle.std.proofs.Common.{◌++◌, ◌∙◌, ◌∷◌}
+use Rattle.space_bank.proofs.Names.{rules, append_assoc, length-append}
 use Rattle.space_bank.proofs.Plans.{may_return, bank_room, planned_made, planned_refused, return_prime, return_there}
 use Rattle.space_bank.proofs.Missing.{bank_listing}
 use Rattle.space_bank.proofs.banks.Banks.plan_return.Goals as goal

@@ -1,6 +1,5 @@
 use Rattle.space_bank.proofs.Names.{[], ℕ, List, ap, arith, drop, length, subst, sym, take, length-append, Capability, Geometry, Content, chain, owned_by}
-use Rattle.space_bank.proofs.Names.{header_at, AreKeepable, is_free, rescind, owner_at, frames_of, objects_in, BanksState, AreTransferred, IsRaised, owner_read}
-use Rattle.space_bank.proofs.Names.{rules}
+use Rattle.space_bank.proofs.Names.{header_at, AreKeepable, is_free, owner_at, frames_of, objects_in, BanksState, AreTransferred, IsRaised, rules}
 use Rattle.std.proofs.Common.{◌≡◌, ◌<◌, ◌+◌, ◌-◌, ◌^◌, ◌∙◌, ◌++◌, ◌∷◌}
 use Rattle.space_bank.proofs.Renewing.{snapshots_then_ended, ended_snapshots, listed_rest, released_then, SameFree, drop_next, transferred_allocations}
 use Rattle.space_bank.proofs.Renewing.{transferred_calls, inherited_by, mark_one, one_all, one_enough, only_used, owned_used, rest_all, returned_carried}
@@ -9,10 +8,10 @@ use Rattle.space_bank.proofs.Tallies.{transferred_same, serve_count}
 use Rattle.space_bank.proofs.banks.Banks.return_to_parent.Goals as goal
 
 pub release-requires-clause-asks : goal.release-requires-clause-asks
-release-requires-clause-asks g c = search (rules, owner_is_bank, owner_read)
+release-requires-clause-asks g c = search (rules, owner_is_bank)
 
 pub release-requires-clause-enough : goal.release-requires-clause-enough
-release-requires-clause-enough g c = search (rules, owner_read, one_enough)
+release-requires-clause-enough g c = search (rules, one_enough)
 
 pub transfer-requires : goal.transfer-requires
 transfer-requires g c =
@@ -40,7 +39,7 @@ rescind-requires g c =
     }
 
 pub returns-clause-objects : goal.returns-clause-objects
-returns-clause-objects g c = search (rules, listed_rest, drop_next, owner_read, inherited_by)
+returns-clause-objects g c = search (rules, listed_rest, drop_next, inherited_by)
 
 pub returns-clause-carried : goal.returns-clause-carried
 returns-clause-carried g c =
@@ -51,14 +50,13 @@ returns-clause-carried g c =
     let us = objects_in q in
     let s = c.args.self.now in
     let b = c.args.bank in
-    let owner = owner_read p c.table.result.now _ b c.table.ensures c.header-parent.ensures in
     let part = listed_rest s (c.args.skip + 1) c.deref.ensures.value c.self.view_is c.release.ensures.kept
     ∙ drop_next s.listed c.args.skip b (owned_by os b) c.requires.listed in
     let transferred : AreTransferred (owned_by os b) (owner_at os b) os us =
-    subst (λ (n : ℕ). AreTransferred (owned_by os b) n os us) owner
-    (subst (λ (list : List ℕ). AreTransferred list c.header-parent.result.owner os us) part c.transfer.ensures.objects) in
+    subst (λ (n : ℕ). AreTransferred (owned_by os b) n os us) c.owner-parent.ensures
+    (subst (λ (list : List ℕ). AreTransferred list c.owner-parent.result os us) part c.transfer.ensures.objects) in
     let raised : IsRaised (chain os (owner_at os b)) 1 c.release.new.self.usages s.usages =
-    subst (λ (n : ℕ). IsRaised (chain os n) 1 c.release.new.self.usages s.usages) owner c.release.ensures.usages in
+    subst (λ (n : ℕ). IsRaised (chain os n) 1 c.release.new.self.usages s.usages) c.owner-parent.ensures c.release.ensures.usages in
     let first = (rw c.requires.listed at c.requires.announced) 0 0 (omega arith) in
     let known = (g.met.F.PresentFrames.known_announced c.args.store.now b first).0 in
     let marks : length (c.self.inside.nodes ++ c.self.inside.pages) ≡ length (s.free_nodes ++ s.free_pages) =
@@ -87,7 +85,7 @@ returns-clause-snapshots g c =
     let os = objects_in (g.F.Frames.parts c.args.store.now) in
     let list = take (length c.deref.result.now - (c.args.skip + 1)) (drop (c.args.skip + 1) c.deref.result.now) in
     let free : SameFree (g.F.Frames.parts c.args.store.now) q =
-    λ n. ap (λ (k : Content Capability). is_free k) (transferred_same list c.header-parent.result.owner os (objects_in q) c.transfer.ensures.objects n) in
+    λ n. ap (λ (k : Content Capability). is_free k) (transferred_same list c.owner-parent.result os (objects_in q) c.transfer.ensures.objects n) in
     snapshots_then_ended g.F.Frames.parts g.F.Frames.IsFetched g.F.PresentFrames.IsAnnounced g.F.Frames.ContinuesTo g.met.F.Frames.continues_twice
     c.args.store.now c.transfer.new.store c.rescind.new.store c.transfer.ensures.snapshots free
     (ended_snapshots g.F.Frames.parts g.F.Frames.IsFetched g.F.PresentFrames.IsAnnounced g.F.Frames.ContinuesTo c.transfer.new.store c.rescind.new.store

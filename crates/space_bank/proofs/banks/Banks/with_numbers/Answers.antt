@@ -1,6 +1,6 @@
 use Rattle.space_bank.proofs.Names.{rules, common_steps, List, length, ap, arith, vec_capacity, ObjectHeader, object_count, content_at, objects_in}
 use Rattle.space_bank.proofs.Names.{keepable_count, keepable_roles, BanksState, bank_number, root_number}
-use Rattle.std.proofs.Common.{◌≡◌, ◌<◌, ◌≤◌, ◌+◌}
+use Rattle.std.proofs.Common.{◌≡◌, ◌≤◌, ◌+◌}
 use Rattle.space_bank.proofs.Missing.{counted_from, numbers_fit, room_replying}
 use Rattle.space_bank.proofs.banks.Banks.with_numbers.Goals as goal
 

@@ -1,5 +1,5 @@
 use Rattle.space_bank.proofs.Names.{ℕ, take, AreCurrent, AreKeepable, KeepsRest, frames_of, objects_in, AreTransferred}
-use Rattle.space_bank.proofs.giving_up.transfer.Given as goal
+use Rattle.space_bank.proofs.freeing.transfer.Given as goal
 
 abbrev pub invariant-loop-number : goal.invariant-loop-number
 invariant-loop-number g l =

@@ -4,14 +4,14 @@ use Rattle.std.proofs.Common.{◌≡◌, ◌+◌, ◌-◌, ◌∙◌, ◌++◌}
 use Rattle.std.specs.Prelude.{if◌then◌else◌}
 use Rattle.space_bank.proofs.Renewing.{AreKnown, ended_snapshots, ended_carried, enough_used, list_allocations, list_calls, list_marks, listed_rest}
 use Rattle.space_bank.proofs.Renewing.{released_then}
-use Rattle.space_bank.proofs.banks.Banks.give_up.Goals as goal
+use Rattle.space_bank.proofs.banks.Banks.free_listed.Goals as goal
 
 pub release-requires-clause-enough : goal.release-requires-clause-enough
 release-requires-clause-enough g c =
     let s = c.args.self.now in
     let count : c.len.result - c.args.skip ≡ length (drop c.args.skip s.listed) =
     omega (arith, length-drop c.args.skip s.listed, c.len.ensures, ap (λ (k : BanksState). length k.listed) c.self.view_is, c.self.inside.listed.ok.0) in
-    rw count (enough_used c.requires.asks c.requires.gives)
+    rw count (enough_used c.requires.asks c.requires.may)
 
 pub rescind-requires : goal.rescind-requires
 rescind-requires g c =
@@ -20,7 +20,7 @@ rescind-requires g c =
     (g.met.F.PresentFrames.known_announced c.args.store.now _ (c.requires.announced k d inside)).0 in
     rw (listed_rest s c.args.skip c.deref.ensures.value c.self-2.view_is c.release.ensures.kept) (record {
       announced = c.requires.announced;
-      once = c.requires.gives.once;
+      once = c.requires.may.once;
       allocations = list_allocations c.requires.asks (drop c.args.skip s.listed) known;
       calls = list_calls c.requires.asks (drop c.args.skip s.listed) known;
       current = c.requires.asks.sound.1.current;
@@ -51,7 +51,7 @@ returns-clause-carried g c =
     subst (λ (n : ℕ). IsRaised banks n c.release.new.self.usages s.usages) count c.release.ensures.usages in
     let marks = subst (λ (xs : List ℕ). (n : ℕ) → is_marked (c.mark_free.new.nodes ++ c.mark_free.new.pages) n
     ≡ (if is_member xs n then true else is_marked (c.self-2.inside.nodes ++ c.self-2.inside.pages) n)) part_too c.mark_free.ensures.marks in
-    ended_carried c.requires.asks c.requires.gives
+    ended_carried c.requires.asks c.requires.may
     (released_then list raised c.release.ensures.kept c.self-2.view_is c.mark_free.ensures.nodes c.mark_free.ensures.pages marks)
     (c.rescind.ensures.objects ∙ ap (λ (xs : List ℕ). rescind xs (objects_in p)) part) c.rescind.ensures.current c.rescind.ensures.keepable
 
@@ -62,5 +62,5 @@ returns-clause-snapshots g c =
     ended_snapshots g.F.Frames.parts g.F.Frames.IsFetched g.F.PresentFrames.IsAnnounced g.F.Frames.ContinuesTo c.args.store.now c.rescind.new.store
     (take (length c.deref.result.now - c.args.skip) (drop c.args.skip c.deref.result.now))
     c.rescind.ensures.given_up c.rescind.ensures.objects
-    (subst (λ (xs : List ℕ). (n : ℕ) → is_member xs n ≡ true → is_free (content_at os n) ≡ false) (sym part) c.requires.gives.used)
+    (subst (λ (xs : List ℕ). (n : ℕ) → is_member xs n ≡ true → is_free (content_at os n) ≡ false) (sym part) c.requires.may.used)
     c.rescind.ensures.fetched c.rescind.ensures.announced c.rescind.ensures.continues

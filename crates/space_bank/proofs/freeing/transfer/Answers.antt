@@ -2,7 +2,7 @@ use Rattle.space_bank.proofs.Names.{arith, false, length, subst, sym, take, slic
 use Rattle.space_bank.proofs.Names.{keeps_twice, length_objects}
 use Rattle.std.proofs.Common.{◌≡◌, ◌<◌}
 use Rattle.space_bank.proofs.Tallies.{transferred_more, transferred_used, used_header}
-use Rattle.space_bank.proofs.giving_up.transfer.Goals as goal
+use Rattle.space_bank.proofs.freeing.transfer.Goals as goal
 
 pub loop-number-preserved : goal.loop-number-preserved
 loop-number-preserved g c =

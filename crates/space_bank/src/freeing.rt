@@ -8,10 +8,11 @@ ghost use Rattle.model.specs.Revoke.{rescind as rescinded};
 ghost use Rattle.model.specs.World.{content_at};
 ghost use Rattle.capability.specs.Parts.{KeepsRest, frames_of, objects_in};
 ghost use Rattle.space_bank.specs.Banks.{KeepsObjects, MayServe};
-ghost use Rattle.space_bank.specs.Carrying.{AreTransferred, CarriesOut, MayGiveUp};
+ghost use Rattle.space_bank.specs.Carrying.{AreTransferred, CarriesOut, MayFree};
 
 use crate::banks::Banks;
 use crate::marking::{mark, mark_free};
+use crate::walking::owner;
 use capability::PresentFrames;
 use capability::objects::{rescind, set_owner};
 
@@ -36,9 +37,14 @@ fn transfer<F: PresentFrames>(store: &mut F, numbers: &[u64], bank: u64)
 }
 
 impl Banks {
-    /// Gives up a bank other than the prime bank, and transfers what it owns to its own bank. The
-    /// bank and what it owns are announced, and listed from `skip` on.
-    pub fn return_to_parent<F: PresentFrames>(&mut self, store: &mut F, skip: usize, bank: u64)
+    // Frees a bank other than the prime bank, and transfers what it owns to its own bank. The bank
+    // and what it owns are announced, and listed from `skip` on.
+    pub(crate) fn return_to_parent<F: PresentFrames>(
+        &mut self,
+        store: &mut F,
+        skip: usize,
+        bank: u64,
+    )
         requires asks { MayServe (F.parts store.old) self.old bank }
         requires other { bank ≢ 0 }
         requires listed { drop skip self.old.listed
@@ -50,7 +56,7 @@ impl Banks {
         ensures snapshots { KeepsObjects F.parts F.IsFetched F.IsAnnounced F.ContinuesTo store.old
             store.new }
     {
-        let parent = store.table().header(bank).owner;
+        let parent = owner(store, bank);
         self.release(store, parent, 1);
         transfer(store, &self.listed[skip + 1..], parent);
         rescind(store, &[bank]);
@@ -59,9 +65,9 @@ impl Banks {
     }
 
     // Frees `listed[skip..]`, and subtracts its count from the usages of `above` and its ancestors.
-    pub(crate) fn give_up<F: PresentFrames>(&mut self, store: &mut F, skip: usize, above: u64)
+    pub(crate) fn free_listed<F: PresentFrames>(&mut self, store: &mut F, skip: usize, above: u64)
         requires asks { MayServe (F.parts store.old) self.old above }
-        requires gives { MayGiveUp (objects_in (F.parts store.old)) above
+        requires may { MayFree (objects_in (F.parts store.old)) above
             (drop skip self.old.listed) }
         requires within { skip ≤ length self.old.listed }
         requires announced { All (F.IsAnnounced store.old) (drop skip self.old.listed) }
