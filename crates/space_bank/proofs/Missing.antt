@@ -1,6 +1,6 @@
 -- The least free numbers, and numbers that aren't free, found by marks. What is counted, a number at a time. Usages, added up over the numbers.
-use Rattle.space_bank.proofs.Names.{nat_tests, ℕ, zero, suc, None, Some, Bool, cond, List, [], length, ⊎_elim, refl, sym, ap, subst, zero-add, arith, cases_lt}
-use Rattle.space_bank.proofs.Names.{range_with_len, Geometry, Object, are_free, free_nodes, free_pages, is_free, content_at, MakeProcess, process_at}
+use Rattle.space_bank.proofs.Names.{and-false, nat_tests, ℕ, zero, suc, None, Some, Bool, cond, List, [], length, ⊎_elim, refl, sym, ap, subst, zero-add, arith}
+use Rattle.space_bank.proofs.Names.{cases_lt, range_with_len, Geometry, Object, are_free, free_nodes, free_pages, is_free, content_at, MakeProcess, process_at}
 use Rattle.space_bank.proofs.Names.{AreCounted, BanksState, AreMarked, HasNoneMarked, IsNextMarked, is_marked, map, IsTrue, slice_index, SomeIff}
 use Rattle.space_bank.proofs.Names.{get_or-map-range_with_len, length-map-range_with_len, map-range_with_len_more, Cap, Capability, ObjectHeader, Content}
 use Rattle.space_bank.proofs.Names.{usage, held_at, Role, is_bank, is_root, limit_in, role_of, object_count, Parts, objects_in, content_there, mapped, AreKept}
@@ -169,16 +169,13 @@ listed_up_to p before now from n past so none =
     subst (λ (j : ℕ). now ≡ before ++ filter p (range_with_len 0 j)) sum
     (listed_past p before now from (n - from) so (λ m after within. none m after (omega (arith, within, past))))
 
-pub and_false : (a : Bool) → (a && false) ≡ false
-and_false a = grind (arith, nat_tests)
-
 -- a number that is free isn't listed, nor is number 0
 pub free_not_listed : (os : List Object) (b m : ℕ) (deep : Bool) → is_free (content_at os b) ≡ false → is_free (content_at os m) ≡ true →
     is_listed os b deep m ≡ false
 free_not_listed os b m deep used free = grind (arith, nat_tests)
 
 prime_not_listed : (os : List Object) (b : ℕ) (deep : Bool) → owner_at os 0 ≡ 0 → b ≢ 0 → is_listed os b deep 0 ≡ false
-prime_not_listed os b deep prime other = grind (arith, nat_tests, chain_prime, and_false)
+prime_not_listed os b deep prime other = grind (arith, nat_tests, chain_prime, and-false)
 
 pub listed_inner : (os : List Object) (b n : ℕ) (deep : Bool) → owner_at os 0 ≡ 0 → b ≢ 0 → is_listed os b deep n ≡ true → n ≢ 0
 listed_inner os b n deep prime other is same = grind (arith, nat_tests, prime_not_listed)
@@ -237,12 +234,12 @@ not_empty os t = grind (arith, nat_tests, get_or_past)
 pub used_first : (os : List Object) → IsTree os → (b : ℕ) → used_below os b 1 ≡ 0
 used_first os t b = used_same os b 0 (not_empty os t) (elim (cases_eq 0 b) [
   | inl e ↦ rw (eq-eqb 0 b e) refl
-  | inr other ↦ grind (arith, nat_tests, chain_prime, and_false)
+  | inr other ↦ grind (arith, nat_tests, chain_prime, and-false)
 ])
 
 -- a number that is free, and one that isn't, whose owner's chain is raised by one
 pub used_free : (os : List Object) (b n : ℕ) → n < length os → is_free (content_at os n) ≡ true → used_below os b (n + 1) ≡ used_below os b n
-used_free os b n inside none = used_same os b n inside (rw none (and_false (not (n == b))))
+used_free os b n inside none = used_same os b n inside (rw none (and-false (not (n == b))))
 
 used_under : (os : List Object) → IsTree os → (b n : ℕ) → IsTrue (is_bank (content_at os b)) → 1 ≤ n → is_free (content_at os n) ≡ false →
     is_used os b (n, object_at os n) ≡ is_member (chain os (owner_at os n)) b

@@ -1,11 +1,11 @@
 -- What sound frames that are counted say of their objects. What is counted, where objects come, go or are transferred. A walk along a chain, owner by owner.
-use Rattle.space_bank.proofs.Names.{nat_tests, ℕ, true, false, List, length, refl, sym, ap, arith, IsTrue, slice_index, Cap, Capability, Geometry, Content}
-use Rattle.space_bank.proofs.Names.{Object, chain, usage, has_quota, conveyed, header_at, held_at, AreKeepable, world_at, is_free, limit_in, map_content}
-use Rattle.space_bank.proofs.Names.{role_of, is_member, HasShape, object_count, content_at, IsTree, chain_banks, tree_of, member_passes, IsNow, IsFramed}
-use Rattle.space_bank.proofs.Names.{nearly_from, Parts, frames_of, objects_in, content_there, keepable_at, keepable_count, BanksState, HaveTheirRoles, MayServe}
-use Rattle.space_bank.proofs.Names.{is_bank, keepable_roles, MayShift, inl, inr, Bool, [], subst, slice_set, cases_eq, get_or-set_other, get_or-set_same}
-use Rattle.space_bank.proofs.Names.{length-set, owner_at, chain_itself, chain_length, chain_longer, chain_nonempty, chain_once, chain_unfolds, chain_zero}
-use Rattle.space_bank.proofs.Names.{member_tail, owner_bank, IsRaised, IsShifted, take, eq-eqb, ne_eqb, list_any_more, object_at, AreTransferred}
+use Rattle.space_bank.proofs.Names.{or-false, nat_tests, ℕ, true, false, List, length, refl, sym, ap, arith, IsTrue, slice_index, Cap, Capability, Geometry}
+use Rattle.space_bank.proofs.Names.{Content, Object, chain, usage, has_quota, conveyed, header_at, held_at, AreKeepable, world_at, is_free, limit_in}
+use Rattle.space_bank.proofs.Names.{map_content, role_of, is_member, HasShape, object_count, content_at, IsTree, chain_banks, tree_of, member_passes, IsNow}
+use Rattle.space_bank.proofs.Names.{IsFramed, nearly_from, Parts, frames_of, objects_in, content_there, keepable_at, keepable_count, BanksState, HaveTheirRoles}
+use Rattle.space_bank.proofs.Names.{MayServe, is_bank, keepable_roles, MayShift, inl, inr, Bool, [], subst, slice_set, cases_eq, get_or-set_other}
+use Rattle.space_bank.proofs.Names.{get_or-set_same, length-set, owner_at, chain_itself, chain_length, chain_longer, chain_nonempty, chain_once, chain_unfolds}
+use Rattle.space_bank.proofs.Names.{chain_zero, member_tail, owner_bank, IsRaised, IsShifted, take, eq-eqb, ne_eqb, list_any_more, object_at, AreTransferred}
 use Rattle.space_bank.proofs.Names.{slice_index_or, get_or-append_right, get_or_append_left, length-append, new_annex, new_root, with_new, is_root, root_in}
 use Rattle.space_bank.proofs.Names.{at_new, at_other, chain_new, length_new, new_bank_kept, tree_new, usage_new, usage_new_bank, AreCounted, marks_of}
 use Rattle.space_bank.proofs.Names.{is_marked, Void, AreCurrent, Fresh, FreshFits, fresh_content, length_objects, keepable_later, CarriesOut, IsFreshAt}
@@ -189,9 +189,6 @@ transferred_used list b os us are n used = ap (λ (c : Content Capability). is_f
 either : (b : Bool) → (b || true) ≡ true
 either b = grind (arith, nat_tests)
 
-neither : (b : Bool) → (b || false) ≡ b
-neither b = grind (arith, nat_tests)
-
 module _ (list : List ℕ) (i n : ℕ) (inside : i < length list) where
   pub taken_here : n ≡ slice_index list i → is_member (take (i + 1) list) n ≡ true
   taken_here e = list_any_more (nat_eq n) list i 0 inside
@@ -199,7 +196,7 @@ module _ (list : List ℕ) (i n : ℕ) (inside : i < length list) where
 
   pub taken_before : n ≢ slice_index list i → is_member (take (i + 1) list) n ≡ is_member (take i list) n
   taken_before differ = list_any_more (nat_eq n) list i 0 inside
-      ∙ (ap (λ b. is_member (take i list) n || b) (ne_eqb n (slice_index list i) differ) ∙ neither (is_member (take i list) n))
+      ∙ (ap (λ b. is_member (take i list) n || b) (ne_eqb n (slice_index list i) differ) ∙ or-false (is_member (take i list) n))
 
 pub transferred_more : (list : List ℕ) (i b : ℕ) (os us vs : List Object) → i < length list → slice_index list i < length us →
     AreTransferred (take i list) b os us
