@@ -9,7 +9,7 @@ use capability::{Capability, Frames, roots};
 use device::Failed;
 
 /// Fetches one object.
-pub fn look<F: Frames>(frames: &mut F, number: u64) -> Result<(), Failed>
+pub fn fetch_one<F: Frames>(frames: &mut F, number: u64) -> Result<(), Failed>
     requires known { number < length (F.parts frames.old).headers }
     requires sound { AreSound (F.parts frames.old) }
     ensures fetched { OnOk result (F.IsFetched frames.new number) }
@@ -28,6 +28,6 @@ pub fn space_of<F: Frames>(frames: &mut F, process: u64) -> Result<Capability, F
         space ≡ (root_at (objects_in (F.parts frames.old)) process).space) }
     ensures fetches { FetchesOrFails F.parts F.ContinuesTo frames.old frames.new result }
 {
-    look(frames, process)?;
+    fetch_one(frames, process)?;
     Ok(roots::space(frames, process))
 }

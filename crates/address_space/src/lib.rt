@@ -1,7 +1,7 @@
 //! Address spaces: what the loads and stores of processes reach.
 #![tactic(auto)]
 
-mod looking;
+mod fetching;
 mod reference;
 mod walking;
 

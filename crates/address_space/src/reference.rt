@@ -9,7 +9,7 @@ ghost use Rattle.address_space.specs.Reaches.{ReachesPage, allowed, reported};
 ghost use Rattle.capability.specs.Parts.{FetchesOrFails};
 ghost use Rattle.address_space.specs.References.{IsLoaded, IsStored, OverfillsStore, WritesWord};
 
-use crate::looking::{look, space_of};
+use crate::fetching::{fetch_one, space_of};
 use crate::walking::{Reached, walk};
 use capability::{Frames, PresentFrames, objects};
 use device::Failed;
@@ -33,7 +33,7 @@ pub fn load<F: Frames>(
 {
     match reach(frames, process, address, false)? {
         Ok(found) => {
-            look(frames, found.page)?;
+            fetch_one(frames, found.page)?;
             Ok(Ok(objects::word(frames, found.page, word_index(address))))
         }
         Err(fault) => Ok(Err(fault)),

@@ -8,7 +8,7 @@ ghost use Rattle.capability.specs.Parts.{AreSound, objects_in};
 ghost use Rattle.address_space.specs.Reaches.{ReachesPage, allowed, reported};
 ghost use Rattle.capability.specs.Parts.{FetchesOrFails};
 
-use crate::looking::look;
+use crate::fetching::fetch_one;
 use bitflags::Flags;
 use capability::{Access, Capability, Frames, objects};
 use device::Failed;
@@ -176,7 +176,7 @@ fn next_slot<F: Frames>(frames: &mut F, tree: Tree, index: u64) -> Result<Capabi
     ensures held { IfOk result (MayBeHeld (objects_in (F.parts frames.old))) }
     ensures fetches { FetchesOrFails F.parts F.ContinuesTo frames.old frames.new result }
 {
-    look(frames, tree.node)?;
+    fetch_one(frames, tree.node)?;
     Ok(objects::slot(frames, tree.node, digit(index, tree.height - 1)))
 }
 

@@ -3,8 +3,8 @@ use Rattle.std.proofs.Common.{◌≡◌, ◌-◌, ◌^◌, ◌/◌, ◌%◌}
 use Rattle.address_space.proofs.Known.{space_known}
 use Rattle.address_space.proofs.walking.next_slot.Goals as goal
 
-pub look-requires-clause-known : goal.look-requires-clause-known
-look-requires-clause-known g c = search (rules, space_known)
+pub fetch_one-requires-clause-known : goal.fetch_one-requires-clause-known
+fetch_one-requires-clause-known g c = search (rules, space_known)
 
 pub returns-clause-held : goal.returns-clause-held
 returns-clause-held g c =
