@@ -2,9 +2,9 @@
 use Rattle.address_space.proofs.Names.{nat_tests, ℕ, List, length, sym, ap, subst, arith, IsTrue, Access, Capability, Space, Frame, ObjectHeader, Geometry}
 use Rattle.address_space.proofs.Names.{frames_in, objects_of, AreKeepable, IsSoundFrames, is_page, MayBeHeld, content_at, root_at, Parts, frames_of, objects_in}
 use Rattle.address_space.proofs.Names.{known_used, node_used, page_used, keepable_later, Object, AreCurrent, world_at, is_waiting, IsSound, World, with_word}
-use Rattle.address_space.proofs.Names.{edited_word, Waits, nearly_from, nearly_to, nearly_weaken, slot_at, Ok, inl, inr, cases_lt, IsErr, path, walk_along}
-use Rattle.address_space.proofs.Names.{AreSound, FetchesOrFails, Failed, OnlyFetches, Tree}
-use Rattle.std.proofs.Common.{◌≡◌, ◌-◌, ◌^◌, ◌<◌, ◌∙◌, ◌≤◌}
+use Rattle.address_space.proofs.Names.{edited_word, Waits, nearly_from, nearly_to, nearly_weaken, slot_at, Ok, path, walk_along, AreSound, FetchesOrFails}
+use Rattle.address_space.proofs.Names.{OnlyFetches, Tree}
+use Rattle.std.proofs.Common.{◌≡◌, ◌-◌, ◌^◌, ◌<◌, ◌∙◌}
 
 pub space_known : (p : Parts) (n h : ℕ) (a : Access) → MayBeHeld (objects_in p) (Space n h a) → n < length p.headers
 space_known p n h a held = known_used p n (node_used (content_at (objects_in p) n) held.1)
@@ -51,12 +51,6 @@ word_stays_sound g age fs gs n i word fits is current keepable sound = record {
   current = current sound.current;
   sound = subst (λ (os : List Object). IsSound g (record { objects = os; age = age })) (sym is) (world_with_word g (world_at age fs) n i word fits sound.sound);
 }
-
-pub unrisen : (a b : ℕ) → a ≤ b → (a < b → ⊥) → b ≡ a
-unrisen a b le none = elim (cases_lt a b) [ inl rose ↦ absurd (none rose) | inr within ↦ omega arith ]
-
-pub ok_no_err : {T : Type 0} (x : T) → IsErr {T = T} {E = Failed} (Ok x) → ⊥
-ok_no_err x is = cc
 
 -- from one tree to another on the way to the page with an index
 pub record HasDescended {S : Type 0} (parts : S → Parts) (Continues : S → S → Type 0) (index : ℕ) (tree : Tree) (old : S) (at : Tree) (now : S) : Type 0 where

@@ -2,7 +2,6 @@
 pub use Rattle.capability.proofs.FrameLists.{known_used, node_used, page_used}
 pub use Rattle.capability.proofs.Keeping.{keepable_later}
 pub use Rattle.capability.specs.Parts.{AreSound, FetchesOrFails, OnlyFetches, Parts, frames_of, objects_in}
-pub use Rattle.device.specs.declared.device.Failed.{Failed}
 pub use Rattle.model.specs.Capability.{IsAccess, IsWellFormed, union}
 unfoldable pub use Rattle.model.specs.Frame.{frames_in, objects_of}
 pub use Rattle.model.specs.Keepable.{AreCurrent, AreKeepable, IsSoundFrames, world_at}
@@ -22,8 +21,8 @@ pub use Rattle.model.specs.declared.geometry.Geometry.{Geometry}
 pub use Rattle.model.specs.declared.object.Object.{Object}
 pub use Rattle.model_laws.proofs.SoundEdits.{edited_word}
 pub use Rattle.model_laws.proofs.SoundParts.{Waits, nearly_from, nearly_to, nearly_weaken}
-pub use Rattle.std.proofs.Common.{Bool, Err, IfOk, IsErr, List, Ok, Result, [], ap, arith, bit_or, inl, inr, length, refl, rules, subst, suc, sym, zero, ℕ}
-pub use Rattle.std.proofs.lemmas.Bool.{cases_lt, eq-eqb, ne_eqb}
+pub use Rattle.std.proofs.Common.{Bool, Err, IfOk, List, Ok, Result, [], ap, arith, bit_or, length, refl, rules, subst, suc, sym, zero, ℕ}
+pub use Rattle.std.proofs.lemmas.Bool.{eq-eqb, ne_eqb}
 pub use Rattle.std.proofs.lemmas.Bool.Decides.{nat_tests}
 pub use Rattle.std.specs.Prelude.{IsTrue}
 pub use Rattle.address_space.specs.declared.walking.Tree.{Tree}

@@ -1,7 +1,7 @@
 use Rattle.address_space.proofs.Names.{nat_tests, sym, subst, arith, List, Object, MayBeHeld, Space, objects_in}
 use Rattle.std.proofs.Common.{◌∙◌}
 use Rattle.address_space.proofs.Paths.{goes_on, union_access, at_early_page, at_hole, at_other, at_other_tree, at_page}
-use Rattle.address_space.proofs.Known.{fetches_on, read_there, same_objects, ok_no_err, unrisen}
+use Rattle.address_space.proofs.Known.{fetches_on, read_there, same_objects}
 use Rattle.address_space.proofs.walking.descend.Goals as goal
 
 pub returns-in-Void-clause-reached : goal.returns-in-Void-clause-reached
@@ -37,7 +37,7 @@ loop-object-preserved g c =
     let further = fetches_on so_far g.met.F.Frames.continues_twice c.in_ok-next_slot.field-0 c.in_ok-next_slot.field-0 looked in
     rw (c.at-at.ensures, c.union-in-Space.ensures) (record {
       snapshots = further.snapshots;
-      failures = unrisen _ _ further.later (λ rose. ok_no_err c.in_ok-next_slot.field-0 (further.cause.1 rose));
+      failures = grind (arith, nat_tests, further.later, further.cause);
       held = ((held.0.0, held.0.1, union_access at.access c.in-Space.access so_far.held.0.2 held.0.2), held.1);
       way = so_far.way ∙ goes_on old c.requires.sound.1.sound.slots at.node at.height c.args.index at.access c.in_ok-next_slot.field-0 so_far.held.0.0
           (read_there so_far _ _ c.in_ok-next_slot.ensures.slot)
