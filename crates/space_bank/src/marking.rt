@@ -8,7 +8,7 @@ ghost use Rattle.space_bank.specs.Planning.{AreFree, HasNoneUsed, IsNextUsed};
 
 use collections::NumberSet;
 
-/// Makes a number free, or takes it.
+/// Makes a number free, or takes it. `first_page` is the least number of a page.
 pub(crate) fn mark(
     nodes: &mut NumberSet,
     pages: &mut NumberSet,
