@@ -29,10 +29,7 @@ running_process os p running = grind (arith, nat_tests)
 pub same_frames : (before now : Parts) → now.headers ≡ before.headers → now.contents ≡ before.contents → frames_of now ≡ frames_of before
 same_frames before now hs cs = ap (λ (ks : List ObjectHeader). frames_in ks now.contents) hs ∙ ap (frames_in before.headers) cs
 
--- one and two numbers that exist
-pub one_known : (P : ℕ → Type 0) (m : ℕ) → P m → All P (m ∷ [])
-one_known P m x is d inside = grind (arith, nat_tests)
-
+-- two numbers that exist
 pub both_known : (P : ℕ → Type 0) (m n : ℕ) → P m → P n → All P (m ∷ n ∷ [])
 both_known P m n x y is d inside = grind (arith, nat_tests)
 

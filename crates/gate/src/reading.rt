@@ -41,7 +41,7 @@ pub fn fetch_process<F: Frames>(store: &mut F, banks: &Banks, process: u64) -> R
 
 /// Fetches what an order on a capability reads: the object that it names, and the annex of a
 /// process.
-#[tactic(auto, using(crate::proofs::Standing::named_known, crate::proofs::Standing::one_known))]
+#[tactic(auto, using(crate::proofs::Standing::named_known, space_bank::proofs::Renewing::one_all))]
 #[inline(always)]
 pub fn fetch_named<F: Frames>(
     store: &mut F,

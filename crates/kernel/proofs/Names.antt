@@ -9,7 +9,6 @@ pub use Rattle.checkpoint.specs.Refused.{IsCommitAnswer, IsFreezeAnswer, IsJourn
 pub use Rattle.checkpoint.specs.Saved.{Holds, LeavesEither, LeavesOneOf, LeavesSaved, SavedFrames, home_saved, journaled_saved, most, with_words}
 pub use Rattle.checkpoint.specs.Snapshots.{MayCommit, Snapshots, freezing, journaled, left_in, moved, moved_saved, next_saved}
 pub use Rattle.checkpoint.specs.Store.{Continues, FrozenFrames, IsStabilizeAnswer, View, all_frozen, stabilized, whole}
-pub use Rattle.layout.specs.declared.open_fault.OpenFault.{OpenFault}
 pub use Rattle.device.proofs.Images.{agrees_is}
 pub use Rattle.device.proofs.Moments.{CountsNow, OnlyNow, ends, goes_on_cut, leaves_on, leaves_weaker, started}
 pub use Rattle.device.specs.Calls.{Only}
@@ -18,8 +17,9 @@ pub use Rattle.device.specs.Moments.{Elapses, LeavesOnly}
 pub use Rattle.device.specs.declared.device.Failed.{Failed}
 pub use Rattle.gate.proofs.BankStates.{counted_looked, counted_on}
 pub use Rattle.gate.proofs.Effects.{ok_no_err, ok_no_failure}
-pub use Rattle.gate.proofs.Standing.{annex_known, keepable_most, looked_as, one_known}
+pub use Rattle.gate.proofs.Standing.{annex_known, looked_as}
 pub use Rattle.gate.specs.Invoke.{Invoked, Invokes, KeepsSoundFrames, TellsState}
+pub use Rattle.layout.specs.declared.open_fault.OpenFault.{OpenFault}
 pub use Rattle.model.specs.Frame.{blank_frame, conveyed, frame_at, header_at, headers, held_at, object_of}
 unfoldable pub use Rattle.model.specs.Frame.{frames_in, objects_of}
 pub use Rattle.model.specs.Invoke.{Effect}
@@ -63,7 +63,7 @@ pub use Rattle.recovery.specs.Live.{AreSoundTogether, IsSomeUp, IsSoundFrozen, I
 unfoldable pub use Rattle.recovery.specs.Live.{renewed_since}
 pub use Rattle.recovery.specs.Recovered.{Recovers, RefusesToOpen}
 pub use Rattle.recovery.specs.declared.live.Live.{Live}
-pub use Rattle.space_bank.proofs.Renewing.{renews_after, renews_none, unrisen}
+pub use Rattle.space_bank.proofs.Renewing.{one_all, renews_after, renews_none, unrisen}
 pub use Rattle.space_bank.specs.Banks.{AreCounted, BanksState}
 pub use Rattle.std.proofs.Common.{Bool, Err, List, None, Ok, Option, Result, Some, [], ap, append-nil, arith, false, inl, inr, length, length-set, map, not}
 pub use Rattle.std.proofs.Common.{refl, set, subst, suc, sym, true, zero, ℕ, ⊎_elim}
