@@ -84,9 +84,12 @@ quota_is os b count within =
     (fits_left count (usage os b) (limit_in (content_at os b)) (within 0 0 (omega arith))))
 
 -- the least that is left in the rest
-pub least_begun : (os : List Object) (b m : ℕ) → m ≡ left_of os b → remaining os b ≡ least m (map (left_of os) (chain_within (16 - 0) os b))
-unfolding remaining
-least_begun os b m is = grind (arith, nat_tests, chain_begun)
+pub least_begun : (os : List Object) (b m : ℕ) → left_of os b ≤ m → remaining os b ≡ least m (map (left_of os) (chain_within (16 - 0) os b))
+unfolding remaining chain
+least_begun os b m within =
+    let rest : List ℕ = if b == 0 then [] else chain_within 15 os (owner_at os b) in
+    let same : min (left_of os b) (left_of os b) ≡ min m (left_of os b) = omega (arith, within) in
+    ap (λ (k : ℕ). least k (map (left_of os) rest)) same
 
 pub least_on : (os : List Object) (m : ℕ) (cs ds : List ℕ) → cs ≡ ds → least m (map (left_of os) cs) ≡ least m (map (left_of os) ds)
 least_on os m cs ds same = ap (λ (es : List ℕ). least m (map (left_of os) es)) same

@@ -73,7 +73,7 @@ module _ {p : Parts} {s : BanksState} {b : ℕ} (asks : MayServe p s b) where
   pub chain_bank : (x : ℕ) → is_member (chain (objects_in p) b) x ≡ true → IsTrue (is_bank (content_at (objects_in p) x))
   chain_bank x member = chain_banks (objects_in p) serve_tree b x asks.bank member
 
-  limit_few : (x : ℕ) → limit_in (content_at (objects_in p) x) < 2 ^ 64
+  pub limit_few : (x : ℕ) → limit_in (content_at (objects_in p) x) < 2 ^ 64
   limit_few x = limit_shape (content_at (objects_in p) x) (asks.sound.1.sound.shapes x)
 
   pub room_fits : (count : ℕ) → IsTrue (has_quota (objects_in p) b count) → (x : ℕ) → is_member (chain (objects_in p) b) x ≡ true →
@@ -428,7 +428,7 @@ module _ {p : Parts} {s : BanksState} {b : ℕ} (asks : MayServe p s b) {q : Par
         (keepable : (age : ℕ) → FreshFits f → AreKeepable p.geometry age (frames_of p) → AreKeepable p.geometry age (frames_of q))
         (taken : IsTaken (chain (objects_in p) b) 1 s u (slice_set (marks_of s) n false)) where
       pub plain_carried : IsPlain f → CarriesOut p q u
-      plain_carried plain = search (arith, nat_tests, carried, counted_alone, serve_framed, serve_tree, inside_objects, fresh_used)
+      plain_carried plain = search (arith, nat_tests, carried, counted_alone, serve_tree, inside_objects, fresh_used)
 
       pub bank_carried : (limit : ℕ) (v : BanksState) → f ≡ fresh.Bank limit → limit < 2 ^ 64 →
           v ≡ record u { usages = slice_set u.usages n 0; limits = slice_set u.limits n limit } → CarriesOut p q v
@@ -444,4 +444,4 @@ module _ {p : Parts} {s : BanksState} {b : ℕ} (asks : MayServe p s b) {q : Par
         IsTaken (chain (objects_in p) b) 2 s u (slice_set (slice_set (marks_of s) n false) m false) → v ≡ record u { annexes = slice_set u.annexes n m } →
         CarriesOut p q v
     process_carried {m} {u} v may objects keepable within taken is =
-        search (arith, nat_tests, carried, counted_process, serve_framed, serve_tree, inside_objects)
+        search (arith, nat_tests, carried, counted_process, serve_tree, inside_objects)

@@ -100,7 +100,7 @@ impl Banks {
         requires { MayServe (F.parts store.now) self.now bank }
         ensures { result ≡ remaining (objects_in (F.parts store.now)) bank }
     {
-        let mut least = self.left(bank);
+        let mut least = u64::MAX;
         let mut current = bank;
         for _step in 0..MAX_CHAIN {
             least = least.min(self.left(current));
