@@ -144,9 +144,6 @@ fresh_kept g age (fresh.Bank limit) fits = fits
 fresh_kind : (g : Geometry) (n : ℕ) (f : Fresh) → n < object_count g → IsFreshAt g n f → IsOfKind g n (fresh_content void_held f)
 fresh_kind g n f known place = grind (arith, nat_tests)
 
-fresh_used : (f : Fresh) → role_of (fresh_content void_held f) ≡ role.Free → ⊥
-fresh_used f is = grind (arith, nat_tests)
-
 pub claim_stays_keepable : (age : ℕ) (p q : Parts) (n : ℕ) → n < length p.headers → n < length p.contents → (f : Fresh) (owner : ℕ) → owner < 2 ^ 64 →
     FreshFits f → IsFreshAt p.geometry n f →
     q ≡ with_both p n (claimed (role_of (fresh_content void_held f)) owner (header_at p.headers n)) (fresh_content void_held f) →

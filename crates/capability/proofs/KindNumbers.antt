@@ -1,6 +1,5 @@
 -- A content of a kind stands at a number of its kind.
-use Rattle.capability.proofs.Names.{arith, nat_tests, ℕ, true, Capability, Geometry, Content, is_annex, is_bank, is_node, is_page, is_root, IsOfKind}
-use Rattle.capability.proofs.Names.{object_count}
+use Rattle.capability.proofs.Names.{arith, nat_tests, ℕ, true, Capability, Geometry, Content, is_bank, is_node, is_page, is_root, IsOfKind, object_count}
 use Rattle.std.proofs.Common.{◌≡◌, ◌<◌, ◌≤◌}
 
 pub node_number : (g : Geometry) (n : ℕ) (c : Content Capability) → IsOfKind g n c → is_node c ≡ true → n < g.nodes
@@ -8,9 +7,6 @@ node_number g n c kind is = grind (arith, nat_tests)
 
 pub root_number : (g : Geometry) (n : ℕ) (c : Content Capability) → IsOfKind g n c → is_root c ≡ true → n < g.nodes
 root_number g n c kind is = grind (arith, nat_tests)
-
-pub annex_number : (g : Geometry) (n : ℕ) (c : Content Capability) → IsOfKind g n c → is_annex c ≡ true → n < g.nodes
-annex_number g n c kind is = grind (arith, nat_tests)
 
 pub bank_number : (g : Geometry) (n : ℕ) (c : Content Capability) → IsOfKind g n c → is_bank c ≡ true → n < g.nodes
 bank_number g n c kind is = grind (arith, nat_tests)

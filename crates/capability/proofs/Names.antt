@@ -36,7 +36,6 @@ pub use Rattle.std.proofs.lemmas.List.{set_past, take_all}
 pub use Rattle.std.proofs.lemmas.List.Elements.{All-replicate, All-set, All-weaker}
 pub use Rattle.std.proofs.lemmas.List.FromFn.{get_or-enumerate_from, length-enumerate_from}
 pub use Rattle.std.proofs.lemmas.List.Sums.{sum_by-cons}
-pub use Rattle.std.proofs.lemmas.Result.{IfOk-weaker}
 pub use Rattle.std.specs.List.{All, enumerate_from}
 pub use Rattle.std.specs.Prelude.{IsTrue}
 pub use Rattle.capability.specs.Laws.{ConsumeKeepsSoundFrames, RescindKeepsSoundFrames}
