@@ -1,12 +1,18 @@
 -- The calls of a file, one deed after another.
 use Rattle.devices.proofs.Names.{nat_tests, ℕ, List, [], Option, None, Some, Result, OnOk, is_ok, true, length, take, drop, sym, ap, subst, append_assoc}
 use Rattle.devices.proofs.Names.{append-nil, arith, length-append, length-take, ∥∥₁_map, take-add, take_rest, flat_map-append, concat-append, concat}
-use Rattle.devices.proofs.Names.{sectors_of, Event, writes_of, Adds, Call, took, Deed, writes, calls_of, events_by, taken, Takes, Tells}
+use Rattle.devices.proofs.Names.{sectors_of, Event, writes_of, Adds, Call, took, Deed, writes, calls_of, events_by, taken, Takes, Tells, Bor, History, OnErr}
+use Rattle.devices.proofs.Names.{false, refl, stepped, TakesFront, failures_by, fails_sync, fails_write, Failed, take-append-drop, sum_by-append}
+use Rattle.devices.specs.declared.history.Step.TheVariants.{Wrote}
 use Rattle.std.proofs.Common.{◌≡◌, ◌+◌, ◌-◌, ◌*◌, ◌≤◌, ◌∷◌, ◌++◌, ◌∙◌}
 
 -- calls, and then more
 pub adds_more : {X : Type 0} (a b c : Option (List X)) (xs ys : List X) → Adds a b xs → Adds b c ys → Adds a c (xs ++ ys)
 adds_more {X} a b c xs ys p q = grind (arith, nat_tests, append_assoc)
+
+-- no more calls
+pub adds_none : {X : Type 0} (a : Option (List X)) → Adds a a []
+adds_none {X} a = grind (arith, nat_tests, append-nil)
 
 -- one more piece
 taken_one : (byte : ℕ) (ps : List (List ℕ)) (y : List ℕ) → taken byte (ps ++ y ∷ []) ≡ taken byte ps ++ took (byte + length (concat ps)) y ∷ []
@@ -36,29 +42,62 @@ takes_on byte a b c bytes i n within t adds =
     let adds' : Adds b c (took (byte + length (take i bytes)) (take n (drop i bytes)) ∷ []) = grind (arith, nat_tests) in
     subst (Takes byte a c) (sym (take-add i n bytes)) (takes_more byte a b c (take i bytes) (take n (drop i bytes)) t adds')
 
+-- some of the bytes were taken
+pub takes_front : (byte : ℕ) (a b : Option (List Call)) (bytes : List ℕ) (i : ℕ) → Takes byte a b (take i bytes) → TakesFront byte a b bytes
+takes_front byte a b bytes i t = (t.0, drop i bytes, ap (λ (l : List ℕ). l ++ drop i bytes) t.1 ∙ take-append-drop i bytes, t.2)
+
+-- a call took n bytes more, and is the last
+pub takes_last : (byte : ℕ) (a b c : Option (List Call)) (bytes : List ℕ) (i n : ℕ) → i ≤ length bytes → Takes byte a b (take i bytes)
+    → Adds b c (took (byte + i) (take n (take (length bytes - i) (drop i bytes))) ∷ []) → TakesFront byte a c bytes
+takes_last byte a b c bytes i n within t adds = takes_front byte a c bytes (i + n) (takes_on byte a b c bytes i n within t adds)
+
+-- no call was made
+pub takes_nothing : (byte : ℕ) (a : Option (List Call)) (bytes : List ℕ) → TakesFront byte a a bytes
+takes_nothing byte a bytes = ([], bytes, refl, adds_none a)
+
 -- one more deed
-tells_known : (events : List Event) (old new : Option (List Call)) (d : Deed) → Tells events old → Adds old new (calls_of d) → Tells (events ++ events_by d) new
-tells_known events None None d tells adds = tt
-tells_known events None (Some now) d tells adds = cc
-tells_known events (Some calls) None d tells adds = absurd adds
-tells_known events (Some calls) (Some now) d tells adds = (
+tells_known : (events : List Event) (failures : ℕ) (old new : Option (List Call)) (d : Deed) → Tells events failures old → Adds old new (calls_of d)
+    → Tells (events ++ events_by d) (failures + failures_by d) new
+tells_known events failures None None d tells adds = tt
+tells_known events failures None (Some now) d tells adds = cc
+tells_known events failures (Some calls) None d tells adds = absurd adds
+tells_known events failures (Some calls) (Some now) d tells adds = (
   tells.0 ++ d ∷ [],
   sym (simp (flat_map-append events_by tells.0 (d ∷ []), append-nil) (ap (λ (l : List Event). l ++ events_by d) (sym tells.1))),
-  adds ∙ sym (simp (flat_map-append calls_of tells.0 (d ∷ []), append-nil) (ap (λ (l : List Call). l ++ calls_of d) (sym tells.2))),
+  omega (arith, sum_by-append failures_by tells.0 (d ∷ []), tells.2),
+  adds ∙ sym (simp (flat_map-append calls_of tells.0 (d ∷ []), append-nil) (ap (λ (l : List Call). l ++ calls_of d) (sym tells.3))),
 )
 
-pub tells_more : (events : List Event) (old new : Option (List Call)) (d : Deed) → ∥ Tells events old ∥₁ → Adds old new (calls_of d) →
-    ∥ Tells (events ++ events_by d) new ∥₁
-tells_more events old new d tells adds = ∥∥₁_map tells (λ t. tells_known events old new d t adds)
+pub tells_more : (events : List Event) (failures : ℕ) (old new : Option (List Call)) (d : Deed) → ∥ Tells events failures old ∥₁
+    → Adds old new (calls_of d) → ∥ Tells (events ++ events_by d) (failures + failures_by d) new ∥₁
+tells_more events failures old new d tells adds = ∥∥₁_map tells (λ t. tells_known events failures old new d t adds)
 
-pub tells_write : (events : List Event) (old new : Option (List Call)) (at : ℕ) (bytes : List ℕ) → ∥ Tells events old ∥₁ → Takes (512 * at) old new bytes
-    → ∥ Tells (events ++ writes_of at (sectors_of bytes) bytes) new ∥₁
-tells_write events old new at bytes tells w =
-    subst (λ (b : List ℕ). ∥ Tells (events ++ writes_of at (sectors_of b) b) new ∥₁) w.1 (tells_more events old new (writes at w.0) tells w.2)
+pub tells_write : (events : List Event) (failures : ℕ) (old new : Option (List Call)) (at : ℕ) (bytes : List ℕ) → ∥ Tells events failures old ∥₁
+    → Takes (512 * at) old new bytes → ∥ Tells (events ++ writes_of at (sectors_of bytes) bytes) (failures + 0) new ∥₁
+tells_write events failures old new at bytes tells w =
+    subst (λ (b : List ℕ). ∥ Tells (events ++ writes_of at (sectors_of b) b) (failures + 0) new ∥₁) w.1
+    (tells_more events failures old new (writes at w.0) tells w.2)
+
+-- a sync that failed
+pub tells_failed_sync : (h : History) (old new : Option (List Call)) → ∥ Tells h.events h.failures old ∥₁ → new ≡ old
+    → (let then = stepped h Failed in ∥ Tells then.events then.failures new ∥₁)
+tells_failed_sync h old new tells same =
+    tells_more h.events h.failures old new fails_sync tells (subst (λ (o : Option (List Call)). Adds old o []) (sym same) (adds_none old))
+
+-- a write that failed
+pub tells_failed_write : (h : History) (old new : Option (List Call)) (at : ℕ) (bytes : Bor (List ℕ)) → ∥ Tells h.events h.failures old ∥₁
+    → TakesFront (512 * at) old new bytes.now → (let then = stepped (stepped h (Wrote at bytes)) Failed in ∥ Tells then.events then.failures new ∥₁)
+tells_failed_write h old new at bytes tells w =
+    let written : List Event = h.events ++ writes_of at (sectors_of bytes.now) bytes.now in
+    let once : ∥ Tells written (h.failures + 1) new ∥₁ =
+    subst (λ (b : List ℕ). ∥ Tells (h.events ++ writes_of at (sectors_of b) b) (h.failures + 1) new ∥₁) w.2
+    (tells_more h.events h.failures old new (fails_write at w.0 w.1) tells w.3) in
+    let count : h.failures + 1 ≡ (h.failures + 0) + 1 = omega arith in
+    subst (λ (l : List Event). ∥ Tells l ((h.failures + 0) + 1) new ∥₁) (sym (append-nil written))
+    (subst (λ (n : ℕ). ∥ Tells written n new ∥₁) count once)
 
 pub where_ok : {T E : Type 0} {P : Type 0} (r : Result T E) → OnOk r P → true ≡ is_ok r → P
 where_ok {T} {E} {P} r ok is = grind (arith, nat_tests)
 
--- none
-pub adds_none : {X : Type 0} (a : Option (List X)) → Adds a a []
-adds_none {X} a = grind (arith, nat_tests, append-nil)
+pub where_err : {T E : Type 0} {P : Type 0} (r : Result T E) → OnErr r P → false ≡ is_ok r → P
+where_err {T} {E} {P} r err is = grind (arith, nat_tests)

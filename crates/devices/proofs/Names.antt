@@ -14,10 +14,11 @@ pub use Rattle.std.proofs.Math.Seq.{drop-append-add, take-add, take-append-add}
 pub use Rattle.std.proofs.lemmas.Bool.{cases_Bool, cases_lt, cases_order, eq-eqb, eqb-false, eqb-true, lt-ltb, ne_eqb, or_cases}
 pub use Rattle.std.proofs.lemmas.Bool.Decides.{nat_tests}
 pub use Rattle.std.proofs.lemmas.List.{drop-append-le, drop-drop, drop_all, get_or-replicate, get_or_default, length-replicate, replicate-append-replicate}
-pub use Rattle.std.proofs.lemmas.List.{same_lists, take-append-le, take-replicate, take-take, take_all, take_more, take_rest}
+pub use Rattle.std.proofs.lemmas.List.{same_lists, take-append-drop, take-append-le, take-replicate, take-take, take_all, take_more, take_rest}
 pub use Rattle.std.proofs.lemmas.List.Concat.{flat_map-append}
 pub use Rattle.std.proofs.lemmas.List.Elements.{All-append, All-replicate}
 pub use Rattle.std.proofs.lemmas.List.Folds.{concat-append}
+pub use Rattle.std.proofs.lemmas.List.Sums.{sum_by-append}
 pub use Rattle.std.proofs.lemmas.Nat.{le_or_l, le_or_r}
 pub use Rattle.std.proofs.lemmas.Slice.{take-put_mid_below}
 pub use Rattle.std.specs.Int.{w8}
@@ -31,14 +32,15 @@ pub use Rattle.devices.specs.OpeningCalls.{Answers, Gets, GetsFrom, IsMade, IsOp
 pub use Rattle.devices.specs.OpeningCalls.{got, listed, locked, measured, opened, reads, resized, resizes}
 pub use Rattle.devices.specs.Past.{EndsCut, Event, IsQuiet, MayLeave, State, after, at_first, cut, disk_of, left_by, replay, synced, writes_of, wrote}
 pub use Rattle.devices.specs.PastLaws.{image_whole}
-pub use Rattle.devices.specs.RawCalls.{Adds, Call, Deed, Takes, Tells, calls_of, events_by, taken, took, writes}
+pub use Rattle.devices.specs.RawCalls.{Adds, Call, Deed, Takes, TakesFront, Tells, calls_of, events_by, fails_sync, fails_write, failures_by, syncs, taken}
+pub use Rattle.devices.specs.RawCalls.{took, writes}
 pub use Rattle.devices.specs.Record.{entries_of, entry_events, event_of, events_of, mark_after, mark_of, marked, names}
 pub use Rattle.devices.specs.SectorCopy.{AreWhole, IsSector, bytes_of}
 pub use Rattle.devices.specs.Sound.{IsCopy}
 pub use Rattle.devices.specs.SoundLaws.{unwritten_same}
 pub use Rattle.devices.specs.Steps.{fresh, stepped}
 pub use Rattle.devices.specs.declared.history.History.{History}
-pub use Rattle.devices.specs.declared.history.Step.TheVariants.{Held}
+pub use Rattle.devices.specs.declared.history.Step.TheVariants.{Failed, Held}
 pub use Rattle.devices.specs.declared.mirror.Mirror.{Mirror}
 pub use Rattle.devices.specs.declared.openable.Access.{Access}
 pub use Rattle.devices.specs.declared.openable.Access.TheVariants.{Create}

@@ -1,5 +1,5 @@
 -- The calls of a file of the operating system, and what they do to its sectors.
-use Rattle.devices.specs.Names.{ℕ, List, [], length, Option, None, Some, ⊤, concat, flat_map, sectors_of}
+use Rattle.devices.specs.Names.{ℕ, List, [], length, Option, None, Some, ⊤, concat, flat_map, sum_by, sectors_of}
 use Rattle.std.specs.Prelude.{◌≡◌, ◌+◌, ◌*◌, ◌∷◌, ◌++◌}
 use Rattle.devices.specs.declared.record.Outcome.TheVariants.{Keep}
 use Rattle.devices.specs.Past.{Event, synced, cut, writes_of}
@@ -15,12 +15,13 @@ Adds None now more = now ≡ None
 Adds (Some calls) None more = ⊥
 Adds (Some calls) (Some now) more = now ≡ calls ++ more
 
--- what happens to a file of sectors: these bytes are written from a sector on, in pieces; it is synced; or the power is
--- cut
+-- what happens to a file of sectors
 pub data Deed : Type 0 where
-  writes : ℕ → List (List ℕ) → Deed
-  syncs : Deed
-  cuts : Deed
+  writes : ℕ → List (List ℕ) → Deed  -- these pieces are written from a sector on
+  fails_write : ℕ → List (List ℕ) → List ℕ → Deed  -- these pieces are written, and a write of the rest fails
+  syncs : Deed  -- it is synced
+  fails_sync : Deed  -- a sync fails
+  cuts : Deed  -- the power is cut
 
 -- pieces are taken one behind the other from a byte on
 abbrev pub taken : ℕ → List (List ℕ) → List Call
@@ -30,21 +31,39 @@ taken byte (piece ∷ pieces) = took byte piece ∷ taken (byte + length piece) 
 -- the calls that do it
 abbrev pub calls_of : Deed → List Call
 calls_of (writes at pieces) = taken (512 * at) pieces
+calls_of (fails_write at pieces rest) = taken (512 * at) pieces
 calls_of syncs = kept ∷ []
+calls_of fails_sync = []
 calls_of cuts = []
 
--- what it is to a device
+-- what it is to a device: a write that fails may have written any of its sectors
 abbrev pub events_by : Deed → List Event
 events_by (writes at pieces) = writes_of at (sectors_of (concat pieces)) (concat pieces)
+events_by (fails_write at pieces rest) = writes_of at (sectors_of (concat pieces ++ rest)) (concat pieces ++ rest)
 events_by syncs = synced ∷ []
+events_by fails_sync = []
 events_by cuts = cut Keep ∷ []
+
+-- how many calls of the device fail in it
+abbrev pub failures_by : Deed → ℕ
+failures_by (writes at pieces) = 0
+failures_by (fails_write at pieces rest) = 1
+failures_by syncs = 0
+failures_by fails_sync = 1
+failures_by cuts = 0
 
 -- all of the bytes were taken from a byte on, one piece after another
 abbrev pub Takes : ℕ → Option (List Call) → Option (List Call) → List ℕ → Type 0
 Takes byte old new bytes = (pieces : List (List ℕ)) × (concat pieces ≡ bytes) × Adds old new (taken byte pieces)
 
--- known calls, and no others, did these events
-abbrev pub Tells : List Event → Option (List Call) → Type 0
-Tells events None = ⊤
-Tells events (Some calls) = (deeds : List Deed) × (events ≡ flat_map events_by deeds) ×
-    (calls ≡ flat_map calls_of deeds)
+-- a beginning of the bytes was taken from a byte on, one piece after another
+abbrev pub TakesFront : ℕ → Option (List Call) → Option (List Call) → List ℕ → Type 0
+TakesFront byte old new bytes =
+    (pieces : List (List ℕ)) × (rest : List ℕ) × (concat pieces ++ rest ≡ bytes) × Adds old new (taken byte pieces)
+
+-- known calls, and no others, did these events and met this number of failures
+abbrev pub Tells : List Event → ℕ → Option (List Call) → Type 0
+Tells events failures None = ⊤
+Tells events failures (Some calls) =
+    (deeds : List Deed) × (events ≡ flat_map events_by deeds) × (failures ≡ sum_by failures_by deeds)
+    × (calls ≡ flat_map calls_of deeds)

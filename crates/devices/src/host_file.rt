@@ -1,6 +1,6 @@
 // A file of the operating system, as a file of sectors.
-ghost use Rattle.std.specs.Prelude.{◌≡◌, ◌*◌, ◌≤◌, [], false, nat_lt, IfSome, OnOk};
-ghost use Rattle.devices.specs.RawCalls.{Adds, Takes, Tells, calls_of, syncs};
+ghost use Rattle.std.specs.Prelude.{◌≡◌, ◌*◌, ◌≤◌, [], nat_lt, IfSome, OnErr, OnOk};
+ghost use Rattle.devices.specs.RawCalls.{Adds, Takes, TakesFront, Tells, calls_of, syncs};
 ghost use Rattle.devices.specs.Steps.{fresh};
 
 use crate::history::{History, Step};
@@ -12,7 +12,8 @@ use std::io::ErrorKind;
 
 /// An open file of the operating system, which nothing else writes to.
 ///
-/// Its history is what its calls did, as long as none has failed.
+/// Its history is what its calls did. A write that failed counts as a write of all its sectors,
+/// because it may have written a beginning of its bytes.
 #[derive(Drop)]
 pub struct HostFile<F: RawFile> {
     file: F,
@@ -20,14 +21,16 @@ pub struct HostFile<F: RawFile> {
     is_broken: bool,
     history: History,
     ghost broken: { is_broken ≡ nat_lt 0 history.failures },
-    ghost reported: { is_broken ≡ false → ∥ Tells history.events (F.calls file) ∥₁ },
+    ghost reported: { ∥ Tells history.events history.failures (F.calls file) ∥₁ },
 }
 
-// Writes all of the bytes at the byte `at`. A call that was interrupted is made again.
+// Writes all of the bytes at the byte `at`. A call that was interrupted is made again. `Failed` may
+// leave a beginning of the bytes written.
 #[tactic(auto, using(crate::proofs::Deeds::takes_none))]
 fn put_fully<F: RawFile>(file: &mut F, at: u64, from: &[u8]) -> Result<(), Failed>
     requires { at ≤ 512 * 131072 }
-    ensures { OnOk result (Takes at (F.calls file.old) (F.calls file.new) from.now) }
+    ensures ok { OnOk result (Takes at (F.calls file.old) (F.calls file.new) from.now) }
+    ensures err { OnErr result (TakesFront at (F.calls file.old) (F.calls file.new) from.now) }
 {
     let mut done = 0;
     for _ in 0..u64::MAX {
@@ -47,17 +50,19 @@ fn put_fully<F: RawFile>(file: &mut F, at: u64, from: &[u8]) -> Result<(), Faile
     Err(Failed)
 }
 
-// Writes these sectors from `at` on.
+// Writes these sectors from `at` on. `Failed` may leave a beginning of the bytes written.
 fn put_sectors<F: RawFile>(file: &mut F, at: u64, from: &[u8]) -> Result<(), Failed>
     requires { at ≤ 131072 }
-    ensures { OnOk result (Takes (512 * at) (F.calls file.old) (F.calls file.new) from.now) }
+    ensures ok { OnOk result (Takes (512 * at) (F.calls file.old) (F.calls file.new) from.now) }
+    ensures err { OnErr result (TakesFront (512 * at) (F.calls file.old) (F.calls file.new) from.now) }
 {
     put_fully(file, at * SECTOR_SIZE as u64, from)
 }
 
-// Makes durable what was written.
+// Makes durable what was written. `Failed` changes nothing.
 fn sync_all<F: RawFile>(file: &mut F) -> Result<(), Failed>
-    ensures { OnOk result (Adds (F.calls file.old) (F.calls file.new) (calls_of syncs)) }
+    ensures ok { OnOk result (Adds (F.calls file.old) (F.calls file.new) (calls_of syncs)) }
+    ensures err { OnErr result (F.calls file.new ≡ F.calls file.old) }
 {
     file.keep().map_err(|_| Failed)
 }
