@@ -1,6 +1,6 @@
 -- The machine that a kernel stands for, and how it serves a command.
-use Rattle.kernel.specs.Names.{Option, None, Some, [], Answer, Command, Geometry, ResultCode, Machine, Up, Down}
-use Rattle.kernel.specs.Names.{candidates, Step, second, Disk, Parts, Checkpoint, View, Live, Leaves, LeavesOne, IsUp}
+use Rattle.kernel.specs.Names.{ℕ, Option, None, Some, [], Answer, Command, Geometry, ResultCode, Machine, Up, Down}
+use Rattle.kernel.specs.Names.{candidates, Step, second, Disk, Image, Parts, Checkpoint, View, Live, Leaves, LeavesOne, IsUp}
 use Rattle.kernel.specs.Names.{disk_at, running}
 use Rattle.std.specs.Prelude.{◌≡◌, ◌↔◌, ◌<◌, ◌≤◌, ◌++◌}
 use Rattle.model.specs.declared.answer.Answer.TheVariants as answer
@@ -28,6 +28,15 @@ done_with code = record { answer = answer.Done; code = code }
 pub record IsCaused (old new : Disk) (a : Answer) : Type 0 where
   pub later : old.failures ≤ new.failures
   pub exact : (a ≡ answer.Refused refusal.Fault) ↔ (old.failures < new.failures)
+
+-- two disks are the same
+pub record IsSameDisk (one other : Disk) : Type 0 where
+  pub sectors : one.sectors ≡ other.sectors
+  pub seen : one.seen ≡ other.seen
+  pub may_leave : (c : Image) → one.may_leave c ↔ other.may_leave c
+  pub moment : one.moment ≡ other.moment
+  pub left_since : (t : ℕ) (c : Image) → one.left_since t c ↔ other.left_since t c
+  pub failures : one.failures ≡ other.failures
 
 -- The parameters are ghost members of a device and of an object store.
 module _ {D S : Type 0} (disk : D → Disk) (view : S → View D) (parts : S → Parts) where

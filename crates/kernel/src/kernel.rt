@@ -11,7 +11,7 @@ ghost use Rattle.recovery.specs.Denotes.{Leaves};
 ghost use Rattle.recovery.specs.Recovered.{RefusesToOpen};
 ghost use Rattle.kernel.specs.Power.{power_of};
 ghost use Rattle.kernel.specs.Standing.{HasCode, HasDevice, HasNoneToMove, IsCaused, IsDeviceOf, IsReported};
-ghost use Rattle.kernel.specs.Standing.{SameDevice, Serves, disk_of, done_with};
+ghost use Rattle.kernel.specs.Standing.{IsSameDisk, SameDevice, Serves, disk_of, done_with};
 ghost use Rattle.kernel.specs.Opening.{IsNoReason, IsSomeDown, Opens, Reopened, refused_by};
 
 use crate::processes::Served;
@@ -314,7 +314,8 @@ impl<D: Device, S: ObjectStore<D>> Kernel<D, S> {
 
     /// The device beneath, on which no call is made.
     pub fn device(&self) -> &D
-        ensures { IsDeviceOf D.disk S.view S.parts self.now result.now }
+        ensures is { IsDeviceOf D.disk S.view S.parts self.now result.now }
+        ensures beneath { IsSameDisk (D.disk result.now) (disk_of D.disk S.view S.parts self.now) }
     {
         match &self.live {
             Some(live) => live.store.device(),
@@ -327,7 +328,8 @@ impl<D: Device, S: ObjectStore<D>> Kernel<D, S> {
 
     /// Gives the device back, and makes no call of it.
     pub fn into_device(self) -> D
-        ensures { IsDeviceOf D.disk S.view S.parts self result }
+        ensures is { IsDeviceOf D.disk S.view S.parts self result }
+        ensures beneath { IsSameDisk (D.disk result) (disk_of D.disk S.view S.parts self) }
     {
         let Kernel { live, device, .. } = self;
         match live {
