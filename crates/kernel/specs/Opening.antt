@@ -17,7 +17,7 @@ refused_by _ = refusal.NoMemory
 abbrev pub IsSomeDown : {D : Type 0} → (D → Disk) → D → Type 0
 IsSomeDown disk d = (g : Geometry) × (saved : List Saved) × Leaves g (disk d) saved
 
--- it isn't what the device holds
+-- the device failed or memory ran out; the image isn't bad
 abbrev pub IsNoReason : OpenFault → Type 0
 IsNoReason (fault.Bad reason) = ⊥
 IsNoReason _ = Unit {0}

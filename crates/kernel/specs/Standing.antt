@@ -98,7 +98,7 @@ module _ {D S : Type 0} (disk : D → Disk) (view : S → View D) (parts : S →
   SameDevice power.Between power.Between = Unit {0}
   SameDevice _ _ = ⊥
 
-  -- it is to migrate where all that is saved is home, as the header says
+  -- the command is `migrate`, and the committed header has no entries
   abbrev pub HasNoneToMove : Power D S → Command → Type 0
   HasNoneToMove (power.Up l) (command.Migrate n) = (view l.store).snapshots.saved.entries ≡ 0
   HasNoneToMove _ _ = ⊥

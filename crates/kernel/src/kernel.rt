@@ -252,14 +252,16 @@ impl<D: Device, S: ObjectStore<D>> Kernel<D, S> {
 
     /// Serves one command, as the machine does.
     ///
-    /// A refusal changes nothing. If several apply, the answer is the first (see `Refusal`). Only
-    /// `Show`, `Restart` and `Cut` may be answered `NoMemory`: no other command takes memory. `Fault`
-    /// is answered exactly if the device failed: then the machine is down, and takes only `Restart` and
-    /// `Cut`, which leave it down if they are refused. `BadNumber`, `NoProcess` and `Down` make no call
-    /// of the device, and neither does `Migrate` if everything saved is home.
+    /// A refusal changes nothing, but `Fault`, and `NoMemory` at `Restart` or `Cut`, leave the machine
+    /// down. If several refusals apply, the answer is the first (see `Refusal`). Only `Show`, `Restart`
+    /// and `Cut` may be answered `NoMemory`: no other command takes memory. `Fault` is answered exactly
+    /// if the device failed. A machine that is down takes only `Restart` and `Cut`. `BadNumber`,
+    /// `NoProcess` and `Down` make no call of the device, and neither does `Migrate` if everything saved
+    /// is home.
     ///
-    /// A crash at any moment leaves the saved part. In a `Commit`, a `Journal`, or the `Migrate` that
-    /// brings the last object home, it may leave the part that this command saves.
+    /// A crash at any moment leaves the saved part, or a candidate if the machine is down. In a `Commit`,
+    /// a `Journal`, or the `Migrate` that brings the last object home, it may leave the part that this
+    /// command saves.
     pub fn step(&mut self, command: Command) -> Answer
         ensures serves { Serves D.disk S.view S.parts self.old command result self.new }
         ensures untouched { IsUnlooked result
