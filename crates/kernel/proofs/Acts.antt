@@ -1,12 +1,12 @@
 -- How a command ends: refused, carried out, or in a failure of the device.
-use Rattle.kernel.proofs.Names.{nat_tests, IsErrAnd, ℕ, Bool, Option, None, Some, Result, Ok, Err, List, [], length, refl, sym, ap, subst, arith, Answer}
-use Rattle.kernel.proofs.Names.{Refusal, Command, Frame, Geometry, objects_of, AreKeepable, IsSoundFrames, world_at, Frozen, Running, Saved, Up, touched_count}
+use Rattle.kernel.proofs.Names.{nat_tests, IsErrAnd, ℕ, Bool, Option, None, Some, Result, Err, List, [], length, refl, sym, ap, subst, arith, Answer}
+use Rattle.kernel.proofs.Names.{Refusal, Command, Geometry, AreKeepable, IsSoundFrames, world_at, Frozen, Running, Saved, Up, touched_count}
 use Rattle.kernel.proofs.Names.{untouched, Step, refusal_of, second, Failed, Image, Disk, IsCommitAnswer, IsFreezeAnswer, IsRefused, Holds, LeavesSaved}
 use Rattle.kernel.proofs.Names.{LeavesEither, Parts, frames_of, objects_in, keepable_count, MayCommit, Snapshots, freezing, left_in, moved_saved, next_saved}
 use Rattle.kernel.proofs.Names.{all_frozen, whole, FrozenFrames, IsStabilizeAnswer, Continues, View, stabilized, AreCounted, BanksState, Performs, answer_of}
 use Rattle.kernel.proofs.Names.{Live, saved_of, LeavesOne, AreSoundTogether, IsUp, base_of, disk_at, frozen_of, renewed_since, running, running_of, IsCaused}
 use Rattle.kernel.proofs.Names.{ServesUp, leaves_saved, base_frozen, none_renewed, IsUnlooked}
-use Rattle.std.proofs.Common.{◌≡◌, ◌↔◌, ◌+◌, ◌-◌, ◌^◌, ◌<◌, ◌≤◌, ◌∷◌, ◌∙◌}
+use Rattle.std.proofs.Common.{◌≡◌, ◌+◌, ◌-◌, ◌^◌, ◌<◌, ◌≤◌, ◌∷◌, ◌∙◌}
 use Rattle.checkpoint.specs.Snapshots as stage
 use Rattle.model.specs.declared.answer.Answer.TheVariants as answer
 use Rattle.model.specs.declared.answer.Refusal.TheVariants as refusal

@@ -3,14 +3,14 @@ use Rattle.kernel.proofs.Names.{ℕ, Bool, true, false, not, List, length, map, 
 use Rattle.kernel.proofs.Names.{get_or-map-range_with_len, length-map-range_with_len, Cap, Frame, ObjectHeader, Content, blank_frame, frame_at, frames_in}
 use Rattle.kernel.proofs.Names.{header_at, renewing, is_given_up, Parts, Renews, frames_of, objects_in, headers_in, Snapshots, moved_saved, FrozenFrames}
 use Rattle.kernel.proofs.Names.{SavedFrames, home_saved, base_of, renewed_since, allocations_at, base_by, renewed_at, renewed_length, [], subst, ⊎_elim, inl}
-use Rattle.kernel.proofs.Names.{inr, nat_tests, Geometry, Saved, at_home, Image, Disk, CountsNow, OnlyNow, ends, leaves_weaker, started, Holds, LeavesSaved}
-use Rattle.kernel.proofs.Names.{LeavesEither, denoted_by, saved_of, IsSoundSaved, DenotesOne, Leaves, LeavesOne, append-nil, zero, suc, Option, Some}
+use Rattle.kernel.proofs.Names.{inr, nat_tests, Geometry, Saved, at_home, Image, Disk, CountsNow, OnlyNow, leaves_weaker, started, Holds, LeavesSaved}
+use Rattle.kernel.proofs.Names.{LeavesEither, denoted_by, saved_of, IsSoundSaved, DenotesOne, Leaves, LeavesOne, append-nil, Option, Some}
 use Rattle.kernel.proofs.Names.{slice_index_or, Contains, Answer, Command, Machine, Running, Up, Down, candidates, opened, Reopens, Step, carried_out}
-use Rattle.kernel.proofs.Names.{refusal_of, second, Only, Elapses, LeavesOnly, agrees_is, goes_on_cut, leaves_on, OpenFault, View, Live, Power, power_of}
-use Rattle.kernel.proofs.Names.{RefusesToOpen, Recovers, IsNoReason, IsSomeDown, Opens, ReopensAs, Reopened, IsSomeUp, IsUp, running, IsCaused, IsDeviceOf}
-use Rattle.kernel.proofs.Names.{IsSomeMachine, Serves, ServesFrom, ServesUp, Stands, disk_of, one_denoted, one_not_bad, refused_by, takes_memory}
-use Rattle.kernel.proofs.Names.{wants_memory_to_show, None, Result, Ok, Err, IfOk, Invocation, code_with, HasCode, Refusal, ResultCode, done_with, moved}
-use Rattle.std.proofs.Common.{◌≡◌, ◌+◌, ◌-◌, ◌<◌, ◌≤◌, ◌||◌, ◌∙◌, ◌==◌, ◌⊎◌, ◌∷◌, ◌++◌, ◌↔◌}
+use Rattle.kernel.proofs.Names.{refusal_of, second, Only, Elapses, agrees_is, goes_on_cut, leaves_on, OpenFault, View, Live, Power, power_of}
+use Rattle.kernel.proofs.Names.{RefusesToOpen, Recovers, IsNoReason, IsSomeDown, Opens, Reopened, IsSomeUp, IsUp, running, IsCaused, IsDeviceOf, IsSomeMachine}
+use Rattle.kernel.proofs.Names.{Serves, ServesFrom, ServesUp, Stands, disk_of, one_denoted, one_not_bad, refused_by, takes_memory, wants_memory_to_show}
+use Rattle.kernel.proofs.Names.{Result, IfOk, Invocation, code_with, HasCode, Refusal, ResultCode, done_with, moved}
+use Rattle.std.proofs.Common.{◌≡◌, ◌+◌, ◌-◌, ◌<◌, ◌≤◌, ◌||◌, ◌∙◌, ◌==◌, ◌⊎◌, ◌∷◌, ◌++◌}
 use Rattle.std.specs.Prelude.{if◌then◌else◌}
 use Rattle.model.specs.declared.answer.Answer.TheVariants as answer
 use Rattle.model.specs.declared.answer.Refusal.TheVariants as refusal
@@ -124,17 +124,18 @@ up_again : (g : Geometry) (r : Running) (a : Answer) (after : Machine) → Reope
 up_again g r a after again = search (arith, nat_tests, only_one)
 
 -- the device was opened again, or the machine is down for want of memory or after a failure
-restarts : (g : Geometry) (m : Machine) (a : Answer) (after : Machine) → ReopensAs g (candidates m) a after → Step g m command.Restart a after
+restarts : (g : Geometry) (m : Machine) (a : Answer) (after : Machine) → Step g (Down (candidates m)) command.Restart a after → Step g m command.Restart a after
 unfolding refusal_of carried_out
-restarts g m a after again = search (arith, nat_tests, up_again, append-nil)
+restarts g (Up r) a after again = search (arith, nat_tests, up_again)
+restarts g (Down saved) a after again = again
 
-is_cut : (g : Geometry) (m : Machine) (a : Answer) (after : Machine) → ReopensAs g (candidates m) a after → Step g m command.Cut a after
+is_cut : (g : Geometry) (m : Machine) (a : Answer) (after : Machine) → Step g (Down (candidates m)) command.Restart a after → Step g m command.Cut a after
 unfolding refusal_of carried_out
 is_cut g (Up r) a after again = restarts g (Up r) a after again
-is_cut g (Down saved) a after again = restarts g (Down saved) a after again
+is_cut g (Down saved) a after again = again
 
 reopens_step : (g : Geometry) (m : Machine) (c : Command) (a : Answer) (after : Machine) → (c ≡ command.Restart) ⊎ (c ≡ command.Cut) →
-    ReopensAs g (candidates m) a after → Step g m c a after
+    Step g (Down (candidates m)) command.Restart a after → Step g m c a after
 reopens_step g m c a after which again = search (arith, nat_tests, restarts, is_cut)
 
 -- ---- crashes
@@ -266,8 +267,8 @@ module _ {D S : Type 0} (disk : D → Disk) (view : S → View D) (parts : S →
         still c left = subst (λ (n : ℕ). DenotesOne g n ss c) (sym refuses.only_reads.size) (leaves c (refuses.only_reads.crash c left))
 
         reported : (e : OpenFault) → RefusesToOpen disk device back e → Reopened disk view parts g ss device (answer.Refused (refused_by e)) (power.Down back)
-        reported fault.Failed r = record { after = Down ss; step = inr (inr (refl, refl)); stands = still; leaves = run }
-        reported fault.NoMemory r = record { after = Down ss; step = inr (inl (refl, refl)); stands = still; leaves = run }
+        reported fault.Failed r = record { after = Down ss; step = inr (inr (refl, refl, sym (ap Down (append-nil ss)))); stands = still; leaves = run }
+        reported fault.NoMemory r = record { after = Down ss; step = inr (inl (refl, refl, refl)); stands = still; leaves = run }
         reported (fault.Bad reason) r = absurd
             (one_not_bad g (disk device).sectors (disk device).seen ss reason (leaves (disk device).seen seen_left) r.is_why.1)
 

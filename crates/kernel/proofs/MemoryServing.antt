@@ -1,7 +1,7 @@
 -- Loads and stores as steps of the machine. Their outcome over present frames, from what each part of them reported.
-use Rattle.kernel.proofs.Names.{ℕ, Bool, true, false, not, [], Option, None, Some, Result, Ok, Err, refl, sym, ap, arith, nat_tests, Access, Answer}
-use Rattle.kernel.proofs.Names.{MemoryFault, Refusal, Command, Geometry, Running, Up, touching, touched_count, Step, Outcome, refusal_of, carried_out}
-use Rattle.kernel.proofs.Names.{of_running, outcome, overfills, reached, unless, writable, writing, is_process, is_running_process, with_word, word_at}
+use Rattle.kernel.proofs.Names.{ℕ, Bool, true, [], Option, None, Some, Result, Ok, Err, refl, sym, ap, arith, nat_tests, Answer}
+use Rattle.kernel.proofs.Names.{MemoryFault, Refusal, Command, Geometry, Running, Up, touching, touched_count, Step, refusal_of, carried_out}
+use Rattle.kernel.proofs.Names.{reached, writable, writing, is_process, is_running_process, with_word}
 use Rattle.kernel.proofs.Names.{IsLoaded, IsEarly, List, subst, IsErrOf, Frame, ObjectHeader, Object, header_at, objects_of, IsSoundFrames, Frozen, Saved}
 use Rattle.kernel.proofs.Names.{Machine, none_in_frame, renewing_none, word_frame, SameFrame, frame_refl, tests_at, IsUnchanged, IsUnprepared, OnlyFetches}
 use Rattle.kernel.proofs.Names.{Parts, frames_of, objects_in, IsStored, KeepsSound, OverfillsStore, renews_none, Performs, machine_at, renewed_by}

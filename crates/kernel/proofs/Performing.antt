@@ -1,8 +1,8 @@
 -- Steps of the machine: which refusal applies, and what is carried out. The outcome of a command over present frames, from what each part reported.
-use Rattle.kernel.proofs.Names.{ℕ, Bool, true, false, not, List, Option, None, Some, refl, sym, ap, subst, inl, inr, arith, nat_lt, nat_tests, Answer, Refusal}
+use Rattle.kernel.proofs.Names.{ℕ, Bool, true, false, List, Option, None, Some, refl, sym, ap, subst, inl, arith, nat_tests, Answer, Refusal}
 use Rattle.kernel.proofs.Names.{Command, Invocation, Geometry, Object, Effect, invoke, Running, Machine, Up, renewing, touching, touched_count, object_count}
-use Rattle.kernel.proofs.Names.{Step, Outcome, refusal_of, carried_out, unless, overfills, writing, gives_way, shown, is_process, is_running_process, IsEarly}
-use Rattle.kernel.proofs.Names.{length, Result, Ok, Err, Frame, ResultCode, ObjectHeader, frames_in, header_at, objects_of, IsSoundFrames, world_at, Frozen}
+use Rattle.kernel.proofs.Names.{Step, refusal_of, carried_out, writing, shown, is_process, is_running_process, IsEarly}
+use Rattle.kernel.proofs.Names.{length, Result, Ok, Err, Frame, ResultCode, ObjectHeader, frames_in, header_at, objects_of, IsSoundFrames, Frozen}
 use Rattle.kernel.proofs.Names.{Saved, is_free, content_at, none_given_up, renewing_none, Parts, Renews, frames_of, objects_in, keepable_count, IsErr, IsErrOf}
 use Rattle.kernel.proofs.Names.{Invoked, Invokes, KeepsSoundFrames, TellsState, Failed, renews_after, renews_none, Performs, machine_at, renewed_by, IsUnread}
 use Rattle.std.proofs.Common.{◌≡◌, ◌+◌, ◌^◌, ◌<◌, ◌≤◌, ◌∙◌, ◌↔◌}

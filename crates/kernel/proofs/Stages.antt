@@ -1,6 +1,6 @@
 -- Steps of the machine: evictions, the stages of a checkpoint, and what opens it. What is sound stays sound through each stage.
-use Rattle.kernel.proofs.Names.{ℕ, Bool, true, false, Option, None, Some, List, [], refl, sym, ap, subst, arith, nat_lt, nat_tests, Refusal, Geometry, Frozen}
-use Rattle.kernel.proofs.Names.{Saved, Running, Up, touched_count, untouched, object_count, Step, carried_out, committed, refusal_of, second, unless, World}
+use Rattle.kernel.proofs.Names.{ℕ, Bool, true, Option, None, Some, List, [], refl, sym, ap, subst, arith, nat_tests, Geometry, Frozen}
+use Rattle.kernel.proofs.Names.{Saved, Running, Up, touched_count, untouched, object_count, Step, carried_out, committed, refusal_of, second, World}
 use Rattle.kernel.proofs.Names.{option_map, Frame, frames_in, objects_of, AreKeepable, IsSoundFrames, world_at, IsSound, Snapshots, freezing, moved_saved}
 use Rattle.kernel.proofs.Names.{next_saved, all_frozen, whole, at_home, Parts, Renews, frames_of, objects_in, keepable_later, most, SavedFrames, home_saved}
 use Rattle.kernel.proofs.Names.{FrozenFrames, stabilized, AreCounted, BanksState, saved_of, IsSoundSaved, AreSoundTogether, IsSoundFrozen, base_of, frozen_of}

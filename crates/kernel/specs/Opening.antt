@@ -1,9 +1,9 @@
 -- The outcomes of opening a device, for a kernel.
-use Rattle.kernel.specs.Names.{List, Geometry, Answer, Refusal, Machine, Saved, Up, Down, opened, Reopens, Only, Disk}
+use Rattle.kernel.specs.Names.{List, Geometry, Answer, Refusal, Machine, Saved, Up, Down, Step, opened, Only, Disk}
 use Rattle.kernel.specs.Names.{OpenFault, OnlyReads, Parts, View, Denotes, Leaves, LeavesOne}
-use Rattle.std.specs.Prelude.{◌≡◌, ◌⊎◌}
-use Rattle.model.specs.declared.answer.Answer.TheVariants as answer
+use Rattle.std.specs.Prelude.{◌≡◌}
 use Rattle.model.specs.declared.answer.Refusal.TheVariants as refusal
+use Rattle.model.specs.declared.command.Command.TheVariants as command
 use Rattle.layout.specs.declared.open_fault.OpenFault.TheVariants as fault
 use Rattle.kernel.specs.Power.{Power}
 use Rattle.kernel.specs.Standing.{Stands, disk_of}
@@ -22,13 +22,6 @@ abbrev pub IsNoReason : OpenFault → Type 0
 IsNoReason (fault.Bad reason) = ⊥
 IsNoReason _ = Unit {0}
 
--- a machine that stands at one of some saved parts was opened, or is down as before
-abbrev pub ReopensAs : Geometry → List Saved → Answer → Machine → Type 0
-ReopensAs g saved a after =
-    Reopens g saved a after
-    ⊎ ((a ≡ answer.Refused refusal.NoMemory) × (after ≡ Down saved))
-    ⊎ ((a ≡ answer.Refused refusal.Fault) × (after ≡ Down saved))
-
 module _ {D S : Type 0} (disk : D → Disk) (view : S → View D) (parts : S → Parts) where
   -- a device was opened, and nothing was written: the machine is up at the saved part that its sectors denote, and a
   -- crash leaves what a read gives
@@ -44,6 +37,6 @@ module _ {D S : Type 0} (disk : D → Disk) (view : S → View D) (parts : S →
   -- a device was opened again; a crash had left one of some saved parts on it
   pub record Reopened (g : Geometry) (saved : List Saved) (device : D) (a : Answer) (new : Power D S) : Type 0 where
     pub after : Machine
-    pub step : ReopensAs g saved a after
+    pub step : Step g (Down saved) command.Restart a after
     pub stands : Stands disk view parts g new after
     pub leaves : LeavesOne g (disk device) (disk_of disk view parts new) saved
