@@ -1,7 +1,7 @@
 -- The machine that a kernel stands for, and how it serves a command.
-use Rattle.kernel.specs.Names.{ℕ, Option, None, Some, [], Answer, Command, Geometry, ResultCode, Machine, Up, Down}
-use Rattle.kernel.specs.Names.{candidates, Step, second, Disk, Image, Parts, Checkpoint, View, Live, Leaves, LeavesOne, IsUp}
-use Rattle.kernel.specs.Names.{disk_at, running}
+use Rattle.kernel.specs.Names.{ℕ, Option, None, Some, [], Answer, Command, Geometry, ResultCode, Machine, Running, Up}
+use Rattle.kernel.specs.Names.{Down, candidates, Step, second, Disk, Image, Parts, Checkpoint, View, Live, Leaves}
+use Rattle.kernel.specs.Names.{LeavesOne, IsUp, disk_at, running}
 use Rattle.std.specs.Prelude.{◌≡◌, ◌↔◌, ◌<◌, ◌≤◌, ◌++◌}
 use Rattle.model.specs.declared.answer.Answer.TheVariants as answer
 use Rattle.model.specs.declared.answer.Refusal.TheVariants as refusal
@@ -23,6 +23,13 @@ reported_code g m c a = None
 -- an invocation that is done, with the result code of its order
 abbrev pub done_with : Option ResultCode → Served
 done_with code = record { answer = answer.Done; code = code }
+
+-- the committed checkpoint of a machine that is up, and none of one that is down
+abbrev pub IsCheckpointOf : Machine → Option Checkpoint → Type 0
+IsCheckpointOf (Up r) (Some c) = (c.generation ≡ r.saved.generation) × (c.age ≡ r.saved.world.age)
+    × (c.entries ≡ r.saved.entries)
+IsCheckpointOf (Up r) None = ⊥
+IsCheckpointOf (Down saved) reported = reported ≡ None
 
 -- a command is answered with `Fault` exactly where the count of failures rises
 pub record IsCaused (old new : Disk) (a : Answer) : Type 0 where
@@ -100,8 +107,8 @@ module _ {D S : Type 0} (disk : D → Disk) (view : S → View D) (parts : S →
 
   -- the command is `migrate`, and the committed header has no entries
   abbrev pub HasNoneToMove : Power D S → Command → Type 0
-  HasNoneToMove (power.Up l) (command.Migrate n) = (view l.store).snapshots.saved.entries ≡ 0
-  HasNoneToMove _ _ = ⊥
+  HasNoneToMove p (command.Migrate n) = (g : Geometry) × (r : Running) × Stands g p (Up r) × (r.saved.entries ≡ 0)
+  HasNoneToMove p c = ⊥
 
   -- the code is the result code of the command, whichever machine the kernel stands for
   abbrev pub HasCode : Power D S → Command → Served → Type 0
@@ -112,11 +119,6 @@ module _ {D S : Type 0} (disk : D → Disk) (view : S → View D) (parts : S →
   HasDevice power.Between = ⊥
   HasDevice _ = Unit {0}
 
-  -- the checkpoint that is answered is the committed one of the machine that is up
+  -- whichever machine it stands for, its committed checkpoint was reported
   abbrev pub IsReported : Power D S → Option Checkpoint → Type 0
-  IsReported (power.Up l) (Some reported) =
-      (reported.generation ≡ (view l.store).snapshots.saved.generation) ×
-      (reported.age ≡ (view l.store).snapshots.saved.age)
-      × (reported.entries ≡ (view l.store).snapshots.saved.entries)
-  IsReported (power.Up l) None = ⊥
-  IsReported _ reported = reported ≡ None
+  IsReported p reported = (g : Geometry) (m : Machine) → Stands g p m → IsCheckpointOf m reported
