@@ -1,7 +1,7 @@
 -- Two runs of one machine on the same lines.
-use Rattle.runs.proofs.Names.{arith, nat_tests, ℕ, true, List, [], Option, None, Some, refl, sym, ap, subst, append-nil, inl, inr, flat_map-append, Answer}
-use Rattle.runs.proofs.Names.{Refusal, Command, Geometry, Line, Machine, Running, Up, Reply, Reported, Turn, IsRun, Replies, reply_text, output_of, Answers}
-use Rattle.runs.proofs.Names.{Outcome, Step, carried_out, refusal_of, takes_memory, Says, says_one, lines_in, SteadyRunsAgree, IsSteady, wants_memory_to_show}
+use Rattle.runs.proofs.Names.{arith, nat_tests, ℕ, true, List, [], Option, None, Some, refl, sym, ap, subst, append-nil, flat_map-append, Answer, Refusal}
+use Rattle.runs.proofs.Names.{Command, Geometry, Line, Machine, Running, Up, Reply, Reported, Turn, IsRun, Replies, reply_text, output_of, Answers, Outcome}
+use Rattle.runs.proofs.Names.{Step, takes_memory, Says, says_one, lines_in, SteadyRunsAgree, IsSteady, wants_memory_to_show}
 use Rattle.std.proofs.Common.{◌≡◌, ◌∷◌, ◌++◌, ◌∙◌, ◌≢◌}
 use Rattle.model.specs.declared.answer.Answer.TheVariants as answer
 use Rattle.model.specs.declared.answer.Refusal.TheVariants as refusal

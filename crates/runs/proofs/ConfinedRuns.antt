@@ -1,5 +1,5 @@
 -- A run over a kernel is a run of the machine, and so it is confined.
-use Rattle.runs.proofs.Names.{arith, nat_tests, subst, Machine, Up, IsRun, Disk, run_confined, Parts, View, RunsAreConfined}
+use Rattle.runs.proofs.Names.{arith, nat_tests, Disk, run_confined, Parts, View, RunsAreConfined}
 use Rattle.runs.proofs.Confining.{one_machine, sound_world}
 
 module _ {D S : Type 0} (disk : D → Disk) (view : S → View D) (parts : S → Parts) where

@@ -1,10 +1,9 @@
 -- What a run over a kernel changes, where its lines are by processes of a closed set.
 use Rattle.runs.proofs.Names.{arith, nat_tests, ℕ, Bool, List, [], Option, Ok, Err, ap, sym, subst, ⊎_elim, append-nil, Result, Consumes, All-cons, All-head}
-use Rattle.runs.proofs.Names.{All-nil, All-tail, Geometry, Line, Machine, Running, Up, Down, IsRun, Turn, lines_of, IsSound, Says, Disk, AreBy, IsLineBy}
-use Rattle.runs.proofs.Names.{with_free, run_confined, Written, Parts, View, Power, Stands, RunFault, AreAll, AreFirst, AreLines, AreLinesBy, BeginsWith, Does}
-use Rattle.runs.proofs.Names.{IsConfined, RunsOver, lines_in}
+use Rattle.runs.proofs.Names.{All-nil, All-tail, Geometry, Line, Machine, Running, Up, IsRun, Turn, lines_of, IsSound, Says, Disk, AreBy, IsLineBy, with_free}
+use Rattle.runs.proofs.Names.{run_confined, Written, Parts, View, Power, Stands, RunFault, AreAll, AreFirst, AreLines, AreLinesBy, BeginsWith, Does, IsConfined}
+use Rattle.runs.proofs.Names.{RunsOver, lines_in}
 use Rattle.std.proofs.Common.{◌≡◌, ◌∷◌, ◌++◌, ◌∙◌}
-use Rattle.kernel.specs.Power as power
 use Rattle.script.specs.declared.fault.RunFault.TheVariants as fault
 use Rattle.runs.proofs.ScriptLines.{lines_before}
 

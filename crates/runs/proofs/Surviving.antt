@@ -1,33 +1,19 @@
 -- What a crash leaves in the course of a run, and that it is opened.
-use Rattle.runs.proofs.Names.{nat_tests, ℕ, zero, suc, List, [], refl, sym, subst, ⊎_elim, inl, inr, arith, Contains, Geometry, Machine, Running, Saved, Up}
-use Rattle.runs.proofs.Names.{Down, candidates, opened, Turn, IsRun, second, Image, Disk, LeavesOnly, leaves_on, leaves_weaker, started, OpenFault, Parts, View}
-use Rattle.runs.proofs.Names.{Power, Denotes, DenotesOne, RefusesToOpen, IsNoReason, Opens, Stands, disk_of, denotes_one, denoted_not_bad, AreTurnsOf, IsLeftIn}
-use Rattle.runs.proofs.Names.{CrashesAreSurvived, IsOpenedAt, MaySave}
+use Rattle.runs.proofs.Names.{nat_tests, ℕ, List, [], sym, subst, inl, inr, arith, Geometry, Machine, Saved, Up, Down, candidates, opened, Turn, IsRun, Image}
+use Rattle.runs.proofs.Names.{Disk, LeavesOnly, leaves_on, leaves_weaker, started, OpenFault, Parts, View, Power, Denotes, DenotesOne, RefusesToOpen}
+use Rattle.runs.proofs.Names.{IsNoReason, Opens, Stands, disk_of, denotes_one, denoted_not_bad, AreTurnsOf, IsLeftIn, CrashesAreSurvived}
+use Rattle.runs.proofs.Names.{CrashesInRunsAreSurvived, IsOpenedAt, IsSurvived, MaySave, MaySaveIn}
 use Rattle.std.proofs.Common.{◌∷◌}
 use Rattle.layout.specs.declared.open_fault.OpenFault.TheVariants as fault
 use Rattle.kernel.specs.Power as power
-
--- what denotes one of several denotes this one
-denotes_this : (g : Geometry) (size : ℕ) (c : Image) (ss : List Saved) → DenotesOne g size ss c → (s : Saved) × Contains ss s × Denotes g size c s
-denotes_this g size c [] one = absurd one
-denotes_this g size c (s ∷ ss) one = ⊎_elim
-    (λ here. (s, (zero, omega arith, refl), here))
-    (λ there. let is = denotes_this g size c ss there in (is.0, (suc is.1.0, omega (arith, is.1.1), is.1.2), is.2))
-    one
+use Rattle.runs.proofs.Turning.{denotes_this}
 
 -- an image denotes what a run may save
 abbrev LeavesSaved : Geometry → ℕ → Machine → List Turn → Image → Type 0
 LeavesSaved g size m turns c = (s : Saved) × MaySave m turns s × Denotes g size c s
 
-candidate : (g : Geometry) (size : ℕ) (m : Machine) (turns : List Turn) (c : Image) → DenotesOne g size (candidates m) c → LeavesSaved g size m turns c
-candidate g size m [] c one = denotes_this g size c (candidates m) one
-candidate g size m (t ∷ ts) c one = let is = denotes_this g size c (candidates m) one in (is.0, inl is.1, is.2)
-
-in_turn : (g : Geometry) (size : ℕ) (t : Turn) (ts : List Turn) (c : Image) → IsLeftIn g size t c → LeavesSaved g size t.before (t ∷ ts) c
-in_turn g size t ts c left = ⊎_elim
-    (candidate g size t.before (t ∷ ts) c)
-    (λ besides. let is = denotes_this g size c (second t.before besides.0) besides.2 in (is.0, inr (inl (besides.0, besides.1, is.1)), is.2))
-    left
+candidate : (g : Geometry) (size : ℕ) (m : Machine) (c : Image) → DenotesOne g size (candidates m) c → LeavesSaved g size m [] c
+candidate g size m c one = denotes_this g size c (candidates m) one
 
 module _ {D S : Type 0} (disk : D → Disk) (view : S → View D) (parts : S → Parts)
     (only_now : (d : D) (c : Image) → (disk d).left_since (disk d).moment c → (disk d).may_leave c) where
@@ -52,11 +38,10 @@ module _ {D S : Type 0} (disk : D → Disk) (view : S → View D) (parts : S →
       let rest : LeavesOnly (of goes.0) (of new) (LeavesSaved g size t.after ts) =
       subst (λ (n : ℕ). LeavesOnly (of goes.0) (of new) (LeavesSaved g n t.after ts)) turn.size
       (turns_leave g ts t.after last goes.0 new turn.stands run.2 goes.2) in
-      subst (λ (x : Machine). LeavesOnly (of old) (of new) (LeavesSaved g size x (t ∷ ts))) run.0
-      (leaves_on {old = of old} {mid = of goes.0} {new = of new} {P = LeavesSaved g size t.before (t ∷ ts)}
-      (leaves_weaker {old = of old} {new = of goes.0} {P = IsLeftIn g size t} (LeavesSaved g size t.before (t ∷ ts)) (in_turn g size t ts) turn.any_moment)
-      (leaves_weaker {old = of goes.0} {new = of new} {P = LeavesSaved g size t.after ts} (LeavesSaved g size t.before (t ∷ ts))
-      (λ c is. (is.0, inr (inr is.1), is.2)) rest))
+      leaves_on {old = of old} {mid = of goes.0} {new = of new} {P = LeavesSaved g size m (t ∷ ts)}
+      (leaves_weaker {old = of old} {new = of goes.0} {P = IsLeftIn g size t} (LeavesSaved g size m (t ∷ ts)) (λ c is. (is.0, inl is.1, is.2)) turn.any_moment)
+      (leaves_weaker {old = of goes.0} {new = of new} {P = LeavesSaved g size t.after ts} (LeavesSaved g size m (t ∷ ts))
+      (λ c is. (is.0, inr is.1, is.2)) rest)
 
   -- what denotes a saved part is opened there
   opened_there : (g : Geometry) (size : ℕ) (c : Image) (s : Saved) → Denotes g size c s → IsOpenedAt disk view parts g size c s
@@ -76,9 +61,17 @@ module _ {D S : Type 0} (disk : D → Disk) (view : S → View D) (parts : S →
       refuses d held back fault.NoMemory is = tt
       refuses d held back (fault.Bad reason) is = denoted_not_bad g (disk d).sectors (disk d).seen s reason held is.is_why.1
 
-  pub crashes_survived : CrashesAreSurvived disk view parts
-  crashes_survived g m old new turns stands run =
+  -- and so all that a crash leaves
+  survived : (g : Geometry) (old new : Power D S) (MayBeLeft : Saved → Type 0) →
+      LeavesOnly (of old) (of new) (λ c. (s : Saved) × MayBeLeft s × Denotes g (of old).sectors c s) → IsSurvived disk view parts g old new MayBeLeft
+  survived g old new MayBeLeft leaves =
       let size = (of old).sectors in
-      leaves_weaker {old = of old} {new = of new} {P = LeavesSaved g size m turns}
-      (λ c. (s : Saved) × MaySave m turns s × Denotes g size c s × IsOpenedAt disk view parts g size c s)
-      (λ c is. (is.0, is.1, is.2, opened_there g size c is.0 is.2)) (turns_leave g turns m run.after old new stands run.run run.each)
+      leaves_weaker {old = of old} {new = of new} {P = λ c. (s : Saved) × MayBeLeft s × Denotes g size c s}
+      (λ c. (s : Saved) × MayBeLeft s × Denotes g size c s × IsOpenedAt disk view parts g size c s)
+      (λ c is. (is.0, is.1, is.2, opened_there g size c is.0 is.2)) leaves
+
+  pub crashes_survived : CrashesAreSurvived disk view parts
+  crashes_survived g old new t turn = survived g old new (MaySaveIn t) turn.any_moment
+
+  pub in_runs_survived : CrashesInRunsAreSurvived disk view parts
+  in_runs_survived g m old new turns stands run = survived g old new (MaySave m turns) (turns_leave g turns m run.after old new stands run.run run.each)

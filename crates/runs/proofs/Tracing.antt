@@ -1,8 +1,7 @@
 -- What a tracer makes of a turn.
-use Rattle.runs.proofs.Names.{arith, nat_tests, ℕ, min, Bool, true, false, not, Option, None, Some, List, [], codes, refl, sym, ap, subst, IfNone, IfSome}
-use Rattle.runs.proofs.Names.{Answer, Command, Geometry, ResultCode, Reply, Nothing, BadLine, Reported, Turn, Says, line_of, spaced, says_one, LineFault}
-use Rattle.runs.proofs.Names.{command_name, IsFaultOf, Cause, Stop, Tracer, reported_code, Ends, EndsIf, IsCauseIn, IsCauseOf, IsOutcome, IsTrace, IsTraced}
-use Rattle.runs.proofs.Names.{Notes, Sees, cause_text, place_text, Written}
+use Rattle.runs.proofs.Names.{arith, nat_tests, ℕ, min, Bool, Option, Some, List, [], codes, sym, subst, IfNone, IfSome, Answer, Command, Geometry, ResultCode}
+use Rattle.runs.proofs.Names.{BadLine, Reported, Turn, Says, line_of, spaced, says_one, LineFault, command_name, IsFaultOf, Cause, Stop, Tracer, reported_code}
+use Rattle.runs.proofs.Names.{Ends, EndsIf, IsCauseIn, IsCauseOf, IsOutcome, IsTrace, Notes, Sees, cause_text, place_text, Written}
 use Rattle.std.proofs.Common.{◌≡◌, ◌+◌, ◌-◌, ◌^◌, ◌∷◌, ◌++◌, ◌∙◌}
 use Rattle.model.specs.declared.line.Line.TheVariants as line
 use Rattle.runs.specs.declared.cause.Cause.TheVariants as cause

@@ -1,18 +1,15 @@
 -- Turns of a kernel, one after another.
-use Rattle.runs.proofs.Names.{nat_tests, ℕ, suc, take, drop, length, Bool, true, false, List, [], Option, None, Some, Ok, Err, refl, sym, ap, subst, ⊎_elim}
-use Rattle.runs.proofs.Names.{inl, inr, append_assoc, append-nil, arith, slice_index_or, IsTrue, Result, Appends-trans, Consumes-trans, Consumes, IsAtEnd}
-use Rattle.runs.proofs.Names.{Answer, ReadsPiece, Writes, Written, Wrote, WroteFront, wrote_trans, Command, Geometry, Line, ResultCode, Machine, Running, Saved}
-use Rattle.runs.proofs.Names.{Up, Down, candidates, Reply, Nothing, BadLine, Reported, Turn, Replies, lines_of, reply_text, output_of, second, Says, bad_line}
-use Rattle.runs.proofs.Names.{Image, Disk, LeavesOnly, leaves_weaker, started, Parts, View, Power, DenotesOne, saved_of, IsCaused, Serves, Stands, disk_of}
-use Rattle.runs.proofs.Names.{RunFault, LineBuffer, Holds, IsOneLine, AreFirst, AreLines, AreSeen, AreTurnsOf, BeginsWith, Does, IsCutShort, IsLeftIn, IsRunOf}
+use Rattle.runs.proofs.Names.{nat_tests, ℕ, zero, suc, take, drop, length, Bool, true, false, List, [], Option, Ok, Err, refl, sym, ap, subst, ⊎_elim, inl, inr}
+use Rattle.runs.proofs.Names.{append_assoc, append-nil, arith, slice_index_or, IsTrue, Contains, Result, Appends-trans, Consumes-trans, Consumes, IsAtEnd}
+use Rattle.runs.proofs.Names.{Answer, ReadsPiece, Writes, Written, Wrote, WroteFront, wrote_trans, Command, Geometry, Line, ResultCode, Machine, Saved}
+use Rattle.runs.proofs.Names.{candidates, Reply, Nothing, BadLine, Reported, Turn, Replies, lines_of, reply_text, output_of, second, Says, bad_line, Image}
+use Rattle.runs.proofs.Names.{Disk, LeavesOnly, leaves_weaker, started, Parts, View, Power, Denotes, DenotesOne, IsCaused, Serves, Stands, disk_of, RunFault}
+use Rattle.runs.proofs.Names.{LineBuffer, Holds, IsOneLine, AreFirst, AreLines, AreSeen, AreTurnsOf, BeginsWith, Does, IsCutShort, IsLeftIn, IsRunOf}
 use Rattle.runs.proofs.Names.{IsReportedBy, IsTurnOf, EndsBy, RunsOver, RunsSeen, lines_in, tells_fault, reported_code, Ended, IsWritten, SoFar, Stopped}
 use Rattle.runs.proofs.Names.{StopsBy, TakesLine, TakesTurn}
 use Rattle.std.proofs.Common.{◌≡◌, ◌≢◌, ◌⊎◌, ◌<◌, ◌∷◌, ◌++◌, ◌∙◌}
 use Rattle.std.specs.Prelude.{◌↔◌}
-use Rattle.model.specs.declared.answer.Answer.TheVariants as answer
-use Rattle.model.specs.declared.answer.Refusal.TheVariants as refusal
 use Rattle.model.specs.declared.line.Line.TheVariants as line
-use Rattle.kernel.specs.Power as power
 use Rattle.script.specs.declared.fault.RunFault.TheVariants as fault
 use Rattle.runs.proofs.ScriptLines.{begins_with, bytes_more, line_more, line_taken, lines_whole, lines_with_rest, no_lines}
 use Rattle.runs.proofs.TurnLists.{lines_more, output_more, run_more, wrote_and_failed, wrote_kept, wrote_none}
@@ -24,6 +21,25 @@ split_one : (g : Geometry) (size : ℕ) (c : Image) (ss ts : List Saved) → Den
 split_one g size c [] ts one = inr one
 split_one g size c (s ∷ ss) ts one = ⊎_elim (λ here. inl (inl here))
     (λ there. ⊎_elim (λ first. inl (inr first)) (λ last. inr last) (split_one g size c ss ts there)) one
+
+-- what denotes one of several denotes this one
+pub denotes_this : (g : Geometry) (size : ℕ) (c : Image) (ss : List Saved) → DenotesOne g size ss c → (s : Saved) × Contains ss s × Denotes g size c s
+denotes_this g size c [] one = absurd one
+denotes_this g size c (s ∷ ss) one = ⊎_elim
+    (λ here. (s, (zero, omega arith, refl), here))
+    (λ there. let is = denotes_this g size c ss there in (is.0, (suc is.1.0, omega (arith, is.1.1), is.1.2), is.2))
+    one
+
+-- a candidate may be left in a turn, and so may what its command saves
+left_before : (g : Geometry) (size : ℕ) (t : Turn) (c : Image) → DenotesOne g size (candidates t.before) c → IsLeftIn g size t c
+left_before g size t c one = let is = denotes_this g size c (candidates t.before) one in (is.0, inl is.1, is.2)
+
+left_by : (g : Geometry) (size : ℕ) (t : Turn) (command : Command) → Says t.line (line.Command command) → (c : Image) →
+    DenotesOne g size (candidates t.before ++ second t.before command) c → IsLeftIn g size t c
+left_by g size t command says c one = ⊎_elim
+    (left_before g size t c)
+    (λ last. let is = denotes_this g size c (second t.before command) last in (is.0, inr (command, says, is.1), is.2))
+    (split_one g size c (candidates t.before) (second t.before command) one)
 
 -- ---- failures
 
@@ -74,18 +90,24 @@ module _ {D S O : Type 0} (disk : D → Disk) (view : S → View D) (parts : S �
       sees g (record { line = text; before = m; reply = reply; after = m }) before seen on →
       IsWritten written wrote result on (reply_text reply) → TakesTurn disk view parts sees g m text says p p before seen written wrote result
   no_command g m text says p before seen written wrote result reply on stands replies fine is_seen writes =
-      search (arith, nat_tests, leaves_weaker, second, here, none_reported)
+      search (arith, nat_tests, leaves_weaker, here, left_before, none_reported)
 
   pub skipped : (g : Geometry) (m : Machine) (text : List ℕ) (says : Line) (p : Power D S) (before seen : O) (on : Bool) (written : Written) →
       says ≡ line.Skip → Stands disk view parts g p m →
       ((t : Turn) → t.reply ≡ Nothing → sees g t before seen on) → TakesTurn disk view parts sees g m text says p p before seen written written (Ok on)
-  skipped g m text says p before seen on written is stands saw = search (arith, nat_tests, no_command, wrote_none)
+  skipped g m text says p before seen on written is stands saw =
+      no_command g m text says p before seen written written (Ok on) Nothing on stands
+      (subst (λ (l : Line). Replies g l m Nothing m) (sym is) (refl, refl)) refl
+      (saw (record { line = text; before = m; reply = Nothing; after = m }) refl) (refl, wrote_none written)
 
   pub is_bad : (g : Geometry) (m : Machine) (text : List ℕ) (says : Line) (p : Power D S) (before seen : O) (on : Bool) (written wrote : Written)
       (result : Result Bool RunFault) →
       says ≡ line.Bad → Stands disk view parts g p m → ((t : Turn) → t.line ≡ text → t.reply ≡ BadLine → sees g t before seen on) →
       IsWritten written wrote result on bad_line → TakesTurn disk view parts sees g m text says p p before seen written wrote result
-  is_bad g m text says p before seen on written wrote result is stands saw writes = search (arith, nat_tests, no_command)
+  is_bad g m text says p before seen on written wrote result is stands saw writes =
+      no_command g m text says p before seen written wrote result BadLine on stands
+      (subst (λ (l : Line). Replies g l m BadLine m) (sym is) (refl, refl)) refl
+      (saw (record { line = text; before = m; reply = BadLine; after = m }) refl refl) writes
 
   pub answered : (g : Geometry) (m : Machine) (text : List ℕ) (says : Line) (c : Command) (a : Answer) (code : Option ResultCode) (p q : Power D S)
       (before seen : O) (on : Bool)
@@ -98,6 +120,7 @@ module _ {D S O : Type 0} (disk : D → Disk) (view : S → View D) (parts : S �
       let s = serves g m stands in
       let old = disk_of disk view parts p in
       let new = disk_of disk view parts q in
+      let turn : Turn = record { line = text; before = m; reply = Reported a; after = s.after } in
       subst (λ (x : Line). TakesTurn disk view parts sees g m text x p q before seen written wrote result) (sym is) (record {
         reply = Reported a;
         after = s.after;
@@ -105,13 +128,10 @@ module _ {D S O : Type 0} (disk : D → Disk) (view : S → View D) (parts : S �
         stands = s.stands;
         size = s.leaves.size;
         any_moment = leaves_weaker {old = old} {new = new} {P = DenotesOne g old.sectors (candidates m ++ second m c)}
-            (λ x. DenotesOne g old.sectors (candidates m) x ⊎
-            ((command : Command) × (line.Command c ≡ line.Command command) × DenotesOne g old.sectors (second m command) x))
-            (λ x one. ⊎_elim (λ first. inl first) (λ last. inr (c, refl, last)) (split_one g old.sectors x (candidates m) (second m c) one))
-            s.leaves.any_moment;
+            (IsLeftIn g old.sectors turn) (left_by g old.sectors turn c (subst (Says text) is said)) s.leaves.any_moment;
         faults = answer_reported old new a caused;
         on = on;
-        is_seen = saw (record { line = text; before = m; reply = Reported a; after = s.after }) (subst (Says text) is said) refl (sym coded);
+        is_seen = saw turn (subst (Says text) is said) refl (sym coded);
         writes = writes;
       })
 
@@ -161,7 +181,7 @@ module _ {D S O : Type 0} (disk : D → Disk) (view : S → View D) (parts : S �
     turns_on = so_far.turns ++ turn_of ∷ []
 
     turn_taken : IsTurnOf disk view parts g mid new turn_of
-    turn_taken = search (arith, nat_tests, leaves_weaker, second)
+    turn_taken = search (arith, nat_tests)
 
     more_run : IsRunOf disk view parts g m old new turns_on
     more_run = search (arith, nat_tests, run_more, turns_more, turn_taken)

@@ -1,9 +1,9 @@
 -- Runs of a script over a kernel.
 use Rattle.runs.specs.Names.{ℕ, Bool, true, false, List, [], map, Option, Result, Ok, Err, All, flat_map, Appends}
-use Rattle.runs.specs.Names.{Written, Wrote, Consumes, IsAtEnd, Command, Geometry, Line, IsClosed, Machine, Running, Up}
-use Rattle.runs.specs.Names.{candidates, Reply, Reported, Turn, IsRun, lines_of, reply_text, output_of, second, Says}
-use Rattle.runs.specs.Names.{line_of, object_at, Image, Disk, LeavesOnly, IsKept, IsLineBy, with_free, Parts, View}
-use Rattle.runs.specs.Names.{Power, DenotesOne, Stands, disk_of, RunFault, IsOneLine}
+use Rattle.runs.specs.Names.{Contains, Written, Wrote, Consumes, IsAtEnd, Command, Geometry, Line, IsClosed, Machine}
+use Rattle.runs.specs.Names.{Running, Saved, Up, candidates, Reply, Reported, Turn, IsRun, lines_of, reply_text}
+use Rattle.runs.specs.Names.{output_of, second, Says, line_of, object_at, Image, Disk, LeavesOnly, IsKept, IsLineBy}
+use Rattle.runs.specs.Names.{with_free, Parts, View, Power, Denotes, Stands, disk_of, RunFault, IsOneLine}
 use Rattle.std.specs.Prelude.{◌≡◌, ◌⊎◌, ◌↔◌, ◌<◌, ◌≤◌, ◌∷◌, ◌++◌}
 use Rattle.model.specs.declared.answer.Answer.TheVariants as answer
 use Rattle.model.specs.declared.answer.Refusal.TheVariants as refusal
@@ -15,15 +15,14 @@ abbrev pub tells_fault : Reply → Bool
 tells_fault (Reported (answer.Refused refusal.Fault)) = true
 tells_fault _ = false
 
--- an image denotes what a command may save besides
-abbrev pub IsSecondOf : Geometry → ℕ → List ℕ → Machine → Image → Type 0
-IsSecondOf g size text m c = (command : Command) × Says text (line.Command command) × DenotesOne g size
-    (second m command) c
+-- what a crash in a turn may leave saved: a candidate of the machine before it, or what its command is to save besides
+abbrev pub MaySaveIn : Turn → Saved → Type 0
+MaySaveIn t s = Contains (candidates t.before) s ⊎
+    ((c : Command) × Says t.line (line.Command c) × Contains (second t.before c) s)
 
--- what a crash leaves in the course of a turn: a candidate of the machine before it, or what its command is to save
--- besides
+-- an image denotes such a saved part
 abbrev pub IsLeftIn : Geometry → ℕ → Turn → Image → Type 0
-IsLeftIn g size t c = DenotesOne g size (candidates t.before) c ⊎ IsSecondOf g size t.line t.before c
+IsLeftIn g size t c = (s : Saved) × MaySaveIn t s × Denotes g size c s
 
 -- the lines of the turns
 abbrev pub lines_in : List Turn → List (List ℕ)
@@ -113,8 +112,8 @@ AreLinesBy inside lines = All (λ line. (l : Line) → Says line l → IsLineBy 
 
 -- The parameters are ghost members of a device and of an object store.
 module _ {D S : Type 0} (disk : D → Disk) (view : S → View D) (parts : S → Parts) where
-  -- from one kernel to another a turn was taken: it stands for the machine after it, and a crash at any moment in its
-  -- course leaves what the turn allows
+  -- From one kernel to another a turn was taken: it stands for the machine after it. A crash at any moment of the turn
+  -- leaves what may be saved in it.
   pub record IsTurnOf (g : Geometry) (old new : Power D S) (t : Turn) : Type 0 where
     pub stands : Stands disk view parts g new t.after
     pub size : (disk_of disk view parts new).sectors ≡ (disk_of disk view parts old).sectors

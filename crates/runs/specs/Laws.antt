@@ -1,13 +1,13 @@
 -- What holds of every run: what it writes is settled where nothing is wanting, and what it can change is bounded.
 use Rattle.runs.specs.Names.{ℕ, Bool, true, false, List, [], Contains, Command, Geometry, IsClosed, Machine, Running}
-use Rattle.runs.specs.Names.{Saved, Up, candidates, opened, Reported, Turn, IsRun, output_of, second, takes_memory}
-use Rattle.runs.specs.Names.{Says, object_at, Disk, Image, LeavesOnly, OpenFault, AreBy, IsKept, with_free, Parts, View}
+use Rattle.runs.specs.Names.{Saved, Up, candidates, opened, Reported, Turn, IsRun, output_of, takes_memory, Says}
+use Rattle.runs.specs.Names.{object_at, Disk, Image, LeavesOnly, OpenFault, AreBy, IsKept, with_free, Parts, View}
 use Rattle.runs.specs.Names.{Power, Denotes, RefusesToOpen, IsNoReason, Opens, Stands, disk_of}
 use Rattle.std.specs.Prelude.{◌≡◌, ◌≢◌, ◌⊎◌, ◌∷◌}
 use Rattle.model.specs.declared.answer.Answer.TheVariants as answer
 use Rattle.model.specs.declared.answer.Refusal.TheVariants as refusal
 use Rattle.model.specs.declared.line.Line.TheVariants as line
-use Rattle.runs.specs.KernelRuns.{IsRunOf, lines_in}
+use Rattle.runs.specs.KernelRuns.{IsRunOf, IsTurnOf, MaySaveIn, lines_in}
 
 -- the device didn't fail in a turn, and memory didn't run out if its command takes memory
 pub record IsSteady (t : Turn) : Type 0 where
@@ -25,11 +25,10 @@ SteadyRunsAgree = (g : Geometry) (s : Running) (ts us : List Turn) (a b : Machin
     IsRun g (Up s) us b → lines_in ts ≡ lines_in us →
     AreSteady ts → AreSteady us → (output_of ts ≡ output_of us) × (a ≡ b)
 
--- what a run may leave saved: a candidate of one of its machines, or what one of its commands is to save besides
+-- what a crash since a run began may leave saved: what one in a turn may, or a candidate of the machine at its end
 abbrev pub MaySave : Machine → List Turn → Saved → Type 0
 MaySave m [] s = Contains (candidates m) s
-MaySave m (t ∷ ts) s = Contains (candidates m) s ⊎
-    ((c : Command) × Says t.line (line.Command c) × Contains (second m c) s) ⊎ MaySave t.after ts s
+MaySave m (t ∷ ts) s = MaySaveIn t s ⊎ MaySave t.after ts s
 
 -- The parameters are ghost members of a device and of an object store.
 module _ {D S : Type 0} (disk : D → Disk) (view : S → View D) (parts : S → Parts) where
@@ -49,10 +48,20 @@ module _ {D S : Type 0} (disk : D → Disk) (view : S → View D) (parts : S →
       ((k : Power D S) → Opens disk view parts d k → Stands disk view parts g k (Up (opened g s)))
       × ((back : D) (why : OpenFault) → RefusesToOpen disk d back why → IsNoReason why)
 
-  -- the headline: at every moment since a run began a crash leaves what denotes a saved part of the run, and opening it
+  -- at every moment from one kernel to another a crash leaves what denotes one of some saved parts, and opening it
   -- stands there
+  abbrev pub IsSurvived : Geometry → Power D S → Power D S → (Saved → Type 0) → Type 0
+  IsSurvived g old new MayBeLeft = LeavesOnly (disk_of disk view parts old) (disk_of disk view parts new)
+      (λ c. (s : Saved) × MayBeLeft s × Denotes g (disk_of disk view parts old).sectors c s
+      × IsOpenedAt g (disk_of disk view parts old).sectors c s)
+
+  -- the headline: at every moment of a turn a crash leaves what may be saved in it, and opening it stands there
   abbrev pub CrashesAreSurvived : Type 0
-  CrashesAreSurvived = (g : Geometry) (m : Machine) (old new : Power D S) (turns : List Turn) →
+  CrashesAreSurvived = (g : Geometry) (old new : Power D S) (t : Turn) → IsTurnOf disk view parts g old new t →
+      IsSurvived g old new (MaySaveIn t)
+
+  -- the same at every moment since a run began, for what may be saved in its course
+  abbrev pub CrashesInRunsAreSurvived : Type 0
+  CrashesInRunsAreSurvived = (g : Geometry) (m : Machine) (old new : Power D S) (turns : List Turn) →
       Stands disk view parts g old m → IsRunOf disk view parts g m old new turns →
-      LeavesOnly (disk_of disk view parts old) (disk_of disk view parts new) (λ c. (s : Saved) × MaySave m turns s
-      × Denotes g (disk_of disk view parts old).sectors c s × IsOpenedAt g (disk_of disk view parts old).sectors c s)
+      IsSurvived g old new (MaySave m turns)

@@ -1,12 +1,12 @@
 -- The names of other crates that the definitions here cite.
 pub use Rattle.capability.specs.Parts.{Parts}
 pub use Rattle.checkpoint.specs.Store.{View}
-pub use Rattle.layout.specs.declared.open_fault.OpenFault.{OpenFault}
 pub use Rattle.device.specs.Disk.{Disk, Image}
 pub use Rattle.device.specs.Moments.{LeavesOnly}
 pub use Rattle.kernel.specs.Opening.{IsNoReason, Opens}
 pub use Rattle.kernel.specs.Power.{Power}
 pub use Rattle.kernel.specs.Standing.{Stands, disk_of, reported_code}
+pub use Rattle.layout.specs.declared.open_fault.OpenFault.{OpenFault}
 pub use Rattle.model.specs.Closed.{IsClosed}
 pub use Rattle.model.specs.Machine.{Machine, Running, Saved, Up, candidates, opened}
 pub use Rattle.model.specs.OrderOutcome.{code_number}
@@ -21,7 +21,7 @@ pub use Rattle.model.specs.declared.geometry.Geometry.{Geometry}
 pub use Rattle.model.specs.declared.line.Line.{Line}
 pub use Rattle.model.specs.declared.order.ResultCode.{ResultCode}
 pub use Rattle.model_laws.specs.Confinement.{AreBy, IsKept, IsLineBy, with_free}
-pub use Rattle.recovery.specs.Denotes.{Denotes, DenotesOne}
+pub use Rattle.recovery.specs.Denotes.{Denotes}
 pub use Rattle.recovery.specs.Recovered.{RefusesToOpen}
 pub use Rattle.script.specs.Answers.{IsAnswerText}
 pub use Rattle.script.specs.Keywords.{command_name}

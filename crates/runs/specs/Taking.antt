@@ -1,14 +1,13 @@
 -- A run of a script in its course.
 use Rattle.runs.specs.Names.{ℕ, Bool, true, false, List, [], length, take, Option, Result, Ok, Err, Written, Wrote}
-use Rattle.runs.specs.Names.{WroteFront, Consumes, IsAtEnd, Command, Geometry, Line, Machine, candidates, Reply, Turn}
-use Rattle.runs.specs.Names.{Replies, lines_of, reply_text, output_of, second, Says, Disk, LeavesOnly, Parts, View}
-use Rattle.runs.specs.Names.{Power, DenotesOne, Stands, disk_of, RunFault, LineBuffer, Holds}
-use Rattle.std.specs.Prelude.{◌≡◌, ◌⊎◌, ◌≤◌}
-use Rattle.model.specs.declared.line.Line.TheVariants as line
+use Rattle.runs.specs.Names.{WroteFront, Consumes, IsAtEnd, Geometry, Line, Machine, Reply, Turn, Replies, lines_of}
+use Rattle.runs.specs.Names.{reply_text, output_of, Says, Disk, LeavesOnly, Parts, View, Power, Stands, disk_of}
+use Rattle.runs.specs.Names.{RunFault, LineBuffer, Holds}
+use Rattle.std.specs.Prelude.{◌≡◌, ◌≤◌}
 use Rattle.script.specs.declared.fault.RunFault.TheVariants as fault
 use Rattle.runs.specs.declared.script_pieces.Piece.{Piece}
 use Rattle.runs.specs.declared.script_pieces.Piece.TheVariants as piece
-use Rattle.runs.specs.KernelRuns.{AreLines, AreSeen, IsCutShort, IsRunOf, IsReportedBy, lines_in}
+use Rattle.runs.specs.KernelRuns.{AreLines, AreSeen, IsCutShort, IsLeftIn, IsRunOf, IsReportedBy, lines_in}
 
 -- bytes were read, or none
 abbrev pub ReadsPiece : Option (List ℕ) → Option (List ℕ) → List ℕ → Result Piece RunFault → Type 0
@@ -34,9 +33,8 @@ module _ {D S O : Type 0} (disk : D → Disk) (view : S → View D) (parts : S �
     pub stands : Stands disk view parts g new after
     pub size : (disk_of disk view parts new).sectors ≡ (disk_of disk view parts old).sectors
     pub any_moment : LeavesOnly (disk_of disk view parts old) (disk_of disk view parts new)
-        (λ c. DenotesOne g (disk_of disk view parts old).sectors (candidates m) c
-        ⊎ ((command : Command) × (says ≡ line.Command command) × DenotesOne g (disk_of disk view parts old).sectors
-        (second m command) c))
+        (IsLeftIn g (disk_of disk view parts old).sectors
+        (record { line = text; before = m; reply = reply; after = after }))
     pub faults : IsReportedBy (disk_of disk view parts old) (disk_of disk view parts new) reply
     pub on : Bool
     pub is_seen : sees g (record { line = text; before = m; reply = reply; after = after }) before seen on

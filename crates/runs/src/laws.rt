@@ -1,6 +1,6 @@
 //! Laws of runs, each the contract of a function that does nothing.
 
-ghost use Rattle.runs.specs.Laws.{CrashesAreSurvived, RunsAreConfined, SteadyRunsAgree};
+ghost use Rattle.runs.specs.Laws.{CrashesAreSurvived, CrashesInRunsAreSurvived, RunsAreConfined, SteadyRunsAgree};
 
 use checkpoint::ObjectStore;
 use device::Device;
@@ -21,10 +21,15 @@ pub fn runs_are_confined<D: Device, S: ObjectStore<D>>()
     ensures { RunsAreConfined D.disk S.view S.parts }
 {}
 
-/// The headline, in one sentence: at every moment since a run began a crash leaves what denotes a
-/// checkpoint that is committed in its course, or one that a line of it is to commit; and a device that
-/// holds it is opened at that one, unless it fails or memory is wanting. Which of them it is at which
-/// moment, the run says of each of its turns.
+/// The headline: at every moment of a turn a crash leaves an image that denotes a candidate of the
+/// machine before the turn, or what the turn's command saves. A device that holds the image is opened
+/// there, unless it fails or memory runs out.
 pub fn crashes_are_survived<D: Device, S: ObjectStore<D>>()
     ensures { CrashesAreSurvived D.disk S.view S.parts }
+{}
+
+/// The same at every moment since a run began: a crash leaves an image that denotes what one of its
+/// turns may leave, or a candidate of the machine after the last.
+pub fn crashes_in_runs_are_survived<D: Device, S: ObjectStore<D>>()
+    ensures { CrashesInRunsAreSurvived D.disk S.view S.parts }
 {}

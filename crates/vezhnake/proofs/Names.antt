@@ -15,7 +15,7 @@ pub use Rattle.model.specs.declared.geometry.Geometry.{Geometry}
 pub use Rattle.object_cache.specs.StoreState.{StoreState, parts_of, view_of}
 pub use Rattle.recovery.specs.Recovered.{RefusesToOpen}
 pub use Rattle.runs.specs.KernelRuns.{IsConfined, IsRunOf, RunsOver}
-pub use Rattle.runs.specs.Laws.{CrashesAreSurvived}
+pub use Rattle.runs.specs.Laws.{CrashesInRunsAreSurvived}
 pub use Rattle.script.specs.Writing.{Written}
 pub use Rattle.script.specs.declared.fault.RunFault.{RunFault}
 pub use Rattle.std.proofs.Common.{Bool, Err, Global, List, Ok, Some, Vec, [], ap, append_assoc, arith, drop, false, length, length-append, refl, subst, sym}

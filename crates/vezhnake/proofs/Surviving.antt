@@ -1,7 +1,7 @@
 -- What a crash leaves of storage that carried out some of the calls of a run.
 use Rattle.vezhnake.proofs.Names.{ℕ, List, length, take, drop, sym, ap, subst, append_assoc, arith, length-append, take-append_seam, take-append-drop}
 use Rattle.vezhnake.proofs.Names.{flat_map-append, Image, image_of, Event, MayLeave, at_first, replay, Parts, View, Power, IsDeviceOf, Stands, disk_of}
-use Rattle.vezhnake.proofs.Names.{Geometry, Machine, Turn, IsConfined, IsRunOf, RunsOver, CrashesAreSurvived, RunFault, Option, HostCall, StorageLeaves}
+use Rattle.vezhnake.proofs.Names.{Geometry, Machine, Turn, IsConfined, IsRunOf, RunsOver, CrashesInRunsAreSurvived, RunFault, Option, HostCall, StorageLeaves}
 use Rattle.vezhnake.proofs.Names.{events_by, events_of, HostDevice, RunsText, Survives, Written, calls_beneath, host_disk, in_memory, start_beneath, Result}
 use Rattle.std.proofs.Common.{◌≡◌, ◌+◌, ◌≤◌, ◌++◌, ◌∙◌}
 use Rattle.std.specs.Prelude.{Some}
@@ -41,14 +41,14 @@ module _ {S : Type 0} (view : S → View HostDevice) (parts : S → Parts) where
   beneath (power.Down e) d t c is left = subst (λ (f : HostDevice). (host_disk f).left_since t c) is left
   beneath power.Between d t c is left = absurd is
 
-  survives : CrashesAreSurvived host_disk view parts → (g : Geometry) (m : Machine) (old new : Power HostDevice S) (turns : List Turn)
+  survives : CrashesInRunsAreSurvived host_disk view parts → (g : Geometry) (m : Machine) (old new : Power HostDevice S) (turns : List Turn)
       → Stands host_disk view parts g old m → IsRunOf host_disk view parts g m old new turns → Survives view parts g m old new turns
   survives all g m old new turns stands run d k c is later leaves =
       let found = (all g m old new turns stands run).each c (beneath new d (disk_of host_disk view parts old).moment c is
       (at_calls d (disk_of host_disk view parts old).moment k c later leaves)) in
       (found.0, found.1, found.2)
 
-  pub runs_text : CrashesAreSurvived host_disk view parts → (old new : Power HostDevice S) (text before after : List ℕ) (failures : ℕ)
+  pub runs_text : CrashesInRunsAreSurvived host_disk view parts → (old new : Power HostDevice S) (text before after : List ℕ) (failures : ℕ)
       (start : Written) → start ≡ in_memory before 0 → (input unread : Option (List ℕ)) → input ≡ Some text → (result : Result (Unit {0}) RunFault) →
       RunsOver host_disk view parts old new input unread start (in_memory after failures) result
       → IsConfined host_disk view parts old new input unread

@@ -14,7 +14,7 @@ use device::{MAX_SECTORS, SECTOR_SIZE};
 use devices::{CopiedFile, SectorCopy};
 use kernel::Kernel;
 use object_cache::{BoundedCache, Capacity, PlainStore};
-use runs::laws::crashes_are_survived;
+use runs::laws::crashes_in_runs_are_survived;
 use runs::{ScriptReader, run};
 use script::{CountedWriter, RunFault};
 use std::alloc::{AllocError, Global};
@@ -91,7 +91,7 @@ fn run_lines<S: ObjectStore<HostDevice>>(
     ensures runs { RunsText S.view S.parts kernel.old kernel.new text.now answers.old.items answers.new.items result }
     ensures goes_on { IfErr result (λ e. e ≢ RunFault.Stopped) }
 {
-    crashes_are_survived::<HostDevice, S>();
+    crashes_in_runs_are_survived::<HostDevice, S>();
     let mut reader = reader_of(text);
     let mut writer = CountedWriter::new(replace(answers, Vec::new(alloc)));
     let outcome = run(kernel, &mut reader, &mut writer);
