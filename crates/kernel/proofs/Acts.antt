@@ -5,7 +5,7 @@ use Rattle.kernel.proofs.Names.{untouched, Step, refusal_of, second, Failed, Ima
 use Rattle.kernel.proofs.Names.{LeavesEither, Parts, frames_of, objects_in, keepable_count, MayCommit, Snapshots, freezing, left_in, moved_saved, next_saved}
 use Rattle.kernel.proofs.Names.{all_frozen, whole, FrozenFrames, IsStabilizeAnswer, Continues, View, stabilized, AreCounted, BanksState, Performs, answer_of}
 use Rattle.kernel.proofs.Names.{Live, saved_of, LeavesOne, AreSoundTogether, IsUp, base_of, disk_at, frozen_of, renewed_since, running, running_of, IsCaused}
-use Rattle.kernel.proofs.Names.{ServesUp, leaves_saved, base_frozen, none_renewed, IsUnlooked}
+use Rattle.kernel.proofs.Names.{ServesUp, leaves_saved, base_frozen, none_renewed, MakesNoDeviceCall}
 use Rattle.std.proofs.Common.{◌≡◌, ◌+◌, ◌-◌, ◌^◌, ◌<◌, ◌≤◌, ◌∷◌, ◌∙◌}
 use Rattle.checkpoint.specs.Snapshots as stage
 use Rattle.model.specs.declared.answer.Answer.TheVariants as answer
@@ -329,15 +329,15 @@ pub commit_cause : (old new : Disk) (left : Option ℕ) (saved : ℕ) (why : Ref
 commit_cause old new left saved why reported = search (arith, nat_tests, other_cause, failed_cause)
 
 -- none of them needs no look at an object
-pub freeze_looks : (left : Option ℕ) (entries : ℕ) (why : Refusal) → IsFreezeAnswer {T = ℕ} left entries (Err why) → IsUnlooked (answer.Refused why) → ⊥
+pub freeze_looks : (left : Option ℕ) (entries : ℕ) (why : Refusal) → IsFreezeAnswer {T = ℕ} left entries (Err why) → MakesNoDeviceCall (answer.Refused why) → ⊥
 freeze_looks left entries why reported is = search (arith, nat_tests)
 
 pub stabilize_looks : (old new : Disk) (left : Option ℕ) (count : ℕ) (why : Refusal) → IsStabilizeAnswer old new left count (Err why) →
-    IsUnlooked (answer.Refused why) → ⊥
+    MakesNoDeviceCall (answer.Refused why) → ⊥
 stabilize_looks old new left count why reported is = search (arith, nat_tests)
 
 pub commit_looks : (old new : Disk) (left : Option ℕ) (saved : ℕ) (why : Refusal) → IsCommitAnswer old new left saved (Err why) →
-    IsUnlooked (answer.Refused why) → ⊥
+    MakesNoDeviceCall (answer.Refused why) → ⊥
 commit_looks old new left saved why reported is = search (arith, nat_tests)
 
 -- what is frozen can be committed at its age

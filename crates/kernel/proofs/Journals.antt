@@ -8,7 +8,7 @@ use Rattle.kernel.proofs.Names.{object_count, Step, carried_out, refusal_of, sec
 use Rattle.kernel.proofs.Names.{journal_keeps_sound, journaled_saved, with_words, SavedFrames, maps_same, Parts, frames_of, objects_in, at_set, frame_in}
 use Rattle.kernel.proofs.Names.{keepable_count, is_page_now, is_page_role, is_still_saved, Snapshots, journaled, FrozenFrames, next_journaled, words_now}
 use Rattle.kernel.proofs.Names.{BanksState, saved_of, IsSoundSaved, AreSoundTogether, base_of, renewed_since, running_of, allocations_at, base_saved}
-use Rattle.kernel.proofs.Names.{renewed_at, Ok, Err, IsErrOf, Image, Disk, Holds, LeavesOneOf, left_in, whole, IsJournalAnswer, IsTurnedAway, View, IsUnlooked}
+use Rattle.kernel.proofs.Names.{renewed_at, Ok, Err, IsErrOf, Image, Disk, Holds, LeavesOneOf, left_in, whole, IsJournalAnswer, IsTurnedAway, View, MakesNoDeviceCall}
 use Rattle.kernel.proofs.Names.{Live, LeavesOne, IsUp, disk_at, running, IsCaused, ServesUp, ltb-false, ltb-true}
 use Rattle.std.proofs.Common.{◌≡◌, ◌+◌, ◌^◌, ◌<◌, ◌≤◌, ◌&&◌, ◌∷◌, ◌∙◌, ◌==◌, ◌⊎◌}
 use Rattle.std.specs.Prelude.{if◌then◌else◌}
@@ -268,7 +268,7 @@ sound_still either = search (arith, nat_tests)
 
 -- where it is refused with no read of an object, the store is the same
 pub unlooked_same : {S : Type 0} (was now : Disk) (left : Option ℕ) (s : SavedFrames) (known page saved : Bool) (why : Refusal) {old new : S} →
-    IsJournalAnswer was now left s known page saved (Err why) → (IsTurnedAway (Err why) → new ≡ old) → IsUnlooked (answer.Refused why) → new ≡ old
+    IsJournalAnswer was now left s known page saved (Err why) → (IsTurnedAway (Err why) → new ≡ old) → MakesNoDeviceCall (answer.Refused why) → new ≡ old
 unlooked_same was now left s known paged saved why reported same is = search (arith, nat_tests)
 
 module _ {D S : Type 0} (disk : D → Disk) (view : S → View D) (parts : S → Parts)
@@ -290,10 +290,6 @@ module _ {D S : Type 0} (disk : D → Disk) (view : S → View D) (parts : S →
 
     abbrev new : Disk
     new = disk (view s).beneath
-
-    abbrev moments : Type 0
-    moments = LeavesOneOf old new a.saved
-        (next_journaled age n (words_now (parts l.store) n) a.frozen a.saved (is_page_now (parts l.store) n) (is_still_saved (parts l.store) a.saved n))
 
     -- no device call was made
     turned_away : (why : Refusal) → s ≡ l.store →

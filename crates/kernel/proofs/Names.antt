@@ -77,7 +77,7 @@ pub use Rattle.std.proofs.lemmas.List.FromFn.{get_or-map-range_with_len, length-
 pub use Rattle.std.proofs.lemmas.Result.{err_from_is_err_and}
 pub use Rattle.std.specs.List.{All, Contains, range_with_len}
 pub use Rattle.std.specs.Prelude.{IfOk, IsErr, IsErrAnd, IsErrOf, nat_lt, option_map, slice_index_or}
-pub use Rattle.kernel.specs.Machine.{IsEarly, IsUnlooked, Performs, answer_of, answer_with, code_with, machine_at, renewed_by}
+pub use Rattle.kernel.specs.Machine.{IsEarly, MakesNoDeviceCall, Performs, answer_of, answer_with, code_with, machine_at, renewed_by}
 pub use Rattle.kernel.specs.Opening.{IsNoReason, IsSomeDown, Opens, Reopened, refused_by}
 pub use Rattle.kernel.specs.Power.{Power, power_of}
 pub use Rattle.kernel.specs.Standing.{HasCode, IsCaused, IsDeviceOf, IsSomeMachine, Serves, ServesFrom, ServesUp, Stands, disk_of, done_with}

@@ -12,12 +12,9 @@ use Rattle.model.specs.declared.answer.Answer.TheVariants as answer
 use Rattle.model.specs.declared.answer.Refusal.TheVariants as refusal
 use Rattle.model.specs.declared.command.Command.TheVariants as command
 use Rattle.checkpoint.specs.Snapshots as stage
+use Rattle.model.specs.Step as machine
 use Rattle.kernel.proofs.Performing.{done_step, AreSame, same_frames}
 use Rattle.kernel.proofs.Machines.{base_moved, risen_on}
-
--- a machine with another checkpoint on its way
-abbrev pub with_frozen : Running → Option Frozen → Running
-with_frozen s frozen = record { now = s.now; touched = s.touched; renewed = s.renewed; frozen = frozen; saved = s.saved; to_move = s.to_move }
 
 module _ (g : Geometry) (s : Running) where
   -- ---- evictions
@@ -64,7 +61,7 @@ module _ (g : Geometry) (s : Running) where
   not_stable f is more = search (arith, nat_tests)
 
   pub stabilize_step : (n : ℕ) (f : Frozen) → s.frozen ≡ Some f →
-      Step g (Up s) (command.Stabilize n) (answer.Left (f.left - n)) (Up (with_frozen s (Some (record { world = f.world; size = f.size; left = f.left - n }))))
+      Step g (Up s) (command.Stabilize n) (answer.Left (f.left - n)) (Up (machine.freezing s (Some (record { world = f.world; size = f.size; left = f.left - n }))))
   unfolding refusal_of carried_out
   stabilize_step n f is = search (arith, nat_tests, done_step)
 

@@ -43,17 +43,17 @@ abbrev pub code_with : Geometry → List Object → Invocation → Answer → Op
 code_with g os i answer.Done = result_code g os i
 code_with g os i _ = None
 
--- a refusal that needs no object: no such number, no such process, or the machine is down
-abbrev pub NeedsNoLook : Refusal → Type 0
-NeedsNoLook refusal.BadNumber = Unit {0}
-NeedsNoLook refusal.NoProcess = Unit {0}
-NeedsNoLook refusal.Down = Unit {0}
-NeedsNoLook _ = ⊥
+-- a refusal before any call of the device: no such number, no such process, or the machine is down
+abbrev pub NeedsNoDeviceCall : Refusal → Type 0
+NeedsNoDeviceCall refusal.BadNumber = Unit {0}
+NeedsNoDeviceCall refusal.NoProcess = Unit {0}
+NeedsNoDeviceCall refusal.Down = Unit {0}
+NeedsNoDeviceCall _ = ⊥
 
--- so is an answer
-abbrev pub IsUnlooked : Answer → Type 0
-IsUnlooked (answer.Refused why) = NeedsNoLook why
-IsUnlooked _ = ⊥
+-- the answer is such a refusal
+abbrev pub MakesNoDeviceCall : Answer → Type 0
+MakesNoDeviceCall (answer.Refused why) = NeedsNoDeviceCall why
+MakesNoDeviceCall _ = ⊥
 
 -- from parts at an age to parts at an age a command is answered as the machine answers it, whatever was renewed and is
 -- frozen and saved, unless the device fails: then the machine is down

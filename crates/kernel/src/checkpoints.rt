@@ -1,7 +1,7 @@
 // The stages of a checkpoint (KeyKOS: freeze, log, commit and migrate). None of them takes memory.
 ghost use Rattle.std.specs.Prelude.{◌≡◌};
 ghost use Rattle.model.specs.declared.command.Command.TheVariants as command;
-ghost use Rattle.kernel.specs.Machine.{IsReportedOnce, IsUnlooked, answer_of};
+ghost use Rattle.kernel.specs.Machine.{IsReportedOnce, MakesNoDeviceCall, answer_of};
 ghost use Rattle.recovery.specs.Live.{IsSomeUp, disk_at};
 ghost use Rattle.kernel.specs.Standing.{IsCaused, ServesUp};
 
@@ -32,7 +32,7 @@ pub fn checkpoint<D: Device, S: ObjectStore<D>>(live: &mut Live<S>) -> Result<An
     ensures serves { ServesUp D.disk S.view S.parts live.old command.Checkpoint (answer_of result) live.new }
     ensures cause { IsCaused (disk_at D.disk S.view S.parts live.old)
         (disk_at D.disk S.view S.parts live.new) (answer_of result) }
-    ensures only_reads { IsUnlooked (answer_of result) → ⊥ }
+    ensures only_reads { MakesNoDeviceCall (answer_of result) → ⊥ }
     ensures reported_once { IsReportedOnce result }
 {
     if is_worn(live.age) {
@@ -59,7 +59,7 @@ pub fn stabilize<D: Device, S: ObjectStore<D>>(
     ensures serves { ServesUp D.disk S.view S.parts live.old (command.Stabilize count) (answer_of result) live.new }
     ensures cause { IsCaused (disk_at D.disk S.view S.parts live.old)
         (disk_at D.disk S.view S.parts live.new) (answer_of result) }
-    ensures only_reads { IsUnlooked (answer_of result) → ⊥ }
+    ensures only_reads { MakesNoDeviceCall (answer_of result) → ⊥ }
     ensures reported_once { IsReportedOnce result }
 {
     match live.store.stabilize(count) {
@@ -77,7 +77,7 @@ pub fn commit<D: Device, S: ObjectStore<D>>(live: &mut Live<S>) -> Result<Answer
     ensures serves { ServesUp D.disk S.view S.parts live.old command.Commit (answer_of result) live.new }
     ensures cause { IsCaused (disk_at D.disk S.view S.parts live.old)
         (disk_at D.disk S.view S.parts live.new) (answer_of result) }
-    ensures only_reads { IsUnlooked (answer_of result) → ⊥ }
+    ensures only_reads { MakesNoDeviceCall (answer_of result) → ⊥ }
     ensures reported_once { IsReportedOnce result }
 {
     match live.store.commit(live.frozen_age) {
@@ -99,7 +99,7 @@ pub fn migrate<D: Device, S: ObjectStore<D>>(
         → (S.view live.new.store).beneath ≡ (S.view live.old.store).beneath }
     ensures cause { IsCaused (disk_at D.disk S.view S.parts live.old)
         (disk_at D.disk S.view S.parts live.new) (answer_of result) }
-    ensures only_reads { IsUnlooked (answer_of result) → ⊥ }
+    ensures only_reads { MakesNoDeviceCall (answer_of result) → ⊥ }
     ensures reported_once { IsReportedOnce result }
 {
     let left = live.store.migrate(count)?;

@@ -1,7 +1,7 @@
 // One page is saved beside the checkpoints. It takes no memory.
 ghost use Rattle.std.specs.Prelude.{◌≡◌};
 ghost use Rattle.model.specs.declared.command.Command.TheVariants as command;
-ghost use Rattle.kernel.specs.Machine.{IsReportedOnce, IsUnlooked, answer_of};
+ghost use Rattle.kernel.specs.Machine.{IsReportedOnce, MakesNoDeviceCall, answer_of};
 ghost use Rattle.recovery.specs.Live.{IsSomeUp, disk_at};
 ghost use Rattle.kernel.specs.Standing.{IsCaused, ServesUp};
 
@@ -29,7 +29,7 @@ pub fn journal<D: Device, S: ObjectStore<D>>(
     ensures serves { ServesUp D.disk S.view S.parts live.old (command.Journal number) (answer_of result) live.new }
     ensures cause { IsCaused (disk_at D.disk S.view S.parts live.old)
         (disk_at D.disk S.view S.parts live.new) (answer_of result) }
-    ensures untouched { IsUnlooked (answer_of result)
+    ensures untouched { MakesNoDeviceCall (answer_of result)
         → (S.view live.new.store).beneath ≡ (S.view live.old.store).beneath }
     ensures reported_once { IsReportedOnce result }
 {

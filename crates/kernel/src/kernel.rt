@@ -6,7 +6,7 @@ ghost use Rattle.model.specs.declared.command.Invocation.{Invocation};
 ghost use Rattle.model.specs.declared.geometry.Geometry.{Geometry};
 ghost use Rattle.model.specs.Machine.{Saved};
 ghost use Rattle.model.specs.Step.{opens, takes_memory};
-ghost use Rattle.kernel.specs.Machine.{IsUnlooked, NeedsNoLook, answer_with};
+ghost use Rattle.kernel.specs.Machine.{MakesNoDeviceCall, NeedsNoDeviceCall, answer_with};
 ghost use Rattle.recovery.specs.Denotes.{Leaves};
 ghost use Rattle.recovery.specs.Recovered.{RefusesToOpen};
 ghost use Rattle.kernel.specs.Power.{power_of};
@@ -91,7 +91,7 @@ fn go_down<D: Device, S: ObjectStore<D>>(
 fn refusal(fault: OpenFault) -> Refusal
     requires { IsNoReason fault }
     ensures why { result ≡ refused_by fault }
-    ensures only_reads { NeedsNoLook result → ⊥ }
+    ensures only_reads { NeedsNoDeviceCall result → ⊥ }
 {
     match fault {
         OpenFault::Failed => Refusal::Fault,
@@ -113,7 +113,7 @@ fn rise<D: Device, S: ObjectStore<D>>(
     requires down { live.old ≡ None }
     ensures reopened { (g : Geometry) (saved : List Saved) → Leaves g (D.disk opened) saved
         → Reopened D.disk S.view S.parts g saved opened result (power_of live.new device.new) }
-    ensures only_reads { IsUnlooked result → ⊥ }
+    ensures only_reads { MakesNoDeviceCall result → ⊥ }
     ensures cause { IsCaused (D.disk opened)
         (disk_of D.disk S.view S.parts (power_of live.new device.new)) result }
 {
@@ -167,7 +167,7 @@ impl<D: Device, S: ObjectStore<D>> Kernel<D, S> {
         requires goes_on { opens command ≡ false }
         requires other { (i : Invocation) → command ≡ Invoke i → ⊥ }
         ensures serves { Serves D.disk S.view S.parts self.old command result self.new }
-        ensures untouched { IsUnlooked result → SameDevice D.disk S.view S.parts self.old self.new }
+        ensures untouched { MakesNoDeviceCall result → SameDevice D.disk S.view S.parts self.old self.new }
         ensures none_to_move { HasNoneToMove D.disk S.view S.parts self.old command
             → SameDevice D.disk S.view S.parts self.old self.new }
         ensures cause { IsCaused (disk_of D.disk S.view S.parts self.old)
@@ -189,7 +189,7 @@ impl<D: Device, S: ObjectStore<D>> Kernel<D, S> {
     // Carries out an invocation. After a failure the machine is down.
     fn invoke(&mut self, invocation: &Invocation) -> Result<Option<ResultCode>, Refusal>
         ensures serves { Serves D.disk S.view S.parts self.old (Invoke invocation.now) (answer_with result) self.new }
-        ensures untouched { IsUnlooked (answer_with result)
+        ensures untouched { MakesNoDeviceCall (answer_with result)
             → SameDevice D.disk S.view S.parts self.old self.new }
         ensures cause { IsCaused (disk_of D.disk S.view S.parts self.old)
             (disk_of D.disk S.view S.parts self.new) (answer_with result) }
@@ -215,7 +215,7 @@ impl<D: Device, S: ObjectStore<D>> Kernel<D, S> {
     #[inline(never)]
     fn restart(&mut self) -> Answer
         ensures serves { Serves D.disk S.view S.parts self.old command.Restart result self.new }
-        ensures only_reads { IsUnlooked result → ⊥ }
+        ensures only_reads { MakesNoDeviceCall result → ⊥ }
         ensures cause { IsCaused (disk_of D.disk S.view S.parts self.old)
             (disk_of D.disk S.view S.parts self.new) result }
     {
@@ -234,7 +234,7 @@ impl<D: Device, S: ObjectStore<D>> Kernel<D, S> {
     #[inline(never)]
     fn cut(&mut self) -> Answer
         ensures serves { Serves D.disk S.view S.parts self.old command.Cut result self.new }
-        ensures only_reads { IsUnlooked result → ⊥ }
+        ensures only_reads { MakesNoDeviceCall result → ⊥ }
         ensures cause { IsCaused (disk_of D.disk S.view S.parts self.old)
             (disk_of D.disk S.view S.parts self.new) result }
     {
@@ -264,7 +264,7 @@ impl<D: Device, S: ObjectStore<D>> Kernel<D, S> {
     /// command saves.
     pub fn step(&mut self, command: Command) -> Answer
         ensures serves { Serves D.disk S.view S.parts self.old command result self.new }
-        ensures untouched { IsUnlooked result
+        ensures untouched { MakesNoDeviceCall result
             → SameDevice D.disk S.view S.parts self.old self.new }
         ensures none_to_move { HasNoneToMove D.disk S.view S.parts self.old command
             → SameDevice D.disk S.view S.parts self.old self.new }
@@ -279,7 +279,7 @@ impl<D: Device, S: ObjectStore<D>> Kernel<D, S> {
     /// order if the command invoked a kernel object and the answer is `Done`, and else `None`.
     pub fn step_with_code(&mut self, command: &Command) -> Served
         ensures serves { Serves D.disk S.view S.parts self.old command.now result.answer self.new }
-        ensures untouched { IsUnlooked result.answer
+        ensures untouched { MakesNoDeviceCall result.answer
             → SameDevice D.disk S.view S.parts self.old self.new }
         ensures none_to_move { HasNoneToMove D.disk S.view S.parts self.old command.now
             → SameDevice D.disk S.view S.parts self.old self.new }

@@ -5,7 +5,7 @@ ghost use Rattle.model.specs.declared.command.Command.TheVariants.{Invoke};
 ghost use Rattle.model.specs.declared.command.Invocation.{Invocation};
 ghost use Rattle.model.specs.Step.{opens};
 ghost use Rattle.kernel.specs.Power as power;
-ghost use Rattle.kernel.specs.Machine.{IsReportedOnce, IsUnlooked, answer_of, answer_with};
+ghost use Rattle.kernel.specs.Machine.{IsReportedOnce, MakesNoDeviceCall, answer_of, answer_with};
 ghost use Rattle.recovery.specs.Live.{IsSomeUp, disk_at};
 ghost use Rattle.kernel.specs.Standing.{HasCode, HasNoneToMove, IsCaused, ServesUp, done_with};
 
@@ -24,7 +24,7 @@ fn evict<D: Device, S: ObjectStore<D>>(live: &mut Live<S>, number: u64) -> Resul
     ensures serves { ServesUp D.disk S.view S.parts live.old (command.Evict number) (answer_of result) live.new }
     ensures cause { IsCaused (disk_at D.disk S.view S.parts live.old)
         (disk_at D.disk S.view S.parts live.new) (answer_of result) }
-    ensures untouched { IsUnlooked (answer_of result)
+    ensures untouched { MakesNoDeviceCall (answer_of result)
         → (S.view live.new.store).beneath ≡ (S.view live.old.store).beneath }
     ensures reported_once { IsReportedOnce result }
 {
@@ -50,7 +50,7 @@ pub fn serve<D: Device, S: ObjectStore<D>>(
     ensures serves { ServesUp D.disk S.view S.parts live.old command (answer_of result) live.new }
     ensures cause { IsCaused (disk_at D.disk S.view S.parts live.old)
         (disk_at D.disk S.view S.parts live.new) (answer_of result) }
-    ensures untouched { IsUnlooked (answer_of result)
+    ensures untouched { MakesNoDeviceCall (answer_of result)
         → (S.view live.new.store).beneath ≡ (S.view live.old.store).beneath }
     ensures none_to_move { HasNoneToMove D.disk S.view S.parts (power.Up live.old) command
         → (S.view live.new.store).beneath ≡ (S.view live.old.store).beneath }
@@ -90,7 +90,7 @@ pub fn invoke<D: Device, S: ObjectStore<D>>(
         (answer_with result) live.new }
     ensures cause { IsCaused (disk_at D.disk S.view S.parts live.old)
         (disk_at D.disk S.view S.parts live.new) (answer_with result) }
-    ensures untouched { IsUnlooked (answer_with result)
+    ensures untouched { MakesNoDeviceCall (answer_with result)
         → (S.view live.new.store).beneath ≡ (S.view live.old.store).beneath }
     ensures code { IfOk result
         (λ code. HasCode D.disk S.view S.parts (power.Up live.old) (command.Invoke invocation.now) (done_with code)) }

@@ -2,7 +2,7 @@
 ghost use Rattle.std.specs.Prelude.{◌≡◌, ◌↔◌, ◌<◌, ◌≤◌, IfOk, IfSome, IsErr};
 ghost use Rattle.model.specs.Keepable.{IsSoundFrames};
 ghost use Rattle.capability.specs.Parts.{OnlyFetches, frames_of, objects_in};
-ghost use Rattle.kernel.specs.Machine.{IsEarly, NeedsNoLook};
+ghost use Rattle.kernel.specs.Machine.{IsEarly, NeedsNoDeviceCall};
 
 use capability::{Frames, roots};
 use device::Failed;
@@ -15,7 +15,7 @@ pub fn early<F: Frames>(store: &mut F, age: u64, process: u64) -> Result<Option<
     requires sound { IsSoundFrames (F.parts store.old).geometry age
         (frames_of (F.parts store.old)) }
     ensures why { IfOk result (λ why. IsEarly (objects_in (F.parts store.old)) process why) }
-    ensures untouched { IfOk result (λ why. IfSome why (λ reported. NeedsNoLook reported
+    ensures untouched { IfOk result (λ why. IfSome why (λ reported. NeedsNoDeviceCall reported
         → store.new ≡ store.old)) }
     ensures snapshots { OnlyFetches F.parts F.ContinuesTo store.old store.new }
     ensures later { (F.parts store.old).failures ≤ (F.parts store.new).failures }

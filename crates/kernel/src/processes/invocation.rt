@@ -5,7 +5,7 @@ ghost use Rattle.model.specs.declared.answer.Answer.TheVariants.{Done, Refused};
 ghost use Rattle.model.specs.Keepable.{IsSoundFrames};
 ghost use Rattle.capability.specs.Parts.{OnlyFetches, frames_of, objects_in};
 ghost use Rattle.space_bank.specs.Banks.{AreCounted};
-ghost use Rattle.kernel.specs.Machine.{IsUnlooked, NeedsNoLook, Performs, answer_with, code_with};
+ghost use Rattle.kernel.specs.Machine.{MakesNoDeviceCall, NeedsNoDeviceCall, Performs, answer_with, code_with};
 
 use crate::age::is_worn;
 use crate::processes::early::early;
@@ -22,7 +22,7 @@ fn refuse_worn<F: Frames>(store: &mut F, age: u64, invocation: &Invocation) -> R
     requires worn { 2 ^ 62 ≤ age }
     ensures serves { Performs age (F.parts store.old) (command.Invoke invocation.now)
         (Refused result) age (F.parts store.new) }
-    ensures untouched { NeedsNoLook result → store.new ≡ store.old }
+    ensures untouched { NeedsNoDeviceCall result → store.new ≡ store.old }
     ensures snapshots { OnlyFetches F.parts F.ContinuesTo store.old store.new }
 {
     match early(store, age, invocation.process) {
@@ -55,7 +55,7 @@ pub fn invoke<F: PresentFrames>(
         (objects_in (F.parts store.old)) banks.old }
     ensures serves { Performs age.old (F.parts store.old) (command.Invoke invocation.now)
         (answer_with result) age.new (F.parts store.new) }
-    ensures untouched { IsUnlooked (answer_with result) → store.new ≡ store.old }
+    ensures untouched { MakesNoDeviceCall (answer_with result) → store.new ≡ store.old }
     ensures code { IfOk result
         (λ code. code ≡ code_with (F.parts store.old).geometry (objects_in (F.parts store.old)) invocation.now Done) }
     ensures later { age.old ≤ age.new }

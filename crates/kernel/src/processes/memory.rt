@@ -4,7 +4,7 @@ ghost use Rattle.model.specs.declared.command.Command.TheVariants as command;
 ghost use Rattle.model.specs.Keepable.{IsSoundFrames};
 ghost use Rattle.capability.specs.Parts.{OnlyFetches, frames_of, objects_in};
 ghost use Rattle.space_bank.specs.Banks.{AreCounted, BanksState};
-ghost use Rattle.kernel.specs.Machine.{IsReportedOnce, IsUnlooked, Performs, answer_of};
+ghost use Rattle.kernel.specs.Machine.{IsReportedOnce, MakesNoDeviceCall, Performs, answer_of};
 
 use crate::checkpoints::refused;
 use crate::processes::early::early;
@@ -26,7 +26,7 @@ pub fn load<F: Frames>(
     requires { IsSoundFrames (F.parts store.old).geometry age (frames_of (F.parts store.old)) }
     ensures serves { Performs age (F.parts store.old) (command.Load process address) (answer_of result)
         age (F.parts store.new) }
-    ensures untouched { IsUnlooked (answer_of result) → store.new ≡ store.old }
+    ensures untouched { MakesNoDeviceCall (answer_of result) → store.new ≡ store.old }
     ensures reported_once { IsReportedOnce result }
     ensures snapshots { OnlyFetches F.parts F.ContinuesTo store.old store.new }
 {
@@ -56,7 +56,7 @@ pub fn store<F: PresentFrames>(
     requires { IsSoundFrames (F.parts store.old).geometry age (frames_of (F.parts store.old)) }
     ensures serves { Performs age (F.parts store.old) (command.Store process address word)
         (answer_of result) age (F.parts store.new) }
-    ensures untouched { IsUnlooked (answer_of result) → store.new ≡ store.old }
+    ensures untouched { MakesNoDeviceCall (answer_of result) → store.new ≡ store.old }
     ensures reported_once { IsReportedOnce result }
     ensures counted { (banks : BanksState) → AreCounted (F.parts store.old).geometry
         (objects_in (F.parts store.old)) banks

@@ -7,7 +7,7 @@ ghost use Rattle.model.specs.Object.{is_annex, is_bank, slots_in};
 ghost use Rattle.model.specs.World.{content_at};
 ghost use Rattle.capability.specs.Parts.{OnlyReads, OnlyFetches, frames_of, objects_in};
 ghost use Rattle.space_bank.specs.Banks.{AreCounted};
-ghost use Rattle.kernel.specs.Machine.{IsReportedOnce, IsUnlooked, Performs, answer_of};
+ghost use Rattle.kernel.specs.Machine.{IsReportedOnce, MakesNoDeviceCall, Performs, answer_of};
 
 use crate::checkpoints::refused;
 use capability::{Frames, view};
@@ -94,7 +94,7 @@ pub fn show<F: Frames>(
         (objects_in (F.parts store.old)) banks.now }
     ensures serves { Performs age (F.parts store.old) (command.Show number) (answer_of result) age
         (F.parts store.new) }
-    ensures untouched { IsUnlooked (answer_of result) → store.new ≡ store.old }
+    ensures untouched { MakesNoDeviceCall (answer_of result) → store.new ≡ store.old }
     ensures reported_once { IsReportedOnce result }
     ensures snapshots { OnlyFetches F.parts F.ContinuesTo store.old store.new }
 {
