@@ -1,11 +1,10 @@
 -- How a command ends: refused, carried out, or in a failure of the device.
-use Rattle.kernel.proofs.Names.{nat_tests, IsErrAnd, ℕ, Bool, Option, None, Some, Result, Err, List, [], length, refl, sym, ap, subst, arith, Answer}
-use Rattle.kernel.proofs.Names.{Refusal, Command, Geometry, AreKeepable, IsSoundFrames, world_at, Frozen, Running, Saved, Up, touched_count}
-use Rattle.kernel.proofs.Names.{untouched, Step, refusal_of, second, Failed, Image, Disk, IsCommitAnswer, IsFreezeAnswer, IsRefused, Holds, LeavesSaved}
-use Rattle.kernel.proofs.Names.{LeavesEither, Parts, frames_of, objects_in, keepable_count, MayCommit, Snapshots, freezing, left_in, moved_saved, next_saved}
-use Rattle.kernel.proofs.Names.{all_frozen, whole, FrozenFrames, IsStabilizeAnswer, Continues, View, stabilized, AreCounted, BanksState, Performs, answer_of}
-use Rattle.kernel.proofs.Names.{Live, saved_of, LeavesOne, AreSoundTogether, IsUp, base_of, disk_at, frozen_of, renewed_since, running, running_of, IsCaused}
-use Rattle.kernel.proofs.Names.{ServesUp, leaves_saved, base_frozen, none_renewed, MakesNoDeviceCall}
+use Rattle.kernel.proofs.Names.{nat_tests, ℕ, Bool, Option, None, Some, Err, List, [], length, refl, sym, ap, subst, arith, Answer, Refusal, Command, Geometry}
+use Rattle.kernel.proofs.Names.{AreKeepable, IsSoundFrames, world_at, Frozen, Running, Saved, Up, touched_count, untouched, Step, refusal_of, second, Image}
+use Rattle.kernel.proofs.Names.{Disk, IsCommitAnswer, IsFreezeAnswer, IsRefused, Holds, LeavesSaved, LeavesEither, Parts, frames_of, objects_in, keepable_count}
+use Rattle.kernel.proofs.Names.{MayCommit, Snapshots, freezing, left_in, moved_saved, next_saved, all_frozen, whole, FrozenFrames, IsStabilizeAnswer, Continues}
+use Rattle.kernel.proofs.Names.{View, stabilized, AreCounted, BanksState, Performs, Live, saved_of, LeavesOne, AreSoundTogether, IsUp, base_of, disk_at}
+use Rattle.kernel.proofs.Names.{frozen_of, renewed_since, running, running_of, IsCaused, ServesUp, leaves_saved, base_frozen, none_renewed, MakesNoDeviceCall}
 use Rattle.std.proofs.Common.{◌≡◌, ◌+◌, ◌-◌, ◌^◌, ◌<◌, ◌≤◌, ◌∷◌, ◌∙◌}
 use Rattle.checkpoint.specs.Snapshots as stage
 use Rattle.model.specs.declared.answer.Answer.TheVariants as answer
@@ -351,10 +350,6 @@ may_commit disk view parts l up f frozen =
       most = held.sound.sound.age;
       keepable = λ stable. subst (λ (g : Geometry). AreKeepable g l.frozen_age f.frames) (sym sound.saved.geometry) held.sound.keepable;
     }
-
--- what passes a failure on is answered by `Fault`
-pub err_answer : (Q : Failed → Type 0) (r : Result Answer Failed) → IsErrAnd r Q → answer_of r ≡ answer.Refused refusal.Fault
-err_answer Q r failed = search (arith, nat_tests, failed)
 
 -- the device reports who failed
 pub caused : {p q : Parts} {old new : Disk} {c : Command} {age later : ℕ} {a : Answer} → p.failures ≡ old.failures → q.failures ≡ new.failures →

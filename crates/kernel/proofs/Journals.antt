@@ -1,15 +1,15 @@
 -- A page is journaled: the machine after it, what a crash leaves, and how it ends: refused, done, or in a failure of the device.
-use Rattle.kernel.proofs.Names.{ℕ, Bool, true, false, not, Option, None, Some, List, [], map, length, set, length-set, refl, sym, ap, subst, arith}
-use Rattle.kernel.proofs.Names.{nat_lt, slice_index_or, All, get_or-map, map-set_same, nat_tests, get_or_past, map-set, All-nil}
-use Rattle.kernel.proofs.Names.{Refusal, NotPage, Renewed, Cap, Capability, Frame, ObjectHeader, Geometry, Content, Object, Role, blank_frame, conveyed}
-use Rattle.kernel.proofs.Names.{frame_at, header_at, headers, held_at, object_of, objects_of, AreKeepable, AreKeptWords, IsCurrent, IsKeepable}
-use Rattle.kernel.proofs.Names.{IsSoundFrames, MayBeKept, caps_in, Frozen, Running, Saved, Up, is_page, map_content, role_of, words_in, IsOfKind, IsSound}
-use Rattle.kernel.proofs.Names.{object_count, Step, carried_out, refusal_of, second, unjournaled, unless, World, content_at, owner_at, with_content}
-use Rattle.kernel.proofs.Names.{journal_keeps_sound, journaled_saved, with_words, SavedFrames, maps_same, Parts, frames_of, objects_in, at_set, frame_in}
-use Rattle.kernel.proofs.Names.{keepable_count, is_page_now, is_page_role, is_still_saved, Snapshots, journaled, FrozenFrames, next_journaled, words_now}
-use Rattle.kernel.proofs.Names.{BanksState, saved_of, IsSoundSaved, AreSoundTogether, base_of, renewed_since, running_of, allocations_at, base_saved}
-use Rattle.kernel.proofs.Names.{renewed_at, Ok, Err, IsErrOf, Image, Disk, Holds, LeavesOneOf, left_in, whole, IsJournalAnswer, IsTurnedAway, View, MakesNoDeviceCall}
-use Rattle.kernel.proofs.Names.{Live, LeavesOne, IsUp, disk_at, running, IsCaused, ServesUp, ltb-false, ltb-true}
+use Rattle.kernel.proofs.Names.{ℕ, Bool, true, false, not, Option, None, Some, List, [], map, length, set, length-set, refl, sym, ap, subst, arith, nat_lt}
+use Rattle.kernel.proofs.Names.{slice_index_or, All, get_or-map, map-set_same, nat_tests, get_or_past, map-set, All-nil, Refusal, NotPage, Renewed, Cap}
+use Rattle.kernel.proofs.Names.{Capability, Frame, ObjectHeader, Geometry, Content, Object, Role, blank_frame, conveyed, frame_at, header_at, headers, held_at}
+use Rattle.kernel.proofs.Names.{object_of, objects_of, AreKeepable, AreKeptWords, IsCurrent, IsKeepable, IsSoundFrames, MayBeKept, caps_in, Frozen, Running}
+use Rattle.kernel.proofs.Names.{Saved, Up, is_page, map_content, role_of, words_in, IsOfKind, IsSound, object_count, Step, carried_out, refusal_of, second}
+use Rattle.kernel.proofs.Names.{unjournaled, unless, World, content_at, owner_at, with_content, journal_keeps_sound, journaled_saved, with_words, SavedFrames}
+use Rattle.kernel.proofs.Names.{maps_same, Parts, frames_of, objects_in, at_set, frame_in, keepable_count, is_page_now, is_page_role, is_still_saved, Snapshots}
+use Rattle.kernel.proofs.Names.{journaled, FrozenFrames, next_journaled, words_now, BanksState, saved_of, IsSoundSaved, AreSoundTogether, base_of}
+use Rattle.kernel.proofs.Names.{renewed_since, running_of, allocations_at, base_saved, renewed_at, Ok, Err, IsErrOf, Image, Disk, Holds, LeavesOneOf, left_in}
+use Rattle.kernel.proofs.Names.{whole, IsJournalAnswer, IsTurnedAway, View, MakesNoDeviceCall, Live, LeavesOne, IsUp, disk_at, running, IsCaused, ServesUp}
+use Rattle.kernel.proofs.Names.{ltb-false, ltb-true}
 use Rattle.std.proofs.Common.{◌≡◌, ◌+◌, ◌^◌, ◌<◌, ◌≤◌, ◌&&◌, ◌∷◌, ◌∙◌, ◌==◌, ◌⊎◌}
 use Rattle.std.specs.Prelude.{if◌then◌else◌}
 use Rattle.model.specs.declared.answer.Answer.TheVariants as answer

@@ -4,12 +4,12 @@ use Rattle.kernel.proofs.Names.{get_or-map-range_with_len, length-map-range_with
 use Rattle.kernel.proofs.Names.{header_at, renewing, is_given_up, Parts, Renews, frames_of, objects_in, headers_in, Snapshots, moved_saved, FrozenFrames}
 use Rattle.kernel.proofs.Names.{SavedFrames, home_saved, base_of, renewed_since, allocations_at, base_by, renewed_at, renewed_length, [], subst, ⊎_elim, inl}
 use Rattle.kernel.proofs.Names.{inr, nat_tests, Geometry, Saved, at_home, Image, Disk, CountsNow, OnlyNow, leaves_weaker, started, Holds, LeavesSaved}
-use Rattle.kernel.proofs.Names.{LeavesEither, denoted_by, saved_of, IsSoundSaved, DenotesOne, Leaves, LeavesOne, append-nil, Option, Some}
-use Rattle.kernel.proofs.Names.{slice_index_or, Contains, Answer, Command, Machine, Running, Up, Down, candidates, opened, Reopens, Step, carried_out}
-use Rattle.kernel.proofs.Names.{refusal_of, second, Only, Elapses, agrees_is, goes_on_cut, leaves_on, OpenFault, View, Live, Power, power_of}
-use Rattle.kernel.proofs.Names.{RefusesToOpen, Recovers, IsNoReason, IsSomeDown, Opens, Reopened, IsSomeUp, IsUp, running, IsCaused, IsDeviceOf, IsSomeMachine}
-use Rattle.kernel.proofs.Names.{Serves, ServesFrom, ServesUp, Stands, disk_of, one_denoted, one_not_bad, refused_by, takes_memory, wants_memory_to_show}
-use Rattle.kernel.proofs.Names.{Result, IfOk, Invocation, code_with, HasCode, Refusal, ResultCode, done_with, moved}
+use Rattle.kernel.proofs.Names.{LeavesEither, denoted_by, saved_of, IsSoundSaved, DenotesOne, Leaves, LeavesOne, append-nil, Option, Some, slice_index_or}
+use Rattle.kernel.proofs.Names.{Contains, Answer, Command, Machine, Running, Up, Down, candidates, opened, Reopens, Step, carried_out, refusal_of, second, Only}
+use Rattle.kernel.proofs.Names.{Elapses, agrees_is, goes_on_cut, leaves_on, OpenFault, View, Live, Power, power_of, RefusesToOpen, Recovers, IsNoReason}
+use Rattle.kernel.proofs.Names.{IsSomeDown, Opens, Reopened, IsSomeUp, IsUp, running, IsCaused, IsDeviceOf, IsSomeMachine, Serves, ServesFrom, ServesUp, Stands}
+use Rattle.kernel.proofs.Names.{disk_of, one_denoted, one_not_bad, refused_by, takes_memory, wants_memory_to_show, Result, IfOk, Invocation, code_with, HasCode}
+use Rattle.kernel.proofs.Names.{Refusal, ResultCode, done_with, moved}
 use Rattle.std.proofs.Common.{◌≡◌, ◌+◌, ◌-◌, ◌<◌, ◌≤◌, ◌||◌, ◌∙◌, ◌==◌, ◌⊎◌, ◌∷◌, ◌++◌}
 use Rattle.std.specs.Prelude.{if◌then◌else◌}
 use Rattle.model.specs.declared.answer.Answer.TheVariants as answer

@@ -1,17 +1,17 @@
 -- Loads and stores as steps of the machine. Their outcome over present frames, from what each part of them reported.
-use Rattle.kernel.proofs.Names.{ℕ, Bool, true, [], Option, None, Some, Result, Ok, Err, refl, sym, ap, arith, nat_tests, Answer}
-use Rattle.kernel.proofs.Names.{MemoryFault, Refusal, Command, Geometry, Running, Up, touching, touched_count, Step, refusal_of, carried_out}
-use Rattle.kernel.proofs.Names.{reached, writable, writing, is_process, is_running_process, with_word}
-use Rattle.kernel.proofs.Names.{IsLoaded, IsEarly, List, subst, IsErrOf, Frame, ObjectHeader, Object, header_at, objects_of, IsSoundFrames, Frozen, Saved}
-use Rattle.kernel.proofs.Names.{Machine, none_in_frame, renewing_none, word_frame, SameFrame, frame_refl, tests_at, IsUnchanged, IsUnprepared, OnlyFetches}
-use Rattle.kernel.proofs.Names.{Parts, frames_of, objects_in, IsStored, KeepsSound, OverfillsStore, renews_none, Performs, machine_at, renewed_by}
-use Rattle.kernel.proofs.Names.{FetchesOrFails, unrisen, ok_no_err, ok_no_failure, AreCounted, BanksState, counted_on}
-use Rattle.std.proofs.Common.{◌≡◌, ◌%◌, ◌<◌, ◌≤◌, ◌∷◌, ◌∙◌, ◌↔◌}
+use Rattle.kernel.proofs.Names.{ℕ, Bool, true, [], Option, None, Some, Result, Ok, Err, refl, sym, ap, arith, nat_tests, Answer, MemoryFault, Refusal, Command}
+use Rattle.kernel.proofs.Names.{Geometry, Running, Up, touching, touched_count, Step, refusal_of, carried_out, reached, writable, writing, is_process}
+use Rattle.kernel.proofs.Names.{is_running_process, with_word, IsLoaded, IsEarly, List, subst, IsErrOf, Frame, ObjectHeader, Object, header_at, objects_of}
+use Rattle.kernel.proofs.Names.{IsSoundFrames, Frozen, Saved, Machine, none_in_frame, renewing_none, word_frame, SameFrame, frame_refl, tests_at, IsUnchanged}
+use Rattle.kernel.proofs.Names.{IsUnprepared, OnlyFetches, Parts, frames_of, objects_in, IsStored, KeepsSound, OverfillsStore, renews_none, Performs}
+use Rattle.kernel.proofs.Names.{machine_at, renewed_by, FetchesOrFails, unrisen, ok_no_err, ok_no_failure, AreCounted, BanksState, counted_on, length, IfOk}
+use Rattle.kernel.proofs.Names.{shown, answer_of, OnlyReads}
+use Rattle.std.proofs.Common.{◌≡◌, ◌≢◌, ◌%◌, ◌<◌, ◌≤◌, ◌∷◌, ◌∙◌, ◌↔◌}
 use Rattle.model.specs.declared.answer.Answer.TheVariants as answer
 use Rattle.model.specs.declared.answer.Refusal.TheVariants as refusal
 use Rattle.model.specs.declared.command.Command.TheVariants as command
 use Rattle.kernel.proofs.Performing.{done_step, refused_step, AreSame, refused_serves, same_frames, same_renews, same_sound, serves_looked, standing}
-use Rattle.kernel.proofs.Performing.{still_machine, reported_cause, early_fine}
+use Rattle.kernel.proofs.Performing.{still_machine, reported_cause, early_fine, shown_fine, shown_serves, shown_unfailed, unshown_serves}
 
 -- what a load answers
 abbrev pub loaded_answer : Result ℕ MemoryFault → Answer
@@ -219,3 +219,19 @@ pub stored_counted : (before after : Parts) (s : BanksState) (p address word : �
 stored_counted before after s p address word (Ok done) geometry stored h =
     subst (λ (X : Type 0). X) (λ k. AreCounted (sym geometry k) (sym stored.2 k) s) (counted_on (word_frame (objects_in before) stored.0 _ word) h)
 stored_counted before after s p address word (Err why) geometry stored h = search (arith, nat_tests)
+
+-- an object was shown, or not
+module _ {S : Type 0} {parts : S → Parts} {Continues : S → S → Type 0} (before after : S) (n : ℕ) where
+  pub shows : (age : ℕ) (r : Result Answer Refusal) → n < length (parts before).headers → IsSoundFrames (parts before).geometry age (frames_of (parts before)) →
+      IfOk r (λ a. a ≡ shown (objects_in (parts before)) n) → OnlyReads parts Continues before after r →
+      Performs age (parts before) (command.Show n) (answer_of r) age (parts after)
+  shows age (Ok a) known sound reported reads =
+      shown_serves age (parts before) (parts after) n a known (looked_same reads.snapshots) sound reported reads.later
+      (λ rose. shown_unfailed a (reads.cause.1 rose))
+  shows age (Err why) known sound reported reads =
+      unshown_serves age (parts before) (parts after) n (looked_same reads.snapshots) sound reads.later known why reads.refusals reads.cause
+
+pub shows_fine : (os : List Object) (n : ℕ) (r : Result Answer Refusal) → IfOk r (λ a. a ≡ shown os n) →
+    IfOk r (λ a. a ≢ answer.Refused refusal.Fault)
+shows_fine os n (Ok a) reported = shown_fine os n a reported
+shows_fine os n (Err why) reported = tt

@@ -2,7 +2,7 @@
 pub use Rattle.address_space.specs.References.{IsLoaded, IsStored, KeepsSound, OverfillsStore}
 pub use Rattle.capability.proofs.FrameLists.{at_set, frame_in, headers_in, process_known}
 pub use Rattle.capability.proofs.Keeping.{keepable_count, keepable_later}
-pub use Rattle.capability.specs.Parts.{FetchesOrFails, IsUnchanged, IsUnprepared, IsUnread, OnlyFetches, Parts, Renews, frames_of, objects_in}
+pub use Rattle.capability.specs.Parts.{FetchesOrFails, IsUnchanged, IsUnprepared, IsUnread, OnlyFetches, OnlyReads, Parts, Renews, frames_of, objects_in}
 pub use Rattle.checkpoint.proofs.Lists.{maps_same}
 pub use Rattle.checkpoint.specs.Journal.{is_page_now, is_page_role, is_still_saved, next_journaled, words_now}
 pub use Rattle.checkpoint.specs.Refused.{IsCommitAnswer, IsFreezeAnswer, IsJournalAnswer, IsRefused, IsTurnedAway}
@@ -10,10 +10,10 @@ pub use Rattle.checkpoint.specs.Saved.{Holds, LeavesEither, LeavesOneOf, LeavesS
 pub use Rattle.checkpoint.specs.Snapshots.{MayCommit, Snapshots, freezing, journaled, left_in, moved, moved_saved, next_saved}
 pub use Rattle.checkpoint.specs.Store.{Continues, FrozenFrames, IsStabilizeAnswer, View, all_frozen, stabilized, whole}
 pub use Rattle.device.proofs.Images.{agrees_is}
-pub use Rattle.device.proofs.Moments.{CountsNow, OnlyNow, ends, goes_on_cut, leaves_on, leaves_weaker, started}
+pub use Rattle.device.proofs.Moments.{CountsNow, OnlyNow, goes_on_cut, leaves_on, leaves_weaker, started}
 pub use Rattle.device.specs.Calls.{Only}
 pub use Rattle.device.specs.Disk.{Disk, Image}
-pub use Rattle.device.specs.Moments.{Elapses, LeavesOnly}
+pub use Rattle.device.specs.Moments.{Elapses}
 pub use Rattle.device.specs.declared.device.Failed.{Failed}
 pub use Rattle.gate.proofs.BankStates.{counted_looked, counted_on}
 pub use Rattle.gate.proofs.Effects.{ok_no_err, ok_no_failure}
@@ -24,18 +24,16 @@ pub use Rattle.model.specs.Frame.{blank_frame, conveyed, frame_at, header_at, he
 unfoldable pub use Rattle.model.specs.Frame.{frames_in, objects_of}
 pub use Rattle.model.specs.Invoke.{Effect}
 unfoldable pub use Rattle.model.specs.Invoke.{invoke}
-pub use Rattle.model.specs.Keepable.{AreCurrent, AreKeepable, AreKeptWords, IsCurrent, IsKeepable, IsSoundFrames, MayBeKept, caps_in, world_at}
+pub use Rattle.model.specs.Keepable.{AreKeepable, AreKeptWords, IsCurrent, IsKeepable, IsSoundFrames, MayBeKept, caps_in, world_at}
 pub use Rattle.model.specs.Machine.{Down, Frozen, Machine, Running, Saved, Up, candidates, opened, touched_count, touching}
 unfoldable pub use Rattle.model.specs.Machine.{renewing, untouched}
 pub use Rattle.model.specs.Object.{is_free, is_page, map_content, role_of, words_in}
 pub use Rattle.model.specs.Revoke.{is_given_up}
 pub use Rattle.model.specs.Sound.{IsOfKind, IsSound, object_count}
-pub use Rattle.model.specs.Step.{Outcome, Reopens, Step, at_home, committed, gives_way, of_running, outcome, overfills, reached, second, shown, takes_memory}
-pub use Rattle.model.specs.Step.{unjournaled, unless, writable, writing}
+pub use Rattle.model.specs.Step.{Reopens, Step, at_home, committed, reached, second, shown, takes_memory, unjournaled, unless, writable, writing}
 unfoldable pub use Rattle.model.specs.Step.{carried_out, refusal_of}
-pub use Rattle.model.specs.World.{World, content_at, is_process, is_running_process, owner_at, word_at}
+pub use Rattle.model.specs.World.{World, content_at, is_process, is_running_process, owner_at}
 unfoldable pub use Rattle.model.specs.World.{with_content, with_word}
-pub use Rattle.model.specs.declared.access.Access.{Access}
 pub use Rattle.model.specs.declared.answer.Answer.{Answer}
 pub use Rattle.model.specs.declared.answer.MemoryFault.{MemoryFault}
 pub use Rattle.model.specs.declared.answer.Refusal.{Refusal}
@@ -66,17 +64,17 @@ pub use Rattle.recovery.specs.declared.live.Live.{Live}
 pub use Rattle.space_bank.proofs.Renewing.{one_all, renews_after, renews_none, unrisen}
 pub use Rattle.space_bank.specs.Banks.{AreCounted, BanksState}
 pub use Rattle.std.proofs.Common.{Bool, Err, List, None, Ok, Option, Result, Some, [], ap, append-nil, arith, false, inl, inr, length, length-set, map, not}
-pub use Rattle.std.proofs.Common.{refl, set, subst, suc, sym, true, zero, ℕ, ⊎_elim}
+pub use Rattle.std.proofs.Common.{refl, set, subst, sym, true, ℕ, ⊎_elim}
 pub use Rattle.std.proofs.Math.ListN.{get_or-map}
 pub use Rattle.std.proofs.Math.Seq.{map-set_same}
-pub use Rattle.std.proofs.lemmas.Bool.{cases_lt, ltb-false, ltb-true, ne_eqb}
+pub use Rattle.std.proofs.lemmas.Bool.{ltb-false, ltb-true, ne_eqb}
 pub use Rattle.std.proofs.lemmas.Bool.Decides.{nat_tests}
 pub use Rattle.std.proofs.lemmas.List.{ext_get_or, get_or_past, map-set}
 pub use Rattle.std.proofs.lemmas.List.Elements.{All-nil}
 pub use Rattle.std.proofs.lemmas.List.FromFn.{get_or-map-range_with_len, length-map-range_with_len}
 pub use Rattle.std.proofs.lemmas.Result.{err_from_is_err_and}
 pub use Rattle.std.specs.List.{All, Contains, range_with_len}
-pub use Rattle.std.specs.Prelude.{IfOk, IsErr, IsErrAnd, IsErrOf, nat_lt, option_map, slice_index_or}
+pub use Rattle.std.specs.Prelude.{IfOk, IsErr, IsErrOf, nat_lt, option_map, slice_index_or}
 pub use Rattle.kernel.specs.Machine.{IsEarly, MakesNoDeviceCall, Performs, answer_of, answer_with, code_with, machine_at, renewed_by}
 pub use Rattle.kernel.specs.Opening.{IsNoReason, IsSomeDown, Opens, Reopened, refused_by}
 pub use Rattle.kernel.specs.Power.{Power, power_of}

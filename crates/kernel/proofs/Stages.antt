@@ -1,10 +1,10 @@
 -- Steps of the machine: evictions, the stages of a checkpoint, and what opens it. What is sound stays sound through each stage.
-use Rattle.kernel.proofs.Names.{ℕ, Bool, true, Option, None, Some, List, [], refl, sym, ap, subst, arith, nat_tests, Geometry, Frozen}
-use Rattle.kernel.proofs.Names.{Saved, Running, Up, touched_count, untouched, object_count, Step, carried_out, committed, refusal_of, second, World}
-use Rattle.kernel.proofs.Names.{option_map, Frame, frames_in, objects_of, AreKeepable, IsSoundFrames, world_at, IsSound, Snapshots, freezing, moved_saved}
-use Rattle.kernel.proofs.Names.{next_saved, all_frozen, whole, at_home, Parts, Renews, frames_of, objects_in, keepable_later, most, SavedFrames, home_saved}
-use Rattle.kernel.proofs.Names.{FrozenFrames, stabilized, AreCounted, BanksState, saved_of, IsSoundSaved, AreSoundTogether, IsSoundFrozen, base_of, frozen_of}
-use Rattle.kernel.proofs.Names.{renewed_since, running_of, allocations_at, base_frozen}
+use Rattle.kernel.proofs.Names.{ℕ, Bool, true, Option, None, Some, List, [], refl, sym, ap, subst, arith, nat_tests, Geometry, Frozen, Saved, Running, Up}
+use Rattle.kernel.proofs.Names.{touched_count, untouched, object_count, Step, carried_out, committed, refusal_of, second, World, option_map, Frame, frames_in}
+use Rattle.kernel.proofs.Names.{objects_of, AreKeepable, IsSoundFrames, world_at, IsSound, Snapshots, freezing, moved_saved, next_saved, all_frozen, whole}
+use Rattle.kernel.proofs.Names.{at_home, Parts, Renews, frames_of, objects_in, keepable_later, most, SavedFrames, home_saved, FrozenFrames, stabilized}
+use Rattle.kernel.proofs.Names.{AreCounted, BanksState, saved_of, IsSoundSaved, AreSoundTogether, IsSoundFrozen, base_of, frozen_of, renewed_since, running_of}
+use Rattle.kernel.proofs.Names.{allocations_at, base_frozen}
 use Rattle.model.specs.Step.{moved}
 use Rattle.std.proofs.Common.{◌≡◌, ◌+◌, ◌-◌, ◌^◌, ◌<◌, ◌≤◌, ◌∷◌, ◌∙◌}
 use Rattle.std.specs.Prelude.{◌==◌, if◌then◌else◌}
@@ -61,7 +61,8 @@ module _ (g : Geometry) (s : Running) where
   not_stable f is more = search (arith, nat_tests)
 
   pub stabilize_step : (n : ℕ) (f : Frozen) → s.frozen ≡ Some f →
-      Step g (Up s) (command.Stabilize n) (answer.Left (f.left - n)) (Up (machine.freezing s (Some (record { world = f.world; size = f.size; left = f.left - n }))))
+      Step g (Up s) (command.Stabilize n) (answer.Left (f.left - n))
+      (Up (machine.freezing s (Some (record { world = f.world; size = f.size; left = f.left - n }))))
   unfolding refusal_of carried_out
   stabilize_step n f is = search (arith, nat_tests, done_step)
 

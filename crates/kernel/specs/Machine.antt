@@ -1,9 +1,9 @@
 -- The machine of present frames, and the steps over them.
-use Rattle.kernel.specs.Names.{ℕ, Bool, Option, None, Some, List, true, false, Result, Ok, Err, Failed, Answer, Refusal}
+use Rattle.kernel.specs.Names.{ℕ, Bool, Option, None, Some, List, true, false, Result, Ok, Err, Answer, Refusal}
 use Rattle.kernel.specs.Names.{Command, Invocation, Geometry, Object, ResultCode, IsSoundFrames, world_at, Frozen}
 use Rattle.kernel.specs.Names.{Saved, Machine, Up, renewing, Step, is_process, is_running_process, Parts, Renews}
 use Rattle.kernel.specs.Names.{frames_of, objects_in, result_code}
-use Rattle.std.specs.Prelude.{◌≡◌, ◌≢◌, ◌↔◌, ◌<◌, ◌≤◌}
+use Rattle.std.specs.Prelude.{◌≡◌, ◌↔◌, ◌<◌, ◌≤◌}
 use Rattle.model.specs.declared.answer.Answer.TheVariants as answer
 use Rattle.model.specs.declared.answer.Refusal.TheVariants as refusal
 
@@ -23,15 +23,10 @@ machine_at age p renewed frozen saved to_move =
 abbrev pub renewed_by : List Bool → Parts → Parts → List Bool
 renewed_by renewed old new = renewing renewed (objects_in old) (objects_in new)
 
--- what a step is answered by: a failure of the device by `Fault`
-abbrev pub answer_of : Result Answer Failed → Answer
+-- what a step is answered by
+abbrev pub answer_of : Result Answer Refusal → Answer
 answer_of (Ok a) = a
-answer_of (Err failed) = answer.Refused refusal.Fault
-
--- `Fault` comes only as an error
-abbrev pub IsReportedOnce : Result Answer Failed → Type 0
-IsReportedOnce (Ok a) = a ≢ answer.Refused refusal.Fault
-IsReportedOnce (Err failed) = Unit {0}
+answer_of (Err why) = answer.Refused why
 
 -- what an invocation is answered by
 abbrev pub answer_with : Result (Option ResultCode) Refusal → Answer

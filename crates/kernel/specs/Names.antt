@@ -5,7 +5,6 @@ pub use Rattle.checkpoint.specs.Store.{View}
 pub use Rattle.checkpoint.specs.declared.committed.Checkpoint.{Checkpoint}
 pub use Rattle.device.specs.Calls.{Only}
 pub use Rattle.device.specs.Disk.{Disk, Image}
-pub use Rattle.device.specs.declared.device.Failed.{Failed}
 pub use Rattle.gate.specs.Invoke.{result_code}
 pub use Rattle.layout.specs.declared.open_fault.OpenFault.{OpenFault}
 pub use Rattle.model.specs.Keepable.{IsSoundFrames, world_at}

@@ -1,14 +1,13 @@
 // One page is saved beside the checkpoints. It takes no memory.
-ghost use Rattle.std.specs.Prelude.{◌≡◌};
+ghost use Rattle.std.specs.Prelude.{◌≡◌, ◌≢◌, IfOk};
 ghost use Rattle.model.specs.declared.command.Command.TheVariants as command;
-ghost use Rattle.kernel.specs.Machine.{IsReportedOnce, MakesNoDeviceCall, answer_of};
+ghost use Rattle.kernel.specs.Machine.{MakesNoDeviceCall, answer_of};
 ghost use Rattle.recovery.specs.Live.{IsSomeUp, disk_at};
 ghost use Rattle.kernel.specs.Standing.{IsCaused, ServesUp};
 
 use crate::age::is_worn;
-use crate::checkpoints::refused;
 use checkpoint::ObjectStore;
-use device::{Device, Failed};
+use device::Device;
 use model::{Answer, Refusal};
 use recovery::Live;
 
@@ -18,30 +17,26 @@ use recovery::Live;
 /// It is refused by the first that applies of `Worn` at the greatest age, `CheckpointRunning` where
 /// a checkpoint is on its way, `MigrationPending` where what is saved isn't home, `BadNumber` where
 /// no object has the number, and `NotJournaled`, with `NotPage` where the object isn't a page, else
-/// with `Renewed` where none is saved, or the one that is was given up since. Where it fails, as
-/// the device does, what is saved is that before or that with the page.
+/// with `Renewed` where none is saved, or the one that is was given up since. `Fault` if the device
+/// failed: then what is saved is that before or that with the page.
 #[inline(never)]
 pub fn journal<D: Device, S: ObjectStore<D>>(
     live: &mut Live<S>,
     number: u64,
-) -> Result<Answer, Failed>
+) -> Result<Answer, Refusal>
     requires { IsSomeUp D.disk S.view S.parts live.old }
     ensures serves { ServesUp D.disk S.view S.parts live.old (command.Journal number) (answer_of result) live.new }
     ensures cause { IsCaused (disk_at D.disk S.view S.parts live.old)
         (disk_at D.disk S.view S.parts live.new) (answer_of result) }
     ensures untouched { MakesNoDeviceCall (answer_of result)
         → (S.view live.new.store).beneath ≡ (S.view live.old.store).beneath }
-    ensures reported_once { IsReportedOnce result }
+    ensures no_fault { IfOk result (λ answer. answer ≢ Answer.Refused Refusal.Fault) }
 {
     if is_worn(live.age) {
-        return Ok(Answer::Refused(Refusal::Worn));
+        return Err(Refusal::Worn);
     }
     let age = live.store.saved().age + 1;
-    match live.store.journal(number, age) {
-        Ok(generation) => {
-            live.age += 1;
-            Ok(Answer::Journaled(generation))
-        }
-        Err(why) => refused(why),
-    }
+    let generation = live.store.journal(number, age)?;
+    live.age += 1;
+    Ok(Answer::Journaled(generation))
 }

@@ -17,7 +17,7 @@ ghost use Rattle.kernel.specs.Opening.{IsNoReason, IsSomeDown, Opens, Reopened, 
 use crate::processes::Served;
 use crate::serving::{invoke, serve};
 use checkpoint::{Checkpoint, ObjectStore, OpenFault, OpenRefused};
-use device::{Device, Failed};
+use device::Device;
 use model::{Answer, Command, Invocation, Refusal, ResultCode};
 use recovery::{Live, recover, recover_in};
 use std::alloc::Global;
@@ -177,10 +177,13 @@ impl<D: Device, S: ObjectStore<D>> Kernel<D, S> {
         match &mut self.live {
             Some(live) => match serve::<D, S>(alloc, live, command) {
                 Ok(answer) => answer,
-                Err(Failed) => {
-                    go_down::<D, S>(&mut self.live, &mut self.device, &mut self.memory);
-                    Answer::Refused(Refusal::Fault)
-                }
+                Err(why) => match why {
+                    Refusal::Fault => {
+                        go_down::<D, S>(&mut self.live, &mut self.device, &mut self.memory);
+                        Answer::Refused(Refusal::Fault)
+                    }
+                    refusal => Answer::Refused(refusal),
+                },
             },
             None => Answer::Refused(Refusal::Down),
         }

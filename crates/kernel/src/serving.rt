@@ -1,17 +1,17 @@
 // What a machine that is up serves.
-ghost use Rattle.std.specs.Prelude.{◌≡◌, false, IfOk};
+ghost use Rattle.std.specs.Prelude.{◌≡◌, ◌≢◌, false, IfOk};
 ghost use Rattle.model.specs.declared.command.Command.TheVariants as command;
 ghost use Rattle.model.specs.declared.command.Command.TheVariants.{Invoke};
 ghost use Rattle.model.specs.declared.command.Invocation.{Invocation};
 ghost use Rattle.model.specs.Step.{opens};
 ghost use Rattle.kernel.specs.Power as power;
-ghost use Rattle.kernel.specs.Machine.{IsReportedOnce, MakesNoDeviceCall, answer_of, answer_with};
+ghost use Rattle.kernel.specs.Machine.{MakesNoDeviceCall, answer_of, answer_with};
 ghost use Rattle.recovery.specs.Live.{IsSomeUp, disk_at};
 ghost use Rattle.kernel.specs.Standing.{HasCode, HasNoneToMove, IsCaused, ServesUp, done_with};
 
 use crate::{checkpoints, journaling, processes};
 use checkpoint::ObjectStore;
-use device::{Device, Failed};
+use device::Device;
 use model::{Answer, Command, Invocation, Refusal, ResultCode};
 use recovery::Live;
 use std::alloc::Global;
@@ -19,31 +19,31 @@ use std::alloc::Global;
 // Evicts an object from memory. It is refused by `BadNumber` if no object has the number, and makes
 // no call of the device then.
 #[inline(never)]
-fn evict<D: Device, S: ObjectStore<D>>(live: &mut Live<S>, number: u64) -> Result<Answer, Failed>
+fn evict<D: Device, S: ObjectStore<D>>(live: &mut Live<S>, number: u64) -> Result<Answer, Refusal>
     requires { IsSomeUp D.disk S.view S.parts live.old }
     ensures serves { ServesUp D.disk S.view S.parts live.old (command.Evict number) (answer_of result) live.new }
     ensures cause { IsCaused (disk_at D.disk S.view S.parts live.old)
         (disk_at D.disk S.view S.parts live.new) (answer_of result) }
     ensures untouched { MakesNoDeviceCall (answer_of result)
         → (S.view live.new.store).beneath ≡ (S.view live.old.store).beneath }
-    ensures reported_once { IsReportedOnce result }
+    ensures no_fault { IfOk result (λ answer. answer ≢ Answer.Refused Refusal.Fault) }
 {
     if number >= live.store.table().count() {
-        return Ok(Answer::Refused(Refusal::BadNumber));
+        return Err(Refusal::BadNumber);
     }
     live.store.evict(number)?;
     Ok(Answer::Done)
 }
 
 /// Serves a command that isn't an invocation and doesn't open the device, by a store that is up. Only
-/// `Show` takes memory. Fails exactly if the device fails.
+/// `Show` takes memory. `Fault` exactly if the device failed.
 #[tactic(auto, using(crate::proofs::Acts::caused))]
 #[inline(always)]
 pub fn serve<D: Device, S: ObjectStore<D>>(
     alloc: Global,
     live: &mut Live<S>,
     command: Command,
-) -> Result<Answer, Failed>
+) -> Result<Answer, Refusal>
     requires up { IsSomeUp D.disk S.view S.parts live.old }
     requires goes_on { opens command ≡ false }
     requires other { (i : Invocation) → command ≡ Invoke i → ⊥ }
@@ -54,7 +54,7 @@ pub fn serve<D: Device, S: ObjectStore<D>>(
         → (S.view live.new.store).beneath ≡ (S.view live.old.store).beneath }
     ensures none_to_move { HasNoneToMove D.disk S.view S.parts (power.Up live.old) command
         → (S.view live.new.store).beneath ≡ (S.view live.old.store).beneath }
-    ensures reported_once { IsReportedOnce result }
+    ensures no_fault { IfOk result (λ answer. answer ≢ Answer.Refused Refusal.Fault) }
 {
     match command {
         Command::Load { process, address } => {

@@ -1,37 +1,35 @@
 // The steps of loads and stores.
-ghost use Rattle.std.specs.Prelude.{◌≡◌};
+ghost use Rattle.std.specs.Prelude.{◌≡◌, ◌≢◌, IfOk};
 ghost use Rattle.model.specs.declared.command.Command.TheVariants as command;
 ghost use Rattle.model.specs.Keepable.{IsSoundFrames};
 ghost use Rattle.capability.specs.Parts.{OnlyFetches, frames_of, objects_in};
 ghost use Rattle.space_bank.specs.Banks.{AreCounted, BanksState};
-ghost use Rattle.kernel.specs.Machine.{IsReportedOnce, MakesNoDeviceCall, Performs, answer_of};
+ghost use Rattle.kernel.specs.Machine.{MakesNoDeviceCall, Performs, answer_of};
 
-use crate::checkpoints::refused;
 use crate::processes::early::early;
 use capability::{Frames, PresentFrames};
-use device::Failed;
-use model::Answer;
+use model::{Answer, Refusal};
 
 /// Reads the word at an address in the address space of a process, at an age, which stays.
 ///
 /// The answer is `Value`, or `MemoryFault` where the walk stops. It is refused by the first that
-/// applies of `NoProcess` and `NotRunning`. It fails exactly if the device fails. Nothing is changed,
+/// applies of `NoProcess` and `NotRunning`. `Fault` exactly if the device failed. Nothing is changed,
 /// and at `NoProcess` the store isn't touched.
 pub fn load<F: Frames>(
     store: &mut F,
     age: u64,
     process: u64,
     address: u64,
-) -> Result<Answer, Failed>
+) -> Result<Answer, Refusal>
     requires { IsSoundFrames (F.parts store.old).geometry age (frames_of (F.parts store.old)) }
     ensures serves { Performs age (F.parts store.old) (command.Load process address) (answer_of result)
         age (F.parts store.new) }
     ensures untouched { MakesNoDeviceCall (answer_of result) → store.new ≡ store.old }
-    ensures reported_once { IsReportedOnce result }
+    ensures no_fault { IfOk result (λ answer. answer ≢ Answer.Refused Refusal.Fault) }
     ensures snapshots { OnlyFetches F.parts F.ContinuesTo store.old store.new }
 {
     if let Some(why) = early(store, age, process)? {
-        return Ok(Answer::Refused(why));
+        return Err(why);
     }
     match address_space::load(store, process, address)? {
         Ok(word) => Ok(Answer::Value(word)),
@@ -43,8 +41,8 @@ pub fn load<F: Frames>(
 ///
 /// The answer is `Done`, or `MemoryFault` if the walk stops or the page is read-only; a memory fault
 /// precedes `LogFull`. A refusal changes nothing: the first that applies of `NoProcess` (the store is
-/// untouched), `NotRunning` and `LogFull`. Fails exactly if the device fails. The counts of `Banks`
-/// stay right.
+/// untouched), `NotRunning` and `LogFull`. `Fault` exactly if the device failed. The counts of
+/// `Banks` stay right.
 #[tactic(auto, using(gate::proofs::BankStates::counted_looked, gate::proofs::Standing::looked_as))]
 pub fn store<F: PresentFrames>(
     store: &mut F,
@@ -52,12 +50,12 @@ pub fn store<F: PresentFrames>(
     process: u64,
     address: u64,
     word: u64,
-) -> Result<Answer, Failed>
+) -> Result<Answer, Refusal>
     requires { IsSoundFrames (F.parts store.old).geometry age (frames_of (F.parts store.old)) }
     ensures serves { Performs age (F.parts store.old) (command.Store process address word)
         (answer_of result) age (F.parts store.new) }
     ensures untouched { MakesNoDeviceCall (answer_of result) → store.new ≡ store.old }
-    ensures reported_once { IsReportedOnce result }
+    ensures no_fault { IfOk result (λ answer. answer ≢ Answer.Refused Refusal.Fault) }
     ensures counted { (banks : BanksState) → AreCounted (F.parts store.old).geometry
         (objects_in (F.parts store.old)) banks
         → AreCounted (F.parts store.new).geometry
@@ -65,11 +63,10 @@ pub fn store<F: PresentFrames>(
     ensures continues { F.ContinuesTo store.old store.new }
 {
     if let Some(why) = early(store, age, process)? {
-        return Ok(Answer::Refused(why));
+        return Err(why);
     }
-    match address_space::store(store, process, address, word) {
-        Ok(Ok(())) => Ok(Answer::Done),
-        Ok(Err(fault)) => Ok(Answer::MemoryFault(fault)),
-        Err(why) => refused(why),
+    match address_space::store(store, process, address, word)? {
+        Ok(()) => Ok(Answer::Done),
+        Err(fault) => Ok(Answer::MemoryFault(fault)),
     }
 }

@@ -1,5 +1,5 @@
 // The step of showing an object.
-ghost use Rattle.std.specs.Prelude.{◌≡◌, ◌<◌, IfOk, IsTrue, length, if◌then◌else◌, slice_index};
+ghost use Rattle.std.specs.Prelude.{◌≡◌, ◌≢◌, ◌<◌, IfOk, IsTrue, length, if◌then◌else◌, slice_index};
 ghost use Rattle.model.specs.declared.command.Command.TheVariants as command;
 ghost use Rattle.model.specs.Keepable.{AreKeepable, IsSoundFrames};
 ghost use Rattle.model.specs.Step.{shown};
@@ -7,11 +7,9 @@ ghost use Rattle.model.specs.Object.{is_annex, is_bank, slots_in};
 ghost use Rattle.model.specs.World.{content_at};
 ghost use Rattle.capability.specs.Parts.{OnlyReads, OnlyFetches, frames_of, objects_in};
 ghost use Rattle.space_bank.specs.Banks.{AreCounted};
-ghost use Rattle.kernel.specs.Machine.{IsReportedOnce, MakesNoDeviceCall, Performs, answer_of};
+ghost use Rattle.kernel.specs.Machine.{MakesNoDeviceCall, Performs, answer_of};
 
-use crate::checkpoints::refused;
 use capability::{Frames, view};
-use device::Failed;
 use model::{Answer, Capability, Content, Description, Refusal, Shown, Slots};
 use space_bank::Banks;
 use std::alloc::Global;
@@ -80,14 +78,14 @@ fn shown<F: Frames>(
 /// Shows the object with a number.
 ///
 /// It is refused by `BadNumber` if no object has the number, and the store isn't touched then; and by
-/// `NoMemory` if memory ran out. It fails exactly if the device fails.
+/// `NoMemory` if memory ran out. `Fault` exactly if the device failed.
 pub fn show<F: Frames>(
     alloc: Global,
     store: &mut F,
     banks: &Banks,
     age: u64,
     number: u64,
-) -> Result<Answer, Failed>
+) -> Result<Answer, Refusal>
     requires sound { IsSoundFrames (F.parts store.old).geometry age
         (frames_of (F.parts store.old)) }
     requires counted { AreCounted (F.parts store.old).geometry
@@ -95,14 +93,11 @@ pub fn show<F: Frames>(
     ensures serves { Performs age (F.parts store.old) (command.Show number) (answer_of result) age
         (F.parts store.new) }
     ensures untouched { MakesNoDeviceCall (answer_of result) → store.new ≡ store.old }
-    ensures reported_once { IsReportedOnce result }
+    ensures no_fault { IfOk result (λ answer. answer ≢ Answer.Refused Refusal.Fault) }
     ensures snapshots { OnlyFetches F.parts F.ContinuesTo store.old store.new }
 {
     if number >= store.table().count() {
-        return Ok(Answer::Refused(Refusal::BadNumber));
+        return Err(Refusal::BadNumber);
     }
-    match shown(alloc, store, banks, age, number) {
-        Ok(answer) => Ok(answer),
-        Err(why) => refused(why),
-    }
+    shown(alloc, store, banks, age, number)
 }

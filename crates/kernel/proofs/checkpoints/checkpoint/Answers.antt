@@ -1,4 +1,4 @@
-use Rattle.kernel.proofs.Names.{left_in, whole, ap, running}
+use Rattle.kernel.proofs.Names.{err_from_is_err_and, left_in, whole, ap, running}
 use Rattle.model.specs.declared.answer.Refusal.TheVariants as refusal
 use Rattle.model.specs.declared.command.Command.TheVariants as command
 use Rattle.kernel.proofs.Acts.{begun, freeze_cause, freeze_looks, freeze_refused, refused}
@@ -15,22 +15,23 @@ freeze-requires g c =
     let up = c.requires in
     record { keepable = keepable_most up.0 (g.S.Frames.parts c.args.live.now.store) c.args.live.now.age up.1.sound.geometry up.1.sound.now }
 
-pub returns-in-Ok-clause-serves : goal.returns-in-Ok-clause-serves
-returns-in-Ok-clause-serves g c =
-    let said = c.in-Ok.ensures in
-    begun _ _ _ g.met.D.Device.only_now g.met.S.ObjectStore.sound_holds c.args.live.now c.freeze.new.self c.in-Ok.size
+pub returns-clause-serves : goal.returns-clause-serves
+returns-clause-serves g c =
+    let said = c.in_ok-size.ensures in
+    begun _ _ _ g.met.D.Device.only_now g.met.S.ObjectStore.sound_holds c.args.live.now c.freeze.new.self c.in_ok-size.size
     (c.is_worn.ensures.young c.if-is_worn.false) (none_there (g.S.ObjectStore.view c.args.live.now.store).snapshots.frozen said.answer.0) said.answer.1
     (frames_again (g.S.Frames.parts c.args.live.now.store) (g.S.Frames.parts c.freeze.new.self) said.headers said.contents)
     said.touched said.geometry said.size said.snapshots said.beneath said.sound
 
-pub returns-in-Err : goal.returns-in-Err
-returns-in-Err g c =
+pub returns-in_err-size : goal.returns-in_err-size
+returns-in_err-size g c =
+    let p = err_from_is_err_and c.from_residual.result c.from_residual.ensures.1 in
     let snapshots = (g.S.ObjectStore.view c.args.live.now.store).snapshots in
-    let said = c.in-Err.ensures in
-    rw c.refused.ensures.answer (record {
-      serves = freeze_refused _ _ _ g.met.D.Device.only_now g.met.S.ObjectStore.sound_holds c.args.live.now c.freeze.new.self c.in-Err.why said.unchanged
+    let said = c.in_err-size.ensures in
+    rw (p.1, p.2) (record {
+      serves = freeze_refused _ _ _ g.met.D.Device.only_now g.met.S.ObjectStore.sound_holds c.args.live.now c.freeze.new.self _ said.unchanged
           (c.is_worn.ensures.young c.if-is_worn.false) said.answer;
-      cause = freeze_cause _ _ (left_in whole snapshots) snapshots.saved.entries c.in-Err.why said.answer (ap (λ d. (g.D.Device.disk d).failures) said.beneath);
-      only_reads = freeze_looks (left_in whole snapshots) snapshots.saved.entries c.in-Err.why said.answer;
-      reported_once = c.refused.ensures.reported_once;
+      cause = freeze_cause _ _ (left_in whole snapshots) snapshots.saved.entries _ said.answer (ap (λ d. (g.D.Device.disk d).failures) said.beneath);
+      only_reads = freeze_looks (left_in whole snapshots) snapshots.saved.entries _ said.answer;
+      no_fault = tt;
     })

@@ -1,4 +1,5 @@
-use Rattle.kernel.proofs.Acts.{err_answer, migrate_failed, migrate_went}
+use Rattle.kernel.proofs.Names.{err_from_is_err_and}
+use Rattle.kernel.proofs.Acts.{migrate_failed, migrate_went}
 use Rattle.kernel.proofs.checkpoints.migrate.Goals as goal
 
 pub returns-clause-serves : goal.returns-clause-serves
@@ -11,6 +12,7 @@ returns-clause-serves g c =
 pub returns-in_err-left-clause-serves : goal.returns-in_err-left-clause-serves
 returns-in_err-left-clause-serves g c =
     let said = c.in_err-left.ensures in
-    rw (err_answer _ c.from_residual.result c.from_residual.ensures.1)
+    let p = err_from_is_err_and c.from_residual.result c.from_residual.ensures.1 in
+    rw (p.1, p.2)
     (migrate_failed _ _ _ g.met.D.Device.only_now g.met.S.ObjectStore.sound_holds c.args.live.now c.migrate.new.self
     (record { headers = said.headers; contents = said.contents; touched = said.touched; geometry = said.geometry }) said.size c.args.count said.any_moment)

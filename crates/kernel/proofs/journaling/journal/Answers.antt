@@ -1,4 +1,4 @@
-use Rattle.kernel.proofs.Names.{left_in, whole, ap, length, nat_lt, is_page_now, is_still_saved}
+use Rattle.kernel.proofs.Names.{err_from_is_err_and, left_in, whole, ap, length, nat_lt, is_page_now, is_still_saved}
 use Rattle.kernel.proofs.Journals.{journal_cause, journal_refused, journal_went, sound_done, too_old, unlooked_same}
 use Rattle.kernel.proofs.Stages.{keepable_most, none_there}
 use Rattle.kernel.proofs.journaling.journal.Goals as goal
@@ -12,27 +12,29 @@ journal-requires-clause-keepable g c =
     let up = c.requires in
     keepable_most up.0 (g.S.Frames.parts c.args.live.now.store) c.args.live.now.age up.1.sound.geometry up.1.sound.now
 
-pub returns-in-Ok-clause-serves : goal.returns-in-Ok-clause-serves
-returns-in-Ok-clause-serves g c =
+pub returns-clause-serves : goal.returns-clause-serves
+returns-clause-serves g c =
     let snapshots = (g.S.ObjectStore.view c.args.live.now.store).snapshots in
-    let said = c.in-Ok.ensures in
+    let said = c.in_ok-generation.ensures in
     let reported = said.answer in
     journal_went _ _ _ g.met.D.Device.only_now g.met.S.ObjectStore.sound_holds c.args.live.now c.journal.new.self c.args.number
     (c.is_worn.ensures.young c.if-is_worn.false) (record { headers = said.headers; contents = said.contents; touched = said.touched; geometry = said.geometry })
-    said.size (rw c.saved-age.ensures.age at said.any_moment) (none_there snapshots.frozen reported.1) reported.2 reported.3 reported.4 c.in-Ok.generation
-    reported.5 (rw c.saved-age.ensures.age at said.snapshots) (sound_done c.in-Ok.generation said.sound)
+    said.size (rw c.saved-age.ensures.age at said.any_moment) (none_there snapshots.frozen reported.1) reported.2 reported.3 reported.4
+    c.in_ok-generation.generation
+    reported.5 (rw c.saved-age.ensures.age at said.snapshots) (sound_done c.in_ok-generation.generation said.sound)
 
-pub returns-in-Err : goal.returns-in-Err
-returns-in-Err g c =
+pub returns-in_err-generation : goal.returns-in_err-generation
+returns-in_err-generation g c =
+    let failed = err_from_is_err_and c.from_residual.result c.from_residual.ensures.1 in
     let p = g.S.Frames.parts c.args.live.now.store in
     let old = g.D.Device.disk (g.S.ObjectStore.view c.args.live.now.store).beneath in
     let new = g.D.Device.disk (g.S.ObjectStore.view c.journal.new.self).beneath in
     let snapshots = (g.S.ObjectStore.view c.args.live.now.store).snapshots in
     let n = c.args.number in
-    let said = c.in-Err.ensures in
-    rw c.refused.ensures.answer (record {
+    let said = c.in_err-generation.ensures in
+    rw (failed.1, failed.2) (record {
       serves = journal_refused _ _ _ g.met.D.Device.only_now g.met.S.ObjectStore.sound_holds c.args.live.now c.journal.new.self n
-          (c.is_worn.ensures.young c.if-is_worn.false) c.in-Err.why (record {
+          (c.is_worn.ensures.young c.if-is_worn.false) _ (record {
             headers = said.headers;
             contents = said.contents;
             touched = said.touched;
@@ -40,8 +42,8 @@ returns-in-Err g c =
           })
           said.size said.answer said.turned_away said.unchanged said.sound (rw c.saved-age.ensures.age at said.any_moment);
       cause = journal_cause old new (left_in whole snapshots) snapshots.saved (nat_lt n (length p.headers)) (is_page_now p n)
-          (is_still_saved p snapshots.saved n) c.in-Err.why said.answer;
+          (is_still_saved p snapshots.saved n) _ said.answer;
       untouched = λ is. ap (λ s. (g.S.ObjectStore.view s).beneath) (unlooked_same old new (left_in whole snapshots) snapshots.saved
-          (nat_lt n (length p.headers)) (is_page_now p n) (is_still_saved p snapshots.saved n) c.in-Err.why said.answer said.turned_away is);
-      reported_once = c.refused.ensures.reported_once;
+          (nat_lt n (length p.headers)) (is_page_now p n) (is_still_saved p snapshots.saved n) _ said.answer said.turned_away is);
+      no_fault = tt;
     })

@@ -1,5 +1,5 @@
-use Rattle.kernel.proofs.Names.{length, ap, arith}
-use Rattle.kernel.proofs.Acts.{bad_number, err_answer, evict_failed, evicted}
+use Rattle.kernel.proofs.Names.{err_from_is_err_and, length, ap, arith}
+use Rattle.kernel.proofs.Acts.{bad_number, evict_failed, evicted}
 use Rattle.kernel.proofs.Stages.{keepable_most}
 use Rattle.kernel.proofs.serving.evict.Goals as goal
 
@@ -23,6 +23,7 @@ returns-clause-serves g c =
 
 pub returns-in_err-evict-clause-serves : goal.returns-in_err-evict-clause-serves
 returns-in_err-evict-clause-serves g c =
-    rw (err_answer _ c.from_residual.result c.from_residual.ensures.1)
+    let p = err_from_is_err_and c.from_residual.result c.from_residual.ensures.1 in
+    rw (p.1, p.2)
     (evict_failed _ _ _ g.met.D.Device.only_now g.met.S.ObjectStore.sound_holds c.args.live.now c.evict.new.self
     (g.met.S.ObjectStore.continues c.args.live.now.store c.evict.new.self c.in_err-evict.ensures.continues) c.args.number)

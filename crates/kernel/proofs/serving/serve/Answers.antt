@@ -1,6 +1,6 @@
 use Rattle.kernel.proofs.Names.{arith, answer_of}
 use Rattle.model.specs.declared.command.Command.TheVariants as command
-use Rattle.kernel.proofs.Acts.{acted, still_counted, up_counted}
+use Rattle.kernel.proofs.Acts.{acted, caused, still_counted, up_counted}
 use Rattle.kernel.proofs.serving.serve.Goals as goal
 
 pub returns-in-Load-clause-serves : goal.returns-in-Load-clause-serves
@@ -46,3 +46,18 @@ returns-in-Journal-clause-serves g c = rw c.in-Journal.is c.journal.ensures.serv
 
 pub returns-in-Migrate-clause-serves : goal.returns-in-Migrate-clause-serves
 returns-in-Migrate-clause-serves g c = rw c.in-Migrate.is c.migrate.ensures.serves
+
+pub returns-in-Load-clause-cause : goal.returns-in-Load-clause-cause
+returns-in-Load-clause-cause g c =
+    let failures = g.met.S.ObjectStore.failures_are in
+    caused (failures c.args.live.now.store) (failures c.load.new.store) c.load.ensures.serves
+
+pub returns-in-Store-clause-cause : goal.returns-in-Store-clause-cause
+returns-in-Store-clause-cause g c =
+    let failures = g.met.S.ObjectStore.failures_are in
+    caused (failures c.args.live.now.store) (failures c.store.new.store) c.store.ensures.serves
+
+pub returns-in-Show-clause-cause : goal.returns-in-Show-clause-cause
+returns-in-Show-clause-cause g c =
+    let failures = g.met.S.ObjectStore.failures_are in
+    caused (failures c.args.live.now.store) (failures c.show.new.store) c.show.ensures.serves

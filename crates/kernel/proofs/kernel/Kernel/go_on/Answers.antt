@@ -1,4 +1,5 @@
 use Rattle.kernel.proofs.Names.{refl}
+use Rattle.std.proofs.Common.{◌≡◌}
 use Rattle.model.specs.declared.answer.Answer.TheVariants as answer
 use Rattle.model.specs.declared.answer.Refusal.TheVariants as refusal
 use Rattle.kernel.specs.Power as power
@@ -13,35 +14,48 @@ pub invariant_of-self : goal.invariant_of-self
 invariant_of-self g c =
     some_after _ _ _ (power.Up c.in-Some.live) (power.Up c.serve.new.live) c.args.command c.in-Ok.answer
     (stays_up _ _ _ c.in-Some.live c.serve.new.live c.args.command c.in-Ok.answer
-    c.in-Ok.ensures.reported_once c.in-Ok.ensures.serves) (some_up _ _ _ c.self.inside.live c.self.inside.device c.in-Some.live c.in-Some.is
+    c.in-Ok.ensures.no_fault c.in-Ok.ensures.serves) (some_up _ _ _ c.self.inside.live c.self.inside.device c.in-Some.live c.in-Some.is
     c.self.invariant)
 
-pub invariant_of-self-in-Err : goal.invariant_of-self-in-Err
-invariant_of-self-in-Err g c =
+pub invariant_of-self-in-Fault : goal.invariant_of-self-in-Fault
+invariant_of-self-in-Fault g c =
     let device = (g.S.ObjectStore.view c.serve.new.live.store).beneath in
     rw (c.go_down.ensures.down, c.go_down.ensures.device device refl) (some_after _ _ _ (power.Up c.in-Some.live)
     (power.Down device) c.args.command (answer.Refused refusal.Fault) (goes_down _ _ _ c.in-Some.live c.serve.new.live c.args.command
-    device (g.met.D.Device.counts_now _) c.in-Err.ensures.serves refl)
+    device (g.met.D.Device.counts_now _) (rw c.in-Fault.is at c.in-Err.ensures.serves) refl)
     (some_up _ _ _ c.self.inside.live c.self.inside.device c.in-Some.live c.in-Some.is
     c.self.invariant))
 
 pub returns-in-Ok-clause-serves : goal.returns-in-Ok-clause-serves
 returns-in-Ok-clause-serves g c =
     rw (← c.self.view_is, c.in-Some.is) (stays_up _ _ _ c.in-Some.live c.serve.new.live c.args.command c.in-Ok.answer
-    c.in-Ok.ensures.reported_once c.in-Ok.ensures.serves)
+    c.in-Ok.ensures.no_fault c.in-Ok.ensures.serves)
 
-pub returns-in-Err-clause-serves : goal.returns-in-Err-clause-serves
-returns-in-Err-clause-serves g c =
+pub returns-in-Fault-clause-serves : goal.returns-in-Fault-clause-serves
+returns-in-Fault-clause-serves g c =
     let device = (g.S.ObjectStore.view c.serve.new.live.store).beneath in
     rw (← c.self.view_is, c.in-Some.is, c.go_down.ensures.down, c.go_down.ensures.device device refl)
     (goes_down _ _ _ c.in-Some.live c.serve.new.live c.args.command
-    device (g.met.D.Device.counts_now _) c.in-Err.ensures.serves refl)
+    device (g.met.D.Device.counts_now _) (rw c.in-Fault.is at c.in-Err.ensures.serves) refl)
 
-pub returns-in-Err-clause-cause : goal.returns-in-Err-clause-cause
-returns-in-Err-clause-cause g c =
+pub returns-in-Fault-clause-cause : goal.returns-in-Fault-clause-cause
+returns-in-Fault-clause-cause g c =
     rw (
       ← c.self.view_is,
       c.in-Some.is,
       c.go_down.ensures.down,
       c.go_down.ensures.device (g.S.ObjectStore.view c.serve.new.live.store).beneath refl,
-    ) c.in-Err.ensures.cause
+    ) (rw c.in-Fault.is at c.in-Err.ensures.cause)
+
+pub invariant_of-self-in_default : goal.invariant_of-self-in_default
+invariant_of-self-in_default g c =
+    let told = answer.Refused c.in-Err.why in
+    some_after _ _ _ (power.Up c.in-Some.live) (power.Up c.serve.new.live) c.args.command told
+    (stays_up _ _ _ c.in-Some.live c.serve.new.live c.args.command told
+    (λ e. let is : c.in-Err.why ≡ refusal.Fault = cc in c.in_default.not-Fault is) c.in-Err.ensures.serves)
+    (some_up _ _ _ c.self.inside.live c.self.inside.device c.in-Some.live c.in-Some.is c.self.invariant)
+
+pub returns-in_default-clause-serves : goal.returns-in_default-clause-serves
+returns-in_default-clause-serves g c =
+    rw (← c.self.view_is, c.in-Some.is) (stays_up _ _ _ c.in-Some.live c.serve.new.live c.args.command (answer.Refused c.in-Err.why)
+    (λ e. let is : c.in-Err.why ≡ refusal.Fault = cc in c.in_default.not-Fault is) c.in-Err.ensures.serves)
