@@ -4,6 +4,7 @@ pub use Rattle.device.specs.Calls.{Agrees, Narrows, Only}
 pub use Rattle.device.specs.Disk.{Disk, Image}
 pub use Rattle.device.specs.Moments.{LeavesOnly, Peeks}
 pub use Rattle.layout.specs.Image.{Encodes, IsBadBy, SavedState}
+pub use Rattle.layout.specs.declared.open_fault.OpenFault.{OpenFault}
 pub use Rattle.model.specs.Frame.{frame_at, header_at, held_at}
 pub use Rattle.model.specs.Keepable.{AreKeepable}
 unfoldable pub use Rattle.model.specs.Machine.{untouched}
@@ -12,5 +13,5 @@ pub use Rattle.model.specs.declared.answer.Refusal.{Refusal}
 pub use Rattle.model.specs.declared.frame.Frame.{Frame}
 pub use Rattle.model.specs.declared.geometry.Geometry.{Geometry}
 pub use Rattle.model.specs.declared.object.Role.{Role}
-pub use Rattle.std.specs.Prelude.{Bool, Err, IsErrOf, List, None, Ok, Option, Result, Some, false, option_map}
-pub use Rattle.std.specs.Prelude.{slice_set, true, ℕ, ⊤}
+pub use Rattle.std.specs.Prelude.{Bool, Err, List, None, Ok, Option, Result, Some, false, option_map, slice_set, true}
+pub use Rattle.std.specs.Prelude.{ℕ, ⊤}

@@ -1,7 +1,6 @@
 -- The results of opening a device, and why one isn't opened.
-use Rattle.checkpoint.specs.Names.{ℕ, ⊤, Image, Disk, Agrees, Narrows, Peeks, IsBadBy}
+use Rattle.checkpoint.specs.Names.{ℕ, ⊤, Image, Disk, Agrees, Narrows, Peeks, IsBadBy, OpenFault}
 use Rattle.std.specs.Prelude.{◌≡◌, ◌<◌}
-use Rattle.layout.specs.declared.open_fault.OpenFault.{OpenFault}
 use Rattle.layout.specs.declared.open_fault.OpenFault.TheVariants as refusal
 
 -- why an image is refused, where the device didn't fail

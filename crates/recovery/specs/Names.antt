@@ -4,13 +4,13 @@ pub use Rattle.checkpoint.specs.Opened.{OnlyReads}
 pub use Rattle.checkpoint.specs.Saved.{Holds, SavedFrames}
 pub use Rattle.checkpoint.specs.Snapshots.{Snapshots}
 pub use Rattle.checkpoint.specs.Store.{FrozenFrames, View}
-pub use Rattle.layout.specs.declared.open_fault.OpenFault.{OpenFault}
 pub use Rattle.device.specs.Calls.{Only}
 pub use Rattle.device.specs.Disk.{Disk, Image}
 pub use Rattle.device.specs.Moments.{LeavesOnly}
 pub use Rattle.layout.specs.Image.{IsBadBy}
 pub use Rattle.layout.specs.declared.bad_image.BadImage.{BadImage}
 pub use Rattle.layout.specs.declared.bad_image.BadImage.TheVariants.{BadBank, BadCapability, BadProcess}
+pub use Rattle.layout.specs.declared.open_fault.OpenFault.{OpenFault}
 unfoldable pub use Rattle.model.specs.Bank.{chain, usage}
 pub use Rattle.model.specs.Frame.{current_count, frame_at, headers}
 unfoldable pub use Rattle.model.specs.Frame.{objects_of}

@@ -19,7 +19,7 @@ pub use Rattle.model.specs.declared.object.State.TheVariants.{Available, Running
 pub use Rattle.model_laws.proofs.Spelling.{IsSpaceless, decimal_is_word, length-spelling, skip_is_no_command, spelling_from_words, spells_one, split_spaced}
 pub use Rattle.model_laws.proofs.Spelling.{split_spelling}
 pub use Rattle.std.proofs.Common.{Bool, Err, List, None, Ok, Option, Result, Some, [], add-one, ap, append-nil, append_assoc, arith, codes, cond, decimal, drop}
-pub use Rattle.std.proofs.Common.{false, get_or, inl, inr, length, length-take, map, not, option_map, refl, rules, subst, suc, sym, take, true, zero, ℕ}
+pub use Rattle.std.proofs.Common.{false, get_or, inl, inr, length, map, not, option_map, refl, rules, subst, suc, sym, take, true, zero, ℕ}
 pub use Rattle.std.proofs.KnownBytes.{Appends-kept, Appends-trans}
 pub use Rattle.std.proofs.Math.Seq.{take-add, take-suc}
 pub use Rattle.std.proofs.lemmas.Bool.{cases_lt, le-leb, lt-ltb}

@@ -1,5 +1,4 @@
-use Rattle.reach.proofs.Names.{refl, err_from_is_err_and, text_fails, line_of, spaced, object_at, flat_map, step_line}
-use Rattle.reach.proofs.Names.{words_of}
+use Rattle.reach.proofs.Names.{refl, err_from_is_err_and, text_fails, line_of, spaced, object_at, flat_map, step_line, words_of}
 use Rattle.reach.proofs.explaining.print_to.Goals as goal
 
 pub returns-in_err-print_steps : goal.returns-in_err-print_steps
