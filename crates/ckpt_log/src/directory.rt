@@ -74,7 +74,7 @@ fn entries_in(bytes: &[u8], geometry: Geometry, into: &mut [Entry]) -> Result<()
 
 impl<'a> Log<'a> {
     /// Writes the directory of the half of a generation. The bytes behind the last entry of its last
-    /// sector are 0. For all other sectors it changes neither their bytes nor what a crash may leave in
+    /// sector are 0. For all other sectors it keeps their bytes and adds nothing to what a crash may leave in
     /// them.
     ///
     /// It allocates nothing, and without entries it doesn't call the device. Returns `Failed` exactly if

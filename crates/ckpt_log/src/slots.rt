@@ -49,7 +49,7 @@ impl<'a> Log<'a> {
     }
 
     /// Writes the frame of an object into a slot of the half of a generation. In a cluster it sets all
-    /// bytes beside the frame to 0. For all other sectors it changes neither their bytes nor what a
+    /// bytes beside the frame to 0. For all other sectors it keeps their bytes and adds nothing to what a
     /// crash may leave in them.
     ///
     /// Returns `Failed` exactly if the device failed; then the sectors of the shape may hold any bytes.
@@ -81,7 +81,7 @@ impl<'a> Log<'a> {
     }
 
     /// Writes the frame of a page with these words into a slot of the half of a generation. For all
-    /// other sectors it changes neither their bytes nor what a crash may leave in them.
+    /// other sectors it keeps their bytes and adds nothing to what a crash may leave in them.
     ///
     /// Returns `Failed` exactly if the device failed; then the 9 sectors may hold any bytes.
     pub fn write_page<D: Device>(

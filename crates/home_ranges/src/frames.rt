@@ -45,7 +45,7 @@ impl<'a> Home<'a> {
     }
 
     /// Writes all sectors of the home of an object, and with it the frames of the other nodes of its
-    /// cluster. For all other sectors it changes neither their bytes nor what a crash may leave in
+    /// cluster. For all other sectors it keeps their bytes and adds nothing to what a crash may leave in
     /// them.
     ///
     /// Returns `Failed` exactly if the device failed; then the sectors of the home may hold any bytes.

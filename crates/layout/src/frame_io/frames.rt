@@ -128,7 +128,7 @@ pub fn read_header<D: Device>(device: &mut D, at: u64) -> Result<ObjectHeader, F
 }
 
 /// Writes the frame of a page with these words into the 9 sectors from `at` on, and allocates nothing.
-/// For all other sectors it changes neither their bytes nor what a crash may leave in them.
+/// For all other sectors it keeps their bytes and adds nothing to what a crash may leave in them.
 ///
 /// Returns `Failed` exactly if the device failed; then the 9 sectors may hold any bytes.
 pub fn write_page<D: Device>(
@@ -185,8 +185,8 @@ fn write_buffered<D: Device>(
 }
 
 /// Writes the frame of an object of this shape into the sectors from `at` on, and allocates nothing.
-/// In a cluster it sets all bytes beside the frame to 0. For all other sectors it changes neither
-/// their bytes nor what a crash may leave in them.
+/// In a cluster it sets all bytes beside the frame to 0. For all other sectors it keeps
+/// their bytes and adds nothing to what a crash may leave in them.
 ///
 /// Returns `Failed` exactly if the device failed; then the sectors of the shape may hold any bytes.
 pub fn write_frame<D: Device>(
