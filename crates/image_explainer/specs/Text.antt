@@ -5,7 +5,7 @@ use Rattle.model.specs.declared.capability.Capability.TheVariants as cap
 use Rattle.model.specs.declared.object.Role.{Role}
 use Rattle.model.specs.declared.object.Role.TheVariants as role
 use Rattle.model.specs.Text.{capability_text, spaced}
-pub use Rattle.layout.specs.Reason.{reason_number}
+use Rattle.layout.specs.Reason.{reason_number}
 use Rattle.recovery.specs.declared.consistency.reason.Unbanked.{Unbanked}
 use Rattle.recovery.specs.declared.consistency.reason.Unbanked.TheVariants as unbanked
 use Rattle.image_explainer.specs.declared.sectors.fault.DirectoryPart.{DirectoryPart}

@@ -18,4 +18,3 @@ pub use sectors::{
     DirectoryPart, FramePart, GeometryPart, HeaderPart, NotCounted, SectorFault, SuperblockPart,
     find_in_sectors,
 };
-pub use text::reason_number;

@@ -1,6 +1,5 @@
 // The line about a fault.
 ghost use Rattle.std.specs.Prelude.{◌≡◌, ◌+◌, ◌++◌, ◌∷◌, ◌≤◌, codes, decimal, length};
-ghost use Rattle.layout.specs.Reason.{reason_number};
 ghost use Rattle.image_explainer.specs.Text.{fault_text, holder_text, kind_text, misnamed_text};
 ghost use Rattle.image_explainer.specs.Text.{place_text, sectors_text, unbanked_text, unmatched_text};
 ghost use Rattle.image_explainer.specs.Text.{directory_part_text, directory_text, frame_part_text, frame_text};
@@ -403,13 +402,6 @@ fn sector_reason_of(fault: SectorFault) -> BadImage
         SectorFault::Directory { .. } => BadImage::BadDirectory,
         SectorFault::Frame { .. } => BadImage::BadFrame,
     }
-}
-
-/// Returns the number of a reason to refuse an image: `BadImage::number`.
-pub fn reason_number(reason: BadImage) -> u64
-    ensures { result ≡ reason_number reason }
-{
-    reason.number()
 }
 
 impl ImageFault {

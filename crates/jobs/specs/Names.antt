@@ -24,7 +24,6 @@ pub use Rattle.image_describer.specs.Part.{IsPart, holders, is_listed}
 unfoldable pub use Rattle.image_describer.specs.Text.{description_text}
 pub use Rattle.image_describer.specs.declared.sizes.GrowthFault.{GrowthFault}
 pub use Rattle.image_describer.specs.declared.sizes.Sizes.{Sizes}
-pub use Rattle.image_explainer.specs.Text.{reason_number}
 unfoldable pub use Rattle.image_explainer.specs.Text.{fault_text}
 pub use Rattle.image_explainer.specs.declared.fault.ImageFault.{ImageFault}
 pub use Rattle.image_writer.specs.Faults.{fault_number}
@@ -35,6 +34,7 @@ pub use Rattle.kernel.specs.Opening.{Opens}
 pub use Rattle.kernel.specs.Power.{Power}
 pub use Rattle.kernel.specs.Standing.{IsDeviceOf}
 pub use Rattle.layout.specs.Image.{Encodes, SavedState}
+pub use Rattle.layout.specs.Reason.{reason_number}
 pub use Rattle.layout.specs.Superblock.{IsGeometry, Plan, version_number}
 pub use Rattle.layout.specs.declared.extent.HomeRange.{HomeRange}
 pub use Rattle.layout.specs.declared.open_fault.OpenFault.{OpenFault}

@@ -8,7 +8,6 @@ ghost use Rattle.jobs.specs.Faults.{sizes_text, status_of, stop_text, upgrade_te
 use checkpoint::OpenFault;
 use image_builder::{BuildFault, UpgradeFault};
 use image_describer::GrowthFault;
-use image_explainer::reason_number;
 use runs::Stop;
 use script::{LineText, Output, RunFault};
 
@@ -102,7 +101,7 @@ fn open_line(fault: OpenFault) -> LineText
     match fault {
         OpenFault::Failed => LineText::new(b"eros: device failed"),
         OpenFault::NoMemory => LineText::new(b"eros: no memory"),
-        OpenFault::Bad(reason) => LineText::numbered(b"eros: bad image", reason_number(reason)),
+        OpenFault::Bad(reason) => LineText::numbered(b"eros: bad image", reason.number()),
     }
 }
 

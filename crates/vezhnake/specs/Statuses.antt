@@ -1,7 +1,6 @@
 -- The numbers that C gets.
 use Rattle.std.specs.Prelude.{ℕ}
-use Rattle.layout.specs.declared.bad_image.BadImage.{BadImage}
-use Rattle.layout.specs.declared.bad_image.BadImage.TheVariants as bad
+use Rattle.layout.specs.Reason.{reason_number}
 use Rattle.layout.specs.declared.open_fault.OpenFault.{OpenFault}
 use Rattle.layout.specs.declared.open_fault.OpenFault.TheVariants as fault
 use Rattle.vezhnake.specs.declared.status.Status.{Status}
@@ -12,19 +11,6 @@ abbrev pub status_by : OpenFault → Status
 status_by fault.Failed = status.Failed
 status_by fault.NoMemory = status.NoMemory
 status_by (fault.Bad reason) = status.Bad reason
-
--- the number of a reason to refuse an image
-abbrev pub reason_number : BadImage → ℕ
-reason_number bad.Small = 1
-reason_number bad.NotASuperblock = 2
-reason_number bad.BadGeometry = 3
-reason_number bad.NoHeader = 4
-reason_number bad.BadHeader = 5
-reason_number bad.BadDirectory = 6
-reason_number bad.BadFrame = 7
-reason_number bad.BadCapability = 8
-reason_number bad.BadProcess = 9
-reason_number bad.BadBank = 10
 
 -- the number of a status
 abbrev pub number_of : Status → ℕ

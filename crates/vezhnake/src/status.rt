@@ -1,6 +1,5 @@
 // The status that each call of the library returns.
 ghost use Rattle.std.specs.Prelude.{◌≡◌};
-ghost use Rattle.vezhnake.specs.Statuses.{reason_number};
 
 use checkpoint::OpenFault;
 use layout::BadImage;
@@ -30,13 +29,6 @@ pub enum Status {
     Failed,
 }
 
-// The number of a reason to refuse an image: 1 to 10.
-fn number_of_reason(reason: BadImage) -> u32
-    ensures { result ≡ reason_number reason }
-{
-    reason as u32
-}
-
 impl Status {
     ghost use Rattle.vezhnake.specs.Statuses.{number_of};
 
@@ -46,7 +38,7 @@ impl Status {
     {
         match self {
             Status::Done => 0,
-            Status::Bad(reason) => number_of_reason(reason),
+            Status::Bad(reason) => reason.number() as u32,
             Status::NoMemory => 11,
             Status::BadSize => 12,
             Status::BadCache => 13,
