@@ -174,7 +174,7 @@ free_in_frame p q us objects frame n = grind (arith, nat_tests, tests_at)
 pub renews_looked : {old mid new : Parts} → ReadsAs old mid → Renews mid new → Renews old new
 renews_looked {old} {mid} {new} only_reads renews = grind (arith, nat_tests, renews_after, looked_objects)
 
--- what isn't a bank's order gives nothing up
+-- what isn't a bank's order frees nothing
 pub renews_invoked : (old mid new : Parts) (i : Invocation) (e : Effect) → AreSound old → ReadsAs old mid → Fits (command.Invoke i)
     → IsTrue (is_running_process (objects_in old) i.process) → IsNoBankOrder (register_at (objects_in old) i.process i.register) (slice_index i.words 0)
     → invoke old.geometry (objects_in old) i ≡ Some e → objects_in new ≡ e.objects → SameAllocations mid new → Renews old new

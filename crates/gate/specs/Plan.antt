@@ -86,7 +86,7 @@ IsOfProcess os (change.SetState process state) = IsTrue (is_process os process)
 IsOfProcess os (change.Space process held) = IsTrue (is_process os process)
 IsOfProcess os _ = Unit {0}
 
--- a capability that can be kept where its object was never given up, and so live wherever it is
+-- a capability that can be kept where its object was never freed, and so live wherever it is
 abbrev pub FitsCap : Geometry → Capability → Type 0
 FitsCap g c = IsKeptCap g 0 (record { what = c; count = 0 })
 

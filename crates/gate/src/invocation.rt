@@ -20,7 +20,7 @@ use space_bank::Banks;
 /// capability works once: every copy of it is void afterwards. Any other capability is a kernel
 /// object: its order is carried out, a `call` gets the reply, and the result is the order's code.
 /// `banks` keeps the usages of the banks as they are after it. The count of allocations of a number
-/// rises by one if its object is given up.
+/// rises by one if its object is freed.
 ///
 /// A refusal changes nothing. `NotRunning`: the process doesn't run. `Stalled`: the process behind
 /// the start capability isn't available. `LogFull`: with what the invocation writes, more numbers

@@ -166,7 +166,7 @@ fn announce_order<F: PresentFrames>(
 }
 
 /// An invocation of a kernel object by a running process. The order is carried out. A `call` gets
-/// the reply, unless the order gave the caller up. The result is the order's code.
+/// the reply, unless the order freed the caller. The result is the order's code.
 pub fn invoke_order<F: PresentFrames>(
     store: &mut F,
     banks: &mut Banks,

@@ -174,7 +174,7 @@ new_is g os b order args kind is us frame =
     allocating_is g us b order args kind is ∙ rw (room_alike os us frame b (count_of kind), made_alike os us frame g b kind, deep_alike os us frame g b kind)
     refl
 
--- the effect of orders that give up
+-- the effect of orders that free
 module _ (g : Geometry) (os : List Object) (b : ℕ) (args : Arguments) where
   pub frees_none : (c : Capability) → args.capability ≡ c → freed_by os c ≡ [] → on_bank g os b bank.Free args ≡ refused os code.BadCapability
   unfolding on_bank

@@ -1,4 +1,4 @@
--- Counts of allocations, and what is left of what is counted, where objects are given up. A bank that is returned to its parent.
+-- Counts of allocations, and what is left of what is counted, where objects are freed. A bank that is returned to its parent.
 use Rattle.space_bank.proofs.Names.{nat_tests, ℕ, Bool, true, false, not, List, sym, ap, arith, Capability, ObjectHeader, Content, Object, with_new, given_up}
 use Rattle.space_bank.proofs.Names.{header_at, is_free, is_member, rescind, content_at, new_used, rescinded_given_up, AreGivenUp, Parts, Renews, objects_in}
 use Rattle.space_bank.proofs.Names.{⊎_elim, cases_lt, zero, suc, [], drop, take, length, refl, subst, IsTrue, slice_index, slice_index_or, All, eq-eqb}
@@ -24,7 +24,7 @@ SameAllocations p q = (n : ℕ) → (header_at q.headers n).allocations ≡ (hea
 abbrev pub SameFree : Parts → Parts → Type 0
 SameFree p q = (n : ℕ) → is_free (content_at (objects_in q) n) ≡ is_free (content_at (objects_in p) n)
 
--- a count of allocations by whether the object was given up
+-- a count of allocations by whether the object was freed
 given_or_kept : (gone : Bool) (member : Bool) (h k : ObjectHeader) → gone ≡ member → k ≡ (if member then given_up h else h) →
     k.allocations ≡ h.allocations + (if gone then 1 else 0)
 given_or_kept gone member h k e is = grind (arith, nat_tests)
@@ -37,7 +37,7 @@ pub renews_none : (p q : Parts) → SameAllocations p q
     → ((n : ℕ) → is_free (content_at (objects_in p) n) ≡ false → is_free (content_at (objects_in q) n) ≡ false) → Renews p q
 renews_none p q same stays = grind (arith, nat_tests)
 
--- where a set of objects that were there is given up
+-- where a set of objects that were there is freed
 pub renews_rescinded : (p q : Parts) (set : List ℕ) → AreGivenUp set p q → objects_in q ≡ rescind set (objects_in p)
     → ((n : ℕ) → is_member set n ≡ true → is_free (content_at (objects_in p) n) ≡ false) → Renews p q
 renews_rescinded p q set given objects used = grind (arith, nat_tests, given_or_kept, rescinded_given_up)
@@ -97,7 +97,7 @@ pub record IsReleased (banks : List ℕ) (count : ℕ) (s t : BanksState) (set :
   pub room : t.room ≡ s.room
   pub marks : (n : ℕ) → is_marked (marks_of t) n ≡ (if is_member set n then true else is_marked (marks_of s) n)
 
--- A set of objects that have the contents of those that are counted is given up.
+-- A set of objects that have the contents of those that are counted is freed.
 pub counted_gone : {g : Geometry} {os : List Object} (vs : List Object) {s t : BanksState} {set banks : List ℕ} {count : ℕ} → AreCounted g os s
     → ((n : ℕ) → content_at vs n ≡ content_at os n) → IsReleased banks count s t set
     → ((x : ℕ) → IsTrue (is_bank (content_at os x)) → is_member set x ≡ false → usage (rescind set vs) x + (if is_member banks x then count else 0) ≡ usage os
@@ -142,7 +142,7 @@ enough_used {p} {s} {above} {list} asks gives x member =
     let all : (if is_member (chain (objects_in p) above) x then length list else 0) ≡ length list = rw member refl in
     omega (arith, asks.counted.usage x bank, gives.lowered x bank (gives.apart x member), all)
 
--- what lies beside the objects where a set is given up
+-- what lies beside the objects where a set is freed
 module _ {S : Type 0} (parts : S → Parts) (Fetched Announced : S → ℕ → Type 0) (Continues : S → S → Type 0) where
   pub ended_snapshots : (old new : S) (set : List ℕ) → AreGivenUp set (parts old) (parts new) → objects_in (parts new) ≡ rescind set (objects_in (parts old))
       → ((n : ℕ) → is_member set n ≡ true → is_free (content_at (objects_in (parts old)) n) ≡ false)
@@ -189,7 +189,7 @@ pub released_then : {banks : List ℕ} {count : ℕ} {s r v : BanksState} {nodes
     → IsReleased banks count s (record v { free_nodes = nodes; free_pages = pages }) set
 released_then {banks} {count} {s} {r} {v} {nodes} {pages} set raised kept same nodes_same pages_same marks = grind (arith, nat_tests)
 
--- what is left once a list is given up
+-- what is left once a list is freed
 pub ended_carried : {p q : Parts} {s t : BanksState} {above : ℕ} {list : List ℕ} → MayServe p s above → MayFree (objects_in p) above list
     → IsReleased (chain (objects_in p) above) (length list) s t list → objects_in q ≡ rescind list (objects_in p)
     → AreCurrent (frames_of q) → ((age : ℕ) → age + 1 < 2 ^ 64 → AreKeepable p.geometry age (frames_of p) → AreKeepable p.geometry (age + 1) (frames_of q))

@@ -41,7 +41,7 @@ pub record MayAsk (p : Parts) (s : BanksState) (b : ℕ) (args : Arguments) : Ty
   pub serves : MayServe p s b
   pub sent : MayBeHeld (objects_in p) args.capability
 
--- What lies beside the objects goes on as it was, counts of allocations rise where objects are given up, and what
+-- What lies beside the objects goes on as it was, counts of allocations rise where objects are freed, and what
 -- isn't free stays fetched and announced. The parameters are ghost members of a store of present frames.
 pub record KeepsObjects {S : Type 0} (parts : S → Parts) (Fetched Announced : S → ℕ → Type 0)
     (Continues : S → S → Type 0) (old new : S) : Type 0 where
