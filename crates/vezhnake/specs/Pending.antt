@@ -1,5 +1,5 @@
 -- The calls that are kept for the host.
-use Rattle.std.specs.Prelude.{◌≡◌, ◌≤◌, List, length, drop}
+use Rattle.std.specs.Prelude.{◌≡◌, ◌≢◌, ◌≤◌, ◌⊎◌, ℕ, List, length, drop}
 use Rattle.vezhnake.specs.HostCalls.{HostCall, encoded}
 use Rattle.vezhnake.specs.declared.pending.Pending.{Pending}
 
@@ -8,3 +8,8 @@ pub record Keeps (p : Pending) (calls : List HostCall) : Type 0 where
   pub bytes : p.bytes.items ≡ encoded (drop p.start calls)
   pub count : p.count ≡ length calls
   pub within : p.start ≤ length calls
+
+-- if the host has taken all calls, their bytes are dropped, and otherwise none are
+abbrev pub DropsTaken : Pending → Pending → ℕ → Type 0
+DropsTaken old new taken =
+    ((taken ≡ old.count) × (new.start ≡ old.count)) ⊎ ((taken ≢ old.count) × (new.start ≡ old.start))

@@ -109,14 +109,16 @@ CopiesAnswer old new buffer copied size status.SmallBuffer =
     (new ≡ old) × CopiesOut old.answer.items buffer copied size false
 CopiesAnswer old new buffer copied size _ = ⊥
 
--- all calls that the host has not taken are copied out, and are then taken; or none is
+-- all calls that the host has not taken are copied out, and are then taken; or none is. They are lost only if there are
+-- some, and what is kept doesn't begin with them.
 abbrev pub TakesCalls : Session → Session → List ℕ → List ℕ → ℕ → Status → Type 0
 TakesCalls old new buffer copied size status.Done =
     CopiesOut (encoded (drop old.taken (calls_in old.kernel))) buffer copied size true
     × (new.kernel ≡ old.kernel) × (new.answer ≡ old.answer) × (new.taken ≡ length (calls_in old.kernel))
 TakesCalls old new buffer copied size status.SmallBuffer =
     CopiesOut (encoded (drop old.taken (calls_in old.kernel))) buffer copied size false × (new ≡ old)
-TakesCalls old new buffer copied size status.CallsLost = (new ≡ old) × (old.taken ≢ kept_from old.kernel)
+TakesCalls old new buffer copied size status.CallsLost =
+    (new ≡ old) × (old.taken ≢ kept_from old.kernel) × (old.taken ≢ length (calls_in old.kernel))
 TakesCalls old new buffer copied size _ = ⊥
 
 -- ---- handles

@@ -163,23 +163,20 @@ impl HostKernel {
         }
     }
 
-    /// The number of calls of the device.
-    pub fn count(&self) -> u64
-        ensures { result ≡ length (calls_in self.now) }
-    {
-        self.recorder().count()
-    }
-
-    /// The encoded calls after the first `taken`, or `None` if the bytes kept don't begin there.
+    /// The encoded calls after the first `taken`. `None` if the bytes kept don't begin there, and
+    /// `taken` is not the number of all calls.
     pub fn since(&self, taken: u64) -> Option<&[u8]>
         ensures some { IfSome result (λ bytes. bytes.now ≡ encoded (drop taken (calls_in self.now))) }
-        ensures none { IfNone result (taken ≢ kept_from self.now) }
+        ensures none { IfNone result ((taken ≢ kept_from self.now) × (taken ≢ length (calls_in self.now))) }
     {
         self.recorder().since(taken)
     }
 
-    /// Notes that the host has taken all calls, as `Pending::note_taken` does. Returns nothing.
-    pub fn note_taken(&self) {
-        self.recorder().note_taken();
+    /// Notes that the host has taken all calls of the device, as `Recorder::note_taken` does, and
+    /// returns their number.
+    pub fn note_taken(&self) -> u64
+        ensures { result ≡ length (calls_in self.now) }
+    {
+        self.recorder().note_taken()
     }
 }

@@ -1,11 +1,10 @@
 // The calls that are kept until the host takes them.
 ghost use Rattle.std.specs.Prelude.{◌≡◌, ◌≢◌, ◌∷◌, ◌++◌, [], List, IfSome, IfNone, take, drop, length, OnOk, OnErr};
 ghost use Rattle.vezhnake.specs.HostCalls.{HostCall, header_of, number_bytes, encoded, encoding};
-ghost use Rattle.vezhnake.specs.Pending.{Keeps};
+ghost use Rattle.vezhnake.specs.Pending.{DropsTaken, Keeps};
 
 use device::Failed;
 use std::alloc::{AllocError, Global};
-use std::cell::Cell;
 
 /// The encoded calls that the host may not have taken yet.
 #[derive(Drop)]
@@ -15,8 +14,6 @@ pub struct Pending {
     pub start: u64,
     /// The number of all calls.
     pub count: u64,
-    // The number of calls that the host has taken. If it has taken all, the next call replaces them.
-    taken: Cell<u64>,
 }
 
 // Appends the eight bytes of a number. `Err` leaves the bytes unchanged.
@@ -62,29 +59,32 @@ impl Pending {
             bytes: Vec::new(alloc),
             start: 0,
             count: 0,
-            taken: Cell::new(0),
         }
     }
 
-    // Drops the bytes if the host has taken all calls.
-    fn drop_taken(&mut self)
-        ensures { (calls : List HostCall) → Keeps self.old calls → Keeps self.new calls }
+    // Drops the bytes if the host has taken all calls. It has taken the first `taken`.
+    fn drop_taken(&mut self, taken: u64)
+        ensures kept { (calls : List HostCall) → Keeps self.old calls → Keeps self.new calls }
+        ensures dropped { DropsTaken self.old self.new taken }
     {
-        if self.taken.get() == self.count {
+        if taken == self.count {
             self.bytes.clear();
             self.start = self.count;
         }
     }
 
-    /// Adds a call behind the others: a header with this byte, and `from`. `Failed` if memory runs
-    /// out: then no call is added.
-    pub fn add(&mut self, byte: u64, from: &[u8]) -> Result<(), Failed>
+    /// Adds a call behind the others: a header with this byte, and `from`. The host has taken the
+    /// first `taken` calls: if these are all, their bytes are dropped before.
+    ///
+    /// `Failed` if memory runs out: then no call is added.
+    pub fn add(&mut self, taken: u64, byte: u64, from: &[u8]) -> Result<(), Failed>
         ensures ok { OnOk result ((calls : List HostCall) (call : HostCall)
             → encoding call ≡ header_of byte (length from.now) ++ from.now
             → Keeps self.old calls → Keeps self.new (calls ++ call ∷ [])) }
         ensures err { OnErr result ((calls : List HostCall) → Keeps self.old calls → Keeps self.new calls) }
+        ensures dropped { DropsTaken self.old self.new taken }
     {
-        self.drop_taken();
+        self.drop_taken(taken);
         let Some(count) = self.count.checked_add(1) else {
             return Err(Failed);
         };
@@ -97,11 +97,12 @@ impl Pending {
         }
     }
 
-    /// The encoded calls after the first `taken`, or `None` if the bytes don't begin there.
+    /// The encoded calls after the first `taken`. `None` if the bytes don't begin there, and `taken`
+    /// is not the number of all calls.
     pub fn since(&self, taken: u64) -> Option<&[u8]>
         ensures some { IfSome result (λ bytes. (calls : List HostCall) → Keeps self.now calls
             → bytes.now ≡ encoded (drop taken calls)) }
-        ensures none { IfNone result (taken ≢ self.now.start) }
+        ensures none { IfNone result ((taken ≢ self.now.start) × (taken ≢ self.now.count)) }
     {
         if taken == self.start {
             Some(&self.bytes)
@@ -110,11 +111,5 @@ impl Pending {
         } else {
             None
         }
-    }
-
-    /// Notes that the host has taken all calls, so the next `add` may drop them. Returns nothing. The mark is
-    /// in a cell, which no contract sees: what `add` ensures holds with it and without it.
-    pub fn note_taken(&self) {
-        self.taken.set(self.count);
     }
 }

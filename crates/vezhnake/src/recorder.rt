@@ -9,6 +9,7 @@ use crate::pending::Pending;
 use device::{Failed, SECTOR_SIZE};
 use devices::SectorFile;
 use std::alloc::Global;
+use std::cell::Cell;
 
 /// The host's storage, as a file of sectors. It records each call, and the host carries the calls
 /// out in their order.
@@ -17,6 +18,8 @@ use std::alloc::Global;
 #[derive(Drop)]
 pub struct Recorder {
     pending: Pending,
+    // The number of calls that the host has taken. No contract sees what a cell holds.
+    taken: Cell<u64>,
     // A call was not recorded.
     is_broken: bool,
     history: History,
@@ -32,29 +35,28 @@ impl Recorder {
     {
         Recorder {
             pending: Pending::new(alloc),
+            taken: Cell::new(0),
             is_broken: false,
             history: History::new(bytes),
         }
     }
 
-    /// The number of calls recorded.
-    pub fn count(&self) -> u64
-        ensures { result ≡ length self.now.history.calls }
-    {
-        self.pending.count
-    }
-
-    /// The encoded calls after the first `taken`, or `None` if the bytes kept don't begin there.
+    /// The encoded calls after the first `taken`. `None` if the bytes kept don't begin there, and
+    /// `taken` is not the number of all calls.
     pub fn since(&self, taken: u64) -> Option<&[u8]>
         ensures some { IfSome result (λ bytes. bytes.now ≡ encoded (drop taken self.now.history.calls)) }
-        ensures none { IfNone result (taken ≢ self.now.pending.start) }
+        ensures none { IfNone result ((taken ≢ self.now.pending.start) × (taken ≢ length self.now.history.calls)) }
     {
         self.pending.since(taken)
     }
 
-    /// Notes that the host has taken all calls, as `Pending::note_taken` does. Returns nothing.
-    pub fn note_taken(&self) {
-        self.pending.note_taken();
+    /// Notes that the host has taken all calls, so the next one may replace them, and returns their
+    /// number.
+    pub fn note_taken(&self) -> u64
+        ensures { result ≡ length self.now.history.calls }
+    {
+        self.taken.set(self.pending.count);
+        self.pending.count
     }
 }
 
@@ -69,9 +71,15 @@ impl SectorFile for Recorder {
     ghost failures = { λ r. r.history.failures };
 
     fn write(&mut self, at: u64, from: &[u8]) -> Result<(), Failed> {
+        let taken = self.taken.get();
         let recorded = self.history.then(&Step::Write { at, bytes: from });
         let lost = self.history.then(&Step::LostWrite { at, bytes: from });
-        if !self.is_broken && self.pending.add(at * SECTOR_SIZE as u64, from).is_ok() {
+        if !self.is_broken
+            && self
+                .pending
+                .add(taken, at * SECTOR_SIZE as u64, from)
+                .is_ok()
+        {
             self.history = recorded;
             return Ok(());
         }
@@ -81,9 +89,10 @@ impl SectorFile for Recorder {
     }
 
     fn sync(&mut self) -> Result<(), Failed> {
+        let taken = self.taken.get();
         let recorded = self.history.then(&Step::Sync);
         let lost = self.history.then(&Step::LostSync);
-        if !self.is_broken && self.pending.add(u64::MAX, &[]).is_ok() {
+        if !self.is_broken && self.pending.add(taken, u64::MAX, &[]).is_ok() {
             self.history = recorded;
             return Ok(());
         }
@@ -94,9 +103,10 @@ impl SectorFile for Recorder {
 
     /// The host gets a sync, which makes every byte durable.
     fn power_cut(&mut self) {
+        let taken = self.taken.get();
         let recorded = self.history.then(&Step::Cut);
         let lost = self.history.then(&Step::LostCut);
-        if !self.is_broken && self.pending.add(u64::MAX, &[]).is_ok() {
+        if !self.is_broken && self.pending.add(taken, u64::MAX, &[]).is_ok() {
             self.history = recorded;
             return;
         }

@@ -116,8 +116,7 @@ impl Session {
         if !copy_out(bytes, buffer, size) {
             return Status::SmallBuffer;
         }
-        self.kernel.note_taken();
-        self.taken = self.kernel.count();
+        self.taken = self.kernel.note_taken();
         Status::Done
     }
 }
