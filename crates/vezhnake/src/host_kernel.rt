@@ -104,7 +104,8 @@ impl HostKernel {
     /// memory. Otherwise it is the capacity of a cache.
     ///
     /// `BadSize` or `BadCache` if an argument is out of range; `Bad` with the least reason to
-    /// refuse the image; `NoMemory` if memory runs out.
+    /// refuse the image; `NoMemory` if memory runs out; `Failed` if it runs out for the record of the
+    /// sync with which opening begins.
     #[tactic(auto, using(crate::proofs::Opening::refused_by))]
     pub fn open(alloc: Global, image: &[u8], cache: u64) -> Result<HostKernel, Status>
         ensures { OpensKernel image.now cache result }

@@ -25,7 +25,8 @@ pub enum Status {
     SmallBuffer,
     /// The calls that the host needs next are no longer kept.
     CallsLost,
-    /// The device failed while the image was opened, or the text could not be read.
+    /// Memory ran out for the record of the sync with which opening begins, or the text could not be
+    /// read.
     Failed,
 }
 
