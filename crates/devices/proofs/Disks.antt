@@ -1,12 +1,11 @@
 -- What the calls of a device with a record do to it, as its users see it.
 use Rattle.devices.proofs.Names.{nat_tests, ℕ, zero, suc, Bool, false, nat_lt, List, [], sym, ap, subst, arith, inr, ⊎_elim, append_assoc, lt-ltb, Outcome}
 use Rattle.devices.proofs.Names.{Image, Disk, IsWhole, Agrees, Elsewhere, AreSectors, sectors_of, image_of, Narrows, Tears, Only, Elapses, Event, wrote, synced}
-use Rattle.devices.proofs.Names.{cut, State, at_first, after, replay, left_by, MayLeave, disk_of, writes_of, IsQuiet, EndsCut}
+use Rattle.devices.proofs.Names.{cut, State, at_first, after, replay, left_by, MayLeave, disk_of, writes_of, IsQuiet, EndsCut, or_parts}
 use Rattle.std.proofs.lemmas.List.{append-nil}
-use Rattle.std.proofs.Common.{◌≡◌, ◌<◌, ◌≤◌, ◌⊎◌, ◌+◌, ◌||◌, if◌then◌else◌, ◌∷◌, ◌++◌, ◌∙◌}
+use Rattle.std.proofs.Common.{◌≡◌, ◌<◌, ◌≤◌, ◌⊎◌, ◌+◌, if◌then◌else◌, ◌∷◌, ◌++◌, ◌∙◌}
 use Rattle.devices.proofs.Past.{replay-append, replay-one, elapses_still, elapses_one, written-durable, written-present_before, written-present_after}
 use Rattle.devices.proofs.Past.{written-present_inside, quiet-unsynced}
-use Rattle.devices.proofs.Patches.{or_false}
 use Rattle.devices.proofs.Keeps.{written-unsynced, names-entries_of}
 
 -- time goes on through two calls, where the second takes nothing away that a crash might leave
@@ -29,7 +28,7 @@ module _ (sectors : ℕ) (first : Image) (past : List Event) where
       let grows : (c : Image) → MayLeave sectors (replay (at_first first) before) c → MayLeave sectors (replay (at_first first) (before ++ e ∷ [])) c =
       λ c left. subst (λ (s : State). MayLeave sectors s c) (sym (replay-one (at_first first) before e)) (record {
         whole = left.whole;
-        untouched = λ i none. left.untouched i ((or_false _ _ none).0);
+        untouched = λ i none. left.untouched i ((or_parts _ _ none).0);
       }) in
       subst (λ (l : List Event). Elapses (disk_of sectors first past failures) (disk_of sectors first l risen))
       (append_assoc past (writes_of at n bytes) (e ∷ []))

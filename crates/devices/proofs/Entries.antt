@@ -1,8 +1,8 @@
 -- The record of what was done, and the events that it stands for.
-use Rattle.devices.proofs.Names.{nat_tests, ℕ, zero, suc, List, [], length, get_or, take, drop, Option, Some, None, unwrap_or, refl, sym, ap, arith, inl, inr}
-use Rattle.devices.proofs.Names.{⊎_elim, length-append, append_assoc, set, Outcome, Wrote, Synced, RecordEntry, image_of, Event, wrote, synced, cut, writes_of}
-use Rattle.devices.proofs.Names.{IsQuiet, EndsCut, event_of, mark_of, entry_events, events_of, entries_of, mark_after, marked}
-use Rattle.std.proofs.Common.{◌≡◌, ◌⊎◌, ◌+◌, ◌∷◌, ◌++◌, ◌∙◌, ◌*◌}
+use Rattle.devices.proofs.Names.{nat_tests, ℕ, zero, suc, List, [], length, get_or, Option, Some, None, unwrap_or, refl, sym, ap, arith, inl, inr, ⊎_elim}
+use Rattle.devices.proofs.Names.{length-append, append_assoc, set, Outcome, Wrote, Synced, RecordEntry, image_of, Event, wrote, synced, cut, writes_of, IsQuiet}
+use Rattle.devices.proofs.Names.{EndsCut, event_of, mark_of, entry_events, events_of, entries_of, mark_after, marked}
+use Rattle.std.proofs.Common.{◌≡◌, ◌⊎◌, ◌+◌, ◌∷◌, ◌++◌, ◌∙◌}
 
 -- a write over the last entry
 pub marked_set : (outcome : Outcome) (es : List RecordEntry) (k : ℕ) (e : RecordEntry) → suc k ≡ length es → e ≡ get_or es k e →
@@ -49,10 +49,6 @@ pub entries_more : (old now new : List RecordEntry) (at i : ℕ) (from bytes : L
     new ≡ now ++ record { action = Wrote (at + i) bytes; cut = None } ∷ [] → bytes ≡ image_of from i
     → new ≡ old ++ entries_of at (i + 1) from
 entries_more old now new at i from bytes before more same = grind (arith, nat_tests, append_assoc)
-
--- the bytes of one sector, as the code finds them
-pub part_as : (bytes : List ℕ) (i a k : ℕ) → a ≡ 512 * i → k ≡ 512 → take k (drop a bytes) ≡ image_of bytes i
-part_as bytes i a k a_is k_is = ap (λ (n : ℕ). take k (drop n bytes)) a_is ∙ ap (λ (n : ℕ). take n (drop (512 * i) bytes)) k_is
 
 pub length-marked : (outcome : Outcome) (es : List RecordEntry) → length (marked outcome es) ≡ length es
 length-marked outcome [] = refl

@@ -2,11 +2,11 @@
 use Rattle.devices.proofs.Names.{nat_tests, ℕ, zero, suc, Bool, true, false, nat_eq, List, [], length, drop, All, sym, ap, arith, inl, inr, ⊎_elim, cases_lt}
 use Rattle.devices.proofs.Names.{cases_Bool, or_cases, eqb-true, eqb-false, cases_order, drop-append-le, drop_all, or_assoc, Outcome, Synced, RecordEntry, None}
 use Rattle.devices.proofs.Names.{Agrees, Elsewhere, Patches, AreSectors, sectors_of, image_of, Event, wrote, synced, cut, State, at_first, after, replay}
-use Rattle.devices.proofs.Names.{left_by, writes_of, names, events_of, entries_of, marked, IsSoundMirror, now_of, state_with}
-use Rattle.std.proofs.Common.{◌≡◌, ◌<◌, ◌≤◌, ◌⊎◌, ◌+◌, ◌-◌, ◌||◌, if◌then◌else◌, ◌∷◌, ◌++◌, ◌∙◌}
+use Rattle.devices.proofs.Names.{left_by, writes_of, names, events_of, entries_of, marked, IsSoundMirror, now_of, state_with, or-false, or_parts}
+use Rattle.std.proofs.Common.{◌≡◌, ◌<◌, ◌≤◌, ◌⊎◌, ◌+◌, ◌-◌, ◌||◌, ◌∷◌, ◌++◌, ◌∙◌}
 use Rattle.devices.proofs.Past.{replay-append, replay-one, written-durable, written-present_before, written-present_after, written-present_inside}
 use Rattle.devices.proofs.Past.{quiet-unsynced}
-use Rattle.devices.proofs.Patches.{or_false, or_right, names-append}
+use Rattle.devices.proofs.Patches.{names-append}
 use Rattle.devices.proofs.Entries.{past_written, length_written, past_synced, events_of-marked}
 
 -- the sectors of a write
@@ -15,25 +15,25 @@ names-entries_of at zero bytes i hit = cc
 names-entries_of at (suc n) bytes i hit =
     ⊎_elim
     (λ before. let far = names-entries_of at n bytes i before in (far.0, omega (arith, far.1)))
-    (λ last. let here : i ≡ at + n = eqb-true i (at + n) (sym (or_right _) ∙ last) in (omega (arith, here), omega (arith, here)))
+    (λ last. let here : i ≡ at + n = eqb-true i (at + n) (sym (or-false _) ∙ last) in (omega (arith, here), omega (arith, here)))
     (or_cases (names (entries_of at n bytes) i) _ (sym (names-append (entries_of at n bytes) _ i) ∙ hit))
 
 names-outside : (at n : ℕ) (bytes : List ℕ) (i : ℕ) → names (entries_of at n bytes) i ≡ false → (i < at) ⊎ (at + n ≤ i)
 names-outside at zero bytes i miss = ⊎_elim inl (λ le. inr (omega (arith, le))) (cases_lt i at)
 names-outside at (suc n) bytes i miss =
-    let both = or_false (names (entries_of at n bytes) i) _ (sym (names-append (entries_of at n bytes) _ i) ∙ miss) in
-    let apart : i ≡ at + n → ⊥ = eqb-false i (at + n) (sym (or_right _) ∙ both.1) in
+    let both = or_parts (names (entries_of at n bytes) i) _ (sym (names-append (entries_of at n bytes) _ i) ∙ miss) in
+    let apart : i ≡ at + n → ⊥ = eqb-false i (at + n) (sym (or-false _) ∙ both.1) in
     ⊎_elim inl (λ le. ⊎_elim (λ e. absurd (apart e)) (⊎_elim (λ lt. absurd (omega (arith, lt, le))) (λ gt. inr (omega (arith, gt)))) (cases_order i (at + n)))
     (names-outside at n bytes i both.0)
 
 pub written-unsynced : (s : State) (at n : ℕ) (bytes : List ℕ) (i : ℕ) →
     (replay s (writes_of at n bytes)).unsynced i ≡ (s.unsynced i || names (entries_of at n bytes) i)
-written-unsynced s at zero bytes i = sym (or_right (s.unsynced i))
+written-unsynced s at zero bytes i = sym (or-false (s.unsynced i))
 written-unsynced s at (suc n) bytes i =
     ap (λ (t : State). t.unsynced i) (replay-one s (writes_of at n bytes) (wrote (at + n) (image_of bytes n)))
     ∙ ap (λ (b : Bool). b || nat_eq i (at + n)) (written-unsynced s at n bytes i)
     ∙ or_assoc (s.unsynced i) (names (entries_of at n bytes) i) (nat_eq i (at + n))
-    ∙ ap (λ (b : Bool). s.unsynced i || (names (entries_of at n bytes) i || b)) (sym (or_right (nat_eq i (at + n))))
+    ∙ ap (λ (b : Bool). s.unsynced i || (names (entries_of at n bytes) i || b)) (sym (or-false (nat_eq i (at + n))))
     ∙ ap (λ (b : Bool). s.unsynced i || b) (sym (names-append (entries_of at n bytes) _ i))
 
 module _ (sectors : ℕ) (first present durable : List ℕ) (entries : List RecordEntry) (settled : ℕ)
@@ -78,7 +78,7 @@ module _ (sectors : ℕ) (first present durable : List ℕ) (entries : List Reco
           length_written,
           written-unsynced,
           names_written,
-          or_false,
+          or_parts,
           names-outside,
           names-entries_of,
         )

@@ -7,11 +7,11 @@ pub use Rattle.device.specs.Moments.{Elapses}
 pub use Rattle.std.proofs.Common.{All, Bool, Bor, Err, Fits, IfSome, List, None, Ok, OnErr, OnOk, Option, Result, Some, [], ap, append-nil, append_assoc, arith}
 pub use Rattle.std.proofs.Common.{drop, false, get_or, inl, inr, is_ok, is_some, length, length-append, length-drop, length-take, length-take-le, min, nat_eq}
 pub use Rattle.std.proofs.Common.{nat_lt, option_map, refl, replicate, rules, subst, suc, sym, take, true, unwrap_or, vec_capacity, zero, ℕ, ⊎_elim}
-pub use Rattle.std.proofs.Math.Bool.{or_assoc}
+pub use Rattle.std.proofs.Math.Bool.{or-false, or_assoc}
 pub use Rattle.std.proofs.Math.ListN.{set}
 pub use Rattle.std.proofs.Math.Logic.{∥∥₁_map}
 pub use Rattle.std.proofs.Math.Seq.{drop-append-add, take-add, take-append-add}
-pub use Rattle.std.proofs.lemmas.Bool.{cases_Bool, cases_lt, cases_order, eq-eqb, eqb-false, eqb-true, lt-ltb, ne_eqb, or_cases}
+pub use Rattle.std.proofs.lemmas.Bool.{cases_Bool, cases_lt, cases_order, eq-eqb, eqb-false, eqb-true, lt-ltb, ne_eqb, or_cases, or_parts}
 pub use Rattle.std.proofs.lemmas.Bool.Decides.{nat_tests}
 pub use Rattle.std.proofs.lemmas.List.{drop-append-le, drop-drop, drop_all, get_or-replicate, get_or_default, length-replicate, replicate-append-replicate}
 pub use Rattle.std.proofs.lemmas.List.{same_lists, take-append-drop, take-append-le, take-replicate, take-take, take_all, take_more, take_rest}

@@ -1,23 +1,18 @@
 -- Sectors that take the place of others, one after another.
 use Rattle.devices.proofs.Names.{nat_tests, ℕ, Bool, true, false, zero, suc, List, [], length, get_or, take, drop, replicate, refl, sym, ap, arith, ⊎_elim}
 use Rattle.devices.proofs.Names.{length-drop, eq-eqb, eqb-true, eqb-false, cases_order, take_more, take-take, take-replicate, or_assoc, Image, Agrees, image_of}
-use Rattle.devices.proofs.Names.{sectors_of, AreSectors, Elsewhere, Patches, State, left_by, Outcome, Fill, names, Action, Wrote, RecordEntry}
+use Rattle.devices.proofs.Names.{sectors_of, AreSectors, Elsewhere, Patches, State, left_by, Outcome, Fill, names, Action, Wrote, RecordEntry, or-false}
+use Rattle.devices.proofs.Names.{or_parts}
 use Rattle.std.proofs.lemmas.List.{length-take-le}
 use Rattle.devices.specs.Record.{writes}
-use Rattle.std.proofs.Common.{◌≡◌, ◌<◌, ◌≤◌, ◌+◌, ◌*◌, ◌||◌, ◌==◌, if◌then◌else◌, ◌∷◌, ◌++◌, ◌∙◌}
-
-pub or_false : (a b : Bool) → (a || b) ≡ false → (a ≡ false) × (b ≡ false)
-or_false a b none = grind (arith, nat_tests)
-
-pub or_right : (a : Bool) → (a || false) ≡ a
-or_right a = grind (arith, nat_tests)
+use Rattle.std.proofs.Common.{◌≡◌, ◌<◌, ◌≤◌, ◌+◌, ◌*◌, ◌||◌, ◌==◌, ◌∷◌, ◌++◌, ◌∙◌}
 
 -- some sectors and then others
 pub patches_on : (p q r : ℕ → Bool) (from old mid new : Image) → Patches p from old mid → Patches q from mid new → ((i : ℕ) → r i ≡ (p i || q i)) →
     Patches r from old new
 patches_on p q r from old mid new first second either = record {
   named = grind (arith, nat_tests);
-  others = λ i no. let none = or_false (p i) (q i) (sym (either i) ∙ no) in second.others i none.1 ∙ first.others i none.0;
+  others = λ i no. let none = or_parts (p i) (q i) (sym (either i) ∙ no) in second.others i none.1 ∙ first.others i none.0;
 }
 
 pub names-append : (xs ys : List RecordEntry) (i : ℕ) → names (xs ++ ys) i ≡ (names xs i || names ys i)
@@ -30,7 +25,7 @@ pub names_more : (es : List RecordEntry) (j : ℕ) (d : RecordEntry) → j < len
 names_more es j d lt i =
     ap (λ (xs : List RecordEntry). names xs i) (take_more es j d lt)
     ∙ names-append (take j es) (get_or es j d ∷ []) i
-    ∙ ap (λ (b : Bool). names (take j es) i || b) (or_right (writes (get_or es j d).action i))
+    ∙ ap (λ (b : Bool). names (take j es) i || b) (or-false (writes (get_or es j d).action i))
 
 -- the sector of an entry is one of those of all
 pub names_at : (es : List RecordEntry) (j : ℕ) (d : RecordEntry) → j < length es → (i : ℕ) → writes (get_or es j d).action i ≡ true → names es i ≡ true

@@ -4,6 +4,7 @@ pub use Rattle.device.specs.Calls.{Agrees, image_of, sectors_of}
 pub use Rattle.device.specs.Disk.{Disk, Image, IsWhole}
 pub use Rattle.std.proofs.Common.{ap, arith, length-drop, refl, subst, sym}
 pub use Rattle.std.proofs.Math.Path.{fun_ext}
+pub use Rattle.std.proofs.lemmas.Bool.{or_parts}
 pub use Rattle.std.proofs.lemmas.List.{drop_all, length-take-le, take_all}
 pub use Rattle.std.proofs.lemmas.List.Elements.{All-drop, All-take}
 pub use Rattle.std.specs.Coded.{Coded, code_by, coded_list, coded_ℕ, coded×}

@@ -1,6 +1,6 @@
 -- What follows for the sectors of a file from what holds of its copy.
-use Rattle.devices.specs.Names.{ℕ, Bool, true, false, List, [], refl, ap, subst, fun_ext, Image, IsWhole, image_of}
-use Rattle.std.specs.Prelude.{◌≡◌, ◌||◌, ◌==◌, if◌then◌else◌, ◌∷◌}
+use Rattle.devices.specs.Names.{ℕ, Bool, false, List, [], refl, ap, subst, fun_ext, Image, IsWhole, image_of, or_parts}
+use Rattle.std.specs.Prelude.{◌≡◌, ◌==◌, if◌then◌else◌, ◌∷◌}
 use Rattle.std.proofs.Common.{◌∙◌}
 use Rattle.devices.specs.Past.{Event, wrote, synced, cut, State, at_first, after, replay, MayLeave}
 use Rattle.devices.specs.PastLaws.{image_whole}
@@ -10,13 +10,9 @@ use Rattle.devices.specs.Sound.{IsCopy, now_of}
 abbrev IsSame : State → Type 0
 IsSame s = (i : ℕ) → s.unsynced i ≡ false → s.present i ≡ s.durable i
 
-or_none : (a b : Bool) → (a || b) ≡ false → (a ≡ false) × (b ≡ false)
-or_none false b none = (refl, none)
-or_none true b none = cc
-
 same_after : (s : State) (e : Event) → IsSame s → IsSame (after s e)
 same_after s (wrote n bytes) same i none =
-    let both = or_none (s.unsynced i) (i == n) none in
+    let both = or_parts (s.unsynced i) (i == n) none in
     ap (λ (b : Bool). if b then bytes else s.present i) both.1 ∙ same i both.0
 same_after s synced same i none = refl
 same_after s (cut outcome) same i none = refl
