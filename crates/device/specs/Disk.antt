@@ -5,7 +5,7 @@ use Rattle.std.specs.Prelude.{◌≡◌, ◌<◌, ◌≤◌, ℕ, List, [], leng
 abbrev pub Image : Type 0
 Image = ℕ → List ℕ
 
--- the first `count` sectors have 512 bytes each, and there are no others
+-- the first `count` sectors have 512 bytes each, all below 256, and there are no others
 pub record IsWhole (count : ℕ) (image : Image) : Type 0 where
   pub size : (i : ℕ) → i < count → length (image i) ≡ 512
   pub bytes : (i : ℕ) → All (λ b. b < 256) (image i)

@@ -20,8 +20,8 @@ pub struct Failed;
 /// A device of sectors of 512 bytes, numbered from 0.
 ///
 /// A `read`, a `write` or a `sync` may fail, and the count of failures then rises and never else.
-/// Between two syncs a crash may leave any bytes in each sector that was written, apart from the
-/// others. The clauses hold at `Err` as well as at `Ok`.
+/// Between two syncs a crash may leave any bytes in each sector that was written, independently of
+/// the other sectors. The clauses hold at `Err` as well as at `Ok`.
 ///
 /// A call for several sectors takes whole sectors that lie on the device, which its caller can test
 /// by `sectors`.
