@@ -361,6 +361,11 @@ pub still_counted : (p q : Parts) (banks : BanksState) → q.headers ≡ p.heade
     AreCounted p.geometry (objects_in p) banks → AreCounted q.geometry (objects_in q) banks
 still_counted p q banks headers contents geometry counted = search (arith, nat_tests, frames_again)
 
+-- the frames of a store that is up are sound
+pub up_sound : {D S : Type 0} (disk : D → Disk) (view : S → View D) (parts : S → Parts) (l : Live S) → ((g : Geometry) × IsUp disk view parts g l) →
+    IsSoundFrames (parts l.store).geometry l.age (frames_of (parts l.store))
+up_sound disk view parts l up = subst (λ (g : Geometry). IsSoundFrames g l.age (frames_of (parts l.store))) (sym up.1.sound.geometry) up.1.sound.now
+
 -- what is counted of the banks of a store that is up
 pub up_counted : {D S : Type 0} (disk : D → Disk) (view : S → View D) (parts : S → Parts) (l : Live S) → ((g : Geometry) × IsUp disk view parts g l) →
     AreCounted (parts l.store).geometry (objects_in (parts l.store)) l.banks

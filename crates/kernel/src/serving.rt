@@ -57,17 +57,13 @@ pub fn serve<D: Device, S: ObjectStore<D>>(
     ensures no_fault { IfOk result (λ answer. answer ≢ Answer.Refused Refusal.Fault) }
 {
     match command {
-        Command::Load { process, address } => {
-            processes::load(&mut live.store, live.age, process, address)
-        }
+        Command::Load { process, address } => { processes::load(&mut live.store, process, address) }
         Command::Store {
             process,
             address,
             value,
-        } => processes::store(&mut live.store, live.age, process, address, value),
-        Command::Show { number } => {
-            processes::show(alloc, &mut live.store, &live.banks, live.age, number)
-        }
+        } => processes::store(&mut live.store, process, address, value),
+        Command::Show { number } => { processes::show(alloc, &mut live.store, &live.banks, number) }
         Command::Evict { number } => evict::<D, S>(live, number),
         Command::Checkpoint => checkpoints::checkpoint::<D, S>(live),
         Command::Stabilize { count } => checkpoints::stabilize::<D, S>(live, count),

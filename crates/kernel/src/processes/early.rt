@@ -1,5 +1,5 @@
 // Why a process can't act.
-ghost use Rattle.std.specs.Prelude.{◌≡◌, ◌↔◌, ◌<◌, ◌≤◌, IfOk, IfSome, IsErr};
+ghost use Rattle.std.specs.Prelude.{ℕ, ◌≡◌, ◌↔◌, ◌<◌, ◌≤◌, IfOk, IfSome, IsErr};
 ghost use Rattle.model.specs.Keepable.{IsSoundFrames};
 ghost use Rattle.capability.specs.Parts.{OnlyFetches, frames_of, objects_in};
 ghost use Rattle.kernel.specs.Machine.{IsEarly, NeedsNoDeviceCall};
@@ -11,9 +11,8 @@ use model::Refusal;
 /// Why a process can't act: `NoProcess` or `NotRunning`, or `None` if it runs. `NoProcess` leaves the
 /// store untouched. Fails exactly if the device fails.
 #[tactic(auto, using(gate::proofs::Standing::keepable_most))]
-pub fn early<F: Frames>(store: &mut F, age: u64, process: u64) -> Result<Option<Refusal>, Failed>
-    requires sound { IsSoundFrames (F.parts store.old).geometry age
-        (frames_of (F.parts store.old)) }
+pub fn early<F: Frames>(store: &mut F, process: u64) -> Result<Option<Refusal>, Failed>
+    requires sound { (age : ℕ) × IsSoundFrames (F.parts store.old).geometry age (frames_of (F.parts store.old)) }
     ensures why { IfOk result (λ why. IsEarly (objects_in (F.parts store.old)) process why) }
     ensures untouched { IfOk result (λ why. IfSome why (λ reported. NeedsNoDeviceCall reported
         → store.new ≡ store.old)) }

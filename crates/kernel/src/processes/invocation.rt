@@ -1,5 +1,5 @@
 // The step of an invocation.
-ghost use Rattle.std.specs.Prelude.{◌≡◌, ◌≤◌, ◌^◌, IfOk};
+ghost use Rattle.std.specs.Prelude.{ℕ, ◌≡◌, ◌≤◌, ◌^◌, IfOk};
 ghost use Rattle.model.specs.declared.command.Command.TheVariants as command;
 ghost use Rattle.model.specs.declared.answer.Answer.TheVariants.{Done, Refused};
 ghost use Rattle.model.specs.Keepable.{IsSoundFrames};
@@ -16,16 +16,15 @@ use space_bank::Banks;
 
 // Refuses an invocation at the greatest age: by `Worn`, if the process runs.
 #[inline(never)]
-fn refuse_worn<F: Frames>(store: &mut F, age: u64, invocation: &Invocation) -> Refusal
-    requires sound { IsSoundFrames (F.parts store.old).geometry age
-        (frames_of (F.parts store.old)) }
-    requires worn { 2 ^ 62 ≤ age }
-    ensures serves { Performs age (F.parts store.old) (command.Invoke invocation.now)
-        (Refused result) age (F.parts store.new) }
+fn refuse_worn<F: Frames>(store: &mut F, invocation: &Invocation) -> Refusal
+    requires sound { (age : ℕ) × IsSoundFrames (F.parts store.old).geometry age (frames_of (F.parts store.old)) }
+    ensures serves { (age : ℕ) → IsSoundFrames (F.parts store.old).geometry age (frames_of (F.parts store.old))
+        → 2 ^ 62 ≤ age
+        → Performs age (F.parts store.old) (command.Invoke invocation.now) (Refused result) age (F.parts store.new) }
     ensures untouched { NeedsNoDeviceCall result → store.new ≡ store.old }
     ensures snapshots { OnlyFetches F.parts F.ContinuesTo store.old store.new }
 {
-    match early(store, age, invocation.process) {
+    match early(store, invocation.process) {
         Ok(why) => match why {
             Some(refusal) => refusal,
             None => Refusal::Worn,
@@ -64,7 +63,7 @@ pub fn invoke<F: PresentFrames>(
     ensures continues { F.ContinuesTo store.old store.new }
 {
     if is_worn(*age) {
-        return Err(refuse_worn(store, *age, invocation));
+        return Err(refuse_worn(store, invocation));
     }
     if !roots::is_process(store, invocation.process) {
         return Err(Refusal::NoProcess);

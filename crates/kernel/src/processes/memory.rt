@@ -1,5 +1,5 @@
 // The steps of loads and stores.
-ghost use Rattle.std.specs.Prelude.{◌≡◌, ◌≢◌, IfOk};
+ghost use Rattle.std.specs.Prelude.{ℕ, ◌≡◌, ◌≢◌, IfOk};
 ghost use Rattle.model.specs.declared.command.Command.TheVariants as command;
 ghost use Rattle.model.specs.Keepable.{IsSoundFrames};
 ghost use Rattle.capability.specs.Parts.{OnlyFetches, frames_of, objects_in};
@@ -10,25 +10,20 @@ use crate::processes::early::early;
 use capability::{Frames, PresentFrames};
 use model::{Answer, Refusal};
 
-/// Reads the word at an address in the address space of a process, at an age, which stays.
+/// Reads the word at an address in the address space of a process. The age stays.
 ///
 /// The answer is `Value`, or `MemoryFault` where the walk stops. It is refused by the first that
 /// applies of `NoProcess` and `NotRunning`. `Fault` exactly if the device failed. Nothing is changed,
 /// and at `NoProcess` the store isn't touched.
-pub fn load<F: Frames>(
-    store: &mut F,
-    age: u64,
-    process: u64,
-    address: u64,
-) -> Result<Answer, Refusal>
-    requires { IsSoundFrames (F.parts store.old).geometry age (frames_of (F.parts store.old)) }
-    ensures serves { Performs age (F.parts store.old) (command.Load process address) (answer_of result)
-        age (F.parts store.new) }
+pub fn load<F: Frames>(store: &mut F, process: u64, address: u64) -> Result<Answer, Refusal>
+    requires { (age : ℕ) × IsSoundFrames (F.parts store.old).geometry age (frames_of (F.parts store.old)) }
+    ensures serves { (age : ℕ) → IsSoundFrames (F.parts store.old).geometry age (frames_of (F.parts store.old))
+        → Performs age (F.parts store.old) (command.Load process address) (answer_of result) age (F.parts store.new) }
     ensures untouched { MakesNoDeviceCall (answer_of result) → store.new ≡ store.old }
     ensures no_fault { IfOk result (λ answer. answer ≢ Answer.Refused Refusal.Fault) }
     ensures snapshots { OnlyFetches F.parts F.ContinuesTo store.old store.new }
 {
-    if let Some(why) = early(store, age, process)? {
+    if let Some(why) = early(store, process)? {
         return Err(why);
     }
     match address_space::load(store, process, address)? {
@@ -37,7 +32,7 @@ pub fn load<F: Frames>(
     }
 }
 
-/// Writes a word at an address in the address space of a process, at an age, which stays.
+/// Writes a word at an address in the address space of a process. The age stays.
 ///
 /// The answer is `Done`, or `MemoryFault` if the walk stops or the page is read-only; a memory fault
 /// precedes `LogFull`. A refusal changes nothing: the first that applies of `NoProcess` (the store is
@@ -46,14 +41,14 @@ pub fn load<F: Frames>(
 #[tactic(auto, using(gate::proofs::BankStates::counted_looked, gate::proofs::Standing::looked_as))]
 pub fn store<F: PresentFrames>(
     store: &mut F,
-    age: u64,
     process: u64,
     address: u64,
     word: u64,
 ) -> Result<Answer, Refusal>
-    requires { IsSoundFrames (F.parts store.old).geometry age (frames_of (F.parts store.old)) }
-    ensures serves { Performs age (F.parts store.old) (command.Store process address word)
-        (answer_of result) age (F.parts store.new) }
+    requires { (age : ℕ) × IsSoundFrames (F.parts store.old).geometry age (frames_of (F.parts store.old)) }
+    ensures serves { (age : ℕ) → IsSoundFrames (F.parts store.old).geometry age (frames_of (F.parts store.old))
+        → Performs age (F.parts store.old) (command.Store process address word) (answer_of result) age
+        (F.parts store.new) }
     ensures untouched { MakesNoDeviceCall (answer_of result) → store.new ≡ store.old }
     ensures no_fault { IfOk result (λ answer. answer ≢ Answer.Refused Refusal.Fault) }
     ensures counted { (banks : BanksState) → AreCounted (F.parts store.old).geometry
@@ -62,7 +57,7 @@ pub fn store<F: PresentFrames>(
         (objects_in (F.parts store.new)) banks }
     ensures continues { F.ContinuesTo store.old store.new }
 {
-    if let Some(why) = early(store, age, process)? {
+    if let Some(why) = early(store, process)? {
         return Err(why);
     }
     match address_space::store(store, process, address, word)? {

@@ -1,5 +1,5 @@
 // The step of showing an object.
-ghost use Rattle.std.specs.Prelude.{◌≡◌, ◌≢◌, ◌<◌, IfOk, IsTrue, length, if◌then◌else◌, slice_index};
+ghost use Rattle.std.specs.Prelude.{ℕ, ◌≡◌, ◌≢◌, ◌<◌, IfOk, IsTrue, length, if◌then◌else◌, slice_index};
 ghost use Rattle.model.specs.declared.command.Command.TheVariants as command;
 ghost use Rattle.model.specs.Keepable.{AreKeepable, IsSoundFrames};
 ghost use Rattle.model.specs.Step.{shown};
@@ -48,11 +48,9 @@ fn shown<F: Frames>(
     alloc: Global,
     store: &mut F,
     banks: &Banks,
-    age: u64,
     number: u64,
 ) -> Result<Answer, Refusal>
-    requires sound { IsSoundFrames (F.parts store.old).geometry age
-        (frames_of (F.parts store.old)) }
+    requires sound { (age : ℕ) × IsSoundFrames (F.parts store.old).geometry age (frames_of (F.parts store.old)) }
     requires counted { AreCounted (F.parts store.old).geometry
         (objects_in (F.parts store.old)) banks.now }
     requires known { number < length (F.parts store.old).headers }
@@ -83,15 +81,13 @@ pub fn show<F: Frames>(
     alloc: Global,
     store: &mut F,
     banks: &Banks,
-    age: u64,
     number: u64,
 ) -> Result<Answer, Refusal>
-    requires sound { IsSoundFrames (F.parts store.old).geometry age
-        (frames_of (F.parts store.old)) }
+    requires sound { (age : ℕ) × IsSoundFrames (F.parts store.old).geometry age (frames_of (F.parts store.old)) }
     requires counted { AreCounted (F.parts store.old).geometry
         (objects_in (F.parts store.old)) banks.now }
-    ensures serves { Performs age (F.parts store.old) (command.Show number) (answer_of result) age
-        (F.parts store.new) }
+    ensures serves { (age : ℕ) → IsSoundFrames (F.parts store.old).geometry age (frames_of (F.parts store.old))
+        → Performs age (F.parts store.old) (command.Show number) (answer_of result) age (F.parts store.new) }
     ensures untouched { MakesNoDeviceCall (answer_of result) → store.new ≡ store.old }
     ensures no_fault { IfOk result (λ answer. answer ≢ Answer.Refused Refusal.Fault) }
     ensures snapshots { OnlyFetches F.parts F.ContinuesTo store.old store.new }
@@ -99,5 +95,5 @@ pub fn show<F: Frames>(
     if number >= store.table().count() {
         return Err(Refusal::BadNumber);
     }
-    shown(alloc, store, banks, age, number)
+    shown(alloc, store, banks, number)
 }

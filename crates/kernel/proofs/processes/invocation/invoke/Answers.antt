@@ -1,5 +1,6 @@
 use Rattle.kernel.proofs.Names.{err_from_is_err_and, sym}
 use Rattle.std.proofs.Common.{◌∙◌}
+use Rattle.capability.proofs.Keeping.{keepable_roles}
 use Rattle.kernel.proofs.Performing.{fault_serves, invoked_serves, no_process_serves}
 use Rattle.kernel.proofs.processes.invocation.invoke.Goals as goal
 
@@ -20,3 +21,10 @@ returns-in_err-code-clause-serves g c =
     rw (p.1, p.2) (fault_serves g.F.Frames.parts g.F.Frames.ContinuesTo c.args.age.now c.args.store.now c.invoke.new.store c.args.invocation.now
     (sym c.is_process.ensures ∙ c.if-not-is_process.false) c.requires.sound (c.is_worn.ensures.young c.if-is_worn.false) _
     c.in_err-code.ensures.state c.in_err-code.ensures.invoked)
+
+pub returns-then-is_worn-clause-serves : goal.returns-then-is_worn-clause-serves
+returns-then-is_worn-clause-serves g c =
+    c.refuse_worn.ensures.serves c.args.age.now c.requires.sound (c.is_worn.ensures.worn c.if-is_worn.true)
+
+pub is_process-requires : goal.is_process-requires
+is_process-requires g c = keepable_roles _ c.args.age.now _ c.requires.sound.keepable

@@ -4,35 +4,35 @@ use Rattle.kernel.proofs.Performing.{ok_stayed, early_none}
 use Rattle.kernel.proofs.processes.memory.store.Goals as goal
 
 pub returns-in-Some-clause-serves : goal.returns-in-Some-clause-serves
-returns-in-Some-clause-serves g c =
+returns-in-Some-clause-serves g c age sound =
     early_store c.args.process c.args.address c.in-Some.why
-    c.requires (subst (IsEarly (objects_in (g.F.Frames.parts c.args.store.now)) c.args.process) c.in-Some.is c.in_ok-why.ensures.why)
+    sound (subst (IsEarly (objects_in (g.F.Frames.parts c.args.store.now)) c.args.process) c.in-Some.is c.in_ok-why.ensures.why)
     c.early.ensures.snapshots c.early.ensures.later (ok_stayed c.in_ok-why.field-0 c.in_ok-why.ensures.cause) c.args.word
 
 pub returns-in-Ok-clause-serves : goal.returns-in-Ok-clause-serves
-returns-in-Ok-clause-serves g c =
+returns-in-Ok-clause-serves g c age sound =
     let said = c.in_ok-store.ensures in
     store_answers c.store.new.frames c.args.process c.args.address
-    c.requires (early_none (objects_in (g.F.Frames.parts c.args.store.now)) c.args.process c.in_ok-why.field-0 c.in_default.not-Some c.in_ok-why.ensures.why)
+    sound (early_none (objects_in (g.F.Frames.parts c.args.store.now)) c.args.process c.in_ok-why.field-0 c.in_default.not-Some c.in_ok-why.ensures.why)
     c.early.ensures.snapshots c.early.ensures.later (ok_stayed c.in_ok-why.field-0 c.in_ok-why.ensures.cause) c.args.word said.writes.geometry
     said.writes.headers said.writes.later
     c.in_ok-store.field-0 (Ok tt) c.in-Ok.is said.stored said.writes.sound said.writes.cause
 
 pub returns-in-Err-clause-serves : goal.returns-in-Err-clause-serves
-returns-in-Err-clause-serves g c =
+returns-in-Err-clause-serves g c age sound =
     let said = c.in_ok-store.ensures in
     store_answers c.store.new.frames c.args.process c.args.address
-    c.requires (early_none (objects_in (g.F.Frames.parts c.args.store.now)) c.args.process c.in_ok-why.field-0 c.in_default.not-Some c.in_ok-why.ensures.why)
+    sound (early_none (objects_in (g.F.Frames.parts c.args.store.now)) c.args.process c.in_ok-why.field-0 c.in_default.not-Some c.in_ok-why.ensures.why)
     c.early.ensures.snapshots c.early.ensures.later (ok_stayed c.in_ok-why.field-0 c.in_ok-why.ensures.cause) c.args.word said.writes.geometry
     said.writes.headers said.writes.later
     c.in_ok-store.field-0 (Err c.in-Err.fault) c.in-Err.is said.stored said.writes.sound said.writes.cause
 
 pub returns-in_err-store-clause-serves : goal.returns-in_err-store-clause-serves
-returns-in_err-store-clause-serves g c =
+returns-in_err-store-clause-serves g c age sound =
     let p = err_from_is_err_and c.from_residual-in_err-store.result c.from_residual-in_err-store.ensures.1 in
     let said = c.in_err-store.ensures in
     rw (p.1, p.2) (store_refused c.store.new.frames c.args.process c.args.address
-    c.requires (early_none (objects_in (g.F.Frames.parts c.args.store.now)) c.args.process c.in_ok-why.field-0 c.in_default.not-Some c.in_ok-why.ensures.why)
+    sound (early_none (objects_in (g.F.Frames.parts c.args.store.now)) c.args.process c.in_ok-why.field-0 c.in_default.not-Some c.in_ok-why.ensures.why)
     c.early.ensures.snapshots c.early.ensures.later (ok_stayed c.in_ok-why.field-0 c.in_ok-why.ensures.cause) c.args.word said.writes.geometry
     said.writes.headers said.writes.later _ said.writes.refusals said.writes.unchanged said.writes.cause said.full)
 
