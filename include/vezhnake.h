@@ -43,7 +43,7 @@ enum vezhnake_status {
     VEZHNAKE_NOT_OPEN = 15,         /* the handle is not open */
     VEZHNAKE_SMALL_BUFFER = 16,     /* the buffer is too small: *size is the size that fits, and nothing is lost */
     VEZHNAKE_CALLS_LOST = 17,       /* the calls are no longer kept: close the handle */
-    VEZHNAKE_FAILED = 18            /* the image or the text could not be read: close the handle */
+    VEZHNAKE_FAILED = 18            /* memory ran out in opening, or the text could not be read: close the handle */
 };
 
 /* A handle. The library owns what `session` points to. */

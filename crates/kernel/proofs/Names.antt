@@ -1,7 +1,7 @@
 -- The names that the proofs here cite: of other crates, and of the definitions of this one.
 pub use Rattle.address_space.specs.References.{IsLoaded, IsStored, KeepsSound, OverfillsStore}
 pub use Rattle.capability.proofs.FrameLists.{at_set, frame_in, headers_in, process_known}
-pub use Rattle.capability.proofs.Keeping.{keepable_count, keepable_later}
+pub use Rattle.capability.proofs.Keeping.{keepable_count, keepable_later, keepable_roles}
 pub use Rattle.capability.specs.Parts.{FetchesOrFails, IsUnchanged, IsUnprepared, IsUnread, OnlyFetches, OnlyReads, Parts, Renews, frames_of, objects_in}
 pub use Rattle.checkpoint.proofs.Lists.{maps_same}
 pub use Rattle.checkpoint.specs.Journal.{is_page_now, is_page_role, is_still_saved, next_journaled, words_now}

@@ -1,6 +1,5 @@
-use Rattle.kernel.proofs.Names.{err_from_is_err_and, sym}
+use Rattle.kernel.proofs.Names.{err_from_is_err_and, sym, keepable_roles}
 use Rattle.std.proofs.Common.{◌∙◌}
-use Rattle.capability.proofs.Keeping.{keepable_roles}
 use Rattle.kernel.proofs.Performing.{fault_serves, invoked_serves, no_process_serves}
 use Rattle.kernel.proofs.processes.invocation.invoke.Goals as goal
 
