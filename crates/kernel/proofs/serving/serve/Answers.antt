@@ -9,7 +9,8 @@ returns-in-Load-clause-serves g c =
     let said = c.load.ensures in
     rw c.in-Load.is (acted _ _ _ g.met.D.Device.only_now g.met.S.ObjectStore.sound_holds l c.load.new.store
     (g.met.S.ObjectStore.continues l.store c.load.new.store said.snapshots.continues) l.banks l.age (command.Load c.in-Load.process c.in-Load.address)
-    (answer_of c.load.result) (omega arith) (said.serves l.age (up_sound _ _ _ l c.requires.up)) (still_counted (g.S.Frames.parts l.store) (g.S.Frames.parts c.load.new.store) l.banks
+    (answer_of c.load.result) (omega arith) (said.serves l.age (up_sound _ _ _ l c.requires.up))
+    (still_counted (g.S.Frames.parts l.store) (g.S.Frames.parts c.load.new.store) l.banks
     said.snapshots.headers said.snapshots.contents said.snapshots.geometry (up_counted _ _ _ l c.requires.up)))
 
 pub returns-in-Store-clause-serves : goal.returns-in-Store-clause-serves
@@ -18,7 +19,8 @@ returns-in-Store-clause-serves g c =
     let said = c.store.ensures in
     rw c.in-Store.is (acted _ _ _ g.met.D.Device.only_now g.met.S.ObjectStore.sound_holds l c.store.new.store
     (g.met.S.ObjectStore.continues l.store c.store.new.store said.continues) l.banks l.age (command.Store c.in-Store.process c.in-Store.address
-    c.in-Store.value) (answer_of c.store.result) (omega arith) (said.serves l.age (up_sound _ _ _ l c.requires.up)) (said.counted l.banks (up_counted _ _ _ l c.requires.up)))
+    c.in-Store.value) (answer_of c.store.result) (omega arith) (said.serves l.age (up_sound _ _ _ l c.requires.up))
+    (said.counted l.banks (up_counted _ _ _ l c.requires.up)))
 
 pub returns-in-Show-clause-serves : goal.returns-in-Show-clause-serves
 returns-in-Show-clause-serves g c =
@@ -50,17 +52,20 @@ returns-in-Migrate-clause-serves g c = rw c.in-Migrate.is c.migrate.ensures.serv
 pub returns-in-Load-clause-cause : goal.returns-in-Load-clause-cause
 returns-in-Load-clause-cause g c =
     let failures = g.met.S.ObjectStore.failures_are in
-    caused (failures c.args.live.now.store) (failures c.load.new.store) (c.load.ensures.serves c.args.live.now.age (up_sound _ _ _ c.args.live.now c.requires.up))
+    caused (failures c.args.live.now.store) (failures c.load.new.store)
+    (c.load.ensures.serves c.args.live.now.age (up_sound _ _ _ c.args.live.now c.requires.up))
 
 pub returns-in-Store-clause-cause : goal.returns-in-Store-clause-cause
 returns-in-Store-clause-cause g c =
     let failures = g.met.S.ObjectStore.failures_are in
-    caused (failures c.args.live.now.store) (failures c.store.new.store) (c.store.ensures.serves c.args.live.now.age (up_sound _ _ _ c.args.live.now c.requires.up))
+    caused (failures c.args.live.now.store) (failures c.store.new.store)
+    (c.store.ensures.serves c.args.live.now.age (up_sound _ _ _ c.args.live.now c.requires.up))
 
 pub returns-in-Show-clause-cause : goal.returns-in-Show-clause-cause
 returns-in-Show-clause-cause g c =
     let failures = g.met.S.ObjectStore.failures_are in
-    caused (failures c.args.live.now.store) (failures c.show.new.store) (c.show.ensures.serves c.args.live.now.age (up_sound _ _ _ c.args.live.now c.requires.up))
+    caused (failures c.args.live.now.store) (failures c.show.new.store)
+    (c.show.ensures.serves c.args.live.now.age (up_sound _ _ _ c.args.live.now c.requires.up))
 
 pub load-requires : goal.load-requires
 load-requires g c = (c.args.live.now.age, up_sound _ _ _ c.args.live.now c.requires.up)
