@@ -58,6 +58,7 @@ pub use Rattle.recovery.proofs.Sound.{consistent_is_sound}
 pub use Rattle.recovery.proofs.Tables.{annex_known, content_read, header_read, table_read}
 pub use Rattle.recovery.specs.Consistency.{AreWholeProcesses, IsInconsistent, IsNamed}
 pub use Rattle.recovery.specs.Denotes.{saved_of}
+pub use Rattle.recovery.specs.Laws.{AreBadForOneReason}
 pub use Rattle.recovery.specs.Noted.{AreNoted}
 pub use Rattle.recovery.specs.declared.consistency.processes.Noted.{Noted}
 pub use Rattle.std.proofs.Common.{Bool, ControlFlow, Err, List, None, Ok, Option, Result, Some, [], ap, append-nil, append_assoc, arith, drop, drop_at, false}
@@ -70,7 +71,7 @@ pub use Rattle.std.specs.ControlFlow.{MatchControlFlow}
 pub use Rattle.std.specs.List.{All}
 pub use Rattle.std.specs.Prelude.{IfNone, IfSome, codes, decimal, ⊤}
 pub use Rattle.image_explainer.specs.Breaking.{BreaksFrames, IsMisnamed, IsUnmatched, reason_of}
-pub use Rattle.image_explainer.specs.Explained.{AreBadForOneReason, Explains, IsExplainedBy}
+pub use Rattle.image_explainer.specs.Explained.{Explains, IsExplainedBy}
 pub use Rattle.image_explainer.specs.Finding.{HasRoot, IsConsistentOr, IsMatched, MatchesOr, annex_noted}
 pub use Rattle.image_explainer.specs.SectorBreaking.{BreaksDirectory, HoldsCap, IsFault}
 pub use Rattle.image_explainer.specs.SectorFinding.{BreaksSector, FitsOr, HasHeaderIn, HasNoneIn, IsAmong, IsCopy, IsWhole, IsWholeFrame, RefusesHeader, picked}

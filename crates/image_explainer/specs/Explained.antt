@@ -23,7 +23,3 @@ Explains disk device back (Ok found) =
     IsExplainedBy (disk device).sectors (disk device).seen found × OnlyReads (disk device) (disk back) ×
     ((disk back).failures ≡ (disk device).failures)
 Explains disk device back (Err why) = RefusesToOpen disk device back why × IsNoReason why
-
--- an image is bad for one reason, so that the number of a fault is the one that a check answers
-abbrev pub AreBadForOneReason : Type 0
-AreBadForOneReason = (size : ℕ) (c : Image) (a b : BadImage) → IsBad size c a → IsBad size c b → a ≡ b

@@ -1,7 +1,8 @@
 // A law of refused images, stated by a function that does nothing.
-ghost use Rattle.image_explainer.specs.Explained.{AreBadForOneReason};
+ghost use Rattle.recovery.specs.Laws.{AreBadForOneReason};
 
-/// An image is bad for one reason alone. It does nothing: its contract is the law.
+/// An image is bad for one reason at most, so the number of a fault is the one that a check prints. It
+/// does nothing: its contract is the law.
 pub fn images_are_bad_for_one_reason()
     ensures { AreBadForOneReason }
 {}

@@ -10,5 +10,6 @@ mod Trees
 pub mod BankFaults
 pub mod Unsound
 pub mod Denoted
+pub mod Complete
 mod Recovered
 pub mod Renewed

@@ -16,8 +16,15 @@ pub use Rattle.device.specs.Disk.{Disk, Image}
 pub use Rattle.device.specs.Moments.{Peeks}
 pub use Rattle.layout.proofs.Denoted.{frames_not_bad}
 pub use Rattle.layout.proofs.Images.{one_state}
+pub use Rattle.layout.proofs.Totals.{total_reported}
+pub use Rattle.layout.specs.Frame.{IsFrameOf}
+pub use Rattle.layout.specs.Image.{Encodes, HasDirectory, HasHeader, HasPlan, IsBadBy, IsTooSmall, SavedState, total_in}
+pub use Rattle.layout.specs.Superblock.{IsPlan, Plan}
+unfoldable pub use Rattle.layout.specs.Superblock.{superblock_bytes}
 pub use Rattle.layout.specs.declared.bad_image.BadImage.{BadImage}
 pub use Rattle.layout.specs.declared.bad_image.BadImage.TheVariants.{BadBank, BadCapability, BadProcess}
+pub use Rattle.layout.specs.declared.directory.Entry.{Entry}
+pub use Rattle.layout.specs.declared.header.CheckpointHeader.{CheckpointHeader}
 pub use Rattle.layout.specs.declared.open_fault.OpenFault.{OpenFault}
 unfoldable pub use Rattle.model.specs.Bank.{chain, usage}
 pub use Rattle.model.specs.Capability.{IsWellFormed}
@@ -61,7 +68,7 @@ pub use Rattle.recovery.specs.Consistency.{AreBanked, AreLimited, AreNamed, AreO
 pub use Rattle.recovery.specs.Consistency.{IsUnbanked, NamesItsRole, Tells, annex_in, is_waiting_root, owner_of, role_at}
 pub use Rattle.recovery.specs.ConsistencyLaws.{ConsistentIsSound, InconsistentIsUnsound}
 pub use Rattle.recovery.specs.Denotes.{Denotes, DenotesOne, IsSoundSaved, Leaves, saved_of}
-pub use Rattle.recovery.specs.Laws.{DenoteOneSaved, DenotedIsNotBad, DenotedIsOneOf, DenotedIsSound}
+pub use Rattle.recovery.specs.Laws.{DenoteOneSaved, DenotedIsNotBad, DenotedIsOneOf, DenotedIsSound, NotBadIsDenoted}
 pub use Rattle.recovery.specs.Live.{AreSoundTogether, base_of, running}
 unfoldable pub use Rattle.recovery.specs.Live.{renewed_since}
 pub use Rattle.recovery.specs.Noted.{AreNoted, AreTaken, IsTaking, is_taken, note_at, noted_in}

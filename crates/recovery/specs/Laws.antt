@@ -1,4 +1,4 @@
--- An image denotes at most one saved part, whose world is sound, and is then refused for no reason.
+-- An image denotes at most one saved part, whose world is sound. It denotes one where none of the ten reasons holds.
 use Rattle.recovery.specs.Names.{ℕ, List, Contains, Geometry, Saved, IsSound, Image, BadImage}
 use Rattle.std.specs.Prelude.{◌≡◌}
 use Rattle.recovery.specs.Denotes.{Denotes, DenotesOne}
@@ -18,7 +18,16 @@ DenotedIsOneOf = (g h : Geometry) (size : ℕ) (c : Image) (ss : List Saved) (t 
 abbrev pub DenotedIsSound : Type 0
 DenotedIsSound = (g : Geometry) (size : ℕ) (c : Image) (s : Saved) → Denotes g size c s → IsSound g s.world
 
--- and none of the ten reasons holds
+-- none of the ten reasons holds for an image that denotes one
 abbrev pub DenotedIsNotBad : Type 0
 DenotedIsNotBad = (g : Geometry) (size : ℕ) (c : Image) (s : Saved) (reason : BadImage) → Denotes g size c s →
     IsBad size c reason → ⊥
+
+-- An image for which none of them holds denotes a saved part: it can't be that it denotes none.
+abbrev pub NotBadIsDenoted : Type 0
+NotBadIsDenoted = (size : ℕ) (c : Image) → ((reason : BadImage) → IsBad size c reason → ⊥) →
+    ((g : Geometry) (s : Saved) → Denotes g size c s → ⊥) → ⊥
+
+-- an image is bad for one reason at most
+abbrev pub AreBadForOneReason : Type 0
+AreBadForOneReason = (size : ℕ) (c : Image) (a b : BadImage) → IsBad size c a → IsBad size c b → a ≡ b

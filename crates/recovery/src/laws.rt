@@ -1,6 +1,7 @@
 //! Laws of what an image denotes, each the contract of a function that does nothing.
 
 ghost use Rattle.recovery.specs.Laws.{DenoteOneSaved, DenotedIsNotBad, DenotedIsOneOf, DenotedIsSound};
+ghost use Rattle.recovery.specs.Laws.{NotBadIsDenoted};
 
 /// An image denotes at most one saved part.
 pub fn denote_one_saved()
@@ -22,4 +23,11 @@ pub fn denoted_is_sound()
 /// It is refused for none of the ten reasons.
 pub fn denoted_is_not_bad()
     ensures { DenotedIsNotBad }
+{}
+
+/// An image for which none of the ten reasons holds denotes a saved part. So they are all the reasons
+/// to refuse one.
+#[tactic(auto, using(crate::proofs::Complete::not_bad_denoted))]
+pub fn not_bad_is_denoted()
+    ensures { NotBadIsDenoted }
 {}
