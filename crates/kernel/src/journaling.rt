@@ -17,8 +17,8 @@ use recovery::Live;
 /// It is refused by the first that applies of `Worn` at the greatest age, `CheckpointRunning` where
 /// a checkpoint is on its way, `MigrationPending` where what is saved isn't home, `BadNumber` where
 /// no object has the number, and `NotJournaled`, with `NotPage` where the object isn't a page, else
-/// with `Renewed` where none is saved, or the one that is was given up since. `Fault` if the device
-/// failed: then what is saved is that before or that with the page.
+/// with `Renewed` where no page is saved at the number, or the saved one was freed since. `Fault` if
+/// the device failed: then what is saved is the state before, or that with the page.
 #[inline(never)]
 pub fn journal<D: Device, S: ObjectStore<D>>(
     live: &mut Live<S>,
