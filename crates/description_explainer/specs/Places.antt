@@ -35,8 +35,7 @@ Breaks ms (place.Shape s) = BreaksShape ms s
 Breaks ms (place.Rule d r) = IsDescription ms d × BreaksRule d r
 
 -- A table is that of a description, and is accepted on each device that is large enough; or it breaks a rule at a
--- place, and
--- is refused on each device for the fault of that rule.
+-- place, and is refused on each device for the fault of that rule.
 abbrev pub Explains : Members → Option Place → Type 0
 Explains ms None = (d : Description) × IsDescription ms d ×
     ((sectors : ℕ) → (plan_for d).total ≤ sectors → IsAccepted d sectors)

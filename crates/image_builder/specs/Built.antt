@@ -25,8 +25,7 @@ abbrev pub BuildsFrom : Members → Disk → Disk → Type 0
 BuildsFrom ms old new = (d : Description) × IsDescription ms d × Builds d old new
 
 -- What a crash leaves while an image of a table is built: what saved frames it holds, if any, it could have left
--- before,
--- or they are those described.
+-- before, or they are those described.
 abbrev pub IsLeftOf : Members → Disk → Image → Type 0
 IsLeftOf ms old c = (saved : SavedFrames) → Holds old.sectors c saved →
     ((before : Image) × old.may_leave before × Holds old.sectors before saved) ⊎

@@ -84,8 +84,7 @@ pub record IsOpenedFrom {D : Type 0} (disk : D → Disk) (old : D) (s : DurableS
   pub failures : (disk s.beneath).failures ≡ (disk old).failures
 
 -- What a crash leaves while an image is upgraded: what saved frames it holds, if any, it could have left before, or
--- they
--- are those of the old device.
+-- they are those of the old device.
 abbrev pub IsLeftUpgrading : Disk → Disk → Image → Type 0
 IsLeftUpgrading old before c = (saved : SavedFrames) → Holds before.sectors c saved →
     ((d : Image) × before.may_leave d × Holds before.sectors d saved) ⊎ Holds old.sectors old.seen saved

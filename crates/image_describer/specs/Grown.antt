@@ -39,8 +39,7 @@ abbrev pub moved_object : (ℕ → ℕ) → Object → Object
 moved_object at o = record { owner = o.owner; content = map_content (moved_capability at) o.content }
 
 -- The objects of a world in an image of other sizes: each at its number there, with its capabilities renumbered, and
--- all
--- else free.
+-- all else free.
 pub record IsGrown (old new : Geometry) (w v : World) : Type 0 where
   pub count : length v.objects ≡ object_count new
   pub age : v.age ≡ w.age

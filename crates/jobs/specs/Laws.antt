@@ -25,8 +25,7 @@ DescribedIsDenoted = (p : Plan) (age : ℕ) (frames : List Frame) (text : List �
     Holds size c saved → Denotes p.geometry size c (anew age frames)
 
 -- The description of a world is accepted: with a version and home ranges that an image may have it is built on a device
--- with
--- enough sectors.
+-- with enough sectors.
 abbrev pub DescribedIsAccepted : Type 0
 DescribedIsAccepted = (g : Geometry) (age : ℕ) (fs : List Frame) (d : Description) (v : Version) (sectors : ℕ) →
     IsSoundFrames g age fs → Describes g (world_at age fs) d →

@@ -16,8 +16,7 @@ pub record IsReach (os : List Object) (starts : List ℕ) (inside : ℕ → Bool
       IsTrue (inside n) → IsTrue (other n)
 
 -- the authority bound for a set: over any run of invocations and memory references by its processes, and by those that
--- they
--- make of what was free, each object outside that wasn't free is kept
+-- they make of what was free, each object outside that wasn't free is kept
 abbrev pub BoundsRuns : List Object → (ℕ → Bool) → Type 0
 BoundsRuns os inside = (g : Geometry) (s t : Running) (turns : List Turn) → s.now.objects ≡ os → IsSound g s.now →
     IsRun g (Up s) turns (Up t) →

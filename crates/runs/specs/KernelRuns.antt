@@ -149,8 +149,7 @@ module _ {D S : Type 0} (disk : D → Disk) (view : S → View D) (parts : S →
       × (on : Bool) × AreSeen (sees g) before after turns on × EndsBy on result
 
   -- The authority bound. The kernel is up before and after. If each line that was read is by a process of a closed set,
-  -- or by
-  -- one made of numbers that were free, then each object outside the set that wasn't free is kept.
+  -- or by one made of numbers that were free, then each object outside the set that wasn't free is kept.
   abbrev pub IsConfined : Power D S → Power D S → Option (List ℕ) → Option (List ℕ) → Type 0
   IsConfined old new input input_left = (g : Geometry) (s t : Running) → Stands disk view parts g old (Up s) →
       Stands disk view parts g new (Up t) →

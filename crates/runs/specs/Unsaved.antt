@@ -10,8 +10,7 @@ abbrev pub nothing_unsaved : Unsaved
 nothing_unsaved = record { present = false; frozen = false }
 
 -- Each invocation and store that is carried out isn't committed. A checkpoint freezes what isn't, a commit saves what
--- is
--- frozen, and a restart loses both.
+-- is frozen, and a restart loses both.
 abbrev pub unsaved_after : Command → Answer → Unsaved → Unsaved
 unsaved_after (command.Evict n) answer.Done old = old
 unsaved_after c answer.Done old = record { present = true; frozen = old.frozen }
