@@ -1,11 +1,11 @@
 -- The capabilities that a description names, and those that its frames hold.
-use Rattle.description_explainer.proofs.Names.{nat_tests, ℕ, inl, inr, List, [], Option, None, Some, slice_get, unwrap_or, IsSomeAnd, sym, ap, subst, arith}
-use Rattle.description_explainer.proofs.Names.{All, cases_eq, All-cons, All-contains, All-head, All-tail, get_or_from_slice_get, Cap, Capability, Void, Frame}
-use Rattle.description_explainer.proofs.Names.{frame_at, caps_in, fresh_cap, AreNamed, IsNamed, NamesItsRole, Description, NodeEntry, SlotEntry, AreSlots}
-use Rattle.description_explainer.proofs.Names.{HasFields, HasNumbers, HoldsNamed, IsDescribed, IsProcessEntry, named_at, Entry, HasTargets, OfAnnex, OfBank}
-use Rattle.description_explainer.proofs.Names.{OfNode, OfPage, OfRoot, IsTarget, Held, BreaksTarget, AllHave, AllIn, AllOfProcess, IfNamed, OneLacks}
-use Rattle.description_explainer.proofs.Names.{described_once, IsFrameOf, IsOf, described_cases, described_of, all_from, all_got, first_beyond, first_of}
-use Rattle.description_explainer.proofs.Names.{first_there, never_raised, role_target, all_refuted}
+use Rattle.description_explainer.proofs.Names.{ℕ, inl, inr, List, [], Option, None, Some, slice_get, unwrap_or, IsSomeAnd, sym, ap, subst, arith, All, cases_eq}
+use Rattle.description_explainer.proofs.Names.{All-cons, All-contains, All-head, All-tail, get_or_from_slice_get, Cap, Capability, Void, Frame, frame_at}
+use Rattle.description_explainer.proofs.Names.{caps_in, fresh_cap, AreNamed, IsNamed, NamesItsRole, Description, NodeEntry, SlotEntry, AreSlots, HasFields}
+use Rattle.description_explainer.proofs.Names.{HasNumbers, HoldsNamed, IsDescribed, IsProcessEntry, named_at, Entry, OfAnnex, OfBank, OfNode, OfPage, OfRoot}
+use Rattle.description_explainer.proofs.Names.{IsTarget, Held, BreaksTarget, AllHave, AllIn, AllOfProcess, IfNamed, OneLacks, described_once, IsFrameOf, IsOf}
+use Rattle.description_explainer.proofs.Names.{described_cases, described_of, all_from, all_got, first_beyond, first_of, first_there, never_raised, role_target}
+use Rattle.description_explainer.proofs.Names.{all_refuted}
 use Rattle.std.proofs.Common.{◌≡◌, ◌<◌, ◌≤◌, ◌∷◌, ◌∙◌}
 use Rattle.description_explainer.specs.declared.faults.place.Held.TheVariants as held
 
@@ -27,10 +27,6 @@ first_has P (e ∷ es) i void all = elim (cases_eq _ i) [
   | inr differ ↦ subst P (sym (first_beyond (λ (s : SlotEntry). s.index) (λ s. unwrap_or s.capability Void) Void e es i differ))
       (first_has P es i void (All-tail (λ (s : SlotEntry). IfNamed P s.capability) e es all))
 ]
-
--- all name numbers of their kinds
-pub has_targets : (d : Description) → AllHave (IsTarget d.geometry) d → HasTargets d.geometry d
-has_targets d all = grind (arith, nat_tests, all_from, All-contains, or_void)
 
 module _ (d : Description) (fs : List Frame) (is : IsDescribed d fs) where
   named_fresh : (c : Capability) → NamesItsRole fs c → IsNamed fs (fresh_cap c)

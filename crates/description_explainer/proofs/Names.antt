@@ -8,10 +8,9 @@ pub use Rattle.description.proofs.Lists.{all_from, all_got, first_beyond, first_
 pub use Rattle.description.proofs.NamedTargets.{never_raised, role_target}
 pub use Rattle.description.proofs.Rules.{field_broken, limits_broken, number_broken, owner_broken, target_broken}
 pub use Rattle.description.proofs.Taken.{all_taken, one_more}
-pub use Rattle.description.specs.Described.{AreDistinct, AreSlots, HasFields, HasNumbers, HoldsNamed, IsDescribed, IsProcessEntry, named_at, node_numbers}
-pub use Rattle.description.specs.Described.{page_numbers}
+pub use Rattle.description.specs.Described.{AreSlots, HasFields, HasNumbers, HoldsNamed, IsDescribed, IsProcessEntry, named_at, node_numbers, page_numbers}
 pub use Rattle.description.specs.FieldFlaws.{BreaksField, IsOutside, IsTwice}
-pub use Rattle.description.specs.Laid.{Entry, HasTargets, OfAnnex, OfBank, OfNode, OfPage, OfRoot}
+pub use Rattle.description.specs.Laid.{Entry, OfAnnex, OfBank, OfNode, OfPage, OfRoot}
 pub use Rattle.description.specs.Reading.{AreFour, At, AtOr, HasList, IsBank, IsCapability, IsDescription, IsList, IsNode, IsPage, IsProcess, IsRange, IsSlot}
 pub use Rattle.description.specs.Reading.{IsState, IsTable, IsWord, has_only}
 unfoldable pub use Rattle.description.specs.Reading.{IsWideNumber}

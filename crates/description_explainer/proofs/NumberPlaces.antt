@@ -1,8 +1,8 @@
 -- The numbers of a description, by their places among all.
-use Rattle.description_explainer.proofs.Names.{nat_tests, ℕ, zero, suc, List, [], length, map, Option, None, Some, option_map, slice_get, IsSomeAnd, refl, sym}
-use Rattle.description_explainer.proofs.Names.{ap, subst, arith, All, length-append, length-map, slice_get-map, Geometry, object_count, Description}
-use Rattle.description_explainer.proofs.Names.{AreDistinct, HasNumbers, node_numbers, page_numbers, Named, BreaksNumber, IsOfItsKind, IsOutside, IsTwice}
-use Rattle.description_explainer.proofs.Names.{number_at, BreaksIt, place_of, all_refuted, twice_refuted}
+use Rattle.description_explainer.proofs.Names.{ℕ, zero, suc, List, [], length, map, Option, None, Some, option_map, slice_get, IsSomeAnd, refl, sym, ap, subst}
+use Rattle.description_explainer.proofs.Names.{arith, length-append, length-map, slice_get-map, Geometry, object_count, Description, HasNumbers, node_numbers}
+use Rattle.description_explainer.proofs.Names.{page_numbers, Named, BreaksNumber, IsOfItsKind, IsOutside, IsTwice, number_at, BreaksIt, place_of, all_refuted}
+use Rattle.description_explainer.proofs.Names.{twice_refuted}
 use Rattle.std.proofs.Common.{◌≡◌, ◌+◌, ◌-◌, ◌<◌, ◌≤◌, ◌∷◌, ◌++◌, ◌∙◌}
 use Rattle.description_explainer.specs.declared.faults.place.Misnumbered.TheVariants as misnumbered
 use Rattle.description_explainer.specs.declared.faults.place.Named.TheVariants as named
@@ -91,8 +91,3 @@ module _ (d : Description) where
         (λ same. omega (arith, twice.0, at_first, at_second, ap (place_of d) same), there.1, first ∙ there.2, second ∙ there.3),
         λ has. twice_refuted (node_numbers d ++ page_numbers d) i j there has.distinct,
       )
-
-  pub has_numbers : (end : ℕ) (ms ps ns : List ℕ) → ms ≡ node_numbers d → ps ≡ page_numbers d → ns ≡ node_numbers d ++ page_numbers d →
-      end ≡ object_count d.geometry
-      → All (λ n. (0 ≤ n) × (n < d.geometry.nodes)) ms → All (λ n. (d.geometry.nodes ≤ n) × (n < end)) ps → AreDistinct ns → HasNumbers d
-  has_numbers end ms ps ns is_nodes is_pages all last nodes pages distinct = grind (arith, nat_tests)
