@@ -1,14 +1,10 @@
 -- What is written is an image of a description.
-use Rattle.image_builder.proofs.Names.{ℕ, List, ap, inl, inr, subst, sym, ⊎_elim, Members, Cap, Frame, ObjectHeader, Content, frames_in, IsSoundFrames, Disk}
-use Rattle.image_builder.proofs.Names.{Image, Elsewhere, LeavesOnly, OnlyNow, leaves_weaker, started, Encodes, Plan, one_state, Holds, SavedFrames, kept_of}
-use Rattle.image_builder.proofs.Names.{IsLeftWriting, first_saved, first_state, kept_holds_the_same, none_is_held, IsDescription, Description, Builds, IsLeftOf}
-use Rattle.image_builder.proofs.Names.{IsLeftBuilding, IsSoundDescription, described_once, IsWithinLimits, plan_for, AreLaid}
+use Rattle.image_builder.proofs.Names.{List, ap, inl, inr, subst, ⊎_elim, Members, Cap, Frame, ObjectHeader, Content, frames_in, IsSoundFrames, Disk, Image}
+use Rattle.image_builder.proofs.Names.{Elsewhere, LeavesOnly, OnlyNow, leaves_weaker, started, Encodes, Plan, Holds, IsLeftWriting, first_saved, first_state}
+use Rattle.image_builder.proofs.Names.{kept_holds_the_same, none_is_held, IsDescription, Description, Builds, IsLeftOf, IsLeftBuilding, IsSoundDescription}
+use Rattle.image_builder.proofs.Names.{described_once, IsWithinLimits, plan_for, AreLaid, holds_one}
 use Rattle.std.proofs.Common.{◌≡◌, ◌≤◌, ◌∙◌}
 use Rattle.image_builder.proofs.Refusals.{accepted}
-
--- an image holds one state
-pub holds_one : (size : ℕ) (c : Image) (a b : SavedFrames) → Holds size c a → Holds size c b → a ≡ b
-holds_one size c a b in_a in_b = sym in_a.2 ∙ ap kept_of (one_state c size in_a.0 in_b.0 in_a.1 in_b.1) ∙ in_b.2
 
 module _ (d : Description) (hs : List ObjectHeader) (cs : List (Content Cap)) (laid : AreLaid d hs cs) where
   module _ (limits : IsWithinLimits d) (s : IsSoundDescription d) (old new : Disk) where

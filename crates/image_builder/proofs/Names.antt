@@ -21,9 +21,7 @@ pub use Rattle.image_writer.specs.Laid.{laid_again}
 pub use Rattle.image_writer.specs.Written.{IsLeftWriting, first_saved, first_state, state_of}
 pub use Rattle.image_writer.specs.declared.fault.BuildFault.{BuildFault}
 pub use Rattle.image_writer.specs.declared.fault.BuildFault.TheVariants.{Failed, Field, Limits, NoMemory, Number, Owner, Shape, Small, Target}
-pub use Rattle.layout.proofs.Images.{one_state}
 pub use Rattle.layout.specs.Directory.{IsDirectory, entry_at}
-pub use Rattle.layout.specs.Header.{IsHeader}
 pub use Rattle.layout.specs.Image.{Encodes, SavedState}
 pub use Rattle.layout.specs.Superblock.{Plan}
 pub use Rattle.layout.specs.declared.bad_image.BadImage.{BadImage}
@@ -39,6 +37,7 @@ pub use Rattle.model.specs.declared.frame.Frame.{Frame}
 pub use Rattle.model.specs.declared.frame.ObjectHeader.{ObjectHeader}
 pub use Rattle.model.specs.declared.geometry.Geometry.{Geometry}
 pub use Rattle.model.specs.declared.object.Content.{Content}
+pub use Rattle.recovery.proofs.Denoted.{holds_one}
 pub use Rattle.recovery.proofs.Unsound.{sound_banked, sound_named}
 pub use Rattle.recovery.specs.Consistency.{AreBanked, AreNamed, AreWholeProcesses, IsInconsistent}
 pub use Rattle.recovery.specs.Denotes.{IsSoundSaved}

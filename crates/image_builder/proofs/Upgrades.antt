@@ -1,14 +1,13 @@
 -- What a device saves, written to another.
 use Rattle.image_builder.proofs.Names.{ℕ, List, length, ap, inl, inr, refl, subst, sym, arith, Result, Ok, Err, IfErr, IsErrOf, OnOk, Frame, Disk, Image}
-use Rattle.image_builder.proofs.Names.{Agrees, Elsewhere, LeavesOnly, agrees_is, OnlyNow, leaves_weaker, started, Entry, Two, IsDirectory, IsHeader, Encodes}
-use Rattle.image_builder.proofs.Names.{SavedState, Plan, OpenFault, OnlyReads, kept_of, laid_again, IsLeftWriting, state_of, kept_holds_the_same, none_is_held}
+use Rattle.image_builder.proofs.Names.{Agrees, Elsewhere, LeavesOnly, agrees_is, OnlyNow, leaves_weaker, started, Entry, Two, IsDirectory, Encodes, SavedState}
+use Rattle.image_builder.proofs.Names.{Plan, OpenFault, OnlyReads, kept_of, laid_again, IsLeftWriting, state_of, kept_holds_the_same, none_is_held}
 use Rattle.image_builder.proofs.Names.{IsSoundSaved, RefusesToOpen, UpgradeFault, IsLeftUpgrading, IsNotUpgraded, IsOnlyRead, Upgrades, numbered, upgraded}
-use Rattle.image_builder.proofs.Names.{IfOk}
+use Rattle.image_builder.proofs.Names.{IfOk, holds_one}
 use Rattle.std.proofs.Common.{◌≡◌, ◌<◌, ◌≤◌, ◌∙◌}
 use Rattle.std.specs.Prelude.{◌≢◌}
 use Rattle.layout.specs.declared.open_fault.OpenFault.TheVariants as opening
 use Rattle.image_builder.specs.declared.upgrade_fault.UpgradeFault.TheVariants as fault
-use Rattle.image_builder.proofs.Images.{holds_one}
 use Rattle.image_builder.proofs.Numbered.{directory_numbered, length_numbered}
 
 -- ---- the parts of the new image
@@ -22,15 +21,6 @@ module _ (image : Image) (size : ℕ) (s : SavedState) (is : Encodes image size 
 
   pub directory_count : length (numbered 0 s.directory) ≡ s.header.entries
   directory_count = length_numbered 0 s.directory ∙ is.directory.count
-
-  pub header_fits : IsHeader s.plan.geometry.log (record s.header { sequence = 0 })
-  header_fits = record {
-    entries = is.header.fits.entries;
-    age = is.header.fits.age;
-    generation = is.header.fits.generation;
-    sequence = omega arith;
-    entries_fit = is.header.fits.entries_fit;
-  }
 
 -- it has the same state but for the places
 pub same_state : (s : SavedState) (p : Plan) (generation entries age : ℕ) (es : List Entry) (fs : List Frame) → p ≡ laid_again Two s.plan →
