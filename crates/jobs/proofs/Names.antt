@@ -17,7 +17,7 @@ pub use Rattle.description_explainer.specs.Places.{Explains}
 pub use Rattle.device.proofs.Images.{agrees_is}
 pub use Rattle.device.specs.Disk.{Disk, Image}
 pub use Rattle.image_builder.specs.Built.{BuildsFrom}
-pub use Rattle.image_builder.specs.Upgraded.{IsRefusedAsOld, ReadsAndCloses, Upgrades}
+pub use Rattle.image_builder.specs.Upgraded.{ReadsAndCloses, Upgrades}
 pub use Rattle.image_builder.specs.declared.upgrade_fault.UpgradeFault.{UpgradeFault}
 pub use Rattle.image_describer.proofs.GrownDescription.{brief_grown, fields_grown}
 pub use Rattle.image_describer.proofs.GrownFits.{not_suited}

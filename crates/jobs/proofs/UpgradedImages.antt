@@ -1,7 +1,6 @@
 -- The outcome of the command that upgrades.
-use Rattle.jobs.proofs.Names.{Written, ℕ, Ok, Err, refl, ap, arith, subst, sym, IfErr, IsErrOf, OnErr, OnOk, Wrote, line_of, Disk, Two, laid_again}
-use Rattle.jobs.proofs.Names.{UpgradeFault, IsRefusedAsOld, ReadsAndCloses, Upgrades, WroteFront, Fault, UpgradesImage, old_failed, upgraded_text}
-use Rattle.jobs.proofs.Names.{UpgradesAndTells}
+use Rattle.jobs.proofs.Names.{Written, ℕ, Ok, Err, ap, subst, sym, IfErr, IsErrOf, OnErr, OnOk, Wrote, line_of, Disk, Two, laid_again, UpgradeFault}
+use Rattle.jobs.proofs.Names.{ReadsAndCloses, Upgrades, WroteFront, Fault, UpgradesImage, old_failed, upgraded_text, UpgradesAndTells}
 use Rattle.std.proofs.Common.{◌≡◌, ◌∙◌}
 use Rattle.std.specs.Prelude.{◌↔◌, List, Result}
 use Rattle.layout.specs.declared.open_fault.OpenFault.TheVariants as opening
@@ -27,15 +26,6 @@ module _ {D E : Type 0} (disk : D → Disk) (new_disk : E → Disk) (old : D) (b
 pub never_old : (result : Result (Unit {0}) Fault) → IfErr result (λ f. f ≡ fault.CannotWriteOutput) → IsErrOf result old_failed → ⊥
 never_old (Ok a) is reported = cc
 never_old (Err f) is reported = let same : f ≡ old_failed = cc in let other : fault.CannotWriteOutput ≡ old_failed = sym is ∙ same in cc
-
--- an old device that is refused leaves the new one as it was
-pub old_refused : {D E : Type 0} (disk : D → Disk) (new_disk : E → Disk) (old : D) (before : E) (output : Written) (why : UpgradeFault) →
-    IsRefusedAsOld disk old why
-    → (let r : Result (Unit {0}) Fault = Err (fault.Upgrade why) in UpgradesImage disk new_disk old before before output output r)
-old_refused disk new_disk old before output (upgrade.Old why) is = (is, (λ _. refl), (λ same. cc, λ rose. absurd (omega (arith, rose))), refl)
-old_refused disk new_disk old before output upgrade.Small is = absurd is
-old_refused disk new_disk old before output upgrade.Failed is = absurd is
-old_refused disk new_disk old before output upgrade.NoMemory is = (tt, (λ _. refl), (λ same. cc, λ rose. absurd (omega (arith, rose))), refl)
 
 -- what was only read was so whichever way its failure is reported
 pub read_reported : {D : Type 0} (disk : D → Disk) (was_closed : D → Type 0) (old : D) (reported other : Type 0) → (other → reported) → (reported → other) →

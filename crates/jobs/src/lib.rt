@@ -34,4 +34,4 @@ pub use output::finish;
 pub use reaching::reach_image;
 pub use running::{run_image, run_shell, run_traced};
 pub use shell::ShellInput;
-pub use upgrading::{upgrade_image, upgrade_opened};
+pub use upgrading::upgrade_opened;

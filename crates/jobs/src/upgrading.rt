@@ -49,8 +49,16 @@ fn write_and_tell<D: ClosableDevice, S: WholeStore<D>, E: Device, W: Output>(
     }
 }
 
-/// Writes what an old image that was opened saves over a new device by version 2 of the layout, as
-/// `upgrade_image` does, and closes the old device; the lines and the status are the same.
+/// Writes what an opened old image saves over a new device, by version 2 of the layout. Then it closes the
+/// old device, writes `upgraded T sectors`, of the new image, and the status is 0.
+///
+/// After a fault one line is written to `errors`, and the status is 1:
+/// - `cannot write image` if the new device is too small;
+/// - `device failed` or `no memory`;
+/// - `cannot write output` if the writer fails; the new image is written.
+///
+/// A crash of the new device at any moment leaves the image that was there, as it was; or nothing
+/// that can be opened; or the new image, whole. Nothing is written to the old device at any moment.
 pub fn upgrade_opened<D: ClosableDevice, S: WholeStore<D>, E: Device, W: Output, V: Output>(
     alloc: Global,
     image: OldImage<D, S>,
@@ -70,34 +78,4 @@ pub fn upgrade_opened<D: ClosableDevice, S: WholeStore<D>, E: Device, W: Output,
 {
     let outcome = write_and_tell(alloc, image, new, writer);
     status(outcome, errors)
-}
-
-/// Opens an old device as a run does, writes what its image saves over a new one by version 2 of the
-/// layout, and writes `upgraded T sectors`, of the new image; then the status is 0. After a fault one
-/// line is written to `errors`, and the status is 1: `bad image` with a number from 1 to 10 where the
-/// old device isn't opened, `cannot write image` where the new one is too small, `device failed`, `no
-/// memory`, or, with the new image written, `cannot write output` where the writer fails.
-///
-/// A crash of the new device at any moment leaves the image that was there, as it was; or nothing
-/// that can be opened; or the new image, whole. Nothing is written to the old device at any moment.
-pub fn upgrade_image<D: ClosableDevice, S: WholeStore<D>, E: Device, W: Output, V: Output>(
-    alloc: Global,
-    old: D,
-    setting: S::Setting,
-    new: &mut E,
-    writer: &mut W,
-    errors: &mut V,
-) -> u8
-    ensures upgraded { (outcome : Result (Unit {0}) Fault) × (result ≡ status_of outcome)
-        × IsReported outcome (V.written errors.old) (V.written errors.new)
-        × UpgradesImage D.disk E.disk old new.old new.new
-        (W.written writer.old) (W.written writer.new) outcome
-        × ReadsAndCloses D.disk D.was_closed old (IsErrOf outcome old_failed) }
-    ensures any_moment { LeavesOnly (E.disk new.old) (E.disk new.new)
-        (λ c. IsLeftUpgrading (D.disk old) (E.disk new.old) c) }
-{
-    match OldImage::<D, S>::open(alloc, old, setting) {
-        Ok(image) => upgrade_opened(alloc, image, new, writer, errors),
-        Err(fault) => status(Err(Fault::Upgrade(fault)), errors),
-    }
 }
