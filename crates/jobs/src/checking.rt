@@ -41,10 +41,7 @@ pub fn check_image<D: Device, S: ObjectStore<D>, W: Output, V: Output>(
 {
     let live = match recover::<D, S>(alloc, device, setting) {
         Ok(live) => live,
-        Err(refused) => {
-            let outcome = Err(Fault::Open(refused.fault));
-            return Done::report(outcome, refused.device, errors);
-        }
+        Err(refused) => return Done::unopened(refused, errors),
     };
     let store = live.store;
     let line = checked_line(store.saved());

@@ -91,6 +91,6 @@ pub fn describe_image<D: Device, S: WholeStore<D>, W: Output, V: Output>(
             let outcome = tell_grown(alloc, description, sizes, writer);
             Done::report(outcome, device, errors)
         }
-        Err(refused) => Done::report(Err(Fault::Open(refused.fault)), refused.device, errors),
+        Err(refused) => Done::unopened(refused, errors),
     }
 }

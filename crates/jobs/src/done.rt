@@ -1,8 +1,9 @@
 // What a command leaves.
-ghost use Rattle.std.specs.Prelude.{◌≡◌};
+ghost use Rattle.std.specs.Prelude.{◌≡◌, Err};
 ghost use Rattle.jobs.specs.Faults.{IsReported, status_of};
 
 use crate::fault::{Fault, status};
+use checkpoint::OpenRefused;
 use script::Output;
 
 /// The status of a command that opened a device, and the device.
@@ -29,5 +30,14 @@ impl<D> Done<D> {
             status: status(outcome, errors),
             device,
         }
+    }
+
+    /// What a command leaves if its device isn't opened. The message is written first.
+    pub(crate) fn unopened<V: Output>(refused: OpenRefused<D>, errors: &mut V) -> Done<D>
+        ensures status { result.status ≡ status_of (Err (Fault.Open refused.fault)) }
+        ensures reported { IsReported (Err (Fault.Open refused.fault)) (V.written errors.old) (V.written errors.new) }
+        ensures device { result.device ≡ refused.device }
+    {
+        Done::report(Err(Fault::Open(refused.fault)), refused.device, errors)
     }
 }

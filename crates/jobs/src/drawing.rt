@@ -139,6 +139,6 @@ pub fn draw_image<D: Device, S: WholeStore<D>, W: Output, V: Output>(
             let outcome = draw_part(alloc, whole, focus, writer);
             Done::report(outcome, device, errors)
         }
-        Err(refused) => Done::report(Err(Fault::Open(refused.fault)), refused.device, errors),
+        Err(refused) => Done::unopened(refused, errors),
     }
 }

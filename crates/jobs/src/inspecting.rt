@@ -36,6 +36,6 @@ pub fn info_image<D: Device, S: WholeStore<D>, W: Output, V: Output>(
             let outcome = of_write(print_lines(&lines, writer));
             Done::report(outcome, device, errors)
         }
-        Err(refused) => Done::report(Err(Fault::Open(refused.fault)), refused.device, errors),
+        Err(refused) => Done::unopened(refused, errors),
     }
 }

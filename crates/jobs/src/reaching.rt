@@ -115,6 +115,6 @@ pub fn reach_image<D: Device, S: WholeStore<D>, W: Output, V: Output>(
             let outcome = tell_reach(alloc, &objects, processes, shows, writer);
             Done::report(outcome, device, errors)
         }
-        Err(refused) => Done::report(Err(Fault::Open(refused.fault)), refused.device, errors),
+        Err(refused) => Done::unopened(refused, errors),
     }
 }

@@ -6,7 +6,7 @@ use Rattle.jobs.proofs.checking.check_image.Goals as goal
 
 pub returns : goal.returns
 returns g c =
-    let r = c.report-2.ensures in
+    let r = c.report.ensures in
     let is = c.saved.ensures in
     let old = g.W.Output.written c.args.writer.now in
     let new = g.W.Output.written c.write_to.new.writer in
@@ -21,5 +21,5 @@ returns g c =
 
 pub returns-in-Err : goal.returns-in-Err
 returns-in-Err g c =
-    let r = c.report.ensures in
+    let r = c.unopened.ensures in
     (Err (fault.Open c.in-Err.refused.fault), r.status, r.reported, rw r.device (c.in-Err.ensures.refused, refl {a = g.W.Output.written c.args.writer.now}))
