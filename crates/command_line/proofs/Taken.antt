@@ -1,5 +1,5 @@
 -- A parse that takes the words leaves each argument the values that it takes, and enters no help.
-use Rattle.command_line.proofs.Names.{nat_tests, ℕ, zero, suc, not, is_some, refl, sym, ap, arith, List, [], Bool, length, true, false, Option, Some, None}
+use Rattle.command_line.proofs.Names.{nat_tests, ℕ, zero, suc, not, is_some, refl, ap, arith, List, [], Bool, length, true, false, Option, Some, None}
 use Rattle.command_line.proofs.Names.{true≢false, ⊤, cond, fold, find, nat_le, nat_lt, option_map_or, list_all, list_any, bytes_eq, eqb-true, leb-true, lt-ltb}
 use Rattle.command_line.proofs.Names.{list_all-append, bytes_eq-Decides, is_request, ArgAction, ValueSource, unwrap_or_range, Held, Names, Outcome, Step}
 use Rattle.command_line.proofs.Names.{Waiting, Walk, action_of, after_flag, after_step, arg_by_id, at_row, attached_value, bundle_met, bundle_step, finished}
@@ -55,10 +55,6 @@ all_own (a ∷ c) simple =
     let parts = both _ _ simple in
     let rest = both (not (list_any (λ b. bytes_eq b.id a.id) c)) _ parts.1 in
     grind (arith, nat_tests, all_own c rest.1, bytes_eq-Decides, own_below)
-  where
-    negated : (b : Bool) → not b ≡ true → b ≡ false
-    negated false e = refl
-    negated true e = absurd (true≢false (sym e))
 
 -- the argument, if any, is the one of its name
 abbrev IsOwnIfAny : List Rule → Option Rule → Type 0
