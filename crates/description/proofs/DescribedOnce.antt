@@ -1,21 +1,11 @@
 -- A description is that of one list of frames.
-use Rattle.description.proofs.Names.{nat_tests, ℕ, inl, inr, List, [], map, slice_index_or, sym, ap, arith, All, Contains, cases_eq, ext_get_or, All-append}
-use Rattle.description.proofs.Names.{All-contains, All-map, Contains-append_right, Contains-tail, get_or_from_slice_get, Cap, Frame, blank_frame, frame_at}
-use Rattle.description.proofs.Names.{void_held, Description, NodeEntry, PageEntry, ProcessEntry, SlotEntry, WordEntry, HasNamedWords, HoldsNamed}
-use Rattle.description.proofs.Names.{IsDescribedAnnex, IsDescribed, IsDescribedNode, IsDescribedPage, IsDescribedRoot, first_frame, node_numbers, page_numbers}
-use Rattle.std.proofs.Common.{◌≡◌, ◌<◌, ◌++◌, ◌⊎◌, ◌∷◌, ◌∙◌}
+use Rattle.description.proofs.Names.{nat_tests, ℕ, inl, inr, List, [], map, slice_index_or, sym, ap, arith, All, ext_get_or, All-append, All-contains, All-map}
+use Rattle.description.proofs.Names.{get_or_from_slice_get, Cap, Frame, blank_frame, frame_at, void_held, Description, NodeEntry, PageEntry, ProcessEntry}
+use Rattle.description.proofs.Names.{SlotEntry, WordEntry, HasNamedWords, HoldsNamed, IsDescribedAnnex, IsDescribed, IsDescribedNode, IsDescribedPage}
+use Rattle.description.proofs.Names.{IsDescribedRoot, first_frame, node_numbers, page_numbers}
+use Rattle.std.proofs.Common.{◌≡◌, ◌<◌, ◌++◌, ◌∙◌}
 use Rattle.model.specs.declared.object.Content.TheVariants as content
-
--- a number is in a list or it isn't
-in_or_out : (ns : List ℕ) (n : ℕ) → Contains ns n ⊎ (Contains ns n → ⊥)
-in_or_out [] n = inr (λ h. absurd (omega (arith, h.1)))
-in_or_out (m ∷ ns) n = elim (cases_eq m n) [
-  | inl same ↦ inl (0, omega arith, same)
-  | inr differ ↦ elim (in_or_out ns n) [
-    | inl inside ↦ inl (Contains-append_right (m ∷ []) ns n inside)
-    | inr out ↦ inr (λ h. out (Contains-tail m ns n differ h))
-  ]
-]
+use Rattle.description.proofs.Lists.{contains_either}
 
 slots_once : (entries : List SlotEntry) (xs ys : List Cap) → HoldsNamed entries xs → HoldsNamed entries ys → xs ≡ ys
 slots_once entries xs ys one other = ext_get_or void_held xs ys (one.count ∙ sym other.count) (λ i inside.
@@ -63,7 +53,7 @@ module _ (d : Description) (fs gs : List Frame) (one : IsDescribed d fs) (other 
       (other.pages k p inside))
 
   same_at : (n : ℕ) → frame_at fs n ≡ frame_at gs n
-  same_at n = elim (in_or_out (node_numbers d ++ page_numbers d) n) [
+  same_at n = elim (contains_either (node_numbers d ++ page_numbers d) n) [
     | inl named ↦ All-contains Same (node_numbers d ++ page_numbers d) n (All-append Same (node_numbers d) (page_numbers d) same_nodes same_pages) named
     | inr out ↦ one.others n out ∙ sym (other.others n out)
   ]

@@ -98,6 +98,7 @@ fn bad_processes(processes: &[ProcessEntry]) -> Option<(usize, Part)>
     })
 }
 
+// What is wrong with the slots of the first node that has a flaw, if one has.
 fn bad_nodes(description: &Description) -> Option<Part>
     ensures { MatchOption result (All (λ n. AreSlots 0 n.slots.items) description.now.nodes.items)
         (λ part. BreaksField description.now part) }
@@ -108,6 +109,7 @@ fn bad_nodes(description: &Description) -> Option<Part>
     })
 }
 
+// What is wrong with the words of the first page that has a flaw, if one has.
 fn bad_pages(description: &Description) -> Option<Part>
     ensures { MatchOption result (All (λ p. AreWords p.words.items) description.now.pages.items)
         (λ part. BreaksField description.now part) }

@@ -16,7 +16,7 @@ use std::alloc::Global;
 use toml::value::Array;
 use toml::{Table, Value};
 
-//// What a value in a list is read as.
+/// What a value in a list is read as.
 pub trait FromValue: Drop {
     /// Whether a value says this.
     ghost IsSaid: { Data → Self → Type 0 };
@@ -127,6 +127,7 @@ pub fn four_or_zeros(table: &Table, key: &str) -> Result<[u64; 4], BuildFault>
     }
 }
 
+// The slot that a list of an index and a text is of. `Shape` if the value is no such list.
 fn slot_of(value: &Value) -> Result<SlotEntry, BuildFault>
     ensures { Finds (IsSlot (view value.now)) result }
 {
@@ -136,6 +137,7 @@ fn slot_of(value: &Value) -> Result<SlotEntry, BuildFault>
     Ok(SlotEntry { index, capability })
 }
 
+// The word that a list of an index and a number of 64 bits is of. `Shape` if the value is no such list.
 fn word_of(value: &Value) -> Result<WordEntry, BuildFault>
     ensures { Finds (IsWord (view value.now)) result }
 {
@@ -145,6 +147,7 @@ fn word_of(value: &Value) -> Result<WordEntry, BuildFault>
     Ok(WordEntry { index, word })
 }
 
+// The range that a list of a first number and a count is of. `Shape` if the value is no such list.
 fn range_of(value: &Value) -> Result<NumberRange, BuildFault>
     ensures { Finds (IsRange (view value.now)) result }
 {

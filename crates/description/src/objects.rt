@@ -75,6 +75,7 @@ fn root_of(process: &ProcessEntry) -> Content<Cap>
     })
 }
 
+// The content of a bank with a limit.
 fn bank_of(limit: u64) -> Content<Cap>
     ensures bank { result ≡ Content.Bank limit }
     ensures fits { limit < 2 ^ 64 }
@@ -82,6 +83,7 @@ fn bank_of(limit: u64) -> Content<Cap>
     Content::Bank { limit }
 }
 
+// Puts each bank at its number.
 #[tactic(auto, using(crate::proofs::LaidFrames::none_laid, crate::proofs::LaidFrames::all_laid))]
 pub(crate) fn lay_banks(world: &mut World, banks: &[BankEntry])
     requires even { vec_len world.old.contents ≡ vec_len world.old.headers }
@@ -93,6 +95,7 @@ pub(crate) fn lay_banks(world: &mut World, banks: &[BankEntry])
     }
 }
 
+// Puts the root of each process at its number.
 #[tactic(auto, using(crate::proofs::LaidFrames::none_laid, crate::proofs::LaidFrames::still_within))]
 pub(crate) fn lay_roots(world: &mut World, processes: &[ProcessEntry])
     requires even { vec_len world.old.contents ≡ vec_len world.old.headers }
@@ -105,7 +108,7 @@ pub(crate) fn lay_roots(world: &mut World, processes: &[ProcessEntry])
     }
 }
 
-// Fails only where memory runs out, as those below.
+// Puts the annex of each process at its number. Fails only where memory runs out.
 #[tactic(auto, using(crate::proofs::LaidFrames::none_laid, crate::proofs::LaidFrames::still_within))]
 pub(crate) fn lay_annexes(
     alloc: Global,
@@ -124,6 +127,7 @@ pub(crate) fn lay_annexes(
     Ok(())
 }
 
+// Puts each node at its number. Fails only where memory runs out.
 #[tactic(auto, using(crate::proofs::LaidFrames::none_laid, crate::proofs::LaidFrames::still_within))]
 pub(crate) fn lay_nodes(
     alloc: Global,
@@ -142,6 +146,7 @@ pub(crate) fn lay_nodes(
     Ok(())
 }
 
+// Puts each page at its number. Fails only where memory runs out.
 #[tactic(auto, using(crate::proofs::LaidFrames::none_laid, crate::proofs::LaidFrames::still_within))]
 pub(crate) fn lay_pages(
     alloc: Global,

@@ -17,6 +17,7 @@ fn may_be_target(geometry: Geometry, capability: Option<Capability>) -> bool
     }
 }
 
+// Whether each slot names a number of its kind, or none.
 fn are_targets(geometry: Geometry, slots: &[SlotEntry]) -> bool
     ensures { IsTrue result ↔ AreTargets geometry slots.now }
 {
@@ -25,6 +26,7 @@ fn are_targets(geometry: Geometry, slots: &[SlotEntry]) -> bool
         .all(|slot| may_be_target(geometry, slot.capability))
 }
 
+// Whether the space and each register of a process name numbers of their kinds, or none.
 fn has_process_targets(geometry: Geometry, process: &ProcessEntry) -> bool
     ensures { IsTrue result ↔ HasProcessTargets geometry process.now }
 {
