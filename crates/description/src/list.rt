@@ -127,7 +127,7 @@ pub fn four_or_zeros(table: &Table, key: &str) -> Result<[u64; 4], BuildFault>
     }
 }
 
-// The slot that a list of an index and a text is of. `Shape` if the value is no such list.
+// Reads a slot: a list of an index and a text. `Shape` for any other value.
 fn slot_of(value: &Value) -> Result<SlotEntry, BuildFault>
     ensures { Finds (IsSlot (view value.now)) result }
 {
@@ -137,7 +137,7 @@ fn slot_of(value: &Value) -> Result<SlotEntry, BuildFault>
     Ok(SlotEntry { index, capability })
 }
 
-// The word that a list of an index and a number of 64 bits is of. `Shape` if the value is no such list.
+// Reads a word: a list of an index and a number of 64 bits. `Shape` for any other value.
 fn word_of(value: &Value) -> Result<WordEntry, BuildFault>
     ensures { Finds (IsWord (view value.now)) result }
 {
@@ -147,7 +147,7 @@ fn word_of(value: &Value) -> Result<WordEntry, BuildFault>
     Ok(WordEntry { index, word })
 }
 
-// The range that a list of a first number and a count is of. `Shape` if the value is no such list.
+// Reads a range: a list of its first number and their count. `Shape` for any other value.
 fn range_of(value: &Value) -> Result<NumberRange, BuildFault>
     ensures { Finds (IsRange (view value.now)) result }
 {

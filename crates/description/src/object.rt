@@ -15,7 +15,7 @@ use model::{Capability, State};
 use std::alloc::Global;
 use toml::{Table, Value};
 
-// The bank that a table is of. `Shape` if it is of none.
+// Reads the table of a bank. `Shape` for any other.
 fn read_bank(table: &Table) -> Result<BankEntry, BuildFault>
     ensures { Finds (IsBank (table_view table.now)) result }
 {
@@ -39,8 +39,8 @@ struct ProcessFields {
     space: Option<Capability>,
 }
 
-// The fields of the process that a table is of, but its registers. `Shape` if a key is unknown, if one that is needed
-// is missing, or if a value isn't of its type.
+// Reads the table of a process, except its registers. `Shape` if a key is unknown, a needed one
+// is missing, or a value isn't of its type.
 fn read_fields(table: &Table) -> Result<ProcessFields, BuildFault>
     ensures { Finds (HasProcessFields (table_view table.now)) result }
 {

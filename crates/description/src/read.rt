@@ -58,7 +58,7 @@ fn read_ranges(
     }
 }
 
-// The description that a table is of. `Shape` if it is of none, `NoMemory` if memory runs out.
+// Reads a table as a description. `Shape` if it is none, `NoMemory` if memory runs out.
 fn read_description(alloc: Global, table: &Table) -> Result<Description, BuildFault>
     ensures { Reads (IsDescription (table_view table.now)) result }
 {
