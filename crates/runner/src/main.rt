@@ -205,8 +205,8 @@ fn shell_by<S: ObjectStore<FileFuse>, R: Read + Drop>(
     done.status
 }
 
-// Runs a script over the image on a device, by a store of this kind, and gives the status.
-fn run_by<S: ObjectStore<FileFuse>, R: Read + Drop>(
+// Runs a script in a mode over the image on a device, by a store of this kind, and gives the status.
+fn run_in_mode<S: ObjectStore<FileFuse>, R: Read + Drop>(
     rt: &HostRuntime,
     device: FileFuse,
     setting: S::Setting,
@@ -225,8 +225,8 @@ fn run_by<S: ObjectStore<FileFuse>, R: Read + Drop>(
     }
 }
 
-// Runs a script over the image on a device, with a bounded cache where it has a capacity, and gives the status.
-fn run_on<R: Read + Drop>(
+// Runs a script over the image on a device, with a bounded cache if `cache` has a capacity, and gives the status.
+fn run_with_cache<R: Read + Drop>(
     rt: &HostRuntime,
     device: FileFuse,
     cache: Option<Capacity>,
@@ -236,14 +236,14 @@ fn run_on<R: Read + Drop>(
 ) -> u8 {
     match cache {
         Some(capacity) => {
-            run_by::<BoundedCache<_>, _>(rt, device, capacity, script, mode, stdio)
+            run_in_mode::<BoundedCache<_>, _>(rt, device, capacity, script, mode, stdio)
         }
-        None => run_by::<PlainStore<_>, _>(rt, device, (), script, mode, stdio),
+        None => run_in_mode::<PlainStore<_>, _>(rt, device, (), script, mode, stdio),
     }
 }
 
 // Opens a script, runs it over the image on a device, and gives the status.
-fn run_script(
+fn open_script_and_run(
     rt: &HostRuntime,
     device: FileFuse,
     script: &Script<'_>,
@@ -252,16 +252,16 @@ fn run_script(
     stdio: &mut Stdio,
 ) -> Result<u8, Fault> {
     match script {
-        Script::Input => Ok(run_on(rt, device, cache, rt.stdin(), mode, stdio)),
+        Script::Input => Ok(run_with_cache(rt, device, cache, rt.stdin(), mode, stdio)),
         Script::File(path) => match File::open(rt, *path) {
-            Ok(file) => Ok(run_on(rt, device, cache, file, mode, stdio)),
+            Ok(file) => Ok(run_with_cache(rt, device, cache, file, mode, stdio)),
             Err(error) => Err(of_io(&error, Fault::CannotReadScript)),
         },
     }
 }
 
-// Runs a script over an image, and gives the status. After `stop_after` calls the image's device fails.
-fn run(
+// Opens an image, runs a script over it, and gives the status. After `stop_after` calls the image's device fails.
+fn open_image_and_run(
     rt: &HostRuntime,
     image: &str,
     script: &Script<'_>,
@@ -275,7 +275,7 @@ fn run(
         Some(calls) => Fuse::new(device, calls),
         None => Fuse::mended(device),
     };
-    run_script(rt, device, script, cache, mode, stdio)
+    open_script_and_run(rt, device, script, cache, mode, stdio)
 }
 
 // Writes what an image saves to a new one by version 2 of the layout, and gives the status. The new
@@ -453,10 +453,10 @@ fn serve<S: WholeStore<FileDevice>>(
             stop_after,
         } => {
             let mode = mode_of(*trace, *strict);
-            run(rt, image, script, *cache, mode, *stop_after, stdio)
+            open_image_and_run(rt, image, script, *cache, mode, *stop_after, stdio)
         }
         Job::Shell { image, cache } => {
-            run(rt, image, &Script::Input, *cache, Mode::Shell, None, stdio)
+            open_image_and_run(rt, image, &Script::Input, *cache, Mode::Shell, None, stdio)
         }
         Job::Check { image } => inspect::<S>(rt, image, Query::Check, setting, stdio),
         Job::Upgrade { old, new } => upgrade::<S>(rt, old, new, setting, stdio),
