@@ -6,7 +6,7 @@ use Rattle.capability.proofs.Names.{frames_in, header_at, headers, held_at, obje
 use Rattle.capability.proofs.Names.{all_slots, map_content, role_of, with_slot_in, with_word_in, content_at, with_content, Fresh, Parts, frames_of}
 use Rattle.capability.proofs.Names.{fresh_content, with_both, with_header, with_held, objects_in, true, Geometry, Root, State, AreKeptWords, IsKeepable}
 use Rattle.capability.proofs.Names.{IsKeptCap, MayBeKept, with_space, IsSpace, is_root, root_in, root_at, with_root, with_state, live_cap, with_root_in, IsTrue}
-use Rattle.capability.proofs.Names.{AreKeepable, is_annex, is_process, with_slot, with_word, Becomes, Edits, with_slots_in, with_slots_from, set-set}
+use Rattle.capability.proofs.Names.{AreKeepable, is_annex, is_process, with_slot, with_word, with_slots_from, Becomes, Edits, with_slots_in, set-set}
 use Rattle.capability.proofs.Names.{get_or-set_same}
 use Rattle.std.proofs.Common.{◌≡◌, ◌<◌, if◌then◌else◌, ◌∷◌, ◌∙◌, ◌^◌, ◌+◌}
 use Rattle.model.specs.declared.object.Content.TheVariants as content

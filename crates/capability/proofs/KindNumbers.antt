@@ -1,5 +1,5 @@
 -- A content of a kind stands at a number of its kind.
-use Rattle.capability.proofs.Names.{arith, nat_tests, ℕ, true, Capability, Geometry, Content, is_bank, is_node, is_page, is_root, IsOfKind, object_count}
+use Rattle.capability.proofs.Names.{arith, ℕ, true, nat_tests, Capability, Geometry, Content, is_bank, is_node, is_page, is_root, IsOfKind, object_count}
 use Rattle.std.proofs.Common.{◌≡◌, ◌<◌, ◌≤◌}
 
 pub node_number : (g : Geometry) (n : ℕ) (c : Content Capability) → IsOfKind g n c → is_node c ≡ true → n < g.nodes

@@ -1,5 +1,5 @@
 -- A content with each capability in it changed is as it was in all else.
-use Rattle.capability.proofs.Names.{arith, nat_tests, ℕ, map, Geometry, Content, is_annex, is_bank, is_root, limit_in, map_content, role_of, slots_in, words_in}
+use Rattle.capability.proofs.Names.{arith, ℕ, map, nat_tests, Geometry, Content, is_annex, is_bank, is_root, limit_in, map_content, role_of, slots_in, words_in}
 use Rattle.capability.proofs.Names.{IsOfKind}
 use Rattle.std.proofs.Common.{◌≡◌}
 

@@ -1,5 +1,5 @@
 -- Contents behind references.
-use Rattle.capability.proofs.Names.{arith, nat_tests, ℕ, List, Bor, Cap, ContentRef, Root, content_behind}
+use Rattle.capability.proofs.Names.{arith, ℕ, List, Bor, nat_tests, Cap, ContentRef, Root, content_behind}
 use Rattle.std.proofs.Common.{◌≡◌}
 use Rattle.model.specs.declared.object.Content.TheVariants as content
 use Rattle.model.specs.declared.object.ContentRef.TheVariants as content_ref

@@ -1,5 +1,5 @@
 -- What lies beside the present frames, through one change after another.
-use Rattle.capability.proofs.Names.{arith, nat_tests, ℕ, KeepsRest, OnlyFetches, Parts}
+use Rattle.capability.proofs.Names.{arith, ℕ, nat_tests, KeepsRest, OnlyFetches, Parts}
 
 module _ {S : Type 0} (parts : S → Parts) (Fetched Announced : S → ℕ → Type 0) (Continues : S → S → Type 0)
     (twice : (s t u : S) → Continues s t → Continues t u → Continues s u) where

@@ -1,5 +1,5 @@
 -- Marks of no number.
-use Rattle.capability.proofs.Names.{ℕ, false, replicate, touched_count, untouched, zero, suc, refl, arith, cond, sum_by-cons, Geometry}
+use Rattle.capability.proofs.Names.{ℕ, false, replicate, zero, suc, refl, arith, cond, touched_count, untouched, sum_by-cons, Geometry}
 use Rattle.std.proofs.Common.{◌≡◌, ◌+◌}
 
 none_touched : (n : ℕ) → touched_count (replicate n false) ≡ 0

@@ -11,6 +11,7 @@ pub use Rattle.model.specs.Worlds
 pub use Rattle.model.specs.Banking
 pub mod Names
 pub mod Parts
+pub mod Consistency
 pub mod Objects
 pub mod Changes
 pub mod Plain

@@ -166,7 +166,7 @@ pub record IsUnchanged (old new : Parts) : Type 0 where
 abbrev pub IsOnce : List ℕ → Type 0
 IsOnce ns = (i : ℕ) → i < length ns → is_member (take i ns) (slice_index_or ns i 0) ≡ false
 
--- the members of a set are given up, and nothing else is another
+-- the members of a set are rescinded, and nothing else is another
 pub record AreGivenUp (set : List ℕ) (old new : Parts) : Type 0 where
   pub geometry : new.geometry ≡ old.geometry
   pub touched : new.touched ≡ old.touched
@@ -178,7 +178,7 @@ pub record AreGivenUp (set : List ℕ) (old new : Parts) : Type 0 where
       (if is_member set n then given_up (header_at old.headers n) else header_at old.headers n)
   pub contents : (n : ℕ) → held_at new.contents n ≡ (if is_member set n then content.Free else held_at old.contents n)
 
--- the count of allocations of a number rises by one where its object is given up, and else stays
+-- the count of allocations of a number rises by one where its object is rescinded, and else stays
 pub record Renews (old new : Parts) : Type 0 where
   pub each : (n : ℕ) → (header_at new.headers n).allocations
       ≡ (header_at old.headers n).allocations + (if is_given_up (objects_in old) (objects_in new) n then 1 else 0)

@@ -23,6 +23,6 @@ parts_of s = record {
 abbrev pub IsThere : PlainState → ℕ → Type 0
 IsThere s n = (n < length s.headers) × (n < length s.contents)
 
--- the stored form of a capability where nothing was ever given up: its count is 0
+-- the stored form of a capability where nothing was ever rescinded: its count is 0
 abbrev pub fresh_cap : Capability → Cap
 fresh_cap c = record { what = c; count = 0 }

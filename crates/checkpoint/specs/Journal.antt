@@ -20,7 +20,7 @@ words_now p n = words_in (held_at p.contents n)
 abbrev pub is_same_page : ℕ → Frame → Bool
 is_same_page allocations f = is_page_role f.header.role && (allocations == f.header.allocations)
 
--- whether a page is saved at a number, and wasn't given up since: its count of allocations is that of the object now
+-- whether a page is saved at a number, and wasn't rescinded since: its count of allocations is that of the object now
 abbrev pub is_still_saved : Parts → SavedFrames → ℕ → Bool
 is_still_saved p s n = is_same_page (header_at p.headers n).allocations (frame_at s.frames n)
 

@@ -35,9 +35,8 @@ IsCommitAnswer old new left saved (Err (refusal.NotStable count)) = (new.failure
 IsCommitAnswer old new left saved (Err refusal.Fault) = (old.failures < new.failures) × (left ≡ Some 0)
 IsCommitAnswer old new left saved (Err _) = ⊥
 
--- a page is journaled, as the generation after the next, where no checkpoint is on its way and all that is saved is
--- home,
--- an object has the number, it is a page, and the one that is saved is the same
+-- a page is journaled, as the generation after the next, if no checkpoint runs, all saved frames are home, the number
+-- is that of a page, and the saved page is the same one
 abbrev pub IsJournalAnswer : Disk → Disk → Option ℕ → SavedFrames → (is_known is_page is_saved : Bool) →
     Result ℕ Refusal → Type 0
 IsJournalAnswer old new left s is_known is_page is_saved (Ok generation) =

@@ -1,7 +1,7 @@
 -- What is said, and what isn't.
-use Rattle.description.proofs.Names.{suc, Bool, true, List, [], length, Option, None, Some, Result, Ok, Err, Vec, Global, refl, sym, ap, subst, arith, IsTrue}
-use Rattle.description.proofs.Names.{All, All-head, All-tail, none-some, same_Some, Data, Members, array, view, items_view, Value, AreItems, IsList, BuildFault}
-use Rattle.description.proofs.Names.{Finds, IsTable, table, false≢true, is_ok}
+use Rattle.description.proofs.Names.{suc, Bool, true, List, [], length, Option, None, Some, Result, Vec, Global, refl, sym, ap, subst, arith, IsTrue, All}
+use Rattle.description.proofs.Names.{All-head, All-tail, none-some, same_Some, Data, Members, array, view, items_view, Value, AreItems, IsList, BuildFault}
+use Rattle.description.proofs.Names.{Finds, IsTable, table, is_ok}
 use Rattle.std.specs.Prelude.{MatchOption, ◌↔◌}
 use Rattle.std.proofs.Common.{◌≡◌, ◌<◌, ◌^◌, ◌∷◌}
 use Rattle.description.proofs.Elements.{element, items_read}

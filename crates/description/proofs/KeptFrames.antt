@@ -5,7 +5,7 @@ use Rattle.description.proofs.Names.{Geometry, Available, IsWellFormed, blank_fr
 use Rattle.description.proofs.Names.{IsKeptCap, IsKeepable, IsOfKind, IsSpace, object_count, fresh_cap, BankEntry, Description, NodeEntry, PageEntry}
 use Rattle.description.proofs.Names.{ProcessEntry, SlotEntry, WordEntry, World, AreSlots, AreWords, HasFields, HasNamedWords, HasNumbers, HoldsNamed}
 use Rattle.description.proofs.Names.{IsSomeCapability, IsDescribed, IsProcessEntry, IsSpaceEntry, first_named, AreTargets, Entry, HasProcessTargets, HasTargets}
-use Rattle.description.proofs.Names.{IsLaid, OfAnnex, OfBank, IsTarget, OfNode, OfPage, OfRoot, entries, frame_of, laid, number_of, slot_held, slots_of}
+use Rattle.description.proofs.Names.{IsLaid, OfAnnex, OfBank, OfNode, OfPage, OfRoot, entries, frame_of, laid, number_of, slot_held, slots_of, IsTarget}
 use Rattle.description.proofs.Names.{words_of, Fits}
 use Rattle.layout.specs.Superblock.{IsGeometry}
 use Rattle.std.proofs.Common.{◌≡◌, ◌≢◌, ◌+◌, ◌^◌, ◌<◌, ◌≤◌, ◌∙◌}

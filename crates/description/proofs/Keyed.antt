@@ -1,5 +1,5 @@
 -- What is at a key, and what isn't.
-use Rattle.description.proofs.Names.{arith, ℕ, List, Option, Some, None, Result, Vec, Global, refl, sym, none-some, same_Some, Data, Members, get_member, AtOr}
+use Rattle.description.proofs.Names.{arith, ℕ, List, Option, Some, None, Result, Vec, Global, refl, none-some, same_Some, Data, Members, get_member, AtOr}
 use Rattle.description.proofs.Names.{ReadsList, BuildFault, MatchOption}
 use Rattle.std.proofs.Common.{◌≡◌}
 

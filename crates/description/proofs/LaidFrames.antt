@@ -1,7 +1,7 @@
 -- Frames that are laid one after the other.
 use Rattle.description.proofs.Names.{common_steps, nat_tests, ℕ, List, drop, length, map, slice_index_or, refl, sym, ap, subst, arith, vec_len, All, drop_all}
-use Rattle.description.proofs.Names.{drop_more, All-append, All-cons, All-nil, Frame, Cap, Content, World, first_frame, Entry, IsLaid, IsPut, frame_of}
-use Rattle.description.proofs.Names.{frames_of, laid, number_of, Fits}
+use Rattle.description.proofs.Names.{drop_more, All-cons, All-nil, Frame, Cap, Content, World, first_frame, Entry, IsLaid, IsPut, frame_of, frames_of, laid}
+use Rattle.description.proofs.Names.{number_of, Fits}
 use Rattle.std.proofs.Common.{◌≡◌, ◌+◌, ◌<◌, ◌≤◌, ◌∷◌, ◌++◌, ◌∙◌}
 use Rattle.description.proofs.Lists.{each_append}
 

@@ -3,7 +3,9 @@ pub mod Elements
 pub mod Keyed
 pub mod Keys
 pub mod Once
+pub mod Pairs
 pub mod Parts
+pub mod PlainFrames
 pub mod Types
 pub mod DescribedOnce
 pub mod Entries

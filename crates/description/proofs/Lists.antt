@@ -2,6 +2,7 @@
 use Rattle.description.proofs.Names.{ℕ, zero, suc, inl, inr, List, [], map, length, replicate, Some, slice_get, drop, slice_index_or, slice_set, refl, sym, ap}
 use Rattle.description.proofs.Names.{subst, arith, All, Contains, cases_eq, nat_tests, get_or-set_same, get_or-set_other, length-set, drop_all, drop_more}
 use Rattle.description.proofs.Names.{All-head, All-set, All-tail, Contains-get_or, AreDistinct, first_named, set_each, is_marked, true, false, true≢false, Bool}
+use Rattle.description.proofs.Names.{Contains-append_left, Contains-append_right}
 use Rattle.std.proofs.Common.{◌≡◌, ◌≢◌, ◌⊎◌, ◌+◌, ◌<◌, ◌≤◌, ◌∷◌, ◌++◌, ◌∙◌}
 use Rattle.std.specs.Prelude.{◌↔◌}
 
@@ -204,3 +205,16 @@ map_again f g (x ∷ xs) = ap (λ zs. f (g x) ∷ zs) (map_again f g xs)
 pub same_at : {X : Type 0} → (n i : ℕ) (x : X) → slice_index_or (replicate n x) i x ≡ x
 same_at (suc n) (suc i) x = same_at n i x
 same_at n i x = refl
+
+-- parts of numbers that differ
+pub distinct_left : (ns ms : List ℕ) → AreDistinct (ns ++ ms) → AreDistinct ns
+distinct_left [] ms distinct = tt
+distinct_left (n ∷ ns) ms distinct = (λ h. distinct.0 (Contains-append_left ns ms n h), distinct_left ns ms distinct.1)
+
+pub distinct_right : (ns ms : List ℕ) → AreDistinct (ns ++ ms) → AreDistinct ms
+distinct_right [] ms distinct = distinct
+distinct_right (n ∷ ns) ms distinct = distinct_right ns ms distinct.1
+
+pub distinct_apart : (ns ms : List ℕ) → AreDistinct (ns ++ ms) → (n : ℕ) → Contains ns n → Contains ms n → ⊥
+distinct_apart [] ms distinct n one two = contains_none n one
+distinct_apart (k ∷ ns) ms distinct n one two = grind (arith, nat_tests, distinct_apart ns ms distinct.1 n, contains_cases, Contains-append_right)

@@ -1,16 +1,15 @@
 -- In described frames in which each capability is named, each names a number of its kind.
-use Rattle.description.proofs.Names.{nat_tests, arith, inl, inr, ℕ, List, [], Option, Some, unwrap_or, refl, sym, ap, subst, IsTrue, All, get_or-map}
-use Rattle.description.proofs.Names.{All-contains, All-head, Cap, Capability, Void, Frame, ObjectHeader, Geometry, Content, blank_frame, current_count}
-use Rattle.description.proofs.Names.{frame_at, header_at, headers, caps_in, role_of, IsOfKind, object_count, fresh_cap, Description, NodeEntry, SlotEntry}
-use Rattle.description.proofs.Names.{AreNamed, IsNamed, NamesItsRole, is_waiting_root, AreSlots, HasFields, HasNumbers, HoldsNamed, IsDescribed, IsProcessEntry}
-use Rattle.description.proofs.Names.{first_frame, AreTargets, Entry, HasProcessTargets, HasTargets, IsTarget, OfAnnex, OfNode, OfRoot, number_of}
+use Rattle.description.proofs.Names.{nat_tests, arith, inl, inr, ℕ, List, [], Option, Some, unwrap_or, refl, sym, ap, subst, All, get_or-map, All-contains}
+use Rattle.description.proofs.Names.{All-head, Cap, Capability, Void, Frame, ObjectHeader, Geometry, Content, blank_frame, current_count, frame_at, header_at}
+use Rattle.description.proofs.Names.{headers, caps_in, role_of, IsOfKind, object_count, fresh_cap, Description, NodeEntry, SlotEntry, AreNamed, IsNamed}
+use Rattle.description.proofs.Names.{NamesItsRole, AreSlots, HasFields, HasNumbers, HoldsNamed, IsDescribed, IsProcessEntry, first_frame, AreTargets, Entry}
+use Rattle.description.proofs.Names.{HasProcessTargets, HasTargets, OfAnnex, OfNode, OfRoot, number_of, IsTarget}
 use Rattle.std.proofs.Common.{◌≡◌, ◌≢◌, ◌<◌, ◌≤◌, ◌∙◌}
-use Rattle.model.specs.declared.object.Content.TheVariants as content
 use Rattle.model.specs.declared.object.Role.TheVariants as role
 use Rattle.description.proofs.Entries.{HasRange, IsFrameOf, described_cases, described_of, in_range}
 use Rattle.description.proofs.Lists.{all_from, all_got, first_of}
 
--- a frame of an object that was never given up, at a number of its kind
+-- a frame of an object that was never rescinded, at a number of its kind
 pub record IsFirst (g : Geometry) (n : ℕ) (f : Frame) : Type 0 where
   pub role : f.header.role ≡ role_of f.content
   pub allocations : f.header.allocations ≡ 0

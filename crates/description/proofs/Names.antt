@@ -1,20 +1,19 @@
 -- The names that the proofs here cite: of other crates, and of the definitions of this one.
 pub use Rattle.capability.proofs.FrameLists.{set_in}
 pub use Rattle.capability.proofs.Keeping.{keepable_later}
+pub use Rattle.capability.specs.Consistency.{AreNamed, AreWholeProcesses, IsAnnexFor, IsNamed, IsRootOf, NamesItsRole, annex_in, owner_of, role_at}
 pub use Rattle.capability.specs.Plain.{fresh_cap}
 pub use Rattle.collections.specs.Marks.{is_marked}
-pub use Rattle.image_writer.specs.Faults.{fault_number}
-pub use Rattle.image_writer.specs.declared.fault.BuildFault.{BuildFault}
-pub use Rattle.image_writer.specs.declared.fault.BuildFault.TheVariants.{Failed, Field, Limits, NoMemory, Owner, Shape, Small, Target}
-pub use Rattle.image_writer.specs.declared.number_range.NumberRange.{NumberRange}
+pub use Rattle.home_ranges.specs.declared.number_range.NumberRange.{NumberRange}
 pub use Rattle.model.specs.Capability.{IsWellFormed, named}
 pub use Rattle.model.specs.Frame.{blank_frame, blank_header, current_count, frame_at, header_at, headers, void_held}
 unfoldable pub use Rattle.model.specs.Frame.{frames_in}
 pub use Rattle.model.specs.Keepable.{AreKeepable, AreKeptSlots, Follows, IsCount, IsKeepable, IsKept, IsKeptCap, IsTarget, caps_in}
-pub use Rattle.model.specs.Object.{role_of}
+pub use Rattle.model.specs.Object.{free, role_of}
 pub use Rattle.model.specs.Sound.{IsOfKind, IsSpace, object_count}
 pub use Rattle.model.specs.Text.{state_text}
 unfoldable pub use Rattle.model.specs.Text.{capability_text}
+pub use Rattle.model.specs.World.{object_at}
 pub use Rattle.model.specs.declared.capability.Cap.{Cap}
 pub use Rattle.model.specs.declared.capability.Capability.{Capability}
 pub use Rattle.model.specs.declared.capability.Capability.TheVariants.{Number, Void}
@@ -22,16 +21,14 @@ pub use Rattle.model.specs.declared.frame.Frame.{Frame}
 pub use Rattle.model.specs.declared.frame.ObjectHeader.{ObjectHeader}
 pub use Rattle.model.specs.declared.geometry.Geometry.{Geometry}
 pub use Rattle.model.specs.declared.object.Content.{Content}
+pub use Rattle.model.specs.declared.object.Object.{Object}
 pub use Rattle.model.specs.declared.object.Role.{Role}
 pub use Rattle.model.specs.declared.object.State.{State}
 pub use Rattle.model.specs.declared.object.State.TheVariants.{Available, Running, Waiting}
-pub use Rattle.recovery.specs.Consistency.{AreNamed, AreWholeProcesses, IsAnnexFor, IsNamed, IsRootOf, NamesItsRole, annex_in, is_waiting_root, owner_of}
-pub use Rattle.recovery.specs.Consistency.{role_at}
 pub use Rattle.script.proofs.CapabilityTexts.{text_once}
-pub use Rattle.std.proofs.Common.{Bool, Bor, Err, Global, IfNone, IfSome, IsErrAnd, IsSomeAnd, List, MatchOption, None, Ok, Option, Result, Some, Vec, [], ap}
-pub use Rattle.std.proofs.Common.{arith, codes, drop, false, get_or, inl, inr, is_eq, is_ok, is_some, length, map, nat_cmp, nat_eq, negsuc, pos, refl}
-pub use Rattle.std.proofs.Common.{replicate, rules, slice_get, slice_index, slice_index_or, slice_set, subst, suc, sym, take, true, true≢false, unwrap_or}
-pub use Rattle.std.proofs.Common.{vec_len, zero, ℕ, ℤ}
+pub use Rattle.std.proofs.Common.{Bool, Bor, Global, IfNone, IfSome, IsErrAnd, IsSomeAnd, List, MatchOption, None, Option, Result, Some, Vec, [], ap, arith}
+pub use Rattle.std.proofs.Common.{codes, drop, false, get_or, inl, inr, is_eq, is_ok, is_some, length, map, nat_cmp, nat_eq, pos, refl, replicate, rules}
+pub use Rattle.std.proofs.Common.{slice_get, slice_index, slice_index_or, slice_set, subst, suc, sym, take, true, true≢false, unwrap_or, vec_len, zero, ℕ, ℤ}
 pub use Rattle.std.proofs.Math.ListN.{get_or-map}
 pub use Rattle.std.proofs.iter.runs.Made.{chains}
 pub use Rattle.std.proofs.lemmas.Bool.{cases_eq, cases_lt, false≢true}
@@ -41,21 +38,24 @@ pub use Rattle.std.proofs.lemmas.Grind.{common_steps}
 pub use Rattle.std.proofs.lemmas.Int.{to_z-of_z}
 pub use Rattle.std.proofs.lemmas.List.{drop_all, drop_more, ext_get_or, get_or-set_other, get_or-set_same, length-replicate, length-set, take_all, take_more}
 pub use Rattle.std.proofs.lemmas.List.Elements.{All-append, All-cons, All-contains, All-head, All-map, All-more, All-nil, All-replicate, All-set, All-tail}
-pub use Rattle.std.proofs.lemmas.List.Elements.{Contains-append_cases, Contains-append_left, Contains-append_right, Contains-get_or}
+pub use Rattle.std.proofs.lemmas.List.Elements.{AllZip-get_or, Contains-append_cases, Contains-append_left, Contains-append_right, Contains-get_or}
+pub use Rattle.std.proofs.lemmas.List.Elements.{length_all_zip}
 pub use Rattle.std.proofs.lemmas.Option.{get_or_from_slice_get, none-some, same_Some, slice_get-get_or, slice_get_within}
 pub use Rattle.std.specs.Cmp.Lexicographic.{pointwise, slice_cmp}
 pub use Rattle.std.specs.Int.{is_negative}
-pub use Rattle.std.specs.List.{All, Contains, list_any}
+pub use Rattle.std.specs.List.{All, AllZip, Contains, list_any}
 pub use Rattle.std.specs.Prelude.{IsTrue, unsigned_abs}
 pub use Rattle.std.specs.Str.{bytes_eq}
 pub use Rattle.std.specs.Vec.{with_item}
-pub use Rattle.toml.specs.Data.{Data, Items, Members, array, as_array, as_integer, as_str, as_table, get_member, integer, item, no_items, same_key, string}
-pub use Rattle.toml.specs.Data.{table}
+pub use Rattle.toml.specs.Data.{Data, Items, Members, array, as_array, as_integer, as_str, get_member, integer, item, no_items, same_key, string, table}
 pub use Rattle.toml.specs.View.{items_view, members_view, table_view, view}
 pub use Rattle.toml.specs.declared.value.Value.{Value}
 pub use Rattle.description.specs.Described.{AreDistinct, AreSlots, AreWords, HasFields, HasNamedWords, HasNumbers, HoldsNamed, IsDescribed, IsDescribedAnnex}
 pub use Rattle.description.specs.Described.{IsDescribedNode, IsDescribedPage, IsDescribedRoot, IsProcessEntry, IsSomeCapability, IsSpaceEntry, first_frame}
 pub use Rattle.description.specs.Described.{first_named, node_numbers, page_numbers}
+pub use Rattle.description.specs.Describes.{plain_frame}
+unfoldable pub use Rattle.description.specs.Describes.{plain_frames}
+pub use Rattle.description.specs.Faults.{fault_number}
 pub use Rattle.description.specs.FieldFlaws.{BreaksField, IsTwice}
 unfoldable pub use Rattle.description.specs.FieldFlaws.{BreaksIndexed, BreaksSlots}
 pub use Rattle.description.specs.Laid.{AreLaid, AreTargets, Entry, Fits, HasProcessTargets, HasTargets, IsLaid, IsPut, OfAnnex, OfBank, OfNode, OfPage, OfRoot}
@@ -75,6 +75,8 @@ pub use Rattle.description.specs.declared.entry.PageEntry.{PageEntry}
 pub use Rattle.description.specs.declared.entry.ProcessEntry.{ProcessEntry}
 pub use Rattle.description.specs.declared.entry.SlotEntry.{SlotEntry}
 pub use Rattle.description.specs.declared.entry.WordEntry.{WordEntry}
+pub use Rattle.description.specs.declared.fault.BuildFault.{BuildFault}
+pub use Rattle.description.specs.declared.fault.BuildFault.TheVariants.{Failed, Field, Limits, NoMemory, Owner, Shape, Small, Target}
 pub use Rattle.description.specs.declared.flaw.Indexed.{Indexed}
 pub use Rattle.description.specs.declared.flaw.Part.{Part}
 pub use Rattle.description.specs.declared.flaw.SlotFlaw.{SlotFlaw}

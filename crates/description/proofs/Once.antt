@@ -1,10 +1,9 @@
 -- A value says one thing, and so a table says one description.
-use Rattle.description.proofs.Names.{nat_tests, inl, inr, ℕ, pos, Option, Some, None, List, [], codes, IsSomeAnd, refl, sym, ap, subst, arith, bytes_eq}
-use Rattle.description.proofs.Names.{same_Some, capability_text, state_text, Capability, Number, Void, Geometry, State, Available, Running, Waiting, Data}
-use Rattle.description.proofs.Names.{integer, string, array, table, Items, no_items, item, Members, get_member, text_once, Each, IsSame, IsSameNode, IsSamePage}
-use Rattle.description.proofs.Names.{IsSameProcess, NumberIsSpelledOnce, AreFour, AreItems, At, AtOr, IsBank, IsCapability, IsDescription, IsGeometry, IsList}
-use Rattle.description.proofs.Names.{IsNode, IsNumber, IsPage, IsPair, IsProcess, IsRange, IsSlot, IsState, IsTable, IsWideNumber, IsWord, whole_ranges}
-use Rattle.description.proofs.Names.{Description, MatchOption}
+use Rattle.description.proofs.Names.{nat_tests, inl, inr, ℕ, pos, Option, Some, None, List, [], codes, refl, sym, ap, subst, arith, bytes_eq, same_Some}
+use Rattle.description.proofs.Names.{capability_text, state_text, Capability, Number, Void, Geometry, State, Available, Running, Waiting, Data, integer, string}
+use Rattle.description.proofs.Names.{array, Items, no_items, item, Members, get_member, text_once, Each, IsSame, IsSameNode, IsSamePage, IsSameProcess}
+use Rattle.description.proofs.Names.{NumberIsSpelledOnce, AreFour, AreItems, At, AtOr, IsBank, IsCapability, IsDescription, IsGeometry, IsList, IsNode}
+use Rattle.description.proofs.Names.{IsNumber, IsPage, IsPair, IsProcess, IsRange, IsSlot, IsState, IsTable, IsWideNumber, IsWord, whole_ranges, Description}
 use Rattle.std.proofs.Common.{◌≡◌, if◌then◌else◌, ◌∷◌, ◌∙◌}
 
 -- ---- values

@@ -1,10 +1,10 @@
 -- A whole is not there where a part isn't.
-use Rattle.description.proofs.Names.{arith, List, Result, Ok, Err, IsErrAnd, Vec, Global, subst, sym, Data, Members, table, as_table, same_Some, ap, Finds}
-use Rattle.description.proofs.Names.{Fails, Reads, ReadsList, BuildFault, IsTable, IsTrue, false, false≢true, IsNode, IsPage, IsProcess, IsSlot, IsWord}
-use Rattle.description.proofs.Names.{HasList, NodeEntry, PageEntry, ProcessEntry, ℕ, codes, HasNumberAndOwner, HasProcessFields, ProcessFields}
+use Rattle.description.proofs.Names.{arith, List, Result, IsErrAnd, Vec, Global, subst, sym, Data, Members, table, same_Some, Finds, Fails, Reads, ReadsList}
+use Rattle.description.proofs.Names.{BuildFault, IsTable, IsNode, IsPage, IsProcess, IsSlot, IsWord, IsTrue, false, false≢true, HasList, HasNumberAndOwner}
+use Rattle.description.proofs.Names.{HasProcessFields, NodeEntry, PageEntry, ProcessEntry, ℕ, codes, ProcessFields}
 use Rattle.std.proofs.Common.{◌≡◌, ◌∙◌}
 use Rattle.std.specs.Prelude.{◌↔◌}
-use Rattle.image_writer.specs.declared.fault.BuildFault.TheVariants as fault
+use Rattle.description.specs.declared.fault.BuildFault.TheVariants as fault
 
 passed_on : {A B : Type 0} (P : A → Type 0) (Q : B → Type 0) (e : BuildFault) → Fails P e → ((y : B) → Q y → (x : A) × P x) → Fails Q e
 passed_on P Q e none part = search arith

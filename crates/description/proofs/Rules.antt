@@ -1,7 +1,7 @@
 -- The rule that is the first to be broken.
 use Rattle.description.proofs.Names.{ℕ, inl, inr, refl, sym, ap, subst, arith, cases_lt, Description, BuildFault, Shape, Limits, Field, Target, Owner, Small}
 use Rattle.description.proofs.Names.{Failed, NoMemory, fault_number, IsAccepted, IsFirstBroken, Rule, NoFault, OneFault}
-use Rattle.image_writer.specs.declared.fault.BuildFault.TheVariants.{Number}
+use Rattle.description.specs.declared.fault.BuildFault.TheVariants.{Number}
 use Rattle.std.proofs.Common.{◌≡◌, ◌+◌, ◌<◌, ◌≤◌, ◌∙◌}
 use Rattle.std.specs.Prelude.{◌==◌, if◌then◌else◌}
 

@@ -1,8 +1,7 @@
 -- Values of their types, and of others.
-use Rattle.description.proofs.Names.{nat_tests, inl, inr, ℕ, ℤ, pos, negsuc, true, false, Option, Some, None, is_some, List, Result, Ok, Err, IfSome, IfNone}
-use Rattle.description.proofs.Names.{sym, ap, arith, none-some, same_Some, unsigned_abs, is_negative, false≢true, IsWellFormed, named, capability_text}
-use Rattle.description.proofs.Names.{state_text, Capability, Number, State, Data, string, integer, as_integer, as_str, IsCapability, IsNumber, IsState}
-use Rattle.description.proofs.Names.{IsWideNumber, Finds, BuildFault}
+use Rattle.description.proofs.Names.{nat_tests, inl, inr, ℕ, ℤ, true, false, Option, Some, None, is_some, List, Result, IfSome, IfNone, sym, arith, none-some}
+use Rattle.description.proofs.Names.{same_Some, unsigned_abs, is_negative, IsWellFormed, named, capability_text, state_text, Capability, Number, State, Data}
+use Rattle.description.proofs.Names.{string, integer, as_integer, as_str, IsCapability, IsNumber, IsState, IsWideNumber, Finds, BuildFault}
 use Rattle.std.proofs.Common.{◌≡◌, ◌≢◌, ◌^◌, ◌<◌, ◌≤◌, ◌∙◌}
 use Rattle.description.proofs.Once.{capability_once}
 

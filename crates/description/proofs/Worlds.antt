@@ -11,7 +11,7 @@ unfolding frames_in
 blank_frames zero = refl
 blank_frames (suc n) = ap (λ (fs : List Frame). blank_frame ∷ fs) (blank_frames n)
 
--- a header with a role, never given up
+-- a header with a role, never rescinded
 abbrev pub first_header : Role → ℕ → ObjectHeader
 first_header role owner = record { role = role; allocations = 0; calls = 0; owner = owner }
 

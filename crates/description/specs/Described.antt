@@ -1,8 +1,9 @@
 -- The frames that a description names, and when it names some.
 use Rattle.description.specs.Names.{ℕ, List, [], map, length, Option, None, Some, slice_get, unwrap_or, All, Contains}
 use Rattle.description.specs.Names.{Cap, Capability, Void, Frame, Content, State, IsWellFormed, frame_at, blank_frame}
-use Rattle.description.specs.Names.{role_of, IsSpace, object_count, fresh_cap, AreNamed, BuildFault}
+use Rattle.description.specs.Names.{role_of, IsSpace, object_count, fresh_cap, AreNamed}
 use Rattle.std.specs.Prelude.{◌≡◌, ◌≢◌, ◌^◌, ◌<◌, ◌≤◌, ◌==◌, if◌then◌else◌, ◌∷◌, ◌++◌}
+use Rattle.description.specs.declared.fault.BuildFault.{BuildFault}
 use Rattle.description.specs.declared.entry.Description.{Description}
 use Rattle.description.specs.declared.entry.NodeEntry.{NodeEntry}
 use Rattle.description.specs.declared.entry.PageEntry.{PageEntry}
@@ -10,7 +11,7 @@ use Rattle.description.specs.declared.entry.ProcessEntry.{ProcessEntry}
 use Rattle.description.specs.declared.entry.SlotEntry.{SlotEntry}
 use Rattle.description.specs.declared.entry.WordEntry.{WordEntry}
 use Rattle.model.specs.declared.object.Content.TheVariants as content
-use Rattle.image_writer.specs.declared.fault.BuildFault.TheVariants as fault
+use Rattle.description.specs.declared.fault.BuildFault.TheVariants as fault
 
 -- The numbers that are named.
 
@@ -93,7 +94,7 @@ pub record HasNamedWords (entries : List WordEntry) (words : List ℕ) : Type 0 
   pub count : length words ≡ 512
   pub each : (i : ℕ) → i < 512 → slice_get words i ≡ Some (word_named_at entries i)
 
--- the frame of an object that was never given up
+-- the frame of an object that was never rescinded
 abbrev pub first_frame : ℕ → Content Cap → Frame
 first_frame owner held =
     record { header = record { role = role_of held; allocations = 0; calls = 0; owner = owner }; content = held }

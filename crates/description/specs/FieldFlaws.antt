@@ -1,5 +1,5 @@
 -- Where a description breaks the rule for fields.
-use Rattle.description.specs.Names.{ℕ, List, map, None, Some, slice_get, IsSomeAnd}
+use Rattle.std.specs.Prelude.{ℕ, List, map, None, Some, slice_get, IsSomeAnd}
 use Rattle.std.specs.Prelude.{◌≡◌, ◌^◌, ◌<◌, ◌≤◌}
 use Rattle.description.specs.Described.{IsSomeCapability, IsSpaceEntry}
 use Rattle.description.specs.declared.entry.Description.{Description}

@@ -1,8 +1,9 @@
 -- A number has one spelling, a text is that of one capability, and a table that of one description; a description is
 -- refused with at most one fault.
 use Rattle.description.specs.Names.{ℕ, List, [], IfSome, IsWellFormed, named, capability_text, Capability, Data}
-use Rattle.description.specs.Names.{Members, BuildFault}
+use Rattle.description.specs.Names.{Members}
 use Rattle.std.specs.Prelude.{◌≡◌, ◌^◌, ◌<◌, ◌∷◌}
+use Rattle.description.specs.declared.fault.BuildFault.{BuildFault}
 use Rattle.description.specs.Reading.{IsDescription, IsWideNumber}
 use Rattle.description.specs.declared.entry.Description.{Description}
 use Rattle.description.specs.declared.entry.NodeEntry.{NodeEntry}

@@ -1,9 +1,12 @@
 pub mod Names
 pub mod Laws
+pub mod Faults
 pub mod Outcomes
 pub mod Reading
 pub mod Described
+pub mod Describes
 pub mod FieldFlaws
 pub mod Laid
 pub mod Rules
+pub mod Sizes
 pub mod Wholeness

@@ -1,6 +1,8 @@
 -- What a function that reads answers.
-use Rattle.description.specs.Names.{Result, Ok, Err, List, Vec, Global, BuildFault, Shape, NoMemory}
+use Rattle.description.specs.Names.{Result, Ok, Err, List, Vec, Global}
 use Rattle.std.specs.Prelude.{◌≡◌}
+use Rattle.description.specs.declared.fault.BuildFault.{BuildFault}
+use Rattle.description.specs.declared.fault.BuildFault.TheVariants.{Shape, NoMemory}
 
 -- nothing is said, or memory ran out; no other fault comes
 abbrev pub Fails : {A : Type 0} → (A → Type 0) → BuildFault → Type 0

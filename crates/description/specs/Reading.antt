@@ -3,8 +3,7 @@ use Rattle.description.specs.Names.{ℕ, pos, Bool, true, false, Option, None, S
 use Rattle.description.specs.Names.{IsTrue, IsSomeAnd, MatchOption, list_any, NumberRange, IsWellFormed, named}
 use Rattle.description.specs.Names.{capability_text, state_text, Capability, Void, Geometry, State, Data, integer}
 use Rattle.description.specs.Names.{string, array, table, Items, no_items, item, Members, no_members, member}
-use Rattle.description.specs.Names.{get_member, same_key, Vec, Global}
-use Rattle.model.specs.declared.capability.Capability.TheVariants.{Number}
+use Rattle.description.specs.Names.{get_member, same_key, Vec, Global, Number}
 use Rattle.std.specs.Prelude.{◌≡◌, ◌≢◌, ◌⊎◌, ◌^◌, ◌<◌, ◌≤◌, ◌&&◌, ◌||◌, ◌∷◌}
 use Rattle.description.specs.declared.entry.BankEntry.{BankEntry}
 use Rattle.description.specs.declared.entry.Description.{Description}

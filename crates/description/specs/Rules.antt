@@ -1,8 +1,11 @@
 -- Which rule a description breaks first, and with which fault its image isn't built.
-use Rattle.description.specs.Names.{ℕ, List, BuildFault, Shape, NoMemory, Frame, AreNamed, Version, version_number}
-use Rattle.description.specs.Names.{Failed, Field, Limits, Number, Owner, Small, Target, fault_number, MayBeLaid}
-use Rattle.description.specs.Names.{plan_from, Plan, One, Two, AreBanked, Members}
+use Rattle.description.specs.Names.{ℕ, List, Frame, AreNamed, Version, version_number, MayBeLaid, plan_from, Plan, One}
+use Rattle.description.specs.Names.{Two, AreBanked, Members}
 use Rattle.std.specs.Prelude.{◌≡◌, ◌^◌, ◌<◌, ◌≤◌, ◌==◌, if◌then◌else◌}
+use Rattle.description.specs.declared.fault.BuildFault.{BuildFault}
+use Rattle.description.specs.declared.fault.BuildFault.TheVariants.{Shape, NoMemory}
+use Rattle.description.specs.declared.fault.BuildFault.TheVariants.{Failed, Field, Limits, Number, Owner, Small, Target}
+use Rattle.description.specs.Faults.{fault_number}
 use Rattle.description.specs.declared.entry.Description.{Description}
 use Rattle.description.specs.Described.{HasFields, HasNumbers, IsDescribed}
 use Rattle.description.specs.Reading.{IsDescription}

@@ -1,6 +1,6 @@
 // What a description names.
 
-use image_writer::NumberRange;
+use home_ranges::NumberRange;
 use model::{Capability, Geometry, State};
 
 /// A slot or a register that is named.

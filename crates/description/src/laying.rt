@@ -8,12 +8,12 @@ ghost use Rattle.description.specs.Described.{HasFields, HasNumbers, IsDescribed
 ghost use Rattle.description.specs.Laid.{HasTargets};
 
 use crate::Description;
+use crate::fault::BuildFault;
 use crate::fields::misfilled;
 use crate::numbers::has_numbers;
 use crate::objects::{lay_annexes, lay_banks, lay_nodes, lay_pages, lay_roots};
 use crate::targets::has_targets;
 use crate::world::World;
-use image_writer::BuildFault;
 use std::alloc::{AllocError, Global};
 
 // Why a description names no world, if it names none.
@@ -64,7 +64,7 @@ pub fn lay_described(alloc: Global, description: &Description) -> Result<World, 
 }
 
 /// Lays out the world of a description: the objects that it names, at their numbers, and all
-/// other numbers free. No object was ever given up.
+/// other numbers free. No object was ever rescinded.
 ///
 /// Fails with `Number` where a number is none of its kind or is named twice; else with `Field`
 /// where an object has a field that isn't of its form, or a slot, register or word is named twice;

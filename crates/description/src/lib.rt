@@ -3,6 +3,7 @@
 #![tactic(auto)]
 
 mod entry;
+mod fault;
 mod fields;
 mod flaw;
 mod indexed;
@@ -14,18 +15,21 @@ mod numbers;
 mod object;
 mod objects;
 mod read;
+mod sizes;
 mod targets;
 mod value;
 mod wholeness;
 mod world;
 
 pub use entry::{BankEntry, Description, NodeEntry, PageEntry, ProcessEntry, SlotEntry, WordEntry};
+pub use fault::BuildFault;
 pub use fields::{is_capability, misfilled};
 pub use flaw::{Indexed, Part, SlotFlaw};
 pub use indexed::{Numbers, find_outside, find_twice};
 pub use laying::{lay_described, lay_world};
 pub use list::{FromValue, four_or_zeros, list_or_empty, may_have_list};
 pub use numbers::{node_numbers, page_numbers};
+pub use sizes::{GrowthFault, Sizes};
 pub use value::{array_of, table_of};
 pub use wholeness::described_is_whole;
 pub use world::World;

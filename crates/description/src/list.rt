@@ -4,14 +4,15 @@ ghost use Rattle.std.specs.List.{All};
 ghost use Rattle.std.specs.declared.alloc.Global.{Global};
 ghost use Rattle.toml.specs.Data.{Data, array, item, no_items};
 ghost use Rattle.toml.specs.View.{table_view, view};
-ghost use Rattle.image_writer.specs.declared.fault.BuildFault.TheVariants.{Shape};
+ghost use Rattle.description.specs.declared.fault.BuildFault.TheVariants.{Shape};
 ghost use Rattle.description.specs.Outcomes.{Finds, Reads, ReadsList};
 ghost use Rattle.description.specs.Reading.{AreFour, AtOr, HasList, IsList, IsRange, IsSlot, IsWord};
 
 use crate::entry::{SlotEntry, WordEntry};
+use crate::fault::BuildFault;
 use crate::member::member;
 use crate::value::{array_of, capability_at, number_of, pair_of, wide_number_of};
-use image_writer::{BuildFault, NumberRange};
+use home_ranges::NumberRange;
 use std::alloc::Global;
 use toml::value::Array;
 use toml::{Table, Value};

@@ -7,8 +7,8 @@ ghost use Rattle.toml.specs.View.{table_view, view};
 ghost use Rattle.description.specs.Outcomes.{Finds};
 ghost use Rattle.description.specs.Reading.{At, AtOr, IsCapability, IsNumber, IsState, IsWideNumber, has_key, has_only};
 
+use crate::fault::BuildFault;
 use crate::value::{capability_at, number_of, state_at, wide_number_of};
-use image_writer::BuildFault;
 use model::{Capability, State};
 use toml::{Table, Value};
 

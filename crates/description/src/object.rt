@@ -7,10 +7,10 @@ ghost use Rattle.description.specs.Reading.{IsProcess, IsTable};
 ghost use Rattle.description.specs.declared.entry.ProcessEntry.{ProcessEntry};
 
 use crate::entry::{BankEntry, NodeEntry, PageEntry, ProcessEntry, SlotEntry, WordEntry};
+use crate::fault::BuildFault;
 use crate::list::{FromValue, four_or_zeros, list_or_empty, may_have_list};
 use crate::member::{capability_or_void, check_keys, number, number_or, state, wide_number};
 use crate::value::table_of;
-use image_writer::BuildFault;
 use model::{Capability, State};
 use std::alloc::Global;
 use toml::{Table, Value};

@@ -4,12 +4,13 @@ ghost use Rattle.toml.specs.View.{table_view};
 ghost use Rattle.description.specs.Outcomes.{Finds, Fails, Reads, ReadsList};
 ghost use Rattle.description.specs.Reading.{AtOr, IsDescription, IsGeometry, IsList, IsRange, whole_ranges};
 ghost use Rattle.description.specs.declared.entry.Description.{Description};
-ghost use Rattle.image_writer.specs.declared.fault.BuildFault.TheVariants.{NoMemory, Shape};
+ghost use Rattle.description.specs.declared.fault.BuildFault.TheVariants.{NoMemory, Shape};
 
 use crate::entry::Description;
+use crate::fault::BuildFault;
 use crate::list::{list_of, list_or_empty};
 use crate::member::{check_keys, member, number, number_or};
-use image_writer::{BuildFault, NumberRange};
+use home_ranges::NumberRange;
 use model::Geometry;
 use std::alloc::Global;
 use toml::Table;

@@ -4,9 +4,9 @@ ghost use Rattle.toml.specs.Data.{Data, Items, Members, array, as_integer, table
 ghost use Rattle.toml.specs.View.{array_view, table_view, view};
 ghost use Rattle.description.specs.Outcomes.{Finds};
 ghost use Rattle.description.specs.Reading.{IsCapability, IsNumber, IsState, IsWideNumber};
-ghost use Rattle.image_writer.specs.declared.fault.BuildFault.TheVariants.{Shape};
+ghost use Rattle.description.specs.declared.fault.BuildFault.TheVariants.{Shape};
 
-use image_writer::BuildFault;
+use crate::fault::BuildFault;
 use model::{Capability, State};
 use script::{capability_of, state_of};
 use toml::value::Array;

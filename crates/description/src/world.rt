@@ -34,7 +34,7 @@ impl World {
         Ok(World { headers, contents })
     }
 
-    // Puts an object of a bank at a number, one that was never given up.
+    // Puts an object of a bank at a number, one that was never rescinded.
     #[tactic(auto, using(crate::proofs::Worlds::put_there))]
     pub(crate) fn put(&mut self, number: u64, owner: u64, content: Content<Cap>)
         requires within { number < vec_len self.old.headers }

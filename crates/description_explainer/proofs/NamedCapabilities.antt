@@ -1,5 +1,5 @@
 -- The capabilities that a description names, and those that its frames hold.
-use Rattle.description_explainer.proofs.Names.{ℕ, inl, inr, List, [], Option, None, Some, slice_get, unwrap_or, IsSomeAnd, sym, ap, subst, arith, All, cases_eq}
+use Rattle.description_explainer.proofs.Names.{ℕ, inl, inr, List, [], Option, Some, slice_get, unwrap_or, IsSomeAnd, sym, ap, subst, arith, All, cases_eq}
 use Rattle.description_explainer.proofs.Names.{All-cons, All-contains, All-head, All-tail, get_or_from_slice_get, Cap, Capability, Void, Frame, frame_at}
 use Rattle.description_explainer.proofs.Names.{caps_in, fresh_cap, AreNamed, IsNamed, NamesItsRole, Description, NodeEntry, SlotEntry, AreSlots, HasFields}
 use Rattle.description_explainer.proofs.Names.{HasNumbers, HoldsNamed, IsDescribed, IsProcessEntry, named_at, Entry, OfAnnex, OfBank, OfNode, OfPage, OfRoot}

@@ -1,4 +1,5 @@
 -- The names that the proofs here cite: of other crates, and of the definitions of this one.
+pub use Rattle.capability.specs.Consistency.{AreNamed, IsNamed, NamesItsRole}
 pub use Rattle.capability.specs.Plain.{fresh_cap}
 pub use Rattle.description.proofs.Decisions.{as_list, read_or_not, vec_of}
 pub use Rattle.description.proofs.DescribedOnce.{described_once}
@@ -9,6 +10,7 @@ pub use Rattle.description.proofs.NamedTargets.{never_raised, role_target}
 pub use Rattle.description.proofs.Rules.{field_broken, limits_broken, number_broken, owner_broken, target_broken}
 pub use Rattle.description.proofs.Taken.{all_taken, one_more}
 pub use Rattle.description.specs.Described.{AreSlots, HasFields, HasNumbers, HoldsNamed, IsDescribed, IsProcessEntry, named_at, node_numbers, page_numbers}
+pub use Rattle.description.specs.Faults.{fault_number}
 pub use Rattle.description.specs.FieldFlaws.{BreaksField, IsOutside, IsTwice}
 pub use Rattle.description.specs.Laid.{Entry, OfAnnex, OfBank, OfNode, OfPage, OfRoot}
 pub use Rattle.description.specs.Reading.{AreFour, At, AtOr, HasList, IsBank, IsCapability, IsDescription, IsList, IsNode, IsPage, IsProcess, IsRange, IsSlot}
@@ -18,11 +20,10 @@ pub use Rattle.description.specs.Rules.{IsFirstBroken, IsWithinLimits, Refuses}
 pub use Rattle.description.specs.declared.entry.Description.{Description}
 pub use Rattle.description.specs.declared.entry.NodeEntry.{NodeEntry}
 pub use Rattle.description.specs.declared.entry.SlotEntry.{SlotEntry}
+pub use Rattle.description.specs.declared.fault.BuildFault.{BuildFault}
 pub use Rattle.description.specs.declared.flaw.Part.{Part}
-pub use Rattle.image_writer.specs.Faults.{fault_number}
-pub use Rattle.image_writer.specs.Laid.{MayBeLaid, placed}
-pub use Rattle.image_writer.specs.declared.fault.BuildFault.{BuildFault}
-pub use Rattle.image_writer.specs.declared.number_range.NumberRange.{NumberRange}
+pub use Rattle.home_ranges.specs.Laid.{MayBeLaid, placed}
+pub use Rattle.home_ranges.specs.declared.number_range.NumberRange.{NumberRange}
 pub use Rattle.layout.specs.Superblock.{Cover, version_number}
 pub use Rattle.layout.specs.declared.version.Version.{Version}
 pub use Rattle.model.specs.Frame.{frame_at}
@@ -34,7 +35,7 @@ pub use Rattle.model.specs.declared.capability.Capability.TheVariants.{Void}
 pub use Rattle.model.specs.declared.frame.Frame.{Frame}
 pub use Rattle.model.specs.declared.geometry.Geometry.{Geometry}
 pub use Rattle.recovery.proofs.BankFaults.{unbanked_refuted}
-pub use Rattle.recovery.specs.Consistency.{AreNamed, IsNamed, IsUnbanked, NamesItsRole}
+pub use Rattle.recovery.specs.Consistency.{IsUnbanked}
 pub use Rattle.recovery.specs.declared.consistency.reason.Unbanked.{Unbanked}
 pub use Rattle.std.proofs.Common.{Err, Global, IsSomeAnd, List, None, Ok, Option, Result, Some, String, Vec, [], ap, arith, codes, decimal, drop, get_or, inl}
 pub use Rattle.std.proofs.Common.{inr, length, map, option_map, refl, slice_get, string_bytes, subst, suc, sym, take, unwrap_or, zero, ℕ}

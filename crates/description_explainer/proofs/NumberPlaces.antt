@@ -1,7 +1,7 @@
 -- The numbers of a description, by their places among all.
-use Rattle.description_explainer.proofs.Names.{ℕ, zero, suc, List, [], length, map, Option, None, Some, option_map, slice_get, IsSomeAnd, refl, sym, ap, subst}
-use Rattle.description_explainer.proofs.Names.{arith, length-append, length-map, slice_get-map, Geometry, object_count, Description, HasNumbers, node_numbers}
-use Rattle.description_explainer.proofs.Names.{page_numbers, Named, BreaksNumber, IsOfItsKind, IsOutside, IsTwice, number_at, BreaksIt, place_of, all_refuted}
+use Rattle.description_explainer.proofs.Names.{ℕ, zero, suc, List, [], length, map, Option, Some, option_map, slice_get, IsSomeAnd, refl, sym, ap, subst, arith}
+use Rattle.description_explainer.proofs.Names.{length-append, length-map, slice_get-map, Geometry, object_count, Description, HasNumbers, node_numbers}
+use Rattle.description_explainer.proofs.Names.{page_numbers, Named, BreaksNumber, IsOfItsKind, number_at, IsOutside, IsTwice, BreaksIt, place_of, all_refuted}
 use Rattle.description_explainer.proofs.Names.{twice_refuted}
 use Rattle.std.proofs.Common.{◌≡◌, ◌+◌, ◌-◌, ◌<◌, ◌≤◌, ◌∷◌, ◌++◌, ◌∙◌}
 use Rattle.description_explainer.specs.declared.faults.place.Misnumbered.TheVariants as misnumbered

@@ -1,6 +1,6 @@
 -- A size that no image has isn't that of a description within the limits.
 use Rattle.description_explainer.proofs.Names.{nat_tests, ℕ, zero, suc, List, [], length, map, take, Option, None, Some, slice_get, subst, arith, MatchOption}
-use Rattle.description_explainer.proofs.Names.{none-some, same_Some, Geometry, object_count, Cover, placed, version_number, Version, MayBeLaid, NumberRange}
+use Rattle.description_explainer.proofs.Names.{none-some, same_Some, Geometry, object_count, Cover, version_number, placed, MayBeLaid, Version, NumberRange}
 use Rattle.description_explainer.proofs.Names.{IsWithinLimits, Description, Limit, BreaksGeometry, BreaksLimit, BreaksRanges, GoesOn, count_in}
 use Rattle.std.proofs.Common.{◌≡◌, ◌+◌, ◌≤◌, ◌∷◌, ◌^◌}
 use Rattle.description_explainer.specs.declared.faults.place.Limit.TheVariants as limit

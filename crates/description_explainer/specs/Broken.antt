@@ -1,9 +1,8 @@
 -- Where a description breaks the rules beyond its shape.
-use Rattle.description_explainer.specs.Names.{ℕ, List, [], Option, None, Some, length, map, option_map, slice_get, take}
-use Rattle.description_explainer.specs.Names.{IsSomeAnd, Capability, Frame, Geometry, object_count, IsNext}
-use Rattle.description_explainer.specs.Names.{version_number, Version, placed, NumberRange, IsUnbanked, NamesItsRole}
-use Rattle.description_explainer.specs.Names.{Unbanked, Description, SlotEntry, IsDescribed, IsSomeCapability}
-use Rattle.description_explainer.specs.Names.{IsSpaceEntry}
+use Rattle.description_explainer.specs.Names.{ℕ, List, [], Option, Some, length, option_map, slice_get, take, IsSomeAnd}
+use Rattle.description_explainer.specs.Names.{Capability, Frame, Geometry, object_count, IsNext, version_number}
+use Rattle.description_explainer.specs.Names.{Version, placed, NumberRange, IsUnbanked, NamesItsRole, Unbanked}
+use Rattle.description_explainer.specs.Names.{Description, IsDescribed}
 use Rattle.std.specs.Prelude.{◌≡◌, ◌≢◌, ◌+◌, ◌^◌, ◌<◌, ◌≤◌, ◌∷◌}
 use Rattle.description_explainer.specs.declared.faults.place.Held.{Held}
 use Rattle.description_explainer.specs.declared.faults.place.Held.TheVariants as held

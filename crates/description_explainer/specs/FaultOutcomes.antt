@@ -1,9 +1,8 @@
 -- What the functions that search for a place answer.
-use Rattle.description_explainer.specs.Names.{ℕ, List, length, map, slice_get, Option, None, Some, IsSomeAnd, All}
+use Rattle.description_explainer.specs.Names.{ℕ, List, length, slice_get, Option, None, Some, IsSomeAnd, All}
 use Rattle.description_explainer.specs.Names.{Capability, Data, Items, Members, array, get_item, get_member}
-use Rattle.description_explainer.specs.Names.{IsSpaceEntry, node_numbers, BankEntry, Description, NodeEntry, PageEntry}
-use Rattle.description_explainer.specs.Names.{ProcessEntry, SlotEntry, IsBank, IsDescription, IsNode, IsPage, IsProcess}
-use Rattle.description_explainer.specs.Names.{IsTable}
+use Rattle.description_explainer.specs.Names.{node_numbers, BankEntry, Description, NodeEntry, PageEntry, ProcessEntry}
+use Rattle.description_explainer.specs.Names.{SlotEntry, IsBank, IsDescription, IsNode, IsPage, IsProcess, IsTable}
 use Rattle.std.specs.Prelude.{◌≡◌, ◌+◌, ◌^◌, ◌≤◌}
 use Rattle.description_explainer.specs.declared.faults.key.Key.{Key}
 use Rattle.description_explainer.specs.declared.faults.key.Key.TheVariants.{Banks, Processes, NodeList, PageList}

@@ -1,5 +1,7 @@
 -- The names of other crates that the definitions here cite.
-pub use Rattle.description.specs.Described.{IsDescribed, IsSomeCapability, IsSpaceEntry, node_numbers}
+pub use Rattle.capability.specs.Consistency.{NamesItsRole}
+pub use Rattle.description.specs.Described.{IsDescribed, node_numbers}
+pub use Rattle.description.specs.Faults.{fault_number}
 pub use Rattle.description.specs.FieldFlaws.{BreaksField}
 pub use Rattle.description.specs.Reading.{AreFour, At, AtOr, HasList, IsBank, IsCapability, IsDescription, IsNode}
 pub use Rattle.description.specs.Reading.{IsNumber, IsPage, IsProcess, IsRange, IsSlot, IsState, IsTable, IsWord}
@@ -13,13 +15,12 @@ pub use Rattle.description.specs.declared.entry.PageEntry.{PageEntry}
 pub use Rattle.description.specs.declared.entry.ProcessEntry.{ProcessEntry}
 pub use Rattle.description.specs.declared.entry.SlotEntry.{SlotEntry}
 pub use Rattle.description.specs.declared.entry.WordEntry.{WordEntry}
+pub use Rattle.description.specs.declared.fault.BuildFault.{BuildFault}
 pub use Rattle.description.specs.declared.flaw.Indexed.{Indexed}
 pub use Rattle.description.specs.declared.flaw.Part.{Part}
 pub use Rattle.description.specs.declared.flaw.SlotFlaw.{SlotFlaw}
-pub use Rattle.image_writer.specs.Faults.{fault_number}
-pub use Rattle.image_writer.specs.Laid.{placed}
-pub use Rattle.image_writer.specs.declared.fault.BuildFault.{BuildFault}
-pub use Rattle.image_writer.specs.declared.number_range.NumberRange.{NumberRange}
+pub use Rattle.home_ranges.specs.Laid.{placed}
+pub use Rattle.home_ranges.specs.declared.number_range.NumberRange.{NumberRange}
 pub use Rattle.layout.specs.Superblock.{IsNext, version_number}
 pub use Rattle.layout.specs.declared.version.Version.{Version}
 pub use Rattle.model.specs.Sound.{object_count}
@@ -28,7 +29,7 @@ pub use Rattle.model.specs.declared.capability.Capability.TheVariants.{Void}
 pub use Rattle.model.specs.declared.frame.Frame.{Frame}
 pub use Rattle.model.specs.declared.geometry.Geometry.{Geometry}
 pub use Rattle.model.specs.declared.object.State.{State}
-pub use Rattle.recovery.specs.Consistency.{IsUnbanked, NamesItsRole}
+pub use Rattle.recovery.specs.Consistency.{IsUnbanked}
 pub use Rattle.recovery.specs.declared.consistency.reason.Unbanked.{Unbanked}
 pub use Rattle.std.specs.Fmt.{debug_str}
 pub use Rattle.std.specs.List.{All, Contains, list_any}

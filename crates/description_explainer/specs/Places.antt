@@ -2,7 +2,7 @@
 use Rattle.description_explainer.specs.Names.{ℕ, Option, None, Some, Members, Description, IsDescription, BuildFault}
 use Rattle.description_explainer.specs.Names.{IsAccepted, Refuses, plan_for, BreaksField}
 use Rattle.std.specs.Prelude.{◌≤◌}
-use Rattle.image_writer.specs.declared.fault.BuildFault.TheVariants as fault
+use Rattle.description.specs.declared.fault.BuildFault.TheVariants as fault
 use Rattle.description_explainer.specs.declared.place.Place.{Place}
 use Rattle.description_explainer.specs.declared.place.Place.TheVariants as place
 use Rattle.description_explainer.specs.declared.place.Rule.{Rule}

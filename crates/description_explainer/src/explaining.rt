@@ -3,7 +3,7 @@ ghost use Rattle.std.specs.Prelude.{◌≡◌, Some, IfNone, IfOk, IfSome, Match
 ghost use Rattle.toml.specs.Data.{Members};
 ghost use Rattle.toml.specs.View.{table_view};
 ghost use Rattle.model.specs.Frame.{frames_in};
-ghost use Rattle.recovery.specs.Consistency.{AreNamed};
+ghost use Rattle.capability.specs.Consistency.{AreNamed};
 ghost use Rattle.recovery.specs.Noted.{AreNoted};
 ghost use Rattle.description.specs.declared.entry.Description.{Description};
 ghost use Rattle.description.specs.Reading.{IsDescription};
@@ -18,8 +18,7 @@ use crate::faults::{Held, OfItsKind, OfItsRole, failing, misnumbered, misshapen}
 use crate::limits::beyond_limits;
 use crate::place::{Place, Rule};
 use capability::Plain;
-use description::{Description, World, lay_described, misfilled};
-use image_writer::BuildFault;
+use description::{BuildFault, Description, World, lay_described, misfilled};
 use recovery::{Noted, find_unbanked, read_notes};
 use std::alloc::{AllocError, Global};
 use toml::Table;

@@ -3,8 +3,7 @@ ghost use Rattle.std.specs.Prelude.{◌≡◌};
 ghost use Rattle.description_explainer.specs.Places.{fault_of, rule_fault};
 
 use crate::faults::{Held, Limit, Misnumbered, ShapePlace};
-use description::{Description, Part};
-use image_writer::BuildFault;
+use description::{BuildFault, Description, Part};
 use recovery::Unbanked;
 
 /// Where a description breaks one of the rules beyond its shape.

@@ -8,7 +8,7 @@ use crate::place::{Place, Rule};
 use crate::place_text::{indexed_entry, list_of, parts_of, place_text};
 use description::member::member;
 use description::{Description, Indexed, Part, ProcessEntry, SlotEntry, SlotFlaw, is_capability};
-use image_writer::NumberRange;
+use home_ranges::NumberRange;
 use model::{Capability, Geometry};
 use recovery::Unbanked;
 use std::alloc::{AllocError, Global};

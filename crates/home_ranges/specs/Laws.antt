@@ -1,8 +1,11 @@
--- Home places lie apart from one another and from the log.
+-- Home places lie apart from one another and from the log. An image of version 2 takes at most 8 sectors a range more
+-- than one of version 1.
 use Rattle.home_ranges.specs.Names.{ℕ, List, None, Image, Elsewhere, Entry, Extent, One, home_place, place_length, Plan}
 use Rattle.home_ranges.specs.Names.{IsPlan, IsWithin, IsApart, half_extent, frame_slot_in, bytes_at, frame_in}
-use Rattle.home_ranges.specs.Names.{half_sector, IsObject}
-use Rattle.std.specs.Prelude.{◌≡◌}
+use Rattle.home_ranges.specs.Names.{half_sector, IsObject, length, Two, Geometry}
+use Rattle.std.specs.Prelude.{◌≡◌, ◌+◌, ◌*◌, ◌≤◌}
+use Rattle.home_ranges.specs.Laid.{plan_from}
+use Rattle.home_ranges.specs.declared.number_range.NumberRange.{NumberRange}
 
 -- the sectors of the home of a number
 abbrev pub home_extent : Plan → ℕ → Extent
@@ -36,3 +39,8 @@ FramesStay = (old new : Image) (p : Plan) (a at n : ℕ) → IsApart (home_exten
 abbrev pub FramesAreHome : Type 0
 FramesAreHome = (image : Image) (p : Plan) (generation : ℕ) (es : List Entry) (a : ℕ) → frame_slot_in p es a ≡ None →
     frame_in image p generation es a ≡ bytes_at image (home_place p a) p a
+
+-- by version 2 an image takes at most 8 sectors a range more than by version 1
+abbrev pub SecondTakesFewMore : Type 0
+SecondTakesFewMore = (g : Geometry) (rs : List NumberRange) → (plan_from Two g rs).total ≤ (plan_from One g rs).total +
+    8 * length rs

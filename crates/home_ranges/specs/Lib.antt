@@ -1,3 +1,4 @@
 pub mod Names
 pub mod Home
+pub mod Laid
 pub mod Laws

@@ -6,8 +6,12 @@ pub use Rattle.layout.specs.Frames.{IsObject}
 pub use Rattle.layout.specs.Homes.{home_place, place_length, shape_of}
 pub use Rattle.layout.specs.Image.{bytes_at, frame_in, frame_slot_in, half_sector}
 pub use Rattle.layout.specs.Shape.{shape_bytes}
-pub use Rattle.layout.specs.Superblock.{IsApart, IsPlan, IsWithin, Plan, half_extent}
+pub use Rattle.layout.specs.Superblock.{Cover, IsApart, IsGeometry, IsPlan, IsWithin, Plan, half_extent, plan_of}
+pub use Rattle.layout.specs.Superblock.{range_extent}
 pub use Rattle.layout.specs.declared.directory.Entry.{Entry}
 pub use Rattle.layout.specs.declared.extent.Extent.{Extent}
-pub use Rattle.layout.specs.declared.version.Version.TheVariants.{One}
-pub use Rattle.std.specs.Prelude.{List, None, ℕ}
+pub use Rattle.layout.specs.declared.extent.HomeRange.{HomeRange}
+pub use Rattle.layout.specs.declared.version.Version.{Version}
+pub use Rattle.layout.specs.declared.version.Version.TheVariants.{One, Two}
+pub use Rattle.model.specs.declared.geometry.Geometry.{Geometry}
+pub use Rattle.std.specs.Prelude.{List, None, [], length, map, ℕ}

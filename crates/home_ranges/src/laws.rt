@@ -1,10 +1,11 @@
-// The laws of home places.
+//! The laws of home places, and of how many sectors an image takes. Each is the contract of a function that does
+//! nothing.
 ghost use Rattle.home_ranges.specs.Laws.{PlacesAreWithin, PlacesAreApart, NumbersAreApart, PlacesSpareLog, FramesStay};
-ghost use Rattle.home_ranges.specs.Laws.{FramesAreHome};
+ghost use Rattle.home_ranges.specs.Laws.{FramesAreHome, SecondTakesFewMore};
 
 /// Homes lie behind the headers and before the end, apart from one another and from the log. A change
 /// of other sectors leaves the frame in a home. An object without a slot in the log has its home
-/// frame. It does nothing: its contract is the law.
+/// frame.
 pub fn keep_places_apart()
     ensures within { PlacesAreWithin }
     ensures apart { PlacesAreApart }
@@ -12,4 +13,10 @@ pub fn keep_places_apart()
     ensures log { PlacesSpareLog }
     ensures frames { FramesStay }
     ensures home { FramesAreHome }
+{}
+
+/// In version 2 an image takes at most 8 sectors for each of its ranges more than in version 1.
+#[tactic(auto, using(crate::proofs::LaidPlans::second_total))]
+pub fn second_takes_few_more()
+    ensures { SecondTakesFewMore }
 {}

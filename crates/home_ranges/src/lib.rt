@@ -1,9 +1,13 @@
-//! The frames of objects at home: where each lies, and reading and writing it over a device.
+//! The frames of objects at home: where each lies, reading and writing it over a device, and where the home ranges of
+//! a new image lie.
 #![tactic(auto)]
 
 mod frames;
 mod home;
-mod laws;
+pub mod laws;
+mod number_range;
+mod plan;
 
 pub use home::Home;
-pub use laws::keep_places_apart;
+pub use number_range::NumberRange;
+pub use plan::{lay_out, lay_out_again};

@@ -1,10 +1,10 @@
 -- What is refused whatever the device, and with which fault.
-use Rattle.image_builder.proofs.Names.{ℕ, List, ap, refl, subst, sym, arith, IfErr, OnOk, Result, Ok, Err, Members, Disk, Cap, Frame, ObjectHeader, Geometry}
-use Rattle.image_builder.proofs.Names.{Content, frames_in, IsSoundFrames, sound_banked, sound_named, BadImage, BadCapability, BadProcess, BadBank, AreBanked}
-use Rattle.image_builder.proofs.Names.{AreNamed, AreWholeProcesses, IsInconsistent, Description, IsDescription, HasFields, HasNumbers, IsDescribed, BuildFault}
-use Rattle.image_builder.proofs.Names.{Shape, Limits, Number, Field, Target, Owner, Small, Failed, NoMemory, Builds, BuildsFrom, IsAccepted, IsRefused}
-use Rattle.image_builder.proofs.Names.{fault_number, IsRefusedEarly, IsSoundDescription, described_once, IsWithinLimits, Refuses, Rule, TellsNoSize, AreLaid}
-use Rattle.image_builder.proofs.Names.{IsWorldFault, Fails, all_kept, field_broken, number_broken, owner_broken, small_broken, target_broken}
+use Rattle.image_builder.proofs.Names.{ℕ, List, ap, refl, subst, sym, arith, IfErr, OnOk, Result, Ok, Err, Members, Disk, Cap, Frame, ObjectHeader, Content}
+use Rattle.image_builder.proofs.Names.{frames_in, sound_banked, sound_named, BadImage, BadCapability, BadProcess, BadBank, AreBanked, AreNamed}
+use Rattle.image_builder.proofs.Names.{AreWholeProcesses, IsInconsistent, Description, IsDescription, HasFields, HasNumbers, IsDescribed, BuildFault, Shape}
+use Rattle.image_builder.proofs.Names.{Limits, Number, Field, Target, Owner, Small, Failed, NoMemory, Builds, BuildsFrom, IsAccepted, IsRefused, fault_number}
+use Rattle.image_builder.proofs.Names.{IsRefusedEarly, IsSoundDescription, described_once, IsWithinLimits, Refuses, Rule, TellsNoSize, AreLaid, IsWorldFault}
+use Rattle.image_builder.proofs.Names.{Fails, all_kept, field_broken, number_broken, owner_broken, small_broken, target_broken}
 use Rattle.std.proofs.Common.{◌≡◌, ◌≢◌, ◌<◌}
 
 -- a lesser fault isn't that of the device

@@ -6,13 +6,13 @@ pub use Rattle.description.specs.Described.{HasFields, HasNumbers, IsDescribed}
 pub use Rattle.description.specs.Reading.{IsDescription}
 pub use Rattle.description.specs.Rules.{IsAccepted, IsRefused, plan_for}
 pub use Rattle.description.specs.declared.entry.Description.{Description}
+pub use Rattle.description.specs.declared.fault.BuildFault.{BuildFault}
+pub use Rattle.description.specs.declared.fault.BuildFault.TheVariants.{Failed}
 pub use Rattle.device.specs.Calls.{Elsewhere}
 pub use Rattle.device.specs.Disk.{Disk, Image}
 pub use Rattle.device.specs.Moments.{LeavesOnly}
-pub use Rattle.image_writer.specs.Laid.{laid_again}
+pub use Rattle.home_ranges.specs.Laid.{laid_again}
 pub use Rattle.image_writer.specs.Written.{IsLeftWriting, first_saved, first_state}
-pub use Rattle.image_writer.specs.declared.fault.BuildFault.{BuildFault}
-pub use Rattle.image_writer.specs.declared.fault.BuildFault.TheVariants.{Failed}
 pub use Rattle.layout.specs.Image.{Encodes, SavedState}
 pub use Rattle.layout.specs.declared.directory.Entry.{Entry}
 pub use Rattle.layout.specs.declared.open_fault.OpenFault.{OpenFault}

@@ -9,9 +9,8 @@ ghost use Rattle.description.specs.Rules.{IsWithinLimits, Refuses, TellsNoSize, 
 
 use crate::planning::plan;
 use crate::writing::build_described;
-use description::Description;
+use description::{BuildFault, Description};
 use device::Device;
-use image_writer::BuildFault;
 use layout::Superblock;
 use std::alloc::Global;
 use std::marker::Model;

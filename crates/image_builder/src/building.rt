@@ -8,8 +8,8 @@ ghost use Rattle.image_builder.specs.Built.{BuildsFrom, IsLeftOf};
 ghost use Rattle.description.specs.Rules.{IsWithinLimits, Refuses, TellsNoSize, plan_for};
 
 use crate::blueprint::Blueprint;
+use description::BuildFault;
 use device::Device;
-use image_writer::BuildFault;
 use std::alloc::Global;
 use toml::Table;
 

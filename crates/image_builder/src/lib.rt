@@ -15,6 +15,6 @@ mod writing;
 pub use blueprint::Blueprint;
 pub use building::{build, sectors_needed};
 pub use closable::ClosableDevice;
-pub use image_writer::BuildFault;
+pub use description::BuildFault;
 pub use upgrade_fault::UpgradeFault;
 pub use upgrading::{OldImage, upgrade, upgrade_and_count, upgraded_sectors};

@@ -2,8 +2,8 @@
 ghost use Rattle.std.specs.Prelude.{◌≡◌, IfOk, IfErr};
 ghost use Rattle.description.specs.Rules.{IsWithinLimits, plan_for};
 
-use description::Description;
-use image_writer::{BuildFault, lay_out};
+use description::{BuildFault, Description};
+use home_ranges::lay_out;
 use layout::{Superblock, Version};
 use model::MAX_AGE;
 
@@ -18,7 +18,9 @@ pub(crate) fn plan(description: &Description) -> Result<Superblock, BuildFault>
         return Err(BuildFault::Limits);
     }
     match Version::with_number(description.layout) {
-        Some(version) => lay_out(version, description.geometry, &description.ranges),
+        Some(version) => lay_out(version, description.geometry, &description.ranges).ok_or(
+            BuildFault::Limits,
+        ),
         None => Err(BuildFault::Limits),
     }
 }

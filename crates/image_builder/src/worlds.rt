@@ -6,8 +6,7 @@ ghost use Rattle.description.specs.Laid.{AreLaid};
 
 use capability::Plain;
 use checkpoint::OpenFault;
-use description::{Description, World, described_is_whole, lay_world};
-use image_writer::BuildFault;
+use description::{BuildFault, Description, World, described_is_whole, lay_world};
 use layout::BadImage;
 use recovery::check;
 use std::alloc::Global;

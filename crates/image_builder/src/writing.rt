@@ -7,9 +7,9 @@ ghost use Rattle.image_builder.specs.Checked.{IsLeftBuilding, IsSoundDescription
 ghost use Rattle.description.specs.Laid.{AreLaid};
 
 use crate::worlds::lay_sound;
-use description::{Description, World};
+use description::{BuildFault, Description, World};
 use device::Device;
-use image_writer::{BuildFault, write_image};
+use image_writer::write_image;
 use layout::Superblock;
 use std::alloc::Global;
 

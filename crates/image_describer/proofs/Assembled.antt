@@ -7,7 +7,7 @@ use Rattle.image_describer.proofs.Names.{IsSound, IsSpace, MayBeHeld, object_cou
 use Rattle.image_describer.proofs.Names.{Description, NodeEntry, PageEntry, ProcessEntry, SlotEntry, WordEntry, AreDistinct, AreSlots, AreWords, HasFields}
 use Rattle.image_describer.proofs.Names.{HasNamedWords, HasNumbers, HoldsNamed, IsDescribed, IsDescribedAnnex, IsDescribedNode, IsDescribedPage}
 use Rattle.image_describer.proofs.Names.{IsDescribedRoot, IsProcessEntry, IsSomeCapability, IsSpaceEntry, first_frame, node_numbers, page_numbers, all_from}
-use Rattle.image_describer.proofs.Names.{contains_map, map_contains, AreBriefSlots, AreBriefWords, Describes, IsBrief, NamesSlots, NamesWords, plain_frame}
+use Rattle.image_describer.proofs.Names.{contains_map, map_contains, AreBriefSlots, AreBriefWords, IsBrief, NamesSlots, NamesWords, Describes, plain_frame}
 use Rattle.image_describer.proofs.Names.{plain_frames, TellAll, TellsBank, TellsNode, TellsPage, TellsProcess, unwrap_or}
 use Rattle.std.proofs.Common.{◌≡◌, ◌≢◌, ◌⊎◌, ◌<◌, ◌≤◌, ◌++◌, ◌∙◌}
 use Rattle.std.specs.Option.{option_map}

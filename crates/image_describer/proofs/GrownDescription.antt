@@ -7,13 +7,12 @@ use Rattle.image_describer.proofs.Names.{HoldsNamed, IsDescribed, IsDescribedAnn
 use Rattle.image_describer.proofs.Names.{IsSpaceEntry, first_frame, node_numbers, page_numbers, OfAnnex, OfBank, OfNode, OfPage, OfRoot, described_of, in_range}
 use Rattle.image_describer.proofs.Names.{all_from, contains_here, contains_map, contains_there, map_contains, AreBriefSlots, AreBriefWords, AreRising, IsBrief}
 use Rattle.image_describer.proofs.Names.{plain_frame, plain_frames, IsMovedNode, IsMovedPage, IsMovedProcess, IsRenumbered, NamesNodes, NamesPages, moved}
+use Rattle.image_describer.proofs.Names.{distinct_left, distinct_right, zip_all, zip_map}
 use Rattle.std.proofs.Common.{◌≡◌, ◌<◌, ◌≤◌, ◌^◌, ◌∷◌, ◌++◌, ◌∙◌}
 use Rattle.model.specs.declared.object.Content.TheVariants as content
 use Rattle.image_describer.proofs.GrownWorld.{comes_from, frame_arrived, frame_inside, frame_past, grown_length, grown_objects, node_arrives, origin}
 use Rattle.image_describer.proofs.GrownWorld.{page_arrives}
 use Rattle.image_describer.proofs.Moved.{brief_moved, holds_moved, moved_cap, moved_frame, node_stays, page_moves, slots_moved, space_entry_moved}
-use Rattle.image_describer.proofs.Once.{distinct_left, distinct_right}
-use Rattle.image_describer.proofs.Pairs.{zip_all, zip_map}
 use Rattle.image_describer.proofs.Rising.{distinct_both, distinct_other}
 
 -- Entries

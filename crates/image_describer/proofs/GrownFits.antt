@@ -3,12 +3,11 @@ use Rattle.image_describer.proofs.Names.{nat_tests, inl, inr, ℕ, true, false, 
 use Rattle.image_describer.proofs.Names.{Content, frame_at, is_free, role_of, object_count, World, content_at, fresh_cap, mapped, BankEntry, Description}
 use Rattle.image_describer.proofs.Names.{NodeEntry, PageEntry, ProcessEntry, first_frame, Entry, OfAnnex, OfBank, OfNode, OfPage, OfRoot, number_of, IsFrameOf}
 use Rattle.image_describer.proofs.Names.{IsOf, described_cases, described_of, in_range, all_from, GrowthFault, Describes, plain_frames, IsNotRenumbered}
-use Rattle.image_describer.proofs.Names.{IsUnsuited, NamesNodes, NamesPages, NodesFit, PagesFit, moved}
+use Rattle.image_describer.proofs.Names.{IsUnsuited, NamesNodes, NamesPages, NodesFit, PagesFit, moved, plain_at}
 use Rattle.std.proofs.Common.{◌≡◌, ◌≢◌, ◌<◌, ◌≤◌, ◌∙◌}
 use Rattle.model.specs.declared.object.Content.TheVariants as content
 use Rattle.model.specs.declared.object.Role.TheVariants as role
-use Rattle.image_describer.specs.declared.sizes.GrowthFault.TheVariants as fault
-use Rattle.image_describer.proofs.Plain.{plain_at}
+use Rattle.description.specs.declared.sizes.GrowthFault.TheVariants as fault
 
 -- what has a role isn't free
 role_not_free : {C : Type 0} (c : Content C) → role_of c ≢ role.Free → is_free c ≡ false

@@ -2,11 +2,10 @@
 use Rattle.image_describer.proofs.Names.{nat_tests, ℕ, Bool, true, false, List, [], arith, All, All-cons, All-contains, All-nil, IsGeometry, NumberRange}
 use Rattle.image_describer.proofs.Names.{object_count, Description, NodeEntry, PageEntry, ProcessEntry, whole_ranges, all_from, IsMovedNode, IsMovedPage}
 use Rattle.image_describer.proofs.Names.{IsMovedProcess, IsRenumbered, NamesPages, moved, CanBeSpelled, IsWide, SpellsNode, SpellsPage, SpellsProcess}
-use Rattle.image_describer.proofs.Names.{SpellsRange}
+use Rattle.image_describer.proofs.Names.{SpellsRange, zip_all}
 use Rattle.std.proofs.Common.{◌<◌, ◌≤◌, if◌then◌else◌, ◌∷◌}
 use Rattle.std.specs.Prelude.{◌==◌, ◌&&◌}
 use Rattle.image_describer.proofs.Moved.{moved_wide, spelled_moved, wide_moved}
-use Rattle.image_describer.proofs.Pairs.{zip_all}
 
 either_spelled : (b : Bool) (rs ss : List NumberRange) → All SpellsRange rs → All SpellsRange ss → All SpellsRange (if b then rs else ss)
 either_spelled true rs ss one other = one

@@ -2,11 +2,10 @@
 use Rattle.image_describer.proofs.Names.{inl, inr, ℕ, nat_lt, Bool, true, false, List, map, length, refl, sym, ap, arith, range_with_len, cases_lt, true≢false}
 use Rattle.image_describer.proofs.Names.{nat_tests, get_or_past, length-map, get_or-map-range_with_len, length-range_with_len, Capability, Frame, Geometry}
 use Rattle.image_describer.proofs.Names.{Content, Object, blank_frame, frame_at, free, is_free, IsSound, object_count, World, content_at, object_at, owner_at}
-use Rattle.image_describer.proofs.Names.{plain_frame, plain_frames, IsGrown, NodesFit, PagesFit, moved, moved_object}
+use Rattle.image_describer.proofs.Names.{plain_frame, plain_frames, IsGrown, NodesFit, PagesFit, moved, moved_object, plain_at}
 use Rattle.std.proofs.Common.{◌≡◌, ◌≢◌, ◌+◌, ◌-◌, ◌<◌, ◌≤◌, if◌then◌else◌, ◌∙◌}
 use Rattle.model.specs.declared.object.Content.TheVariants as content
 use Rattle.image_describer.proofs.Moved.{moved_frame, plain_moved}
-use Rattle.image_describer.proofs.Plain.{plain_at}
 
 module _ (old new : Geometry) where
   -- the number from which an object moves to a number, or one that no object has

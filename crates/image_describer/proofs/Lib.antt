@@ -13,7 +13,6 @@ pub mod GrownWorld
 mod Lines
 mod Moved
 mod Naming
-pub mod Pairs
 pub mod Plain
 mod Puts
 mod Quoted
@@ -24,10 +23,3 @@ pub mod SameTables
 pub mod Short
 mod Telling
 mod Written
-pub mod Arrows
-pub mod Boxes
-pub mod Listed
-pub mod Once
-mod Parts
-pub mod Texts
-pub mod Reported

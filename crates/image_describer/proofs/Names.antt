@@ -5,14 +5,17 @@ pub use Rattle.capability.proofs.Mapped.{kind_map, mapped}
 pub use Rattle.capability.proofs.Roles.{role_read}
 pub use Rattle.capability.specs.Parts.{Parts, frames_of, objects_in}
 pub use Rattle.capability.specs.Plain.{fresh_cap}
-pub use Rattle.collections.specs.Marks.{is_marked}
 pub use Rattle.description.proofs.DescribedOnce.{described_once}
 pub use Rattle.description.proofs.Entries.{IsFrameOf, IsOf, described_cases, described_of, in_range}
-pub use Rattle.description.proofs.Lists.{all_from, all_got, contains_cases, contains_here, contains_map, contains_none, contains_there, first_beyond}
-pub use Rattle.description.proofs.Lists.{first_none, first_of, first_there, map_again, map_both, map_contains, none_marked}
+pub use Rattle.description.proofs.Lists.{all_from, all_got, contains_here, contains_map, contains_there, distinct_left, distinct_right, first_beyond}
+pub use Rattle.description.proofs.Lists.{first_none, first_of, first_there, map_both, map_contains}
+pub use Rattle.description.proofs.Pairs.{ZipBelow, zip_all, zip_map, zip_mapped}
+pub use Rattle.description.proofs.PlainFrames.{plain_at}
 pub use Rattle.description.specs.Described.{AreDistinct, AreSlots, AreWords, HasFields, HasNamedWords, HasNumbers, HoldsNamed, IsDescribed, IsDescribedAnnex}
 pub use Rattle.description.specs.Described.{IsDescribedNode, IsDescribedPage, IsDescribedRoot, IsProcessEntry, IsSomeCapability, IsSpaceEntry, first_frame}
 pub use Rattle.description.specs.Described.{first_named, named_at, node_numbers, page_numbers, word_named_at}
+pub use Rattle.description.specs.Describes.{Describes, plain_frame}
+unfoldable pub use Rattle.description.specs.Describes.{plain_frames}
 pub use Rattle.description.specs.Laid.{Entry, OfAnnex, OfBank, OfNode, OfPage, OfRoot, number_of}
 pub use Rattle.description.specs.Laws.{Each, IsSame, IsSameNode, IsSamePage, IsSameProcess}
 pub use Rattle.description.specs.Reading.{AreFour, AreItems, IsBank, IsCapability, IsDescription, IsList, IsNode, IsNumber, IsPage, IsProcess, IsRange, IsSlot}
@@ -25,8 +28,10 @@ pub use Rattle.description.specs.declared.entry.PageEntry.{PageEntry}
 pub use Rattle.description.specs.declared.entry.ProcessEntry.{ProcessEntry}
 pub use Rattle.description.specs.declared.entry.SlotEntry.{SlotEntry}
 pub use Rattle.description.specs.declared.entry.WordEntry.{WordEntry}
-pub use Rattle.image_writer.specs.Laid.{MayBeLaid, numbers_of, placed}
-pub use Rattle.image_writer.specs.declared.number_range.NumberRange.{NumberRange}
+pub use Rattle.description.specs.declared.sizes.GrowthFault.{GrowthFault}
+pub use Rattle.home_ranges.specs.Laid.{MayBeLaid, numbers_of, placed}
+pub use Rattle.home_ranges.specs.declared.number_range.NumberRange.{NumberRange}
+pub use Rattle.layout.proofs.Extents.{cover_within}
 pub use Rattle.layout.specs.Superblock.{Cover, IsGeometry, IsOfOneKind, IsPlan, Plan, version_number}
 pub use Rattle.layout.specs.declared.extent.HomeRange.{HomeRange}
 pub use Rattle.layout.specs.declared.version.Version.{Version}
@@ -36,11 +41,11 @@ pub use Rattle.model.specs.Frame.{blank_frame, conveyed, current_count, frame_at
 unfoldable pub use Rattle.model.specs.Frame.{objects_of}
 pub use Rattle.model.specs.Keepable.{AreCurrent, AreKeepable, AreKeptSlots, AreKeptWords, Follows, IsCurrent, IsKeepable, IsKeptCap, IsSoundFrames, MayBeKept}
 pub use Rattle.model.specs.Keepable.{caps_in, world_at}
-pub use Rattle.model.specs.Object.{free, is_annex, is_bank, is_free, is_node, is_root, map_content, role_of, root_in, slots_in}
+pub use Rattle.model.specs.Object.{free, is_annex, is_bank, is_free, is_root, map_content, role_of, root_in, slots_in}
 pub use Rattle.model.specs.Sound.{HasShape, IsOfKind, IsSound, IsSpace, MayBeHeld, object_count}
-pub use Rattle.model.specs.Text.{access_text, line_of, spaced, state_text}
+pub use Rattle.model.specs.Text.{access_text, state_text}
 unfoldable pub use Rattle.model.specs.Text.{capability_text}
-pub use Rattle.model.specs.World.{World, annex_at, content_at, is_process, object_at, owner_at, register_at, root_at, slot_at}
+pub use Rattle.model.specs.World.{World, annex_at, content_at, is_process, object_at, owner_at}
 pub use Rattle.model.specs.contracts.object.Role.{the_type}
 pub use Rattle.model.specs.declared.access.Access.{Access}
 pub use Rattle.model.specs.declared.capability.Cap.{Cap}
@@ -57,34 +62,25 @@ pub use Rattle.model.specs.declared.object.State.TheVariants.{Available, Running
 pub use Rattle.recovery.proofs.Looking.{HasLooked}
 pub use Rattle.recovery.proofs.Tables.{frames_looked}
 pub use Rattle.recovery.proofs.Unsound.{sound_named}
-pub use Rattle.script.proofs.Fronts.{text_fails, writes_after, writes_fail, writes_same, wrote_trans}
-pub use Rattle.script.specs.Writing.{Writes, Written, Wrote}
-pub use Rattle.script.specs.declared.fault.RunFault.{RunFault}
-pub use Rattle.std.proofs.Common.{Bool, Equal, Err, Greater, IfSome, IsSomeAnd, Less, List, MatchOption, None, Option, Ordering, Result, Some, [], add-one, ap}
-pub use Rattle.std.proofs.Common.{append-nil, append_assoc, arith, codes, decimal, drop, false, get_or, inl, inr, is_eq, length, map, nat_cmp, nat_lt, not}
-pub use Rattle.std.proofs.Common.{option_and_then, option_map, option_to_list, pos, refl, replicate, rules, slice_index_or, slice_set, string_bytes, subst, suc}
-pub use Rattle.std.proofs.Common.{sym, take, true, unwrap_or, zero, ℕ}
+pub use Rattle.std.proofs.Common.{Bool, Equal, Greater, IfSome, IsSomeAnd, Less, List, MatchOption, None, Option, Ordering, Some, [], ap, append-nil}
+pub use Rattle.std.proofs.Common.{append_assoc, arith, codes, decimal, false, get_or, inl, inr, is_eq, length, map, nat_cmp, nat_lt, not, option_and_then}
+pub use Rattle.std.proofs.Common.{option_map, option_to_list, pos, refl, rules, slice_index_or, string_bytes, subst, suc, sym, take, true, unwrap_or, zero, ℕ}
 pub use Rattle.std.proofs.Math.ListN.{get_or-map}
-pub use Rattle.std.proofs.Math.Seq.{take-suc}
-pub use Rattle.std.proofs.lemmas.Bool.{cases_Bool, cases_eq, cases_lt, true≢false}
+pub use Rattle.std.proofs.lemmas.Bool.{cases_Bool, cases_lt, true≢false}
 pub use Rattle.std.proofs.lemmas.Bool.Decides.{nat_tests}
 pub use Rattle.std.proofs.lemmas.Cmp.{alike_right, nat_list_cmp_total}
 pub use Rattle.std.proofs.lemmas.Fmt.{decimal_is_IsNumeral}
-pub use Rattle.std.proofs.lemmas.Fn.{filter_same}
-pub use Rattle.std.proofs.lemmas.Grind.{common_steps, flat_map-append}
-pub use Rattle.std.proofs.lemmas.List.{ext_get_or, get_or-set_other, get_or-set_same, get_or_past, length-map, length-replicate, length-set, take-append-drop}
-pub use Rattle.std.proofs.lemmas.List.{take_all, take_more}
-pub use Rattle.std.proofs.lemmas.List.Elements.{All-append, All-cons, All-contains, All-filter, All-from_recursion, All-head, All-map, All-nil, All-push}
-pub use Rattle.std.proofs.lemmas.List.Elements.{All-tail, All-weaker, AllZip-get_or, Contains-append_cases, Contains-append_left, Contains-append_right}
-pub use Rattle.std.proofs.lemmas.List.Elements.{Contains-push, filter-append, length_all_zip, recursion_from_All}
-pub use Rattle.std.proofs.lemmas.List.Folds.{flat_map-map, list_any-append}
+pub use Rattle.std.proofs.lemmas.List.{ext_get_or, get_or_past, length-map}
+pub use Rattle.std.proofs.lemmas.List.Elements.{All-append, All-cons, All-contains, All-from_recursion, All-head, All-map, All-nil, All-push, All-tail}
+pub use Rattle.std.proofs.lemmas.List.Elements.{All-weaker, Contains-append_cases, Contains-append_left, Contains-append_right, Contains-push}
+pub use Rattle.std.proofs.lemmas.List.Elements.{recursion_from_All}
 pub use Rattle.std.proofs.lemmas.List.FromFn.{get_or-map-range_with_len, length-range_with_len}
 pub use Rattle.std.proofs.lemmas.Option.{get_or_from_slice_get, none-some, same_Some, slice_get-get_or, slice_get-map}
-pub use Rattle.std.proofs.lemmas.Result.{err_from_is_err_and, on_ok_weaker}
+pub use Rattle.std.proofs.lemmas.Result.{on_ok_weaker}
 pub use Rattle.std.proofs.lemmas.Str.Parse.{digit_from_value}
 pub use Rattle.std.specs.Cmp.Derive.{both_true}
 pub use Rattle.std.specs.Cmp.Lexicographic.{slice_cmp}
-pub use Rattle.std.specs.List.{All, AllZip, Contains, filter, flat_map, join_by, list_all, list_any, range_with_len}
+pub use Rattle.std.specs.List.{All, Contains, flat_map, join_by, list_all, list_any, range_with_len}
 pub use Rattle.std.specs.Ordering.{match_ordering}
 pub use Rattle.std.specs.Prelude.{IsTrue, Vec}
 pub use Rattle.std.specs.Str.Parse.{AllDigits}
@@ -104,18 +100,11 @@ pub use Rattle.toml_parser.specs.Lexical.{first, is_bare, is_non_eol}
 pub use Rattle.toml_parser.specs.Strings.{Key}
 pub use Rattle.toml_writer.specs.Text.{dotted_text, is_control}
 unfoldable pub use Rattle.toml_writer.specs.Text.{encoding_of, escaped, key_text, needs_escape, quotes_after, string_text}
+pub use Rattle.image_describer.specs.Brief.{AreBriefSlots, AreBriefWords, AreRising, IsBrief, Names, NamesSlots, NamesWords}
 pub use Rattle.image_describer.specs.DescribedEntry.{MayName, MayTell, TellAll, TellsBank, TellsNode, TellsPage, TellsProcess}
-pub use Rattle.image_describer.specs.Describes.{AreBriefSlots, AreBriefWords, AreRising, Describes, IsBrief, Names, NamesSlots, NamesWords, plain_frame}
-unfoldable pub use Rattle.image_describer.specs.Describes.{plain_frames}
-pub use Rattle.image_describer.specs.Graph.{arrow_lines, arrow_of, arrow_to, arrows, arrows_at, box_line, box_lines, boxes, head_lines, joined, next_line}
-pub use Rattle.image_describer.specs.Graph.{node_arrows, owner_lines, owners, place_in, plain_line, plain_lines, process_arrows, word_of_state}
-unfoldable pub use Rattle.image_describer.specs.Graph.{arrow_line, bank_box, graph_text, node_box, owner_line, page_box, process_box}
-pub use Rattle.image_describer.specs.GraphLaws.{ArrowsAreHeld, BoxesAreObjects, HasBox, Holds, IsArrow, IsOnce, IsOwner, OwnersAreOwners}
 pub use Rattle.image_describer.specs.Grown.{IsGrown, IsMovedNode, IsMovedPage, IsMovedProcess, IsNotRenumbered, IsRenumbered, IsUnsuited, NamesNodes}
 pub use Rattle.image_describer.specs.Grown.{NamesPages, NodesFit, PagesFit, grown_ranges, moved, moved_capability, moved_held, moved_object, moved_slot}
 pub use Rattle.image_describer.specs.Laws.{DescribedHasText, DescribedIsLaid, DescribedIsSame, GrownIsDescribed, GrownToItself, TextIsRead}
-pub use Rattle.image_describer.specs.Part.{Adds, IsPart, IsPartOfNode, IsPartOfProcess, PartIsShown, holding_nodes, holding_processes, is_inside, is_listed}
-pub use Rattle.image_describer.specs.Part.{leads_inside, space_inside}
 pub use Rattle.image_describer.specs.Spelled.{CanBeSpelled, IsShort, IsWide, NamesWide, SpellsBank, SpellsGeometry, SpellsNode, SpellsPage, SpellsProcess}
 pub use Rattle.image_describer.specs.Spelled.{SpellsRange, SpellsSlot, SpellsWord}
 pub use Rattle.image_describer.specs.Text.{Field, are_whole, bank_fields, bank_text, begin_line, field_line, field_lines, held_text, image_fields, is_range}
@@ -123,6 +112,3 @@ pub use Rattle.image_describer.specs.Text.{list_text, list_unless_empty, node_fi
 pub use Rattle.image_describer.specs.Text.{process_fields, process_text, quoted, range_text, slot_text, space_unless_void, state_value, unless, wide_text}
 pub use Rattle.image_describer.specs.Text.{word_text, words_unless_zeros}
 unfoldable pub use Rattle.image_describer.specs.Text.{description_text}
-pub use Rattle.image_describer.specs.declared.graph.arrow.Arrow.{Arrow}
-pub use Rattle.image_describer.specs.declared.graph.arrow.Place.{Place}
-pub use Rattle.image_describer.specs.declared.sizes.GrowthFault.{GrowthFault}

@@ -3,15 +3,11 @@ use Rattle.image_describer.proofs.Names.{nat_tests, ℕ, nat_lt, Bool, true, fal
 use Rattle.image_describer.proofs.Names.{get_or-map, length-map, All-map, All-weaker, Cap, Capability, Void, Frame, ObjectHeader, Geometry, Content, Object}
 use Rattle.image_describer.proofs.Names.{blank_frame, conveyed, current_count, frame_at, header_at, headers, object_of, objects_of, void_held, AreCurrent}
 use Rattle.image_describer.proofs.Names.{AreKeepable, AreKeptSlots, Follows, IsCurrent, IsKeepable, IsKeptCap, IsSoundFrames, MayBeKept, caps_in, world_at}
-use Rattle.image_describer.proofs.Names.{free, map_content, IsSpace, object_at, fresh_cap, kind_map, mapped, sound_named, described_once, plain_frame}
-use Rattle.image_describer.proofs.Names.{plain_frames, DescribedIsLaid, DescribedIsSame}
+use Rattle.image_describer.proofs.Names.{map_content, IsSpace, object_at, fresh_cap, kind_map, mapped, sound_named, described_once, plain_frame, plain_frames}
+use Rattle.image_describer.proofs.Names.{DescribedIsLaid, DescribedIsSame, plain_at}
 use Rattle.std.proofs.Common.{◌≡◌, if◌then◌else◌, ◌∷◌, ◌∙◌}
 use Rattle.model.specs.declared.object.Content.TheVariants as content
-use Rattle.image_writer.specs.declared.fault.BuildFault.TheVariants as fault
-
-pub plain_at : (os : List Object) (n : ℕ) → frame_at (plain_frames os) n ≡ plain_frame (object_at os n)
-unfolding plain_frames
-plain_at os n = get_or-map plain_frame os n free
+use Rattle.description.specs.declared.fault.BuildFault.TheVariants as fault
 
 header_plain : (os : List Object) (n : ℕ) → header_at (headers (plain_frames os)) n ≡ (plain_frame (object_at os n)).header
 header_plain os n = get_or-map (λ (f : Frame). f.header) (plain_frames os) n blank_frame ∙ ap (λ (f : Frame). f.header) (plain_at os n)

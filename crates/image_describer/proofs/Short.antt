@@ -8,12 +8,12 @@ use Rattle.image_describer.proofs.Names.{fresh_cap, mapped, BankEntry, Descripti
 use Rattle.image_describer.proofs.Names.{AreWords, HasNamedWords, HoldsNamed, IsDescribedNode, IsDescribedPage, IsDescribedAnnex, IsDescribedRoot}
 use Rattle.image_describer.proofs.Names.{IsProcessEntry, first_frame, named_at, node_numbers, word_named_at, all_from, all_got, contains_map, first_of}
 use Rattle.image_describer.proofs.Names.{Describes, plain_frame, plain_frames, DescribedHasText, IsShort, IsWide, NamesWide, SpellsBank, SpellsGeometry}
-use Rattle.image_describer.proofs.Names.{SpellsNode, SpellsPage, SpellsProcess, SpellsRange, SpellsSlot, SpellsWord, unwrap_or}
+use Rattle.image_describer.proofs.Names.{SpellsNode, SpellsPage, SpellsProcess, SpellsRange, SpellsSlot, SpellsWord, unwrap_or, cover_within, plain_at}
 use Rattle.std.proofs.Common.{◌≡◌, ◌≢◌, ◌+◌, ◌<◌, ◌≤◌, ◌^◌, ◌∷◌, ◌++◌, ◌∙◌}
 use Rattle.std.specs.List.{AllByRecursion as ByRecursion}
 use Rattle.model.specs.declared.object.Content.TheVariants as content
 use Rattle.model.specs.declared.object.Role.TheVariants as role
-use Rattle.image_describer.proofs.Plain.{plain_at, sound_plain}
+use Rattle.image_describer.proofs.Plain.{sound_plain}
 
 -- what can be held names a number of 64 bits
 follows_wide : (g : Geometry) (age count : ℕ) (c : Capability) → Follows g age count c → IfSome (named c) IsWide
@@ -51,16 +51,13 @@ module _ (g : Geometry) (age : ℕ) where
       ))
 
 -- home ranges end where the numbers do
-covered : (g : Geometry) (n : ℕ) (rs : List HomeRange) → Cover g n rs → n ≤ g.nodes + g.pages
-covered g n [] cover = omega (arith, cover)
-covered g n (r ∷ rs) cover = let rest = covered g (n + r.count) rs cover.1 in omega (arith, rest)
-
 abbrev IsInside : Geometry → HomeRange → Type 0
 IsInside g r = r.first + r.count ≤ g.nodes + g.pages
 
 ranges_inside : (g : Geometry) (n : ℕ) (rs : List HomeRange) → Cover g n rs → ByRecursion (IsInside g) rs
 ranges_inside g n [] cover = tt
-ranges_inside g n (r ∷ rs) cover = let rest = covered g (n + r.count) rs cover.1 in (omega (arith, rest, cover.0.0), ranges_inside g (n + r.count) rs cover.1)
+ranges_inside g n (r ∷ rs) cover =
+    let rest = cover_within g (n + r.count) rs cover.1 in (omega (arith, rest, cover.0.0), ranges_inside g (n + r.count) rs cover.1)
 
 free_role : {C : Type 0} (c : Content C) → is_free c ≡ true → role_of c ≡ role.Free
 free_role content.Free free = refl

@@ -5,7 +5,7 @@ use Rattle.image_describer.specs.Names.{PageEntry, ProcessEntry}
 use Rattle.std.specs.Prelude.{◌≡◌, ◌≢◌}
 use Rattle.model.specs.declared.object.Content.TheVariants as content
 use Rattle.model.specs.declared.object.Role.TheVariants as role
-use Rattle.image_describer.specs.Describes.{AreRising, NamesSlots, NamesWords}
+use Rattle.image_describer.specs.Brief.{AreRising, NamesSlots, NamesWords}
 
 -- what is named of an item at an index: an entry that has it, or nothing where it is at its default
 abbrev pub MayName : {E V : Type 0} → (E → ℕ) → (E → V) → V → ℕ → V → Option E → Type 0

@@ -1,21 +1,11 @@
 -- An image of other sizes: nodes keep their numbers, and pages follow the nodes.
-use Rattle.image_describer.specs.Names.{ℕ, nat_lt, false, Option, None, Some, List, map, length, unwrap_or, All, AllZip}
+use Rattle.image_describer.specs.Names.{ℕ, nat_lt, false, Option, None, Some, List, map, length, All, AllZip}
 use Rattle.image_describer.specs.Names.{NumberRange, IsGeometry, Capability, Void, Number, Page, Node, Space, Process}
 use Rattle.image_describer.specs.Names.{Start, Resume, Bank, Discrim, Geometry, Object, free, is_free, map_content}
 use Rattle.image_describer.specs.Names.{object_count, World, content_at, object_at, Description, NodeEntry, PageEntry}
-use Rattle.image_describer.specs.Names.{ProcessEntry, SlotEntry, whole_ranges}
+use Rattle.image_describer.specs.Names.{ProcessEntry, SlotEntry, whole_ranges, GrowthFault}
 use Rattle.std.specs.Prelude.{◌≡◌, ◌≢◌, ◌+◌, ◌-◌, ◌<◌, ◌≤◌, ◌==◌, ◌&&◌, if◌then◌else◌}
-use Rattle.image_describer.specs.declared.sizes.GrowthFault.{GrowthFault}
-use Rattle.image_describer.specs.declared.sizes.GrowthFault.TheVariants as fault
-use Rattle.image_describer.specs.declared.sizes.Sizes.{Sizes}
-
--- sizes, and an image's own where there are none
-abbrev pub grown_geometry : Geometry → Sizes → Geometry
-grown_geometry own sizes = record {
-  nodes = unwrap_or sizes.nodes own.nodes;
-  pages = unwrap_or sizes.pages own.pages;
-  log = unwrap_or sizes.log own.log;
-}
+use Rattle.description.specs.declared.sizes.GrowthFault.TheVariants as fault
 
 -- the number of an object in the other image: that of a page moves with the number of nodes
 abbrev pub moved : Geometry → Geometry → ℕ → ℕ

@@ -2,9 +2,8 @@
 use Rattle.image_describer.specs.Names.{ℕ, List, map, Some, Frame, Geometry, IsSoundFrames, world_at, IsSound, World}
 use Rattle.image_describer.specs.Names.{Members, parse_document, IsPlan, Plan, version_number, numbers_of}
 use Rattle.image_describer.specs.Names.{IsDescription, Description, HasFields, IsDescribed, IsWorldFault, BuildFault}
-use Rattle.image_describer.specs.Names.{NoMemory}
+use Rattle.image_describer.specs.Names.{NoMemory, Describes}
 use Rattle.std.specs.Prelude.{◌≡◌}
-use Rattle.image_describer.specs.Describes.{Describes}
 use Rattle.image_describer.specs.Grown.{IsGrown, IsRenumbered, NamesNodes, NamesPages}
 use Rattle.image_describer.specs.Spelled.{CanBeSpelled}
 use Rattle.image_describer.specs.Text.{description_text}

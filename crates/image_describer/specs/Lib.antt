@@ -1,10 +1,7 @@
 pub mod Names
-pub mod Describes
+pub mod Brief
 pub mod Grown
 pub mod Laws
 pub mod Spelled
 pub mod Text
 pub mod DescribedEntry
-pub mod Graph
-pub mod GraphLaws
-pub mod Part

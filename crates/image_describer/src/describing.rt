@@ -3,14 +3,15 @@ ghost use Rattle.std.specs.Prelude.{◌≡◌, [], IfOk, OnOk};
 ghost use Rattle.layout.specs.Superblock.{version_number};
 ghost use Rattle.model.specs.Keepable.{IsSoundFrames, world_at};
 ghost use Rattle.capability.specs.Parts.{AreSound, OnlyReads, frames_of, objects_in};
-ghost use Rattle.image_describer.specs.Describes.{Describes, IsBrief};
+ghost use Rattle.description.specs.Describes.{Describes};
+ghost use Rattle.image_describer.specs.Brief.{IsBrief};
 ghost use Rattle.image_describer.specs.DescribedEntry.{HasNoObjects, IsSameBeside, TellAll, TellsObjects};
 
 use crate::adding::add;
 use crate::objects::DescribedEntry;
 use capability::Frames;
 use description::Description;
-use image_writer::NumberRange;
+use home_ranges::NumberRange;
 use layout::Version;
 use model::Refusal;
 use std::alloc::Global;

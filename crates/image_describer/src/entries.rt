@@ -1,7 +1,7 @@
 // What is named of an object: what isn't at its default, in order.
 ghost use Rattle.std.specs.Prelude.{ℕ, IfOk, unwrap_or};
 ghost use Rattle.model.specs.declared.capability.Capability.TheVariants.{Void};
-ghost use Rattle.image_describer.specs.Describes.{Names};
+ghost use Rattle.image_describer.specs.Brief.{Names};
 ghost use Rattle.image_describer.specs.DescribedEntry.{MayName};
 
 use crate::adding::add;

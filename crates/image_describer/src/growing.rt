@@ -3,14 +3,13 @@ ghost use Rattle.std.specs.Prelude.{◌≡◌, ℕ, ◌+◌, ◌≤◌, ◌<◌,
 ghost use Rattle.std.specs.List.{All, AllZip};
 ghost use Rattle.layout.specs.Superblock.{IsGeometry};
 ghost use Rattle.model.specs.Sound.{object_count};
-ghost use Rattle.image_writer.specs.Laid.{MayBeLaid};
+ghost use Rattle.home_ranges.specs.Laid.{MayBeLaid};
 ghost use Rattle.image_describer.specs.Grown.{IsMovedNode, IsMovedPage, IsMovedProcess, IsNotRenumbered, IsRenumbered};
 ghost use Rattle.image_describer.specs.Grown.{NamesNodes, NamesPages, grown_ranges, moved, moved_capability};
 ghost use Rattle.image_describer.specs.Grown.{moved_held, moved_slot};
 
-use crate::sizes::GrowthFault;
-use description::{Description, NodeEntry, PageEntry, ProcessEntry, SlotEntry};
-use image_writer::{NumberRange, lay_out};
+use description::{Description, GrowthFault, NodeEntry, PageEntry, ProcessEntry, SlotEntry};
+use home_ranges::{NumberRange, lay_out};
 use layout::Version;
 use model::{Capability, Geometry};
 use std::alloc::{AllocError, Global};
@@ -89,7 +88,7 @@ trait Renumbered {
         ensures { IsMoved (moved old new) self.old self.new };
 }
 
-#[tactic(auto, using(crate::proofs::Pairs::zip_set, crate::proofs::Pairs::zip_whole))]
+#[tactic(auto, using(description::proofs::Pairs::zip_set, description::proofs::Pairs::zip_whole))]
 fn renumber_all<T: Renumbered>(old: Geometry, new: Geometry, entries: &mut [T])
     requires old { object_count old ≤ 8192 }
     requires new { new.nodes ≤ 4096 }
@@ -208,7 +207,7 @@ fn check_sizes(
     ensures pages { OnOk result (NamesPages description.now.geometry new description.now) }
     ensures refused { IfErr result (λ fault. IsNotRenumbered description.now new fault) }
 {
-    if let Err(_) = lay_out(Version::One, new, ranges) {
+    if let None = lay_out(Version::One, new, ranges) {
         return Err(GrowthFault::Limits);
     }
     if !names_nodes(new.nodes, description) {

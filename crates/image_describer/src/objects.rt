@@ -7,7 +7,7 @@ ghost use Rattle.model.specs.declared.object.Role.TheVariants as role;
 ghost use Rattle.model.specs.Object.{is_annex, role_of, slots_in};
 ghost use Rattle.model.specs.World.{content_at, object_at};
 ghost use Rattle.capability.specs.Parts.{AreSound, HaveTheirRoles, OnlyReads, frames_of, objects_in};
-ghost use Rattle.image_describer.specs.Describes.{NamesSlots};
+ghost use Rattle.image_describer.specs.Brief.{NamesSlots};
 ghost use Rattle.image_describer.specs.DescribedEntry.{MayTell, TellsBank, TellsNode, TellsPage, TellsProcess};
 
 use crate::entries::entries_of;

@@ -1,8 +1,8 @@
 // The home ranges of an image, as a description names them.
 ghost use Rattle.std.specs.Prelude.{◌≡◌, map, IfOk};
-ghost use Rattle.image_writer.specs.Laid.{MayBeLaid, numbers_of};
+ghost use Rattle.home_ranges.specs.Laid.{MayBeLaid, numbers_of};
 
-use image_writer::NumberRange;
+use home_ranges::NumberRange;
 use layout::{HomeRange, Superblock};
 use std::alloc::{AllocError, Global};
 

@@ -15,7 +15,7 @@ use crate::fields::{
     put_state, put_wide_number, put_words,
 };
 use description::{BankEntry, Description, NodeEntry, PageEntry, ProcessEntry};
-use image_writer::NumberRange;
+use home_ranges::NumberRange;
 use model::Geometry;
 use std::alloc::{AllocError, Global};
 

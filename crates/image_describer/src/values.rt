@@ -7,7 +7,7 @@ ghost use Rattle.description.specs.Described.{IsSomeCapability};
 ghost use Rattle.image_describer.specs.Text.{list_text, quoted, range_text, slot_text, wide_text, word_text};
 
 use description::{SlotEntry, WordEntry};
-use image_writer::NumberRange;
+use home_ranges::NumberRange;
 use model::{Access, Capability, State};
 use std::alloc::AllocError;
 

@@ -1,5 +1,5 @@
 -- Which header is committed, and what is wrong with it.
-use Rattle.image_explainer.proofs.Names.{nat_tests, ℕ, Bool, true, List, Option, None, Some, sym, ap, subst, arith, IfNone, ControlFlow, MatchControlFlow}
+use Rattle.image_explainer.proofs.Names.{nat_tests, ℕ, Bool, true, List, Option, None, Some, sym, ap, subst, arith, ControlFlow, IfNone, MatchControlFlow}
 use Rattle.image_explainer.proofs.Names.{Image, CheckpointHeader, IsHeader, header_bytes, HasHeader, HasPlan, committed_of, committed_bytes, committed_slot}
 use Rattle.image_explainer.proofs.Names.{option_at, Plan, SectorFault, IsFault, HasHeaderIn, HasNoneIn, RefusesHeader, picked, slot_of, ⊤}
 use Rattle.std.proofs.Common.{◌≡◌, ◌+◌, ◌*◌, ◌<◌, ◌∙◌}

@@ -1,5 +1,5 @@
 -- Texts that are put together piece by piece.
-use Rattle.image_explainer.proofs.Names.{arith, nat_tests, ℕ, List, append_assoc, codes, decimal, BadImage, ImageFault, reason_of, fault_text, reason_number}
+use Rattle.image_explainer.proofs.Names.{arith, ℕ, List, append_assoc, nat_tests, codes, decimal, BadImage, ImageFault, reason_of, fault_text, reason_number}
 use Rattle.image_explainer.proofs.Names.{place_text}
 use Rattle.std.proofs.Common.{◌≡◌, ◌∷◌, ◌++◌}
 

@@ -1,6 +1,7 @@
 -- The names that the proofs here cite: of other crates, and of the definitions of this one.
 pub use Rattle.byteorder.specs.Endian.{little_number}
 pub use Rattle.capability.proofs.References.{not_annex, not_node, not_root}
+pub use Rattle.capability.specs.Consistency.{AreWholeProcesses, IsNamed}
 pub use Rattle.capability.specs.Parts.{Parts, frames_of}
 pub use Rattle.checkpoint.specs.Opened.{OnlyReads, Refuses}
 pub use Rattle.checkpoint.specs.Saved.{Holds, SavedFrames}
@@ -56,7 +57,7 @@ pub use Rattle.recovery.proofs.Named.{holds_none, named_more}
 pub use Rattle.recovery.proofs.Notes.{none_noted}
 pub use Rattle.recovery.proofs.Sound.{consistent_is_sound}
 pub use Rattle.recovery.proofs.Tables.{annex_known, content_read, header_read, table_read}
-pub use Rattle.recovery.specs.Consistency.{AreWholeProcesses, IsInconsistent, IsNamed}
+pub use Rattle.recovery.specs.Consistency.{IsInconsistent}
 pub use Rattle.recovery.specs.Denotes.{saved_of}
 pub use Rattle.recovery.specs.Laws.{AreBadForOneReason}
 pub use Rattle.recovery.specs.Noted.{AreNoted}

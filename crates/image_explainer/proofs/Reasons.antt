@@ -1,7 +1,7 @@
 -- Faults as reasons to refuse an image.
-use Rattle.image_explainer.proofs.Names.{arith, nat_tests, ℕ, List, Option, None, Some, Ok, Err, inl, inr, ⊎_elim, refl, sym, ap, subst, Frame, AreKeepable}
+use Rattle.image_explainer.proofs.Names.{arith, ℕ, List, Option, None, Some, Ok, Err, inl, inr, ⊎_elim, refl, sym, ap, subst, nat_tests, Frame, AreKeepable}
 use Rattle.image_explainer.proofs.Names.{Disk, Image, BadImage, OpenFault, OnlyReads, Holds, SavedFrames, IsInconsistent, frames_of, consistent_is_sound}
-use Rattle.image_explainer.proofs.Names.{OpensStore, Parts, View, saved_of, holds_one, frames_not_bad, SectorFault, IsFault, ImageFault, BreaksFrames}
+use Rattle.image_explainer.proofs.Names.{OpensStore, View, Parts, saved_of, holds_one, frames_not_bad, SectorFault, IsFault, ImageFault, BreaksFrames}
 use Rattle.image_explainer.proofs.Names.{reason_of, Explains, IsExplainedBy, IsConsistentOr, AreBadForOneReason}
 use Rattle.std.proofs.Common.{◌≡◌, ◌≤◌, ◌^◌, ◌∙◌}
 use Rattle.std.specs.Prelude.{Result}

@@ -1,5 +1,5 @@
 -- What is wrong with the size of an image or with its superblock.
-use Rattle.image_explainer.proofs.Names.{nat_tests, ℕ, List, ControlFlow, MatchControlFlow, arith, Image, HasPlan, total_in, IsPlan, Plan, superblock_bytes}
+use Rattle.image_explainer.proofs.Names.{nat_tests, ℕ, List, ControlFlow, arith, MatchControlFlow, Image, HasPlan, total_in, IsPlan, Plan, superblock_bytes}
 use Rattle.image_explainer.proofs.Names.{total_reported, SectorFault, IsFault, BreaksSector, ⊤}
 use Rattle.std.proofs.Common.{◌≡◌, ◌<◌, ◌≤◌}
 use Rattle.std.specs.Prelude.{if◌then◌else◌}

@@ -1,5 +1,5 @@
 -- Where the directory lies, and images with nothing wrong in their sectors.
-use Rattle.image_explainer.proofs.Names.{nat_tests, ℕ, List, ControlFlow, MatchControlFlow, length, take, arith, Image, Entry, CheckpointHeader, AllFitting}
+use Rattle.image_explainer.proofs.Names.{nat_tests, ℕ, List, ControlFlow, length, take, arith, MatchControlFlow, Image, Entry, CheckpointHeader, AllFitting}
 use Rattle.image_explainer.proofs.Names.{directory_bytes, HasHeader, HasPlan, directory_in, directory_sector, sectors_from, slot_sector, IsPlan, Plan}
 use Rattle.image_explainer.proofs.Names.{half_within, DirectoryPart, BreaksDirectory, IsFault}
 use Rattle.std.proofs.Common.{◌≡◌, ◌+◌, ◌-◌, ◌*◌, ◌/◌, ◌≤◌, ◌∙◌}

@@ -9,8 +9,9 @@ use Rattle.layout.specs.declared.bad_image.BadImage.{BadImage}
 use Rattle.layout.specs.declared.bad_image.BadImage.TheVariants as bad
 use Rattle.layout.specs.Frame.{cap_at}
 use Rattle.checkpoint.specs.Saved.{Holds, SavedFrames}
-use Rattle.recovery.specs.Consistency.{AreNamed, AreWholeProcesses, IsAnnexFor, IsNamed, IsRootOf, IsUnbanked}
-use Rattle.recovery.specs.Consistency.{role_at}
+use Rattle.capability.specs.Consistency.{AreNamed, AreWholeProcesses, IsAnnexFor, IsNamed, IsRootOf}
+use Rattle.recovery.specs.Consistency.{IsUnbanked}
+use Rattle.capability.specs.Consistency.{role_at}
 use Rattle.image_explainer.specs.SectorBreaking.{BreaksSectors, sector_reason}
 use Rattle.image_explainer.specs.declared.fault.ImageFault.{ImageFault}
 use Rattle.image_explainer.specs.declared.fault.ImageFault.TheVariants as fault

@@ -3,7 +3,6 @@ use Rattle.std.specs.Prelude.{◌≡◌, ℕ, Option, None, Some, Result, Ok, Er
 use Rattle.model.specs.declared.geometry.Geometry.{Geometry}
 use Rattle.model.specs.Machine.{Saved}
 use Rattle.device.specs.Disk.{Disk, Image}
-use Rattle.layout.specs.declared.bad_image.BadImage.{BadImage}
 use Rattle.layout.specs.declared.open_fault.OpenFault.{OpenFault}
 use Rattle.checkpoint.specs.Opened.{OnlyReads}
 use Rattle.recovery.specs.Denotes.{Denotes}

@@ -3,7 +3,7 @@ use Rattle.std.specs.Prelude.{◌≡◌, ℕ, ◌<◌, List, Option, None, Some}
 use Rattle.model.specs.declared.frame.Frame.{Frame}
 use Rattle.model.specs.declared.object.Role.TheVariants as role
 use Rattle.recovery.specs.declared.consistency.processes.Noted.{Noted}
-use Rattle.recovery.specs.Consistency.{AreBanked, AreNamed, AreWholeProcesses, IsAnnexFor, IsRootOf, role_at}
+use Rattle.capability.specs.Consistency.{AreBanked, AreNamed, AreWholeProcesses, IsAnnexFor, IsRootOf, role_at}
 use Rattle.recovery.specs.Noted.{note_at}
 use Rattle.image_explainer.specs.declared.fault.ImageFault.{ImageFault}
 use Rattle.image_explainer.specs.declared.fault.Misnamed.{Misnamed}

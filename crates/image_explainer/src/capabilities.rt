@@ -4,7 +4,7 @@ ghost use Rattle.std.specs.List.{All};
 ghost use Rattle.model.specs.Frame.{frame_at};
 ghost use Rattle.model.specs.Keepable.{AreKeepable, caps_in};
 ghost use Rattle.capability.specs.Parts.{OnlyReads, frames_of};
-ghost use Rattle.recovery.specs.Consistency.{IsNamed};
+ghost use Rattle.capability.specs.Consistency.{IsNamed};
 ghost use Rattle.recovery.specs.Noted.{AreNoted};
 ghost use Rattle.image_explainer.specs.Breaking.{IsMisnamed};
 ghost use Rattle.image_explainer.specs.Finding.{NamesOr};

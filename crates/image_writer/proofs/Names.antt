@@ -14,7 +14,6 @@ pub use Rattle.home_ranges.proofs.FrameSlots.{frame_slot_entry}
 pub use Rattle.home_ranges.proofs.Places.{IsOwn, alone, one_before, one_length, places_apart, places_spare_log, places_within, ranked}
 pub use Rattle.home_ranges.proofs.Shared.{begins}
 pub use Rattle.home_ranges.specs.Home.{HaveHome}
-pub use Rattle.layout.proofs.Extents.{cover_within, range_at}
 pub use Rattle.layout.proofs.Halves.{half_within}
 pub use Rattle.layout.proofs.Sectors.{same_sectors}
 pub use Rattle.layout.proofs.Shapes.{few_sectors, same_shaped}
@@ -31,15 +30,11 @@ pub use Rattle.layout.specs.Image.{Encodes, HasNoHeader, bytes_at, committed_byt
 pub use Rattle.layout.specs.Image.{frame_in, frame_slot_in, half_sector, sequence_in, slot_sector}
 unfoldable pub use Rattle.layout.specs.Image.{sectors_from}
 pub use Rattle.layout.specs.Shape.{shape_bytes, shape_length}
-pub use Rattle.layout.specs.Superblock.{AreApart, Cover, IsPlan, IsWithin, Plan, extent_at, extents, half_extent, nodes_length, range_extent}
+pub use Rattle.layout.specs.Superblock.{IsPlan, Plan, half_extent}
 pub use Rattle.layout.specs.declared.directory.Entry.{Entry}
-pub use Rattle.layout.specs.declared.extent.Extent.{Extent}
-pub use Rattle.layout.specs.declared.extent.HomeRange.{HomeRange}
 pub use Rattle.layout.specs.declared.header.CheckpointHeader.{CheckpointHeader}
 pub use Rattle.layout.specs.declared.shape.Shape.{Shape}
 pub use Rattle.layout.specs.declared.shape.Shape.TheVariants.{Node, Packed, Page}
-pub use Rattle.layout.specs.declared.version.Version.{Version}
-pub use Rattle.layout.specs.declared.version.Version.TheVariants.{One, Two}
 pub use Rattle.model.specs.Frame.{frame_at, header_at}
 unfoldable pub use Rattle.model.specs.Frame.{frames_in}
 pub use Rattle.model.specs.Keepable.{AreKeepable}
@@ -49,18 +44,14 @@ pub use Rattle.model.specs.declared.frame.Frame.{Frame}
 pub use Rattle.model.specs.declared.frame.ObjectHeader.{ObjectHeader}
 pub use Rattle.model.specs.declared.geometry.Geometry.{Geometry}
 pub use Rattle.model.specs.declared.object.Content.{Content}
-pub use Rattle.std.proofs.Common.{Bool, List, None, Option, Result, Some, [], ap, append_assoc, arith, drop, false, get_or, inl, inr, length, map, nat_lt, refl}
-pub use Rattle.std.proofs.Common.{rules, set, slice_index_or, subst, suc, sym, take, true, zero, ℕ, ⊎_elim}
-pub use Rattle.std.proofs.lemmas.Bool.{cases_eq, cases_lt, false≢true, le-ltb, lt-ltb}
+pub use Rattle.std.proofs.Common.{Bool, List, None, Option, Result, Some, [], ap, arith, false, inl, inr, length, refl, rules, slice_index_or, subst, sym, true}
+pub use Rattle.std.proofs.Common.{ℕ, ⊎_elim}
+pub use Rattle.std.proofs.lemmas.Bool.{cases_eq, cases_lt}
 pub use Rattle.std.proofs.lemmas.Bool.Decides.{nat_tests}
-pub use Rattle.std.proofs.lemmas.List.{append-nil, drop_all, drop_more, get_or_read, length-map, length-set, take_all, take_more_set}
+pub use Rattle.std.proofs.lemmas.List.{get_or_read}
 pub use Rattle.std.proofs.lemmas.Result.{on_ok_weaker}
-pub use Rattle.std.specs.List.{All}
 pub use Rattle.std.specs.Prelude.{OnOk}
 pub use Rattle.image_writer.specs.Homes.{AreFramesOf, LieAt, frames_before}
-pub use Rattle.image_writer.specs.Laid.{MayBeLaid, half_length, numbers_of, placed, plan_from, sectors_of}
-unfoldable pub use Rattle.image_writer.specs.Laid.{behind, laid}
 pub use Rattle.image_writer.specs.Laws.{KeptHoldsTheSame, NoneIsHeld}
 pub use Rattle.image_writer.specs.Written.{AreHome, AreInSlots, HasOpeningSectors, IsBeforeOrNone, IsLeftWriting, IsWritten, LeavesClosed, first_header}
 pub use Rattle.image_writer.specs.Written.{first_state, state_of}
-pub use Rattle.image_writer.specs.declared.number_range.NumberRange.{NumberRange}

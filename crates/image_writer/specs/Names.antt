@@ -10,17 +10,14 @@ unfoldable pub use Rattle.layout.specs.Header.{header_bytes}
 pub use Rattle.layout.specs.Homes.{home_place, shape_of}
 pub use Rattle.layout.specs.Image.{HasNoHeader, SavedState, bytes_at, directory_in, frame_in, slot_sector}
 pub use Rattle.layout.specs.Shape.{shape_bytes}
-pub use Rattle.layout.specs.Superblock.{Cover, IsGeometry, IsPlan, Plan, half_extent, plan_of, range_extent}
+pub use Rattle.layout.specs.Superblock.{IsPlan, Plan}
 unfoldable pub use Rattle.layout.specs.Superblock.{superblock_bytes}
 pub use Rattle.layout.specs.declared.directory.Entry.{Entry}
-pub use Rattle.layout.specs.declared.extent.HomeRange.{HomeRange}
 pub use Rattle.layout.specs.declared.header.CheckpointHeader.{CheckpointHeader}
 pub use Rattle.layout.specs.declared.shape.Shape.{Shape}
 pub use Rattle.layout.specs.declared.shape.Shape.TheVariants.{Node, Packed, Page}
-pub use Rattle.layout.specs.declared.version.Version.{Version}
-pub use Rattle.layout.specs.declared.version.Version.TheVariants.{One, Two}
 pub use Rattle.model.specs.Frame.{frame_at}
 pub use Rattle.model.specs.Sound.{object_count}
 pub use Rattle.model.specs.declared.frame.Frame.{Frame}
 pub use Rattle.model.specs.declared.geometry.Geometry.{Geometry}
-pub use Rattle.std.specs.Prelude.{List, [], length, map, ℕ}
+pub use Rattle.std.specs.Prelude.{List, [], length, ℕ}

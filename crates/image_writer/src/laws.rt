@@ -1,13 +1,7 @@
-//! Laws of how many sectors an image takes, and of what a crash during a write leaves. Each is the
-//! contract of a function that does nothing.
+//! Laws of what a crash during a write of an image leaves. Each is the contract of a function that does
+//! nothing.
 
-ghost use Rattle.image_writer.specs.Laws.{KeptHoldsTheSame, NoneIsHeld, SecondTakesFewMore};
-
-/// In version 2 an image takes at most 8 sectors for each of its ranges more than in version 1.
-#[tactic(auto, using(crate::proofs::LaidPlans::second_total))]
-pub fn second_takes_few_more()
-    ensures { SecondTakesFewMore }
-{}
+ghost use Rattle.image_writer.specs.Laws.{KeptHoldsTheSame, NoneIsHeld};
 
 /// If only the gates of an image changed, and its committed header stayed, it holds the same saved
 /// frames, or none as before.

@@ -1,9 +1,8 @@
 -- The outcome of the command that builds.
 use Rattle.jobs.proofs.Names.{ℕ, Err, ap, subst, IsErrOf, Members, line_of, Disk, Description, IsDescription, BuildFault, Failed, BuildsFrom, IsWithinLimits}
 use Rattle.jobs.proofs.Names.{plan_for, built_text, TellsTotal}
+use Rattle.std.specs.Prelude.{Result, ◌↔◌, List}
 use Rattle.std.proofs.Common.{◌≡◌}
-use Rattle.std.specs.Prelude.{◌↔◌, List, Result}
-use Rattle.jobs.specs.declared.fault.Fault.TheVariants as fault
 
 pub refused_cause : (why : BuildFault) (P : Type 0) → ((let r : Result (Unit {0}) BuildFault = Err why in IsErrOf r Failed) ↔ P) → (why ≡ Failed) ↔ P
 refused_cause why P caused = (λ is. caused.0 (ap (λ (f : BuildFault). Err f) is), λ rose. let is = caused.1 rose in cc)

@@ -1,11 +1,6 @@
 mod Names
-mod AcceptedDescriptions
 mod BuiltImages
-mod DescribedImages
-mod DrawnImages
-mod GrownImages
 mod Observed
-mod ReachedImages
 mod RunImages
 mod UpgradedImages
-mod InfoImages
+pub mod WrittenTexts

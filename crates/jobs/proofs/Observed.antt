@@ -1,7 +1,7 @@
 -- What an observer made of a run, and how the command ends.
-use Rattle.jobs.proofs.Names.{Written, ℕ, Bool, true, false, List, [], Option, None, Some, Result, Ok, Err, refl, sym, ⊎_elim, Geometry, Up, opened, Turn, Disk}
-use Rattle.jobs.proofs.Names.{Parts, OpenFault, View, Stop, Tracer, AreSeen, Ends, Sees, RunFault, Fault, HasStop, IsRunEnd, OpensAndRuns, OpensAndSees}
-use Rattle.jobs.proofs.Names.{RunsImage, SeesImage}
+use Rattle.jobs.proofs.Names.{Written, ℕ, Bool, true, false, List, [], Option, None, Some, Ok, Err, refl, sym, ⊎_elim, Geometry, Up, opened, Turn, Disk, Parts}
+use Rattle.jobs.proofs.Names.{OpenFault, View, Stop, Tracer, AreSeen, Ends, Sees, RunFault, Fault, HasStop, IsRunEnd, OpensAndRuns, OpensAndSees, RunsImage}
+use Rattle.jobs.proofs.Names.{SeesImage, Result}
 use Rattle.std.proofs.Common.{◌≡◌, ◌∷◌, ◌∙◌}
 use Rattle.script.specs.declared.fault.RunFault.TheVariants as run
 

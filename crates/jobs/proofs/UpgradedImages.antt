@@ -1,8 +1,8 @@
 -- The outcome of the command that upgrades.
-use Rattle.jobs.proofs.Names.{Written, ℕ, Ok, Err, ap, subst, sym, IfErr, IsErrOf, OnErr, OnOk, Wrote, line_of, Disk, Two, laid_again, UpgradeFault}
+use Rattle.jobs.proofs.Names.{Written, Wrote, ℕ, Ok, Err, ap, subst, sym, IfErr, IsErrOf, OnErr, OnOk, line_of, Disk, Two, laid_again, UpgradeFault}
 use Rattle.jobs.proofs.Names.{ReadsAndCloses, Upgrades, WroteFront, Fault, UpgradesImage, old_failed, upgraded_text, UpgradesAndTells}
+use Rattle.std.specs.Prelude.{Result, ◌↔◌, List}
 use Rattle.std.proofs.Common.{◌≡◌, ◌∙◌}
-use Rattle.std.specs.Prelude.{◌↔◌, List, Result}
 use Rattle.layout.specs.declared.open_fault.OpenFault.TheVariants as opening
 use Rattle.image_builder.specs.declared.upgrade_fault.UpgradeFault.TheVariants as upgrade
 use Rattle.jobs.specs.declared.fault.Fault.TheVariants as fault

@@ -4,9 +4,9 @@ use Rattle.jobs.specs.Names.{line_of, spaced, BuildFault, UpgradeFault, fault_nu
 use Rattle.jobs.specs.Names.{RunFault, Writes, reason_number}
 use Rattle.std.specs.Prelude.{◌≡◌, ◌≢◌, ◌∷◌, ◌++◌}
 use Rattle.layout.specs.declared.open_fault.OpenFault.TheVariants as opening
-use Rattle.image_writer.specs.declared.fault.BuildFault.TheVariants as build
+use Rattle.description.specs.declared.fault.BuildFault.TheVariants as build
 use Rattle.image_builder.specs.declared.upgrade_fault.UpgradeFault.TheVariants as upgrade
-use Rattle.image_describer.specs.declared.sizes.GrowthFault.TheVariants as growth
+use Rattle.description.specs.declared.sizes.GrowthFault.TheVariants as growth
 use Rattle.script.specs.declared.fault.RunFault.TheVariants as run
 use Rattle.jobs.specs.declared.fault.Fault.{Fault}
 use Rattle.jobs.specs.declared.fault.Fault.TheVariants as fault

@@ -1,14 +1,12 @@
 -- What the commands do with images.
-use Rattle.jobs.specs.Names.{Written, ℕ, List, [], codes, decimal, Bool, map, Option, Some, Result, Ok, Err, Wrote}
-use Rattle.jobs.specs.Names.{Members, parse_document, Frame, Geometry, IsSoundFrames, world_at, Saved, World, Turn}
-use Rattle.jobs.specs.Names.{line_of, spaced, Disk, Encodes, SavedState, Plan, version_number, Two, OnlyReads}
-use Rattle.jobs.specs.Names.{OpenFault, laid_again, numbers_of, Parts, View, Power, RefusesToOpen, Opens, Denotes}
-use Rattle.jobs.specs.Names.{IsDeviceOf, Description, IsDescription, BuildsFrom, Refuses, plan_for, Sizes, Describes}
-use Rattle.jobs.specs.Names.{IsBrief, IsGrown, IsUnsuited, grown_geometry, grown_ranges, description_text}
-use Rattle.jobs.specs.Names.{IsNotUpgraded, Upgrades, Stop, RunsOver, RunsSeen, RunFault, WroteFront}
+use Rattle.jobs.specs.Names.{Written, Wrote, ℕ, List, [], codes, decimal, Bool, Option, Result, Ok, Err, Members}
+use Rattle.jobs.specs.Names.{Geometry, Saved, Turn, line_of, spaced, Disk, Two, OnlyReads, OpenFault, laid_again, Parts}
+use Rattle.jobs.specs.Names.{View, Power, RefusesToOpen, Opens, Denotes, IsDeviceOf, Description, IsDescription}
+use Rattle.jobs.specs.Names.{BuildsFrom, Refuses, plan_for, IsNotUpgraded, Upgrades, Stop, RunsOver, RunsSeen, RunFault}
+use Rattle.jobs.specs.Names.{WroteFront}
 use Rattle.std.specs.Prelude.{◌≡◌, ◌≢◌, ◌↔◌, ◌<◌, ◌∷◌}
 use Rattle.layout.specs.declared.open_fault.OpenFault.TheVariants as opening
-use Rattle.image_writer.specs.declared.fault.BuildFault.TheVariants as build
+use Rattle.description.specs.declared.fault.BuildFault.TheVariants as build
 use Rattle.image_builder.specs.declared.upgrade_fault.UpgradeFault.TheVariants as upgrade
 use Rattle.script.specs.declared.fault.RunFault.TheVariants as run
 use Rattle.jobs.specs.declared.fault.Fault.{Fault}
@@ -113,26 +111,6 @@ module _ {D S : Type 0} (disk : D → Disk) (view : S → View D) (parts : S →
       × (input_left ≡ input) × (output_left ≡ output)
   RunsImage device back input input_left output output_left (Err _) = ⊥
 
--- a device was opened with no failure, nothing was written to it at any moment, and this is what it saves
-pub record ReadsSaved {D : Type 0} (disk : D → Disk) (device back : D) (state : SavedState) : Type 0 where
-  pub encodes : Encodes (disk device).seen (disk device).sectors state
-  pub sound : IsSoundFrames state.plan.geometry state.header.age state.frames
-  pub failures : (disk back).failures ≡ (disk device).failures
-  pub only_reads : OnlyReads (disk device) (disk back)
-
--- a device was opened so, and this part of what it saves was read
-abbrev pub IsReadFrom : {D T : Type 0} → (D → Disk) → (SavedState → T → Type 0) → D → D → T → Type 0
-IsReadFrom disk Is device back x = (s : SavedState) × ReadsSaved disk device back s × Is s x
-
--- The outcome of a command that reads an image: `Tells` holds of it and of what is saved; or the device wasn't opened
--- or memory ran out, and nothing was written.
-abbrev pub TellsImage : {D : Type 0} → (D → Disk) → D → D → Written → Written →
-    (SavedState → Result (Unit {0}) Fault → Type 0) → Result (Unit {0}) Fault → Type 0
-TellsImage disk device back output output_left Tells (Err (fault.Open why)) = RefusesToOpen disk device back why ×
-    (output_left ≡ output)
-TellsImage disk device back output output_left Tells outcome = (s : SavedState) × ReadsSaved disk device back s ×
-    Tells s outcome
-
 -- a device was opened with no failure, nothing was written to it at any moment, and `Reported` holds of what is saved
 -- on it
 abbrev pub TellsSaved : {D : Type 0} → (D → Disk) → D → D → (List ℕ → Type 0) → Type 0
@@ -150,66 +128,3 @@ ChecksImage disk device back output output_left (Err fault.CannotWriteOutput) = 
 ChecksImage disk device back output output_left (Err (fault.Open why)) = RefusesToOpen disk device back why ×
     (output_left ≡ output)
 ChecksImage disk device back output output_left (Err _) = ⊥
-
--- A description gives each object the state in its frame, at the age of the frames, and nothing else: no default,
--- numbers in order, and the home ranges and the version of a plan.
-pub record IsDescriptionOf (p : Plan) (age : ℕ) (frames : List Frame) (description : Description) : Type 0 where
-  pub describes : Describes p.geometry (world_at age frames) description
-  pub brief : IsBrief description
-  pub ranges : description.ranges.items ≡ map numbers_of p.ranges
-  pub layout : description.layout ≡ version_number p.version
-
--- A description has each object that frames stand for, at their age, in an image of these sizes, and nothing else:
--- nothing at its default, numbers in order, the home ranges there, and the version of a plan.
-pub record IsDescribedIn (p : Plan) (g : Geometry) (age : ℕ) (frames : List Frame) (description : Description) : Type 0
-  where
-    pub world : World
-    pub grown : IsGrown p.geometry g (world_at age frames) world
-    pub describes : Describes g world description
-    pub brief : IsBrief description
-    pub ranges : description.ranges.items ≡ grown_ranges p.geometry g (map numbers_of p.ranges)
-    pub layout : description.layout ≡ version_number p.version
-
--- A text is that of such a description: the one text of it, and it is read as it.
-pub record IsTextIn (p : Plan) (g : Geometry) (age : ℕ) (frames : List Frame) (text : List ℕ) : Type 0 where
-  pub table : Members
-  pub read : parse_document text ≡ Some table
-  pub description : Description
-  pub said : IsDescription table description
-  pub spelled : text ≡ description_text description
-  pub whole : IsDescribedIn p g age frames description
-
--- A text is that of a description which gives each object the state in its frame, at the age of the frames, and nothing
--- else: no default, numbers in order, and the home ranges and the version of a plan. It is the one text of that
--- description, and is read as it.
-pub record IsTextOf (p : Plan) (age : ℕ) (frames : List Frame) (text : List ℕ) : Type 0 where
-  pub table : Members
-  pub read : parse_document text ≡ Some table
-  pub description : Description
-  pub said : IsDescription table description
-  pub spelled : text ≡ description_text description
-  pub describes : Describes p.geometry (world_at age frames) description
-  pub brief : IsBrief description
-  pub ranges : description.ranges.items ≡ map numbers_of p.ranges
-  pub layout : description.layout ≡ version_number p.version
-
--- the text of the description of all that is saved, in an image of these sizes, was written
-abbrev pub TellsWhole : Sizes → SavedState → (List ℕ → Type 0) → Type 0
-TellsWhole sizes s Reported = (text : List ℕ)
-    × IsTextIn s.plan (grown_geometry s.plan.geometry sizes) s.header.age s.frames text × Reported text
-
--- all was written; or not all of it; or there is no image of these sizes for it; or memory ran out
-abbrev pub TellsGrownState : Sizes → SavedState → Written → Written → Result (Unit {0}) Fault → Type 0
-TellsGrownState sizes s output output_left (Ok a) = TellsWhole sizes s (Wrote output output_left)
-TellsGrownState sizes s output output_left (Err fault.CannotWriteOutput) = TellsWhole sizes s
-    (WroteFront output output_left)
-TellsGrownState sizes s output output_left (Err (fault.Sizes why)) =
-    IsUnsuited s.plan.geometry (grown_geometry s.plan.geometry sizes) (world_at s.header.age s.frames) why
-    × (output_left ≡ output)
-TellsGrownState sizes s output output_left (Err fault.NoMemory) = output_left ≡ output
-TellsGrownState sizes s output output_left (Err _) = ⊥
-
-abbrev pub DescribesImage : {D : Type 0} → (D → Disk) → Sizes → D → D → Written → Written →
-    Result (Unit {0}) Fault → Type 0
-DescribesImage disk sizes device back output output_left outcome = TellsImage disk device back output output_left
-    (λ s o. TellsGrownState sizes s output output_left o) outcome

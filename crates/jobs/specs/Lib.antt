@@ -1,11 +1,5 @@
 pub mod Names
-pub mod Diagnosed
-pub mod Drawing
-pub mod Explained
 pub mod Faults
-pub mod Growing
 pub mod Images
-pub mod Info
 pub mod Laws
 pub mod Shell
-pub mod Reaching

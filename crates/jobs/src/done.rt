@@ -17,11 +17,7 @@ pub struct Done<D> {
 
 impl<D> Done<D> {
     /// What a command with this outcome leaves. The message of a fault is written first.
-    pub(crate) fn report<V: Output>(
-        outcome: Result<(), Fault>,
-        device: D,
-        errors: &mut V,
-    ) -> Done<D>
+    pub fn report<V: Output>(outcome: Result<(), Fault>, device: D, errors: &mut V) -> Done<D>
         ensures status { result.status ≡ status_of outcome }
         ensures reported { IsReported outcome (V.written errors.old) (V.written errors.new) }
         ensures device { result.device ≡ device }
@@ -33,7 +29,7 @@ impl<D> Done<D> {
     }
 
     /// What a command leaves if its device isn't opened. The message is written first.
-    pub(crate) fn unopened<V: Output>(refused: OpenRefused<D>, errors: &mut V) -> Done<D>
+    pub fn unopened<V: Output>(refused: OpenRefused<D>, errors: &mut V) -> Done<D>
         ensures status { result.status ≡ status_of (Err (Fault.Open refused.fault)) }
         ensures reported { IsReported (Err (Fault.Open refused.fault)) (V.written errors.old) (V.written errors.new) }
         ensures device { result.device ≡ refused.device }

@@ -6,8 +6,8 @@ ghost use Rattle.jobs.specs.Faults.{HasStop, IsRunEnd, IsReported, after_write, 
 ghost use Rattle.jobs.specs.Faults.{sizes_text, status_of, stop_text, upgrade_text};
 
 use checkpoint::OpenFault;
+use description::GrowthFault;
 use image_builder::{BuildFault, UpgradeFault};
-use image_describer::GrowthFault;
 use runs::Stop;
 use script::{LineText, Output, RunFault};
 
@@ -66,7 +66,7 @@ pub(crate) fn of_run(
 }
 
 /// The outcome of a command that ends with this write.
-pub(crate) fn of_write(wrote: Result<(), RunFault>) -> Result<(), Fault>
+pub fn of_write(wrote: Result<(), RunFault>) -> Result<(), Fault>
     ensures { result ≡ after_write wrote }
 {
     match wrote {
@@ -177,7 +177,7 @@ impl Fault {
 
 /// The exit status of a command with this outcome: 0 for success and 1 for a fault. The message of
 /// a fault is written first.
-pub(crate) fn status<V: Output>(outcome: Result<(), Fault>, errors: &mut V) -> u8
+pub fn status<V: Output>(outcome: Result<(), Fault>, errors: &mut V) -> u8
     ensures status { result ≡ status_of outcome }
     ensures reported { IsReported outcome (V.written errors.old) (V.written errors.new) }
 {

@@ -322,7 +322,7 @@ module _ {D S : Type 0} (disk : D → Disk) (view : S → View D) (parts : S →
       journal_failed = failed disk view parts only_now sound_holds l (with_store l s) (command.Journal n)
           (along (is_still_saved (parts l.store) a.saved n) refl)
 
-      -- it isn't saved, or was given up since
+      -- it isn't saved, or was rescinded since
       pub not_saved : is_still_saved (parts l.store) (view l.store).snapshots.saved n ≡ false → (view s).snapshots ≡ (view l.store).snapshots →
           (view s).is_sound →
           ServesUp disk view parts l (command.Journal n) (answer.Refused (refusal.NotJournaled Renewed)) (with_store l s)

@@ -92,7 +92,7 @@ module _ {old new : Parts} (same : AreSame old new) where
       machine_at age new renewed frozen saved to_move ≡ machine_at age old renewed frozen saved to_move
   same_machine age renewed frozen saved to_move = search (arith, nat_tests, same_frames)
 
-  -- nothing is given up
+  -- nothing is rescinded
   pub same_renews : Renews old new
   same_renews = search (arith, nat_tests, renews_none, same_frames)
 

@@ -19,7 +19,7 @@ machine_at age p renewed frozen saved to_move =
       to_move = to_move;
     })
 
--- those of a set of numbers, and those whose objects are given up from some parts to others
+-- those of a set of numbers, and those whose objects are rescinded from some parts to others
 abbrev pub renewed_by : List Bool → Parts → Parts → List Bool
 renewed_by renewed old new = renewing renewed (objects_in old) (objects_in new)
 

@@ -1,12 +1,19 @@
-//! Tests of what scripts over images in files don't show: readers and writers that pass few bytes at a time, are
-//! interrupted or fail, and builds on devices in memory that are too small or stop. `checks/stops` tries runs over
-//! devices that stop or lose power, and the rows of checks/rows all else.
+//! Tests of what scripts over images in files don't show: devices in files and in memory; readers and writers that pass
+//! few bytes at a time, are interrupted or fail; and builds on devices in memory that are too small or stop.
+//! `checks/stops` tries runs over devices that stop or lose power, and the rows of checks/rows all else.
 #![tactic(auto)]
 
 #[cfg(test)]
 mod builds;
 #[cfg(test)]
+mod files;
+#[cfg(test)]
+mod memory_devices;
+#[cfg(test)]
+mod openings;
+#[cfg(test)]
 mod readers;
+pub mod recorded;
 #[cfg(test)]
 mod worlds;
 #[cfg(test)]

@@ -7,7 +7,7 @@ use Rattle.migrator.proofs.Names.{place_extent, directory_extent, frames_behind,
 use Rattle.migrator.proofs.Names.{whole_count, entries_of, Put, put_at, put_or, overlaid, slot_bytes, puts_in, ArePut, most, Books, IsDurable}
 use Rattle.migrator.proofs.Names.{frozen_generation, working_generation, committed, generation_after, Stored, saved_state, frozen_of, stored_in, IsRunning}
 use Rattle.migrator.proofs.Names.{IsIntact, next_header, puts, on_snapshots, AreComplete, MayAdopt, SavesOnly, SparesKept, adopted, SparesFrames, Spares}
-use Rattle.migrator.proofs.Names.{maps_same, IsSoundOn}
+use Rattle.migrator.proofs.Names.{maps_same, IsSoundOn, one_more}
 use Rattle.std.proofs.Common.{◌≡◌, ◌+◌, ◌-◌, ◌^◌, ◌<◌, ◌≤◌, ◌∙◌}
 use Rattle.std.specs.Prelude.{◌==◌}
 use Rattle.migrator.proofs.Tables.{all_whole, whole_taken, entries_directory, length_entries, slot_entries, blank_at, blank_table, tally-blank}
@@ -54,9 +54,6 @@ directory_spares {p} generation m {es} fits is few n lt =
     (λ _. home_apart generation fits lt (directories_inside p generation m few))
 
 -- ---- the header that is committed next
-
-pub one_more : (t : Bool) → cond t 1 0 ≤ 1
-one_more t = grind (arith, nat_tests)
 
 pub next_fits : {room age : ℕ} (b : Books) → IsHeader room b.header → b.header.age < age → age ≤ 2 ^ 62 → taken_count b.frozen ≤ room → room ≤ 4096 →
     IsHeader room (next_header age b)

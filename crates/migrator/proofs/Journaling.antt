@@ -6,7 +6,7 @@ use Rattle.migrator.proofs.Names.{sectors_from, shaped_at, bytes_at, count_of, f
 use Rattle.migrator.proofs.Names.{length_read, read_at, spelt_same, spelt_at, bytes_spelt, Shape, home_place, shape_of, IsShapeFor, WritesAt, slot_extent}
 use Rattle.migrator.proofs.Names.{directory_extent, slots_inside, most, with_words, Books, IsDurable, frozen_generation, working_generation, FrozenPuts}
 use Rattle.migrator.proofs.Names.{journaled, replaced, stored_in, stored_on, IsIntact, replaced_header, on_snapshots, first_bytes, first_frame}
-use Rattle.migrator.proofs.Names.{beside_frame_slot, alone, IsHeaderOf, MayAdopt, SparesKept, adopted, mended, MayJournal, directories_inside}
+use Rattle.migrator.proofs.Names.{beside_frame_slot, alone, IsHeaderOf, MayAdopt, SparesKept, adopted, mended, MayJournal, directories_inside, one_more}
 use Rattle.std.proofs.Common.{◌≡◌, ◌+◌, ◌%◌, ◌^◌, ◌<◌, ◌≤◌, ◌∷◌, ◌∙◌}
 use Rattle.std.specs.Prelude.{◌==◌}
 use Rattle.model.specs.declared.object.Content.TheVariants as content
@@ -16,7 +16,6 @@ use Rattle.migrator.proofs.PlacesApart.{mended_disk, writes_mended}
 use Rattle.migrator.proofs.Kept.{nowhere_frozen, puts_same, map_set, stored_stays, kept_on, goes_seen, goes_spared}
 use Rattle.migrator.proofs.Publishing.{after_same, idle_kept, idle_stored, keepable_later, may_adopt_idle, slot_same, with_header}
 use Rattle.migrator.proofs.Putting.{half_spares, homes_spare, idle_half, none_spares}
-use Rattle.migrator.proofs.Committing.{one_more}
 
 -- ---- a page with other words
 

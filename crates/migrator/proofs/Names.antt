@@ -24,6 +24,7 @@ pub use Rattle.home_ranges.specs.Laws.{home_extent}
 pub use Rattle.layout.proofs.Clusters.{length-zeros}
 pub use Rattle.layout.proofs.FrameReaders.{header_is}
 pub use Rattle.layout.proofs.Halves.{apart_inside, apart_turned, half_within, itself, within_inside}
+pub use Rattle.layout.proofs.Headers.{one_more}
 pub use Rattle.layout.proofs.Images.{one_frame}
 pub use Rattle.layout.proofs.Sectors.{whole_sectors}
 pub use Rattle.layout.proofs.Shapes.{same_shaped}

@@ -69,7 +69,7 @@ stored_put since image b ps qs n x same = grind (arith, nat_tests)
 pub put_twice : (since : Bool) (s : Stored) (n : ℕ) (x y : Put) → putting since n y (putting since n x s) ≡ putting since n y s
 put_twice since s n x y = grind (arith, nat_tests, set_twice)
 
--- what was put of an object is given up
+-- what was put of an object is rescinded
 module _ (since : Bool) {size : ℕ} {image : Image} {b : Books} {n : ℕ} (kept : IsIntact size image b) (lt : n < count_of b.plan) (has : HasSlot since b n) where
   are : ArePut image b.plan (generation_of since b) (places since b)
   are = are_put since b (places since b) (same_places since kept)
@@ -236,7 +236,7 @@ pub unwritten_low : {disk : Disk} {b : Books} → IsDurable disk b → (u : Unwr
 unwritten_low {disk} {b} is u some =
     omega (arith, (unwritten_inside (frozen_generation b) is.kept.plan (frozen_fits is.kept) (entry_of b b.unwritten is.unwritten) some), is.kept.inside)
 
--- ---- what was put of an object is given up: its slot stays
+-- ---- what was put of an object is rescinded: its slot stays
 
 torn_room : (old mid : Disk) (b c : Books) {size n : ℕ} → b.frozen_size ≡ Some size → c.frozen_size ≡ Some size →
     stored_on mid c ≡ with_frozen n Broken (stored_on old b) → n < count_of b.plan

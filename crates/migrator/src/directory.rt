@@ -3,12 +3,9 @@ ghost use Rattle.std.specs.Prelude.{◌≡◌, ◌≤◌, ◌∷◌, [], length,
 ghost use Rattle.migrator.specs.Table.{taken_count, entries_of};
 
 use crate::table::Table;
-use layout::Entry;
+use layout::{Entry, MAX_LOG};
 use std::alloc::{AllocError, Global};
 use std::marker::Model;
-
-// The most slots that a half of a log has.
-const MOST_ENTRIES: usize = 4096;
 
 /// The entries of a checkpoint. There is memory for as many as a half of any log has slots, so that no call but `new`
 /// takes memory.
@@ -33,7 +30,7 @@ pub(crate) fn blank_entries(alloc: Global, count: u64) -> Result<Vec<Entry>, All
     ensures length { IfOk result (λ entries. length entries.items ≡ count) }
     ensures room { IfOk result (λ entries. 4096 ≤ vec_capacity entries) }
 {
-    let mut entries = Vec::with_capacity(alloc, MOST_ENTRIES)?;
+    let mut entries = Vec::with_capacity(alloc, MAX_LOG)?;
     entries.resize(count as usize, Entry { object: 0, slot: 0 })?;
     Ok(entries)
 }
@@ -44,7 +41,7 @@ impl Directory {
         ensures { IfOk result (λ directory. directory ≡ []) }
     {
         Ok(Directory {
-            entries: Vec::with_capacity(alloc, MOST_ENTRIES)?,
+            entries: Vec::with_capacity(alloc, MAX_LOG)?,
         })
     }
 

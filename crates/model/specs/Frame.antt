@@ -15,7 +15,7 @@ use Rattle.model.specs.declared.object.Role.{Role}
 use Rattle.model.specs.declared.object.Role.TheVariants as role
 use Rattle.model.specs.Object.{map_content}
 
--- the header of a number that is free and was never given up, and its frame
+-- the header of a number that was never used, and its frame
 abbrev pub blank_header : ObjectHeader
 blank_header = record { role = role.Free; allocations = 0; calls = 0; owner = 0 }
 
@@ -69,7 +69,7 @@ unfoldable pub objects_of : List Frame → List Object
 objects_of fs = map (object_of (headers fs)) fs
 
 -- Headers change in four ways.
--- an object is given up: free, with both counts one more
+-- an object is rescinded: free, with both counts one more
 abbrev pub given_up : ObjectHeader → ObjectHeader
 given_up h = record { role = role.Free; allocations = h.allocations + 1; calls = h.calls + 1; owner = 0 }
 
@@ -77,7 +77,7 @@ given_up h = record { role = role.Free; allocations = h.allocations + 1; calls =
 abbrev pub owned_by : ℕ → ObjectHeader → ObjectHeader
 owned_by bank h = record h { owner = bank }
 
--- the right to resume it is given up
+-- the right to resume it is used
 abbrev pub called : ObjectHeader → ObjectHeader
 called h = record h { calls = h.calls + 1 }
 

@@ -36,6 +36,6 @@ rescind set os = map (λ p. if is_member set p.0 then free else without (names_m
 unfoldable pub consume : ℕ → List Object → List Object
 consume p os = map (without (resumes p)) os
 
--- whether an object was given up between two times: it was there, and its number is free
+-- whether an object was rescinded between two times: it was there, and its number is free
 abbrev pub is_given_up : List Object → List Object → ℕ → Bool
 is_given_up os us n = not (is_free (content_at os n)) && is_free (content_at us n)

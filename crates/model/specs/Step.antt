@@ -54,7 +54,7 @@ when_home s next = unless (nat_lt s.now.age (2 ^ 62)) refusal.Worn
           refusal.MigrationPending next
     ])
 
--- whether a page is saved at a number, and wasn't given up since
+-- whether a page is saved at a number, and wasn't rescinded since
 abbrev pub is_saved_page : Running → ℕ → Bool
 is_saved_page s n = is_page (content_at s.saved.world.objects n) && not (slice_index_or s.renewed n false)
 

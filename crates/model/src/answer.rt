@@ -27,7 +27,7 @@ pub enum MemoryFault {
 pub enum Unjournaled {
     /// The object isn't a page.
     NotPage = 1,
-    /// No page is saved at its number, or the one that is was given up since.
+    /// No page is saved at its number, or the saved one was rescinded since.
     Renewed = 2,
 }
 

@@ -7,10 +7,10 @@ use crate::object::{Content, Role};
 pub struct ObjectHeader {
     /// What the object is.
     pub role: Role,
-    /// How often the number was given up. A capability with a smaller count is stale (EROS: the
+    /// How often the number was rescinded. A capability with a smaller count is stale (EROS: the
     /// allocation count).
     pub allocations: u64,
-    /// How often the right to resume the process was given up (EROS: the call count).
+    /// How often the right to resume the process was used or rescinded (EROS: the call count).
     pub calls: u64,
     /// The number of the bank that owns the object, or 0 where it is free.
     pub owner: u64,

@@ -75,7 +75,7 @@ module _ (g : Geometry) (os : List Object) (h : IsFramed g os) where
         no_bank = none;
       }
 
-  -- what a capability frees is given up together
+  -- what a capability frees is rescinded together
   pub freed_set : (c : Capability) (n : ℕ) (ns : List ℕ) → NamesItsKind os c → freed_by os c ≡ n ∷ ns → IsFreedSet os (owner_at os n) (n ∷ ns)
   freed_set (Page o a) n ns names e = grind (arith, nat_tests, used_where)
   freed_set (Node o a) n ns names e = grind (arith, nat_tests, used_where)
@@ -218,7 +218,7 @@ module _ (g : Geometry) (os : List Object) (h : IsFramed g os) (b : ℕ) (is : I
         ∙ sym apart
   ]
 
-  -- a bank and all under it can be given up
+  -- a bank and all under it can be rescinded
   pub under_given_up : IsGivenUp os (under os b)
   under_given_up = record {
     closed = record {

@@ -18,7 +18,7 @@ use Rattle.model_laws.proofs.Revoking.{at_rescind}
 use Rattle.model_laws.proofs.BankTree.{IsTree, tree_of}
 use Rattle.model_laws.proofs.NumberLists.{AllDiffer}
 
--- objects that can be given up together: not the prime bank, a process with its annex, a bank with all that it owns
+-- objects that can be rescinded together: not the prime bank, a process with its annex, a bank with all that it owns
 pub record IsClosedSet (os : List Object) (set : List ℕ) : Type 0 where
   pub prime : is_member set 0 ≡ false
   pub annexes : (p : ℕ) → IsTrue (is_process os p) → is_member set (annex_at os p) ≡ is_member set p
@@ -187,7 +187,7 @@ module _ (os : List Object) (set : List ℕ) where
   filled_rescind : (n : ℕ) → IsFilled os (Waits os) (content_at os n) → IsFilled (rescind set os) (Waits (rescind set os)) (content_at (rescind set os) n)
   filled_rescind n h = grind (arith, nat_tests, went_object, filled_free, kept_object, filled_cleared)
 
--- sound objects are sound where a closed set is given up
+-- sound objects are sound where a closed set is rescinded
 pub rescinded_now : (g : Geometry) (os : List Object) (set : List ℕ) → IsNow g os → IsClosedSet os set → IsNow g (rescind set os)
 rescinded_now g os set h closed = record {
   frame = framed_rescind g os set h.frame closed;

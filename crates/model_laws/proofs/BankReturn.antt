@@ -193,7 +193,7 @@ inherited_now g os b h is on =
           });
     }
 
--- then the bank can be given up alone
+-- then the bank can be rescinded alone
 alone_given_up : (g : Geometry) (os : List Object) (b : ℕ) → IsFramed g os → IsTrue (is_bank (content_at os b)) → b ≢ 0 → IsGivenUp (inherited os b) (b ∷ [])
 alone_given_up g os b h is on =
     grind (arith, nat_tests, tree_of, framed_inherited, inherited_content, no_member, differ_where, heir_differs, inherited_owner, only_member, used_where)

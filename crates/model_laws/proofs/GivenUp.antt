@@ -1,4 +1,4 @@
--- What is given up: exactly what is rescinded.
+-- What is rescinded: exactly what is rescinded.
 use Rattle.model_laws.proofs.Names.{nat_tests, ℕ, Bool, true, false, List, [], inl, inr, refl, ap, arith, IsTrue, slice_index_or, range_with_len, cases_Bool}
 use Rattle.model_laws.proofs.Names.{ext_get_or, get_or-set_other, get_or-set_same, get_or-map-range_with_len, length-map-range_with_len, Capability, Void}
 use Rattle.model_laws.proofs.Names.{Geometry, Content, Object, Arguments, BankOrder, ResultCode, freed, freed_by, on_bank, under, with_new, renewing, free}
@@ -20,7 +20,7 @@ use Rattle.model_laws.proofs.SoundOrders.{IsNow}
 use Rattle.model_laws.proofs.SoundParts.{nearly_from}
 use Rattle.model_laws.proofs.Usage.{SameFrame, tests_at}
 
--- where what was there stays there, nothing is given up
+-- where what was there stays there, nothing is rescinded
 pub none_given_up : (os us : List Object) (n : ℕ) → (is_free (content_at os n) ≡ false → is_free (content_at us n) ≡ false) → is_given_up os us n ≡ false
 none_given_up os us n stays = grind (arith, nat_tests)
 
@@ -32,7 +32,7 @@ free_rescinded set os n = elim (cases_Bool (is_member set n)) [
   | inr e ↦ rw e ((kept_tests os set n e).free)
 ]
 
--- what was there is given up where it is rescinded, and only there
+-- what was there is rescinded where it is rescinded, and only there
 pub rescinded_given_up : (set : List ℕ) (os : List Object) → ((n : ℕ) → is_member set n ≡ true → is_free (content_at os n) ≡ false)
     → (n : ℕ) → is_given_up os (rescind set os) n ≡ is_member set n
 rescinded_given_up set os used n = grind (arith, nat_tests, free_rescinded)
@@ -43,7 +43,7 @@ pub new_used : (os : List Object) (n b : ℕ) (c : Content Capability) → is_fr
 unfolding with_new
 new_used os n b c some m used = grind (arith, nat_tests, get_or-set_other, get_or-set_same, used_within)
 
--- nothing is given up in the same frame
+-- nothing is rescinded in the same frame
 pub none_in_frame : (os us : List Object) → SameFrame os us → (n : ℕ) → is_given_up os us n ≡ false
 none_in_frame os us frame n = none_given_up os us n (λ used. (tests_at os us frame n).free ∙ used)
 
@@ -92,7 +92,7 @@ gives_up_rescinded g w b requested args n sound is held = order_gives_up g w.obj
 pub gives_up_nothing : GivesUpNothing
 gives_up_nothing g w i e n sound fits runs other done = search (arith, nat_tests, none_in_frame, invocation_frame, nearly_from)
 
--- where nothing is given up no number is renewed
+-- where nothing is rescinded no number is renewed
 pub renewing_none : (renewed : List Bool) (os us : List Object) → ((n : ℕ) → is_given_up os us n ≡ false) → renewing renewed os us ≡ renewed
 unfolding renewing
 renewing_none renewed os us none =

@@ -35,9 +35,8 @@ DiminishesOnce = (c : Capability) → diminished (diminished c) ≡ diminished c
 abbrev pub FetchesWeak : Type 0
 FetchesWeak = (a : Access) (c : Capability) → a.0 ≡ 3 → IsWeak (fetched a c)
 
--- after a rescind the members are free, all else is as it was but for capabilities that are void, and no slot or
--- address
--- space names a member
+-- after a rescind the members are free, no slot or address space names one, and nothing else changed but for
+-- capabilities that are void
 abbrev pub RescindsAll : Type 0
 RescindsAll = (set : List ℕ) (os : List Object) →
     ((n : ℕ) → is_member set n ≡ true → is_free (content_at (rescind set os) n) ≡ true)
@@ -88,9 +87,8 @@ LogFullIsExact = (g : Geometry) (s : Running) (i : Invocation) (e : Effect) →
     IsTrue (is_running_process s.now.objects i.process) → s.now.age < 2 ^ 62 → invoke g s.now.objects i ≡ Some e →
     (refusal_of g s (command.Invoke i) ≡ Some refusal.LogFull) ↔ (g.log < touched_count (touching s.touched e.written))
 
--- a store that reaches a page which it may write is refused as log full exactly where the numbers touched with that
--- page
--- are too many, and one that ends in a memory fault isn't refused
+-- a store to a page that it may write is refused as log full exactly if the touched numbers and that page are more
+-- than the log holds; one that ends in a memory fault isn't refused
 abbrev pub StoreLogFullIsExact : Type 0
 StoreLogFullIsExact = (g : Geometry) (s : Running) (p address value : ℕ) → IsTrue (is_running_process s.now.objects p) →
     ((page : ℕ) → writable (reached s.now.objects p address) ≡ Ok page →

@@ -8,8 +8,7 @@ use Rattle.model_laws.specs.Worked.{Row, at_world, row}
 use Prim.Native.String.{String}
 
 -- World C0: process 1 with annex 2 runs, and holds itself, the prime bank and process 3. Process 3 with annex 4 runs,
--- and
--- holds node 5 weakly, and bank 6, which may own 4 objects and owns none. Node 5 holds page 16.
+-- and holds node 5 weakly, and bank 6, which may own 4 objects and owns none. Node 5 holds page 16.
 unfoldable pub c0 : World
 c0 = record {
   objects =
@@ -62,9 +61,8 @@ makes_pages = row (at_world c0) (
     ("call 3 2 6 0 0 0 0 0 0 0", "done") ∷ ("show 17", "free 17\nend") ∷ ("show 6", "free 6\nend") ∷
     [])
 
--- If a weak fetch gave what is read-only and not weak, process 3 could come by node 5 so. From there it would write
--- page
--- 16, which no process of a closed set may change: what is fetched has to be weak too.
+-- If a weak fetch gave a capability that is only read-only, process 3 could fetch node 5 so. From there it would write
+-- page 16, which no process of a closed set may change: what is fetched has to be weak too.
 abbrev pub escapes : Row
 escapes = row (at_world (record { objects = with_slot c0.objects 4 28 (Node 5 (record { 0 = 1 })); age = 0 })) (
     ("call 3 28 1 0 0 0 0 0 0 0", "done") ∷

@@ -75,7 +75,7 @@ journals = saves_page (
     ("cut", "at 5 5") ∷
     [])
 
--- a page that was given up and made again isn't journaled before it is saved
+-- a page that was rescinded and made again isn't journaled before it is saved
 abbrev pub journals_saved : Row
 journals_saved = saves_page (
     ("send 1 2 5 0 0 0 28 0 0 0", "done") ∷

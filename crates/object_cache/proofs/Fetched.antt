@@ -4,14 +4,15 @@ use Rattle.object_cache.proofs.Names.{slice_index_or, cases_eq, cases_lt, eq-eqb
 use Rattle.object_cache.proofs.Names.{IsCache, IsFetchedIn, ne_eqb, cache_of, cached_at, with_cached, on_device, on_device_with, take-take, used_in_turn}
 use Rattle.object_cache.proofs.Names.{IsBounded, UsesSome, take_all, length_without, in_either, in_front, one_more, used_anew, used_front, without_absent}
 use Rattle.object_cache.proofs.Names.{without_here, without_tail, length-take, Held, None, header_at, held_at, put_at, ReadsStore, below_at, newest, masked}
-use Rattle.object_cache.proofs.Names.{in_staging, put_body, present_body, newest_body, contents_in, GoesOnIn, frozen_seen, set, Some, Cap, Content, new_entry}
-use Rattle.object_cache.proofs.Names.{option_map, same_Some, Stored, entry_at, mark_at, below_body, content_at, frozen_at, frozen_states_in, either_of}
-use Rattle.object_cache.proofs.Names.{member_head, member_tail, in_tail, list_any-from_Contains, nat_eq_equiv, All, All-contains, Contains, Frame, ObjectHeader}
+use Rattle.object_cache.proofs.Names.{in_staging, put_body, present_body, newest_body, contents_in, GoesOnIn, frozen_seen, Some, Cap, Content, option_map}
+use Rattle.object_cache.proofs.Names.{same_Some, Stored, entry_at, mark_at, below_body, content_at, frozen_at, frozen_states_in, either_of, member_head}
+use Rattle.object_cache.proofs.Names.{member_tail, in_tail, list_any-from_Contains, nat_eq_equiv, All, All-contains, Contains, Frame, ObjectHeader}
+use Rattle.object_cache.proofs.Names.{EntriesState, Option, with_new}
 use Rattle.std.proofs.Common.{◌≡◌, ◌≢◌, ◌+◌, ◌<◌, ◌≤◌, ◌∷◌, ◌∙◌, ◌-◌, ◌++◌}
 use Rattle.object_cache.proofs.Marking.{marked_within}
 use Rattle.object_cache.proofs.Objects.{Alike, clean_alike, content_in, contents_alike, frozen_alike, keepable_alike, stored_next, unwritten_alike}
 use Rattle.object_cache.proofs.Objects.{with_objects}
-use Rattle.object_cache.proofs.Outcomes.{IsNext, continues_with}
+use Rattle.object_cache.proofs.Outcomes.{IsNext, continues_with, next_as, next_in}
 use Rattle.object_cache.proofs.Freezing.{put_or_body}
 use Rattle.object_cache.proofs.Caching.{no_entry, cached_next}
 
@@ -179,20 +180,22 @@ module _ {D : Type 0} (disk : D → Disk) {d : DurableState D} {m : Memory} {lef
   -- and it is made an entry
   pub kept_next : (n : ℕ) → n < length s.headers → cached_at s.cached n ≡ false → s.staging ≡ None → {new : DurableState D} → ReadsStore disk d new →
       (disk d.beneath).failures ≤ (disk new.beneath).failures → {f : Frame} → f ≡ newest (stored_of disk d) n → {h : ObjectHeader} →
-      h ≡ header_at m.headers n →
-      IsNext disk s new (with_objects m m.headers (set m.entries n (Some (new_entry (masked h.role f.content))))) left count (n ∷ order) most_entries
+      h ≡ header_at m.headers n → {es : EntriesState} →
+      es ≡ with_new n (masked h.role f.content) (record { at = m.entries; order = order; most = most_entries }) →
+      IsNext disk s new (with_objects m m.headers es.at) left count es.order es.most
       (with_cached n (record s { durable = new }))
-  kept_next n known uncached empty {new} reads later {f} found {h} h_is =
+  kept_next n known uncached empty {new} reads later {f} found {h} h_is {es} es_is =
       let next = read_next reads later in
       let t = with_cached n (record s { durable = new }) in
       let held = ap (λ g. masked h.role g.content) found ∙ ap (λ g. masked g.role (newest (stored_of disk d) n).content) h_is
       ∙ read_holds n known uncached empty in
       let now = cached_next disk next.view next.is n (masked h.role f.content) known uncached held in
-      search (
-        now,
-        subst (GoesOnIn disk s) (sym now.view) (continues_with disk t.cached t.frozen_state t.order t.staging
-            (subst (GoesOnIn disk s) next.view next.continues)),
-      )
+      next_in (record {
+        is = now.is;
+        view = now.view;
+        continues = subst (GoesOnIn disk s) (sym now.view) (continues_with disk t.cached t.frozen_state t.order t.staging
+            (subst (GoesOnIn disk s) next.view next.continues));
+      }) (λ k. with_objects m m.headers (es_is k).at) (ap (λ x. x.order) es_is) (ap (λ x. x.most) es_is)
 
 -- ---- the frozen body of an object is taken up from below the entries: nothing that is seen changes but the staging buffer
 
@@ -239,17 +242,18 @@ module _ {D : Type 0} (disk : D → Disk) {d : DurableState D} {m : Memory} {lef
     empty_here : m.staging ≡ None
     empty_here = ap (λ t. t.staging) view ∙ empty
 
-    pub taken_next : (disk d.beneath).failures ≤ (disk new.beneath).failures →
-        IsNext disk s new (holding_up n c m) left count order most_entries (record s { durable = new; staging = Some (record { number = n; content = c }) })
+    pub taken_next : {staging : Option Held} → staging ≡ Some (record { number = n; content = c }) →
+        (disk d.beneath).failures ≤ (disk new.beneath).failures →
+        IsNext disk s new (record m { staging = staging }) left count order most_entries (record s { durable = new; staging = staging })
     unfolding frozen_states_in
-    taken_next later =
+    taken_next staging_is later =
         let next = read_next disk view is reads later in
-        search (
-          subst (λ t. IsCache t (holding_up n c m) left count) (sym reads.stored) (taken_cache is n pending_here empty_here c read),
-          seen,
-          subst (GoesOnIn disk s) (sym seen) (continues_with disk s.cached s.frozen_state s.order (Some (record { number = n; content = c }))
-              (subst (GoesOnIn disk s) next.view next.continues)),
-        ) where
+        next_as (next_in (record {
+          is = subst (λ t. IsCache t (holding_up n c m) left count) (sym reads.stored) (taken_cache is n pending_here empty_here c read);
+          view = seen;
+          continues = subst (GoesOnIn disk s) (sym seen) (continues_with disk s.cached s.frozen_state s.order (Some (record { number = n; content = c }))
+              (subst (GoesOnIn disk s) next.view next.continues));
+        }) (λ k. record m { staging = staging_is k }) refl refl) (λ k. record s { durable = new; staging = sym staging_is k }) where
           seen : cache_of disk new (holding_up n c m) left order most_entries ≡ record s { durable = new; staging = Some (record { number = n; content = c }) }
           seen =
               ap (λ t. record (cache_of disk d m left order most_entries) {

@@ -5,7 +5,7 @@ pub use Rattle.cache_entries.proofs.Recent.{front_stays}
 pub use Rattle.cache_entries.proofs.Stored.{some_map, some_within}
 pub use Rattle.cache_entries.proofs.Turns.{one_more, used_anew, used_front, without_absent}
 pub use Rattle.cache_entries.specs.Entries.{Entry, changing, entry_at, kept_of, new_entry, present_of, with_entry}
-pub use Rattle.cache_entries.specs.Order.{AreOrdered, EntriesState, used_in_turn, used_longest_ago, used_now, with_new, without}
+pub use Rattle.cache_entries.specs.Order.{AreOrdered, EntriesState, used_in_turn, used_longest_ago, used_now, with_entry_of, with_new, without}
 pub use Rattle.capability.proofs.FrameLists.{frame_in, length_in}
 pub use Rattle.capability.proofs.Keeping.{keepable_at}
 pub use Rattle.capability.specs.Objects.{changed_root, with_root_in, with_slots_in}
@@ -26,7 +26,7 @@ pub use Rattle.layout.specs.declared.body.Body.{Body}
 pub use Rattle.layout.specs.declared.body.Scratch.{Scratch}
 pub use Rattle.migrator.proofs.Kept.{map_set}
 pub use Rattle.migrator.proofs.Moving.{goes_none, goes_trans}
-pub use Rattle.migrator.proofs.Publishing.{ok_counts, on_err, on_ok}
+pub use Rattle.migrator.proofs.Publishing.{err_counts, ok_counts, on_err, on_ok}
 pub use Rattle.migrator.specs.Durable.{DurableState, FrozenPuts, GoesOn, ReadsStore, Stored, below_at, freezing_puts, frozen_put, is_sound, left_of, newest}
 pub use Rattle.migrator.specs.Durable.{on_snapshots, puts, stored_of, with_frozen, with_put, with_working}
 pub use Rattle.migrator.specs.Opened.{OpensDurable}
@@ -63,10 +63,10 @@ pub use Rattle.std.proofs.lemmas.List.FromFn.{get_or-map-range_with_len, length-
 pub use Rattle.std.proofs.lemmas.List.Sums.{sum_by-cons, sum_by-set}
 pub use Rattle.std.proofs.lemmas.Map.Views.{list_any-from_Contains}
 pub use Rattle.std.proofs.lemmas.Option.{none-some, same_Some}
-pub use Rattle.std.proofs.lemmas.Result.{on_err_weaker, on_ok_weaker}
+pub use Rattle.std.proofs.lemmas.Result.{err_from_is_err_and, on_err_weaker, on_ok_weaker}
 pub use Rattle.std.specs.Cmp.{nat_eq_equiv}
 pub use Rattle.std.specs.List.{All, Contains, list_any, range_with_len, slice_get}
-pub use Rattle.std.specs.Prelude.{OnErr, OnOk, count_by, slice_index_or}
+pub use Rattle.std.specs.Prelude.{IsErrAnd, OnErr, OnOk, count_by, is_err, slice_index_or}
 pub use Rattle.object_cache.specs.Journaled.{SavesPage, entry_body, held_now}
 pub use Rattle.object_cache.specs.Memory.{Apart, FrozenState, Held, Memory, Nothing, Shared, apart_body, below_body, content_at, frozen_at, frozen_body}
 pub use Rattle.object_cache.specs.Memory.{frozen_frame, frozen_state_by, frozen_state_in_memory, frozen_state_of, held_behind, in_staging, mark_at, masked}

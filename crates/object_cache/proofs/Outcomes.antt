@@ -1,7 +1,8 @@
 -- Why one value of a cache continues as another.
-use Rattle.object_cache.proofs.Names.{arith, ℕ, Bool, List, Option, sym, ap, Disk, stored_of, Held, FrozenState, StoreState, GoesOnIn, on_device, DurableState}
-use Rattle.object_cache.proofs.Names.{IsCache, Memory, cache_of, true, false, Result, OnOk, OnErr, None, set, without, Nothing, released, mark_at}
-use Rattle.object_cache.proofs.Names.{frozen_state_at, without_cached, option_map, none-some}
+use Rattle.object_cache.proofs.Names.{arith, ℕ, Bool, List, Option, sym, ap, subst, Disk, stored_of, Held, FrozenState, StoreState, GoesOnIn, on_device}
+use Rattle.object_cache.proofs.Names.{DurableState, IsCache, Memory, cache_of, true, false, Result, OnOk, OnErr, None, set, without, Nothing, released, mark_at}
+use Rattle.object_cache.proofs.Names.{frozen_state_at, without_cached, option_map, none-some, Counts, Ok, Err, counted_ok, ok_counts, err_counts}
+use Rattle.object_cache.proofs.Names.{err_from_is_err_and, is_err, IsErrAnd}
 use Rattle.std.proofs.Common.{◌≡◌, ◌∙◌}
 use Rattle.object_cache.proofs.Marking.{set_there}
 
@@ -23,6 +24,10 @@ module _ {D : Type 0} {disk : D → Disk} {s t : StoreState D} {d : DurableState
   pub next_as : {u : StoreState D} → t ≡ u → IsNext disk s d m left count order most_entries u
   next_as same = record { is = next.is; view = next.view ∙ same; continues = next.continues }
 
+  pub next_in : {n : Memory} {ns : List ℕ} {most : ℕ} → n ≡ m → ns ≡ order → most ≡ most_entries → IsNext disk s d n left count ns most t
+  next_in m_is order_is most_is = subst (λ (x : Memory × List ℕ × ℕ). IsNext disk s d x.0 left count x.1 x.2 t)
+      (λ k. (sym m_is k, sym order_is k, sym most_is k)) next
+
 module _ {D : Type 0} where
   -- what was put is on the device
   pub on_device_as : (s : StoreState D) {t u : StoreState D} → t ≡ u → u ≡ on_device s u → t ≡ on_device s t
@@ -37,6 +42,23 @@ module _ {D : Type 0} (disk : D → Disk) where
       t →
       GoesOnIn disk s (record t { cached = cached; frozen_state = frozen_state; order = order; staging = staging })
   continues_with cached frozen_state order staging first = search
+
+  -- the failures of the device by what is seen, if all went well, and if `?` passes a failure on
+  pub counts_ok : {T U E : Type 0} {s t : StoreState D} {new : Disk} {x : T} {y : U} → s ≡ t → Counts {E = E} (disk s.durable.beneath) new (Ok x) →
+      Counts {E = E} (disk t.durable.beneath) new (Ok y)
+  counts_ok same counts = ok_counts (counted_ok counts ∙ ap (λ x. (disk x.durable.beneath).failures) same)
+
+  pub counts_err : {T U E : Type 0} {s t : StoreState D} {new : Disk} {e : E} (r : Result U E) (Q : E → Type 0) → s ≡ t → IsErrAnd r Q →
+      Counts {T = T} (disk s.durable.beneath) new (Err e) → Counts (disk t.durable.beneath) new r
+  counts_err {new = new} r Q same failed counts = subst (λ x. Counts (disk x.durable.beneath) new r) same
+      (err_counts (ap is_err (err_from_is_err_and r failed).1) counts)
+
+  -- what was in memory before doesn't matter either
+  pub continues_past : {s t u : StoreState D} (x : List FrozenState) → t ≡ record s { frozen_state = x } → GoesOnIn disk t u → GoesOnIn disk s u
+  continues_past {s} {t} {u} x same later =
+      let on = subst (λ y. GoesOnIn disk y u) same later in
+      record
+      { goes_on = on.goes_on; snapshots = on.snapshots; later = on.later; grows = on.grows; capacity = on.capacity; only_reads = on.only_reads }
 
 -- ---- what calls that may fail leave, by their outcome
 

@@ -148,9 +148,11 @@ module _ {D : Type 0} (disk : D → Disk) {d : DurableState D} {m : Memory} {lef
     keepable_here keepable = search (arith, content_in, known_here, frame_is)
 
     -- it is put
-    pub kept_next : {new : DurableState D} → stored_of disk new ≡ with_working n (Kept (record { header = header; content = x })) (stored_of disk d) →
-        GoesOn disk d new → (disk d.beneath).failures ≤ (disk new.beneath).failures →
-        IsNext disk s new (with_dirty m (set m.dirty n false)) left count order most_entries (record s { durable = new; dirty = set s.dirty n false })
-    kept_next {new = new} put goes later = next_as
-        (put_next (length-set m.dirty n false) (λ k other. get_or-set_other m.dirty n k false false other) (inr (ap Kept frame_is)) put goes later)
-        (ap (λ t. record s { durable = new; dirty = set t.dirty n false }) view)
+    pub kept_next : {ds : List Bool} → ds ≡ set m.dirty n false → {new : DurableState D} →
+        stored_of disk new ≡ with_working n (Kept (record { header = header; content = x })) (stored_of disk d) → GoesOn disk d new →
+        (disk d.beneath).failures ≤ (disk new.beneath).failures →
+        IsNext disk s new (with_dirty m ds) left count order most_entries (record s { durable = new; dirty = set s.dirty n false })
+    kept_next ds_is {new = new} put goes later = next_as
+        (put_next (ap length ds_is ∙ length-set m.dirty n false)
+        (λ k other. ap (λ x. mark_at x k) ds_is ∙ get_or-set_other m.dirty n k false false other) (inr (ap Kept frame_is)) put goes later)
+        (λ k. record s { durable = new; dirty = (ds_is ∙ ap (λ t. set t.dirty n false) view) k })

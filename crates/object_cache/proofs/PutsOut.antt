@@ -6,11 +6,12 @@ use Rattle.object_cache.proofs.Names.{maps_same, map_set, Entry, Held, entry_at,
 use Rattle.object_cache.proofs.Names.{mark_at, in_staging, put_body, present_body, content_at, below_body, frozen_body, frozen_at, contents_in, frozen_in}
 use Rattle.object_cache.proofs.Names.{IsCache, AreFrozen, is_kept, frozen_seen, object_count, cond, cases_lt, eq-eqb, ne_eqb, get_or_past}
 use Rattle.object_cache.proofs.Names.{length-map-range_with_len, get_or-map-range_with_len, ObjectHeader, Role, blank_frame, IsKeepable, Disk, HasFreeSlot}
-use Rattle.object_cache.proofs.Names.{DurableState, GoesOn, stored_of, with_entry, own_body_of, FrozenState, masked, released, own_body, own_frame, newest_body}
-use Rattle.object_cache.proofs.Names.{apart_body, StoreState, IsFetchedIn, GoesOnIn, cache_of, frozen_state_at, cached_in, MayPutFrozen}
+use Rattle.object_cache.proofs.Names.{with_entry_of, EntriesState, DurableState, GoesOn, stored_of, with_entry, own_body_of, FrozenState, masked, released}
+use Rattle.object_cache.proofs.Names.{own_body, own_frame, newest_body, apart_body, StoreState, IsFetchedIn, GoesOnIn, cache_of, frozen_state_at, cached_in}
+use Rattle.object_cache.proofs.Names.{MayPutFrozen}
 use Rattle.std.proofs.Common.{◌≡◌, ◌≢◌, ◌⊎◌, ◌<◌, ◌≤◌, ◌||◌, ◌∙◌}
 use Rattle.object_cache.proofs.Marking.{one_fewer, marked_within}
-use Rattle.object_cache.proofs.Outcomes.{IsNext, next_as}
+use Rattle.object_cache.proofs.Outcomes.{IsNext, next_as, next_in}
 use Rattle.object_cache.proofs.Objects.{Alike, cached_stay, clean_alike, contents_alike, entry_found, fetched_known, frozen_alike, keepable_alike}
 use Rattle.object_cache.proofs.Objects.{unwritten_alike, of_each}
 use Rattle.object_cache.proofs.Puts.{has_free_slot}
@@ -190,8 +191,8 @@ module _ {D : Type 0} (disk : D → Disk) {d : DurableState D} {m : Memory} {lef
       (record s { durable = new; pending = ps; frozen_state = os; staging = staging })
   put_continues new p put goes later ps os staging = search (arith, none-some, running_here)
 
-  pub fewer_here : count_by (λ b. b) (set m.pending n false) < count_by (λ b. b) s.pending
-  fewer_here = omega (arith, one_fewer m.pending n pending, ap (λ t. count_by (λ b. b) t.pending) view)
+  pub fewer_here : {ps : List Bool} → ps ≡ set m.pending n false → count_by (λ b. b) ps < count_by (λ b. b) s.pending
+  fewer_here ps_is = omega (arith, one_fewer m.pending n pending, ap (count_by (λ b. b)) ps_is, ap (λ t. count_by (λ b. b) t.pending) view)
 
   -- its slot was written
   module _ {new : DurableState D} {p : Put} {ps : List Bool} {es : List (Option Entry)} {staging : Option Held} {os : List FrozenState}
@@ -279,7 +280,7 @@ module _ {D : Type 0} (disk : D → Disk) {d : DurableState D} {m : Memory} {lef
   own_is : (t : Stored) → frozen_at t m n ≡ own_frame (header_at m.frozen_headers n) entry_here.0
   own_is = frozen_is_own is n own_known entry_here.0 entry_here.1 state_here
 
-  pub own_fewer : count_by (λ b. b) (set m.pending n false) < count_by (λ b. b) s.pending
+  pub own_fewer : {ps : List Bool} → ps ≡ set m.pending n false → count_by (λ b. b) ps < count_by (λ b. b) s.pending
   own_fewer = fewer_here disk view is own_known own_pending
 
   pub own_torn : {new : DurableState D} → GoesOn disk d new → (disk d.beneath).failures ≤ (disk new.beneath).failures →
@@ -306,10 +307,12 @@ module _ {D : Type 0} (disk : D → Disk) {d : DurableState D} {m : Memory} {lef
     own_ready = frozen_ready disk view is own_known own_pending own_frame_is
 
     module _ {new : DurableState D} (goes : GoesOn disk d new) (later : (disk d.beneath).failures ≤ (disk new.beneath).failures) where
-      pub out_next : stored_of disk new ≡ with_frozen n (Kept (record { header = header; content = masked header.role x })) (stored_of disk d) →
-          IsNext disk s new (with_pending m (set m.pending n false) (with_entry dropping n m.entries) (released n m.staging)) left count order most_entries
+      pub out_next : {ps : List Bool} {es : EntriesState} {staging : Option Held} → ps ≡ set m.pending n false →
+          es ≡ with_entry_of dropping n (record { at = m.entries; order = order; most = most_entries }) → staging ≡ released n m.staging →
+          stored_of disk new ≡ with_frozen n (Kept (record { header = header; content = masked header.role x })) (stored_of disk d) →
+          IsNext disk s new (with_pending m ps es.at staging) left count es.order es.most
           (record s { durable = new; pending = set s.pending n false; frozen_state = set s.frozen_state n Nothing; staging = released n s.staging })
-      out_next put =
+      out_next ps_is es_is staging_is put =
           let here = running_here disk view is own_known own_pending in
           let in_entries : n < length m.entries = omega (arith, own_known, is.headers, is.entries) in
           let in_pending : n < length m.pending = omega (arith, own_known, is.headers, is.pending_marks) in
@@ -318,7 +321,7 @@ module _ {D : Type 0} (disk : D → Disk) {d : DurableState D} {m : Memory} {lef
           get_or-set_other m.entries n k e None other) in
           let now : entry_at (with_entry dropping n m.entries) n ≡ Some (dropping entry_here.0) = get_or-set_same m.entries n e None in_entries
           ∙ ap (option_map dropping) entry_here.1 in
-          next_as (put_next disk view is own_known own_pending put goes later
+          next_in (next_as (put_next disk view is own_known own_pending put goes later
           (put_releases is own_pending here.1 own_known frame own_frame_is (with_entry dropping n m.entries) (length-set m.entries n e) others
           (λ g g_is. ap (λ y. y.kept) (same_Some g (dropping entry_here.0) (sym g_is ∙ now)))
           (released n m.staging) (λ k c other. released_others m.staging n k c other)
@@ -329,7 +332,8 @@ module _ {D : Type 0} (disk : D → Disk) {d : DurableState D} {m : Memory} {lef
           ∙ sym (own_content is n own_known entry_here.0 entry_here.1 state_here (stored_of disk d))))
           (cached_stay dropping n m.entries) (state_put m n (with_entry dropping n m.entries) (released n m.staging) own_known in_pending others) refl refl)
           (ap (λ t.
-          record s { durable = new; pending = set s.pending n false; frozen_state = set s.frozen_state n Nothing; staging = released n t.staging }) view)
+          record s { durable = new; pending = set s.pending n false; frozen_state = set s.frozen_state n Nothing; staging = released n t.staging }) view))
+          (λ k. with_pending m (ps_is k) (es_is k).at (staging_is k)) (ap (λ x. x.order) es_is) (ap (λ x. x.most) es_is)
 
 -- ---- the body is in the staging buffer
 
@@ -389,13 +393,16 @@ module _ {D : Type 0} (disk : D → Disk) {d : DurableState D} {m : Memory} {lef
   held_known : h.number < length m.headers
   held_known = held_within is h staging
 
+  pub held_in_marks : h.number < length m.pending
+  held_in_marks = marked_within m.pending h.number held_marked
+
   pub held_frozen : h.number < length m.frozen_headers
   held_frozen = omega (arith, held_known, is.headers, is.frozen_headers)
 
   pub held_number : h.number < length s.headers
   held_number = omega (arith, held_known, ap (λ t. length t.headers) view)
 
-  pub held_fewer : count_by (λ b. b) (set m.pending h.number false) < count_by (λ b. b) s.pending
+  pub held_fewer : {ps : List Bool} → ps ≡ set m.pending h.number false → count_by (λ b. b) ps < count_by (λ b. b) s.pending
   held_fewer = fewer_here disk view is held_known held_marked
 
   module _ (bare : (g : Held) × (s.staging ≡ Some g) × (frozen_state_at s.frozen_state g.number ≡ Nothing)) where
@@ -411,15 +418,17 @@ module _ {D : Type 0} (disk : D → Disk) {d : DurableState D} {m : Memory} {lef
     held_ready header_is = frozen_ready disk view is held_known held_marked (held_frame_is header_is)
 
     module _ {new : DurableState D} (goes : GoesOn disk d new) (later : (disk d.beneath).failures ≤ (disk new.beneath).failures) where
-      pub settled_next : {header : ObjectHeader} → header ≡ header_at m.frozen_headers h.number →
+      pub settled_next : {ps : List Bool} {staging : Option Held} → ps ≡ set m.pending h.number false → staging ≡ None → {header : ObjectHeader} →
+          header ≡ header_at m.frozen_headers h.number →
           stored_of disk new ≡ with_frozen h.number (Kept (record { header = header; content = masked header.role h.content })) (stored_of disk d) →
-          IsNext disk s new (with_pending m (set m.pending h.number false) m.entries None) left count order most_entries
+          IsNext disk s new (with_pending m ps m.entries staging) left count order most_entries
           (record s { durable = new; pending = set s.pending h.number false; frozen_state = set s.frozen_state h.number Nothing; staging = None })
-      settled_next {header = header} header_is put =
+      settled_next ps_is staging_is {header = header} header_is put =
           let here = running_here disk view is held_known held_marked in
-          put_next disk view is held_known held_marked put goes later
+          next_in (put_next disk view is held_known held_marked put goes later
           (held_releases is h staging state_there here.1 (record { header = header; content = masked header.role h.content }) (held_frame_is header_is))
-          refl (state_put m h.number m.entries None held_known (marked_within m.pending h.number held_marked) (λ k other. refl)) refl refl
+          refl (state_put m h.number m.entries None held_known held_in_marks (λ k other. refl)) refl refl)
+          (λ k. with_pending m (ps_is k) m.entries (staging_is k)) refl refl
 
       pub held_torn : stored_of disk new ≡ with_frozen h.number Broken (stored_of disk d) →
           IsNext disk s new m left count order most_entries (record s { durable = new })

@@ -15,10 +15,11 @@ pub use Rattle.model.specs.declared.object.Object.{Object}
 pub use Rattle.model.specs.declared.object.Root.{Root}
 pub use Rattle.model_laws.proofs.ConfinedRuns.{run_confined}
 pub use Rattle.script.proofs.Fronts.{first_front, second_front, text_fails, writes_after, writes_fail, wrote_trans}
+pub use Rattle.script.proofs.NumberedLines.{lines_all, lines_more, lines_split}
 pub use Rattle.script.specs.Writing.{Writes, Wrote}
 pub use Rattle.std.proofs.Common.{Bool, Err, List, None, Option, Some, Vec, [], add-one, ap, append-nil, append_assoc, arith, codes, decimal, drop, false}
-pub use Rattle.std.proofs.Common.{get_or, inl, inr, is_some, length, length-set, length-take-le, max, nat_eq, not, option_and_then, refl, replicate, reverse}
-pub use Rattle.std.proofs.Common.{rules, slice_index_or, slice_set, subst, suc, sym, take, true, zero, ℕ, ⊎_elim}
+pub use Rattle.std.proofs.Common.{get_or, inl, inr, is_some, length, length-set, max, nat_eq, not, option_and_then, refl, replicate, reverse, rules}
+pub use Rattle.std.proofs.Common.{slice_index_or, slice_set, subst, suc, sym, take, true, zero, ℕ, ⊎_elim}
 pub use Rattle.std.proofs.Math.Seq.{take-suc}
 pub use Rattle.std.proofs.lemmas.Bool.{cases_eq, cases_lt}
 pub use Rattle.std.proofs.lemmas.Bool.Decides.{nat_tests}

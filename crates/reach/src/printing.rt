@@ -135,7 +135,7 @@ fn print_members<W: Output>(
 }
 
 // Writes the lines of the capabilities of an object that pull in processes and banks.
-#[tactic(auto, using(crate::proofs::TextLines::lines_all))]
+#[tactic(auto, using(script::proofs::NumberedLines::lines_all))]
 fn print_pulls<W: Output>(
     name: &[u8],
     number: u64,
@@ -206,7 +206,7 @@ fn print_member_pulls<W: Output>(
 }
 
 // Writes what the members pull in.
-#[tactic(auto, using(crate::proofs::TextLines::lines_all))]
+#[tactic(auto, using(script::proofs::NumberedLines::lines_all))]
 fn print_all_pulls<W: Output>(
     objects: &[Object],
     inside: &NumberSet,

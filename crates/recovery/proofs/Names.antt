@@ -5,6 +5,8 @@ pub use Rattle.capability.proofs.Mapped.{kind_map, mapped}
 pub use Rattle.capability.proofs.References.{not_annex, not_node, not_root}
 pub use Rattle.capability.proofs.SnapshotLaws.{only_reads_twice}
 pub use Rattle.capability.proofs.Untouched.{untouched_count}
+pub use Rattle.capability.specs.Consistency.{AreBanked, AreLimited, AreNamed, AreOwned, AreWholeProcesses, IsNamed, IsRootOf, NamesItsRole, annex_in}
+pub use Rattle.capability.specs.Consistency.{is_waiting_root, owner_of, role_at}
 pub use Rattle.capability.specs.Parts.{HaveTheirRoles, OnlyFetches, Parts, frames_of, objects_in}
 pub use Rattle.checkpoint.specs.Opened.{OnlyReads}
 pub use Rattle.checkpoint.specs.Saved.{Holds, SavedFrames, kept_of}
@@ -64,8 +66,7 @@ pub use Rattle.std.proofs.lemmas.Map.Views.{Contains-from_any}
 pub use Rattle.std.specs.List.{All, Contains, list_any, range_with_len}
 pub use Rattle.std.specs.Prelude.{Err, IsErrOf, IsTrue, MatchOption, Ok, Result, nat_eq, nat_lt}
 pub use Rattle.std.specs.Vec.{vec_capacity}
-pub use Rattle.recovery.specs.Consistency.{AreBanked, AreLimited, AreNamed, AreOwned, AreWholeProcesses, IsAboveLimit, IsInconsistent, IsNamed, IsRootOf}
-pub use Rattle.recovery.specs.Consistency.{IsUnbanked, NamesItsRole, Tells, annex_in, is_waiting_root, owner_of, role_at}
+pub use Rattle.recovery.specs.Consistency.{IsAboveLimit, IsInconsistent, IsUnbanked, Tells}
 pub use Rattle.recovery.specs.ConsistencyLaws.{ConsistentIsSound, InconsistentIsUnsound}
 pub use Rattle.recovery.specs.Denotes.{Denotes, DenotesOne, IsSoundSaved, Leaves, saved_of}
 pub use Rattle.recovery.specs.Laws.{DenoteOneSaved, DenotedIsNotBad, DenotedIsOneOf, DenotedIsSound, NotBadIsDenoted}

@@ -3,7 +3,7 @@ use Rattle.recovery.proofs.Names.{nat_tests, ℕ, zero, suc, Bool, true, List, [
 use Rattle.recovery.proofs.Names.{MatchOption, nat_eq, Contains, list_any, range_with_len, eqb-true, eq-eqb, get_or-map-range_with_len}
 use Rattle.recovery.proofs.Names.{length-map-range_with_len, Contains-from_any, Frame, ObjectHeader, Geometry, chain, usage, frame_at, objects_of, AreKeepable}
 use Rattle.recovery.proofs.Names.{is_bank, limit_in, content_at, IsTree, HaveTheirRoles, Parts, frames_of, objects_in, keepable_roles, Unbanked, AreBanked}
-use Rattle.recovery.proofs.Names.{AreLimited, AreOwned, IsAboveLimit, IsUnbanked, owner_of, role_at, or_right}
+use Rattle.recovery.proofs.Names.{AreLimited, AreOwned, owner_of, role_at, IsAboveLimit, IsUnbanked, or_right}
 use Rattle.std.proofs.Common.{◌≡◌, ◌≢◌, ◌↔◌, ◌<◌, ◌≤◌, ◌∷◌, ◌∙◌}
 use Rattle.std.specs.Prelude.{None, Option, Some}
 use Rattle.model.specs.declared.object.Role.TheVariants as role

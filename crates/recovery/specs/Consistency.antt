@@ -1,83 +1,13 @@
--- When frames that can be kept stand for a sound world, and the least of three reasons where they don't.
-use Rattle.recovery.specs.Names.{ℕ, Bool, false, List, Option, None, Some, slice_index, IsTrue, All, Contains, Cap}
-use Rattle.recovery.specs.Names.{Capability, Void, Number, Page, Node, Space, Process, Start, Resume, Bank, Discrim}
-use Rattle.recovery.specs.Names.{Frame, Content, Role, chain, usage, current_count, frame_at, headers, objects_of}
-use Rattle.recovery.specs.Names.{caps_in, is_waiting, limit_in, BadImage, BadCapability, BadProcess, BadBank}
+-- The least of three reasons why frames that can be kept stand for no sound world.
+use Rattle.recovery.specs.Names.{ℕ, List, Option, None, Some, slice_index, Contains, Bank, Frame, chain, usage}
+use Rattle.recovery.specs.Names.{frame_at, objects_of, limit_in, BadImage, BadCapability, BadProcess, BadBank, role_at}
+use Rattle.recovery.specs.Names.{owner_of, AreNamed, AreWholeProcesses, AreBanked}
 use Rattle.std.specs.Prelude.{◌≡◌, ◌≢◌, ◌<◌, ◌≤◌}
-use Rattle.model.specs.declared.object.Content.TheVariants as content
 use Rattle.model.specs.declared.object.Role.TheVariants as role
 use Rattle.recovery.specs.declared.consistency.reason.Unbanked.{Unbanked}
 use Rattle.recovery.specs.declared.consistency.reason.Unbanked.TheVariants as bank
 
--- what an object is, and which bank owns it, by number
-abbrev pub role_at : List Frame → ℕ → Role
-role_at fs n = (frame_at fs n).header.role
-
-abbrev pub owner_of : List Frame → ℕ → ℕ
-owner_of fs n = (frame_at fs n).header.owner
-
--- the annex that the root of a process names
-abbrev pub annex_in : {C : Type 0} → Content C → Option ℕ
-annex_in (content.Root root) = Some root.annex
-annex_in _ = None
-
--- whether a content is the root of a process that waits
-abbrev pub is_waiting_root : {C : Type 0} → Content C → Bool
-is_waiting_root (content.Root root) = is_waiting root.state
-is_waiting_root _ = false
-
--- the object that a capability names is what the capability is for; that of a resume capability waits
-abbrev pub NamesItsRole : List Frame → Capability → Type 0
-NamesItsRole fs Void = Unit {0}
-NamesItsRole fs (Number n) = Unit {0}
-NamesItsRole fs (Page o a) = role_at fs o ≡ role.Page
-NamesItsRole fs (Node o a) = role_at fs o ≡ role.Node
-NamesItsRole fs (Space o h a) = role_at fs o ≡ role.Node
-NamesItsRole fs (Process p) = role_at fs p ≡ role.Root
-NamesItsRole fs (Start p key) = role_at fs p ≡ role.Root
-NamesItsRole fs (Resume p) = IsTrue (is_waiting_root (frame_at fs p).content)
-NamesItsRole fs (Bank b) = role_at fs b ≡ role.Bank
-NamesItsRole fs Discrim = Unit {0}
-
--- a held capability: its count is never above its object's, and where it is live it names what it is for
-pub record IsNamed (fs : List Frame) (c : Cap) : Type 0 where
-  pub current : c.count ≤ current_count (headers fs) c.what
-  pub live : c.count ≡ current_count (headers fs) c.what → NamesItsRole fs c.what
-
--- each capability that is held, by an object's slots, registers or address space
-abbrev pub AreNamed : List Frame → Type 0
-AreNamed fs = (n : ℕ) → All (IsNamed fs) (caps_in (frame_at fs n).content)
-
--- a number is that of a root whose annex is another number
-abbrev pub IsRootOf : List Frame → ℕ → ℕ → Type 0
-IsRootOf fs p a = annex_in (frame_at fs p).content ≡ Some a
-
--- an annex that belongs to the bank that owns the root
-abbrev pub IsAnnexFor : List Frame → ℕ → ℕ → Type 0
-IsAnnexFor fs p a = (role_at fs a ≡ role.Annex) × (owner_of fs a ≡ owner_of fs p)
-
--- each process is whole (KeyKOS: domains): a root has an annex with its owner, and an annex has one root
-pub record AreWholeProcesses (fs : List Frame) : Type 0 where
-  pub annexes : (p a : ℕ) → IsRootOf fs p a → IsAnnexFor fs p a
-  pub one_root : (p q a : ℕ) → IsRootOf fs p a → IsRootOf fs q a → p ≡ q
-  pub some_root : (a : ℕ) → role_at fs a ≡ role.Annex → (p : ℕ) × IsRootOf fs p a
-
--- each object is owned by a bank, and the banks are a tree below number 0, with at most 16 in a chain
-pub record AreOwned (fs : List Frame) : Type 0 where
-  pub prime : (role_at fs 0 ≡ role.Bank) × (owner_of fs 0 ≡ 0)
-  pub owners : (n : ℕ) → role_at fs n ≢ role.Free → role_at fs (owner_of fs n) ≡ role.Bank
-  pub chains : (b : ℕ) → role_at fs b ≡ role.Bank → Contains (chain (objects_of fs) b) 0
-
--- no bank accounts for more than its limit
-abbrev pub AreLimited : List Frame → Type 0
-AreLimited fs = (b : ℕ) → role_at fs b ≡ role.Bank → usage (objects_of fs) b ≤ limit_in (frame_at fs b).content
-
--- banks as they must be
-pub record AreBanked (fs : List Frame) : Type 0 where
-  pub owned : AreOwned fs
-  pub limited : AreLimited fs
-
--- why they aren't
+-- why banks aren't as they must be
 abbrev pub IsUnbanked : List Frame → Unbanked → Type 0
 IsUnbanked fs bank.Prime = (role_at fs 0 ≡ role.Bank) × (owner_of fs 0 ≡ 0) → ⊥
 IsUnbanked fs (bank.Owner object owner) = (role_at fs object ≢ role.Free) × (owner_of fs object ≡ owner) ×

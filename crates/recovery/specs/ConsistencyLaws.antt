@@ -1,7 +1,8 @@
 -- Consistent frames stand for a sound world, and inconsistent ones don't.
-use Rattle.recovery.specs.Names.{ℕ, List, Frame, Geometry, AreKeepable, IsSoundFrames, BadImage}
+use Rattle.recovery.specs.Names.{ℕ, List, Frame, Geometry, AreKeepable, IsSoundFrames, BadImage, AreBanked, AreNamed}
+use Rattle.recovery.specs.Names.{AreWholeProcesses}
 use Rattle.std.specs.Prelude.{◌^◌, ◌≤◌}
-use Rattle.recovery.specs.Consistency.{AreBanked, AreNamed, AreWholeProcesses, IsInconsistent}
+use Rattle.recovery.specs.Consistency.{IsInconsistent}
 
 -- frames that can be kept, and for which no reason holds, are sound
 abbrev pub ConsistentIsSound : Type 0

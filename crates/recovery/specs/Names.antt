@@ -1,4 +1,6 @@
 -- The names of other crates that the definitions here cite.
+pub use Rattle.capability.specs.Consistency.{AreBanked, AreNamed, AreWholeProcesses, IsAnnexFor, IsRootOf, owner_of}
+pub use Rattle.capability.specs.Consistency.{role_at}
 pub use Rattle.capability.specs.Parts.{Parts, frames_of, objects_in}
 pub use Rattle.checkpoint.specs.Opened.{OnlyReads}
 pub use Rattle.checkpoint.specs.Saved.{Holds, SavedFrames}
@@ -12,21 +14,19 @@ pub use Rattle.layout.specs.declared.bad_image.BadImage.{BadImage}
 pub use Rattle.layout.specs.declared.bad_image.BadImage.TheVariants.{BadBank, BadCapability, BadProcess}
 pub use Rattle.layout.specs.declared.open_fault.OpenFault.{OpenFault}
 unfoldable pub use Rattle.model.specs.Bank.{chain, usage}
-pub use Rattle.model.specs.Frame.{current_count, frame_at, headers}
+pub use Rattle.model.specs.Frame.{frame_at}
 unfoldable pub use Rattle.model.specs.Frame.{objects_of}
-pub use Rattle.model.specs.Keepable.{AreKeepable, IsSoundFrames, caps_in, world_at}
+pub use Rattle.model.specs.Keepable.{AreKeepable, IsSoundFrames, world_at}
 pub use Rattle.model.specs.Machine.{Frozen, Running, Saved, opened}
 pub use Rattle.model.specs.Object.{is_waiting, limit_in}
 pub use Rattle.model.specs.Sound.{IsSound}
-pub use Rattle.model.specs.declared.capability.Cap.{Cap}
 pub use Rattle.model.specs.declared.capability.Capability.{Capability}
-pub use Rattle.model.specs.declared.capability.Capability.TheVariants.{Bank, Discrim, Node, Number, Page, Process}
-pub use Rattle.model.specs.declared.capability.Capability.TheVariants.{Resume, Space, Start, Void}
+pub use Rattle.model.specs.declared.capability.Capability.TheVariants.{Bank, Node, Page, Process, Resume, Space, Start}
 pub use Rattle.model.specs.declared.frame.Frame.{Frame}
 pub use Rattle.model.specs.declared.geometry.Geometry.{Geometry}
 pub use Rattle.model.specs.declared.object.Content.{Content}
 pub use Rattle.model.specs.declared.object.Role.{Role}
 pub use Rattle.space_bank.specs.Banks.{AreCounted, BanksState}
-pub use Rattle.std.specs.List.{All, Contains, range_with_len}
-pub use Rattle.std.specs.Prelude.{Bool, IsTrue, List, None, Option, Some, [], false, length, map, not, slice_index}
+pub use Rattle.std.specs.List.{Contains, range_with_len}
+pub use Rattle.std.specs.Prelude.{Bool, List, None, Option, Some, [], false, length, map, not, slice_index}
 pub use Rattle.std.specs.Prelude.{slice_index_or, slice_set, true, ℕ}

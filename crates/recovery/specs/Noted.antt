@@ -1,10 +1,9 @@
 -- What is noted of the roots of processes, so that they needn't be fetched again.
 use Rattle.recovery.specs.Names.{ℕ, Bool, true, false, List, Option, None, Some, length, slice_index_or, slice_set}
-use Rattle.recovery.specs.Names.{Frame, Content, frame_at, is_waiting}
+use Rattle.recovery.specs.Names.{Frame, Content, frame_at, is_waiting, IsAnnexFor, IsRootOf}
 use Rattle.std.specs.Prelude.{◌≡◌, ◌<◌}
 use Rattle.model.specs.declared.object.Content.TheVariants as content
 use Rattle.recovery.specs.declared.consistency.processes.Noted.{Noted}
-use Rattle.recovery.specs.Consistency.{IsAnnexFor, IsRootOf}
 
 -- what is noted of a content: whether a process waits, and its annex
 abbrev pub noted_in : {C : Type 0} → Content C → Option Noted

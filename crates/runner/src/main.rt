@@ -4,18 +4,21 @@
 ghost use Rattle.std.specs.Prelude.{◌≡◌, IfOk};
 ghost use Rattle.devices.specs.FileDevice.{file_disk};
 
+mod query;
+
+use crate::query::{Check, Info, Query, Reach};
 use checkpoint::ObjectStore;
 use command_line::{Job, JobFault, Script, job};
+use description::Sizes;
 use device::MAX_SECTORS;
 use devices::{FileDevice, FileFault, Fuse};
 use image_builder::{Blueprint, OldImage};
 use jobs::{
-    Done, Fault, Focus, ShellInput, Sizes, build_image, check_image, describe_image, draw_image,
-    explain_description, explain_image, finish, info_image, reach_image, run_image, run_shell,
-    run_traced, upgrade_opened,
+    Fault, ShellInput, build_image, finish, run_image, run_shell, run_traced, upgrade_opened,
 };
 use migrator::WholeStore;
 use object_cache::{BoundedCache, Capacity, PlainStore};
+use queries::{Focus, explain_description, explain_image};
 use runs::{ScriptReader, TraceOptions, Tracer};
 use script::{BufferedOutput, CountedWriter};
 use std::alloc::Global;
@@ -297,56 +300,16 @@ fn upgrade<S: WholeStore<FileDevice>>(
     Ok(upgrade_opened(rt.alloc(), image, &mut upgraded, output, errors))
 }
 
-// What a command asks about an image that it only reads.
-#[derive(Clone, Copy)]
-enum Query<'w> {
-    Check,
-    Describe(Sizes),
-    Draw(Focus),
-    Info,
-    Reach(&'w [u64], Option<u64>),
-}
-
-// Answers a query about the image on a device. All but a check open it by a store of this kind.
-fn answer<S: WholeStore<FileDevice>>(
-    alloc: Global,
-    query: Query<'_>,
-    device: FileDevice,
-    setting: S::Setting,
-    stdio: &mut Stdio,
-) -> Done<FileDevice> {
-    let Stdio { output, errors } = stdio;
-    match query {
-        Query::Check => {
-            // A check fetches one object at a time.
-            let Some(least) = Capacity::new(8) else {
-                unreachable!()
-            };
-            check_image::<_, BoundedCache<_>, _, _>(alloc, device, least, output, errors)
-        }
-        Query::Describe(sizes) => {
-            describe_image::<_, S, _, _>(alloc, device, setting, sizes, output, errors)
-        }
-        Query::Draw(focus) => draw_image::<_, S, _, _>(
-            alloc, device, setting, focus, output, errors,
-        ),
-        Query::Info => info_image::<_, S, _, _>(alloc, device, setting, output, errors),
-        Query::Reach(processes, shows) => {
-            reach_image::<_, S, _, _>(alloc, device, setting, processes, shows, output, errors)
-        }
-    }
-}
-
 // Answers a query about an image, and gives the status.
-fn inspect<S: WholeStore<FileDevice>>(
+fn inspect<S: WholeStore<FileDevice>, Q: Query + Drop>(
     rt: &HostRuntime,
     image: &str,
-    query: Query<'_>,
+    query: Q,
     setting: S::Setting,
     stdio: &mut Stdio,
 ) -> Result<u8, Fault> {
     let device = open_to_read(rt, image)?;
-    Ok(answer::<S>(rt.alloc(), query, device, setting, stdio).status)
+    Ok(query.answer::<S>(rt.alloc(), device, setting, stdio).status)
 }
 
 // How a script is run by these options.
@@ -458,22 +421,25 @@ fn serve<S: WholeStore<FileDevice>>(
         Job::Shell { image, cache } => {
             open_image_and_run(rt, image, &Script::Input, *cache, Mode::Shell, None, stdio)
         }
-        Job::Check { image } => inspect::<S>(rt, image, Query::Check, setting, stdio),
+        Job::Check { image } => inspect::<S, _>(rt, image, Check, setting, stdio),
         Job::Upgrade { old, new } => upgrade::<S>(rt, old, new, setting, stdio),
         Job::Describe { image, sizes } => {
-            inspect::<S>(rt, image, Query::Describe(sizes_of(sizes)), setting, stdio)
+            inspect::<S, _>(rt, image, sizes_of(sizes), setting, stdio)
         }
         Job::Draw { image, from, to } => {
             let (from, to) = (*from, *to);
-            inspect::<S>(rt, image, Query::Draw(Focus { from, to }), setting, stdio)
+            inspect::<S, _>(rt, image, Focus { from, to }, setting, stdio)
         }
         Job::Explain { file } => explain::<S>(rt, file, setting, stdio),
-        Job::Info { image } => inspect::<S>(rt, image, Query::Info, setting, stdio),
+        Job::Info { image } => inspect::<S, _>(rt, image, Info, setting, stdio),
         Job::Reach {
             image,
             processes,
             shows,
-        } => inspect::<S>(rt, image, Query::Reach(processes, *shows), setting, stdio),
+        } => {
+            let (processes, shows) = (processes.as_slice(), *shows);
+            inspect::<S, _>(rt, image, Reach { processes, shows }, setting, stdio)
+        }
     }
 }
 

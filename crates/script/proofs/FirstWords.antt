@@ -1,6 +1,6 @@
 -- The first word of a text, up to a space or the end.
-use Rattle.script.proofs.Names.{ℕ, Bool, List, length, get_or, take, inl, inr, arith, cases_lt, nat_tests, get_or-take, length-take-le, take-take}
-use Rattle.script.proofs.Names.{fails_before_first, passes_at_first, prefix_len-le-length, first_end, first_word}
+use Rattle.script.proofs.Names.{ℕ, Bool, List, length, get_or, take, inl, inr, arith, cases_lt, nat_tests, get_or-take, take-take, fails_before_first}
+use Rattle.script.proofs.Names.{passes_at_first, prefix_len-le-length, first_end, first_word, length-take-le}
 use Rattle.std.proofs.Common.{◌≡◌, ◌≢◌, ◌<◌, ◌≤◌, ◌==◌}
 
 abbrev is_space : ℕ → Bool

@@ -5,6 +5,7 @@ mod Commands
 mod Digits
 mod FirstWords
 mod LineFaults
+pub mod NumberedLines
 pub mod Fronts
 mod Numbers
 mod ShortInvocations

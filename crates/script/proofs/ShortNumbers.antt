@@ -1,7 +1,7 @@
 -- A number at a place of a text, with a space behind it or at the end.
 use Rattle.script.proofs.Names.{ℕ, List, [], Option, Some, IfSome, length, get_or, take, drop, decimal, refl, sym, ap, subst, arith, IsInRange, AllDigits}
-use Rattle.script.proofs.Names.{digits_value, nat_tests, get_or-take, get_or-drop, take_all, length-drop, drop-drop, length-take-le, position_or_len_is}
-use Rattle.script.proofs.Names.{digit_at, first_end, first_word, number_at, words_of, digits_value_short}
+use Rattle.script.proofs.Names.{digits_value, nat_tests, get_or-take, get_or-drop, take_all, length-drop, drop-drop, position_or_len_is, digit_at, first_end}
+use Rattle.script.proofs.Names.{first_word, number_at, words_of, digits_value_short, length-take-le}
 use Rattle.std.proofs.Common.{◌≡◌, ◌<◌, ◌≤◌, ◌^◌, ◌+◌, ◌*◌, ◌-◌, ◌==◌, ◌∙◌}
 use Rattle.script.proofs.Commands.{number_gives}
 use Rattle.script.proofs.Numbers.{digits_are_decimal, own, value_more}

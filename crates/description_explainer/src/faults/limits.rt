@@ -1,12 +1,12 @@
 // Which size of a description no image has.
 ghost use Rattle.std.specs.Prelude.{◌≡◌, ◌+◌, ◌<◌, ◌≤◌, ◌↔◌, length, map, IsTrue, MatchOption};
 ghost use Rattle.layout.specs.Superblock.{Cover, IsGeometry, IsNext};
-ghost use Rattle.image_writer.specs.Laid.{MayBeLaid, placed};
+ghost use Rattle.home_ranges.specs.Laid.{MayBeLaid, placed};
 ghost use Rattle.model.specs.Sound.{object_count};
 ghost use Rattle.description_explainer.specs.Broken.{BreaksGeometry, BreaksRanges, GoesOn};
 
 use crate::faults::place::Limit;
-use image_writer::NumberRange;
+use home_ranges::NumberRange;
 use layout::{MAX_LOG, MAX_RANGES};
 use model::Geometry;
 

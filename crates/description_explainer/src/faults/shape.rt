@@ -21,7 +21,7 @@ use description::{
     BankEntry, FromValue, NodeEntry, PageEntry, ProcessEntry, SlotEntry, WordEntry, array_of,
     four_or_zeros, may_have_list, table_of,
 };
-use image_writer::NumberRange;
+use home_ranges::NumberRange;
 use toml::{Table, Value};
 
 // Whether what stands at a key, or its being missing, says a value of its type.

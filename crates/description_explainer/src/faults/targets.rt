@@ -4,7 +4,7 @@ ghost use Rattle.std.specs.List.{All};
 ghost use Rattle.model.specs.declared.capability.Capability.{Capability};
 ghost use Rattle.capability.specs.Parts.{frames_of};
 ghost use Rattle.capability.specs.Plain.{parts_of};
-ghost use Rattle.recovery.specs.Consistency.{NamesItsRole};
+ghost use Rattle.capability.specs.Consistency.{NamesItsRole};
 ghost use Rattle.recovery.specs.Noted.{AreNoted};
 ghost use Rattle.model.specs.Keepable.{IsTarget};
 ghost use Rattle.description_explainer.specs.FaultOutcomes.{AllHave, AllIn, AllOfProcess, IfNamed, OneLacks, OneOf};

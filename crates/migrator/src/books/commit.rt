@@ -23,7 +23,7 @@ impl Books {
         }
     }
 
-    /// Commits the checkpoint on its way, of which all objects were put.
+    /// Commits the running checkpoint. All its frames were put.
     pub(crate) fn commit<D: Device>(
         &mut self,
         device: &mut D,

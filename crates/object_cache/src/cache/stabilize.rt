@@ -118,7 +118,7 @@ impl<D: Device> Cache<D> {
         let Some(left) = self.left() else {
             return Err(Refusal::NoCheckpoint);
         };
-        let some = if count < left { count } else { left };
+        let some = count.min(left);
         self.put_some(some)?;
         Ok(left - some)
     }

@@ -29,9 +29,19 @@ impl<D: Device> Cache<D> {
     {
         let Cache {
             durable,
+            table,
+            touched,
+            dirty,
             entries,
+            pending,
+            frozen_headers,
+            staging,
+            scratch,
             ..
         } = self;
+        // Dropped by calls: the drop of each field here would be a step of this proof.
+        drop((table, touched, dirty, pending));
+        drop((frozen_headers, staging, scratch));
         *memory = Some(entries);
         durable
     }

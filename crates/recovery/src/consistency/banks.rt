@@ -5,8 +5,9 @@ ghost use Rattle.model.specs.Bank.{chain};
 ghost use Rattle.model.specs.Frame.{objects_of};
 ghost use Rattle.model.specs.Keepable.{AreKeepable};
 ghost use Rattle.capability.specs.Parts.{OnlyReads, frames_of};
-ghost use Rattle.recovery.specs.Consistency.{AreBanked, AreOwned, IsAboveLimit, IsUnbanked, owner_of};
-ghost use Rattle.recovery.specs.Consistency.{role_at};
+ghost use Rattle.capability.specs.Consistency.{AreBanked, AreOwned, owner_of};
+ghost use Rattle.recovery.specs.Consistency.{IsAboveLimit, IsUnbanked};
+ghost use Rattle.capability.specs.Consistency.{role_at};
 
 use crate::consistency::reason::Unbanked;
 use crate::consistency::table::{has_role, owner};

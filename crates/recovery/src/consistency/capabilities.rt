@@ -5,7 +5,7 @@ ghost use Rattle.model.specs.Capability.{named};
 ghost use Rattle.model.specs.Frame.{frame_at};
 ghost use Rattle.model.specs.Keepable.{AreKeepable, caps_in};
 ghost use Rattle.capability.specs.Parts.{HaveTheirRoles, OnlyReads, frames_of};
-ghost use Rattle.recovery.specs.Consistency.{AreNamed, IsNamed, NamesItsRole};
+ghost use Rattle.capability.specs.Consistency.{AreNamed, IsNamed, NamesItsRole};
 ghost use Rattle.recovery.specs.Noted.{AreNoted};
 ghost use Rattle.recovery.specs.Roles.{role_for};
 

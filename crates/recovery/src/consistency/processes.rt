@@ -4,7 +4,7 @@ ghost use Rattle.model.specs.Frame.{frame_at};
 ghost use Rattle.model.specs.Keepable.{AreKeepable};
 ghost use Rattle.model.specs.Object.{is_waiting as state_waits};
 ghost use Rattle.capability.specs.Parts.{OnlyReads, frames_of};
-ghost use Rattle.recovery.specs.Consistency.{AreWholeProcesses, IsAnnexFor, role_at};
+ghost use Rattle.capability.specs.Consistency.{AreWholeProcesses, IsAnnexFor, role_at};
 ghost use Rattle.recovery.specs.Noted.{AreNoted, AreTaken, is_taken, noted_in, waits_at, IsTaking};
 
 use crate::consistency::table::{has_role, owner};

@@ -1,7 +1,7 @@
 // What the table of headers says of an object, by number. Nothing is fetched.
 ghost use Rattle.std.specs.Prelude.{◌≡◌, ◌↔◌, IsTrue};
 ghost use Rattle.capability.specs.Parts.{frames_of};
-ghost use Rattle.recovery.specs.Consistency.{owner_of, role_at};
+ghost use Rattle.capability.specs.Consistency.{owner_of, role_at};
 
 use capability::Frames;
 use model::Role;

@@ -1,4 +1,4 @@
-use Rattle.capability.proofs.Names.{rules, List, ap, Cap, ObjectHeader, held_at, live_cap, with_held, with_slots_in, Capability, Void, refl, length, get_or, []}
+use Rattle.capability.proofs.Names.{rules, List, ap, refl, length, get_or, [], Cap, ObjectHeader, held_at, live_cap, with_slots_in, with_held, Capability, Void}
 use Rattle.capability.proofs.Names.{map, arith}
 use Rattle.std.proofs.Common.{◌≡◌, ◌∙◌, ◌∷◌}
 use Rattle.capability.proofs.Edits.{edited, slots_edit}

@@ -1,4 +1,4 @@
-use Rattle.capability.proofs.Names.{rules}
+use Rattle.std.proofs.Common.{rules}
 use Rattle.capability.proofs.FrameLists.{no_annex_there}
 use Rattle.capability.proofs.References.{not_annex}
 use Rattle.capability.proofs.view.registers.Goals as goal

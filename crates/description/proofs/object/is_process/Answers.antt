@@ -1,4 +1,4 @@
-use Rattle.description.proofs.Names.{table_view, IsProcess, HasProcessFields}
+use Rattle.description.proofs.Names.{table_view}
 use Rattle.description.proofs.Parts.{no_whole, process_fields, process_said}
 use Rattle.description.proofs.object.is_process.Goals as goal
 

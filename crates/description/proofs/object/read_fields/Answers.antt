@@ -1,4 +1,3 @@
-use Rattle.description.proofs.Names.{table_view, HasProcessFields}
 use Rattle.description.proofs.Parts.{missed}
 use Rattle.description.proofs.object.read_fields.Goals as goal
 

@@ -1,4 +1,3 @@
-use Rattle.description.proofs.Names.{table_view, HasNumberAndOwner}
 use Rattle.description.proofs.Parts.{missed}
 use Rattle.description.proofs.object.read_numbers.Goals as goal
 

@@ -1,4 +1,4 @@
-use Rattle.description.proofs.Names.{slot_held, slots_of}
+use Rattle.description.specs.Laid.{slot_held, slots_of}
 use Rattle.description.proofs.Lists.{each_done}
 use Rattle.description.proofs.objects.slots_of.Goals as goal
 

@@ -1,4 +1,4 @@
-use Rattle.description.proofs.Names.{refl}
+use Rattle.std.proofs.Common.{refl}
 use Rattle.description.proofs.Types.{other_text}
 use Rattle.description.proofs.value.number_in_text.Goals as goal
 

@@ -1,4 +1,4 @@
-use Rattle.image_builder.proofs.Names.{rules, List, length, ap, subst, sym, Geometry, frames_in, LeavesOnly, Entry, Two, IsDirectory, Encodes, SavedState, Plan}
+use Rattle.image_builder.proofs.Names.{rules, List, length, ap, subst, sym, Geometry, frames_in, LeavesOnly, Entry, Two, IsDirectory, Encodes, Plan}
 use Rattle.image_builder.proofs.Names.{SavedFrames, kept_of, laid_again, IsLeftWriting, saved_by, numbered}
 use Rattle.std.proofs.Common.{◌≡◌, ◌∙◌}
 use Rattle.image_builder.proofs.Upgrades.{directory_count, directory_fits, same_state}

@@ -1,5 +1,4 @@
-use Rattle.image_describer.proofs.Names.{moved, moved_slot}
-use Rattle.image_describer.proofs.Pairs.{zip_mapped}
+use Rattle.image_describer.proofs.Names.{moved, moved_slot, zip_mapped}
 use Rattle.image_describer.proofs.growing.move_slots.Goals as goal
 
 pub returns : goal.returns

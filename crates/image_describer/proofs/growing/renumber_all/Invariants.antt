@@ -1,5 +1,4 @@
-use Rattle.image_describer.proofs.Names.{moved}
-use Rattle.image_describer.proofs.Pairs.{ZipBelow}
+use Rattle.image_describer.proofs.Names.{moved, ZipBelow}
 use Rattle.image_describer.proofs.growing.renumber_all.Given as goal
 
 abbrev pub invariant-loop-entry : goal.invariant-loop-entry

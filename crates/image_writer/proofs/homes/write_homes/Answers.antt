@@ -1,4 +1,4 @@
-use Rattle.image_writer.proofs.Names.{arith, nat_tests, rules, inr, home_place, place_length, shape_of, frames_in, places_within, frames_before}
+use Rattle.image_writer.proofs.Names.{arith, rules, inr, nat_tests, home_place, place_length, shape_of, frames_in, places_within, frames_before}
 use Rattle.std.proofs.Common.{◌≡◌, ◌<◌, ◌∙◌}
 use Rattle.image_writer.proofs.ClosedGates.{closed_on, leaves_closed}
 use Rattle.image_writer.proofs.HomeFrames.{is_there, later, one_more, stays_between}

@@ -1,4 +1,4 @@
-use Rattle.image_writer.proofs.Names.{arith, nat_tests, rules, inr, entry_at, place_length, slot_sector}
+use Rattle.image_writer.proofs.Names.{arith, rules, inr, nat_tests, entry_at, place_length, slot_sector}
 use Rattle.std.proofs.Common.{◌≡◌}
 use Rattle.image_writer.proofs.ClosedGates.{closed_on, leaves_closed}
 use Rattle.image_writer.proofs.SlotFrames.{one_more_slot, slot_behind, stays_in_half}

@@ -1,6 +1,6 @@
 use Rattle.jobs.proofs.Names.{refl, Wrote, WroteFront, line_of, BuildsImage, built_text}
 use Rattle.jobs.proofs.BuiltImages.{built_told, refused_cause}
-use Rattle.jobs.proofs.DescribedImages.{text_written}
+use Rattle.jobs.proofs.WrittenTexts.{text_written}
 use Rattle.jobs.proofs.building.build_and_tell.Goals as goal
 
 pub returns-in-Err-clause-built : goal.returns-in-Err-clause-built

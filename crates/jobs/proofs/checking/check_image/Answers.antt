@@ -1,5 +1,5 @@
 use Rattle.jobs.proofs.Names.{Err, refl, Wrote, WroteFront, ChecksImage}
-use Rattle.jobs.proofs.DescribedImages.{text_written}
+use Rattle.jobs.proofs.WrittenTexts.{text_written}
 use Rattle.jobs.proofs.RunImages.{checked}
 use Rattle.jobs.specs.declared.fault.Fault.TheVariants as fault
 use Rattle.jobs.proofs.checking.check_image.Goals as goal

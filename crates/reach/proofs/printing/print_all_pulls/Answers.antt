@@ -1,5 +1,4 @@
-use Rattle.reach.proofs.Names.{wrote_trans, err_from_is_err_and, member_pulls, writes_fail}
-use Rattle.reach.proofs.TextLines.{lines_split, lines_more}
+use Rattle.reach.proofs.Names.{wrote_trans, err_from_is_err_and, member_pulls, writes_fail, lines_split, lines_more}
 use Rattle.reach.proofs.printing.print_all_pulls.Goals as goal
 
 pub returns-in_err-print_member_pulls : goal.returns-in_err-print_member_pulls

@@ -1,5 +1,4 @@
-use Rattle.reach.proofs.Names.{subst, sym, wrote_trans, err_from_is_err_and, Wrote, Void, pull_line, writes_fail}
-use Rattle.reach.proofs.TextLines.{lines_split, lines_more}
+use Rattle.reach.proofs.Names.{subst, sym, wrote_trans, err_from_is_err_and, Wrote, Void, pull_line, writes_fail, lines_split, lines_more}
 use Rattle.reach.proofs.printing.print_pulls.Goals as goal
 
 pub returns-in_err-print_pull : goal.returns-in_err-print_pull

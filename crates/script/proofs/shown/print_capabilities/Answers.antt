@@ -1,6 +1,6 @@
 use Rattle.script.proofs.Names.{subst, sym, arith, err_from_is_err_and, Wrote, Void, capability_line, capability_lines}
 use Rattle.script.proofs.Fronts.{wrote_trans, writes_fail}
-use Rattle.script.proofs.Texts.{lines_split, lines_more, lines_all}
+use Rattle.script.proofs.NumberedLines.{lines_split, lines_more, lines_all}
 use Rattle.script.proofs.shown.print_capabilities.Goals as goal
 
 pub returns-in_err-print_capability : goal.returns-in_err-print_capability

@@ -1,6 +1,6 @@
 use Rattle.script.proofs.Names.{subst, arith, err_from_is_err_and, Wrote, word_line, word_lines}
 use Rattle.script.proofs.Fronts.{wrote_trans, writes_fail}
-use Rattle.script.proofs.Texts.{lines_split, lines_more, lines_all}
+use Rattle.script.proofs.NumberedLines.{lines_split, lines_more, lines_all}
 use Rattle.script.proofs.shown.print_words.Goals as goal
 
 pub returns-in_err-print_word : goal.returns-in_err-print_word

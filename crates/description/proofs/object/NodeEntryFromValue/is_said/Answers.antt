@@ -1,4 +1,4 @@
-use Rattle.description.proofs.Names.{table_view, view, IsNode}
+use Rattle.description.proofs.Names.{table_view}
 use Rattle.description.proofs.Decisions.{table_said}
 use Rattle.description.proofs.Parts.{node_said}
 use Rattle.description.proofs.object.NodeEntryFromValue.is_said.Goals as goal

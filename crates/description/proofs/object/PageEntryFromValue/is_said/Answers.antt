@@ -1,4 +1,4 @@
-use Rattle.description.proofs.Names.{table_view, view, IsPage}
+use Rattle.description.proofs.Names.{table_view}
 use Rattle.description.proofs.Decisions.{table_said}
 use Rattle.description.proofs.Parts.{page_said}
 use Rattle.description.proofs.object.PageEntryFromValue.is_said.Goals as goal

@@ -1,4 +1,4 @@
-use Rattle.description.proofs.Names.{table_view, view, IsProcess}
+use Rattle.description.proofs.Names.{table_view}
 use Rattle.description.proofs.Decisions.{table_said}
 use Rattle.description.proofs.object.ProcessEntryFromValue.is_said.Goals as goal
 

@@ -1,4 +1,4 @@
-use Rattle.description.proofs.Names.{ap, replicate, blank_header, frames_in, rules}
+use Rattle.description.proofs.Names.{ap, replicate, rules, blank_header, frames_in}
 use Rattle.std.proofs.Common.{◌≡◌, ◌∙◌}
 use Rattle.model.specs.declared.object.Content.TheVariants as content
 use Rattle.description.proofs.Worlds.{blank_frames}

@@ -1,4 +1,4 @@
-use Rattle.description_explainer.proofs.Names.{refl}
+use Rattle.std.proofs.Common.{refl}
 use Rattle.std.proofs.Common.{◌∙◌}
 use Rattle.description_explainer.proofs.NumberPlaces.{node_number}
 use Rattle.description_explainer.proofs.faults.numbers.node_named_at.Goals as goal

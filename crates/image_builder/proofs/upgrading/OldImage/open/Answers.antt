@@ -1,4 +1,4 @@
-use Rattle.image_builder.proofs.Names.{IsWhole, subst, sym, ap, SavedFrames, IsSoundSaved, OnlyReads, saved_by, IsOpenedFrom}
+use Rattle.image_builder.proofs.Names.{IsWhole, IsOpenedFrom, subst, sym, ap, SavedFrames, IsSoundSaved, OnlyReads, saved_by}
 use Rattle.std.proofs.Common.{◌∙◌}
 use Rattle.image_builder.proofs.Upgrades.{seen_encodes}
 use Rattle.image_builder.proofs.upgrading.OldImage.open.Goals as goal

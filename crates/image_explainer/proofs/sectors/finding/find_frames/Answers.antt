@@ -1,4 +1,4 @@
-use Rattle.image_explainer.proofs.Names.{IsWholeFrame}
+use Rattle.image_explainer.specs.SectorFinding.{IsWholeFrame}
 use Rattle.image_explainer.proofs.Matching.{below_more}
 use Rattle.image_explainer.proofs.sectors.finding.find_frames.Goals as goal
 

@@ -41,12 +41,14 @@ returns-then-is_full g c =
     let now = evicted r c.args.self.now u c.in-Some.oldest
     (is_least g.D.Device.disk c.self.view_is c.self.invariant c.least.ensures.ordered full c.in-Some.oldest
     (sym c.in-Some.is ∙ c.least.ensures.least)) away stays in
-    search (
-      arith,
-      full,
-      now,
-      away_rest r c.args.self.now u c.in-Some.oldest away stays,
-      subst (λ t. t.staging ≡ None → u.staging ≡ None) seen said.empty,
-      subst (λ t. GoesOnIn g.D.Device.disk t u) seen said.continues,
-      subst (λ t. Counts (g.D.Device.disk t.durable.beneath) (g.D.Device.disk u.durable.beneath) r) seen said.cause,
-    )
+    record {
+      room = now.0;
+      uncached = now.1;
+      least = now.2;
+      stays = now.3;
+      unchanged = λ less. absurd (omega (arith, full, less));
+      rest = away_rest r c.args.self.now u c.in-Some.oldest away stays;
+      empty = subst (λ t. t.staging ≡ None → u.staging ≡ None) seen said.empty;
+      continues = subst (λ t. GoesOnIn g.D.Device.disk t u) seen said.continues;
+      cause = subst (λ t. Counts (g.D.Device.disk t.durable.beneath) (g.D.Device.disk u.durable.beneath) r) seen said.cause;
+    }

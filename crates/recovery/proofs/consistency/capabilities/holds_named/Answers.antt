@@ -1,4 +1,4 @@
-use Rattle.recovery.proofs.Names.{arith, nat_tests, rules, not_annex, not_node, not_root}
+use Rattle.recovery.proofs.Names.{arith, rules, nat_tests, not_annex, not_node, not_root}
 use Rattle.recovery.proofs.Named.{holds_none, other_named, space_named}
 use Rattle.recovery.proofs.Tables.{content_read}
 use Rattle.recovery.proofs.consistency.capabilities.holds_named.Goals as goal

@@ -1,0 +1,52 @@
+// The sizes of an image.
+ghost use Rattle.std.specs.Prelude.{◌≡◌, unwrap_or};
+ghost use Rattle.description.specs.Sizes.{grown_geometry};
+
+use model::Geometry;
+
+/// The sizes that an image is to have. `None` keeps the image's own.
+#[derive(Clone, Copy)]
+pub struct Sizes {
+    /// The number of nodes.
+    pub nodes: Option<u64>,
+    /// The number of pages.
+    pub pages: Option<u64>,
+    /// The number of slots in one half of the log.
+    pub log: Option<u64>,
+}
+
+/// Why a description isn't renumbered for other sizes.
+#[derive(Clone, Copy)]
+pub enum GrowthFault {
+    /// No image has these sizes.
+    Limits,
+    /// A bank, a process or a node has a number that is none of a node any more.
+    Nodes,
+    /// There are fewer pages than an object needs.
+    Pages,
+    /// Memory ran out.
+    NoMemory,
+}
+
+// A size, or the image's own.
+fn size_or(size: Option<u64>, own: u64) -> u64
+    ensures { result ≡ unwrap_or size own }
+{
+    match size {
+        Some(size) => size,
+        None => own,
+    }
+}
+
+impl Sizes {
+    /// These sizes, and an image's own where there are none.
+    pub fn over(self, own: Geometry) -> Geometry
+        ensures { result ≡ grown_geometry own self }
+    {
+        Geometry {
+            nodes: size_or(self.nodes, own.nodes),
+            pages: size_or(self.pages, own.pages),
+            log: size_or(self.log, own.log),
+        }
+    }
+}

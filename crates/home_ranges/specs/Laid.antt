@@ -1,0 +1,46 @@
+-- Where the parts of an image lie whose ranges follow one another.
+use Rattle.home_ranges.specs.Names.{ℕ, List, [], length, map, Geometry, HomeRange, Version, Plan, plan_of, IsGeometry}
+use Rattle.home_ranges.specs.Names.{Cover, half_extent, range_extent}
+use Rattle.std.specs.Prelude.{◌+◌, ◌≤◌, ◌∷◌}
+use Rattle.home_ranges.specs.declared.number_range.NumberRange.{NumberRange}
+
+-- a range with its frames from a sector on
+abbrev pub placed : ℕ → NumberRange → HomeRange
+placed at r = record { first = r.first; count = r.count; sector = at }
+
+-- how many sectors its frames take, wherever they lie, and how many a half of the log
+abbrev pub sectors_of : Version → Geometry → NumberRange → ℕ
+sectors_of v g r = (range_extent v g (placed 0 r)).length
+
+abbrev pub half_length : Geometry → ℕ
+half_length g = (half_extent g 0).length
+
+-- ranges whose frames lie one behind the other from a sector on
+unfoldable pub laid : Version → Geometry → ℕ → List NumberRange → List HomeRange
+laid v g at [] = []
+laid v g at (r ∷ rs) = placed at r ∷ laid v g (at + sectors_of v g r) rs
+
+-- the sector behind them
+unfoldable pub behind : Version → Geometry → ℕ → List NumberRange → ℕ
+behind v g at [] = at
+behind v g at (r ∷ rs) = behind v g (at + sectors_of v g r) rs
+
+-- the plan with ranges from sector 5 on, behind them the halves of the log, and nothing behind those
+abbrev pub plan_from : Version → Geometry → List NumberRange → Plan
+plan_from v g rs = plan_of v g (laid v g 5 rs) (behind v g 5 rs) (behind v g 5 rs + half_length g)
+    (behind v g 5 rs + half_length g + half_length g)
+
+-- the numbers of a home range
+abbrev pub numbers_of : HomeRange → NumberRange
+numbers_of r = record { first = r.first; count = r.count }
+
+-- the plan of a version with the objects and the ranges of another
+abbrev pub laid_again : Version → Plan → Plan
+laid_again v p = plan_from v p.geometry (map numbers_of p.ranges)
+
+-- what the format requires of the numbers, whatever the version and wherever the ranges lie
+pub record MayBeLaid (g : Geometry) (rs : List NumberRange) : Type 0 where
+  pub geometry : IsGeometry g
+  pub some : 1 ≤ length rs
+  pub few : length rs ≤ 8
+  pub cover : Cover g 0 (map (placed 0) rs)

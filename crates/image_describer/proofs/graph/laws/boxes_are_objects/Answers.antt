@@ -1,5 +1,0 @@
-use Rattle.image_describer.proofs.Boxes.{boxes_are_objects}
-use Rattle.image_describer.proofs.graph.laws.boxes_are_objects.Goals as goal
-
-pub returns : goal.returns
-returns c = boxes_are_objects

@@ -1,0 +1,4 @@
+pub mod Names
+pub mod Graph
+pub mod Laws
+pub mod Part

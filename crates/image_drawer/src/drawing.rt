@@ -1,0 +1,91 @@
+// The graph of a description.
+ghost use Rattle.std.specs.List.{flat_map};
+ghost use Rattle.script.specs.Writing.{Writes};
+ghost use Rattle.image_drawer.specs.Graph.{arrow_line, arrow_lines, box_lines, graph_text, owner_line, owner_lines};
+
+use crate::part::Part;
+use description::Description;
+use script::{Output, RunFault};
+
+// Writes the boxes of parts, in order.
+fn draw_boxes<P: Part, W: Output>(parts: &[P], writer: &mut W) -> Result<(), RunFault>
+    ensures { Writes (W.written writer.old) (W.written writer.new) result
+        (flat_map P.box_of parts.now) }
+{
+    for part in parts {
+        part.draw_box(writer)?;
+    }
+    Ok(())
+}
+
+// Writes who owns them.
+fn draw_owners<P: Part, W: Output>(parts: &[P], writer: &mut W) -> Result<(), RunFault>
+    ensures { Writes (W.written writer.old) (W.written writer.new) result
+        (flat_map owner_line (flat_map P.owner_of parts.now)) }
+{
+    for part in parts {
+        part.draw_owner(writer)?;
+    }
+    Ok(())
+}
+
+// Writes their arrows.
+fn draw_arrows<P: Part, W: Output>(parts: &[P], writer: &mut W) -> Result<(), RunFault>
+    ensures { Writes (W.written writer.old) (W.written writer.new) result
+        (flat_map arrow_line (flat_map P.arrows_of parts.now)) }
+{
+    for part in parts {
+        part.draw_arrows(writer)?;
+    }
+    Ok(())
+}
+
+// Writes all boxes.
+fn draw_all_boxes<W: Output>(description: &Description, writer: &mut W) -> Result<(), RunFault>
+    ensures { Writes (W.written writer.old) (W.written writer.new) result
+        (box_lines description.now) }
+{
+    draw_boxes(description.banks.as_slice(), writer)?;
+    draw_boxes(description.processes.as_slice(), writer)?;
+    draw_boxes(description.nodes.as_slice(), writer)?;
+    draw_boxes(description.pages.as_slice(), writer)
+}
+
+// Writes who owns what.
+fn draw_all_owners<W: Output>(description: &Description, writer: &mut W) -> Result<(), RunFault>
+    ensures { Writes (W.written writer.old) (W.written writer.new) result
+        (owner_lines description.now) }
+{
+    draw_owners(description.banks.as_slice(), writer)?;
+    draw_owners(description.processes.as_slice(), writer)?;
+    draw_owners(description.nodes.as_slice(), writer)?;
+    draw_owners(description.pages.as_slice(), writer)
+}
+
+// Writes all arrows.
+fn draw_all_arrows<W: Output>(description: &Description, writer: &mut W) -> Result<(), RunFault>
+    ensures { Writes (W.written writer.old) (W.written writer.new) result
+        (arrow_lines description.now) }
+{
+    draw_arrows(description.processes.as_slice(), writer)?;
+    draw_arrows(description.nodes.as_slice(), writer)
+}
+
+/// Writes the graph of a description in DOT: a box for each object that it names, in the cluster of
+/// the bank that owns it, and an arrow for each capability that names an object.
+///
+/// `Err(RunFault::Write)` where the writer fails or takes nothing: what was written is then a
+/// beginning of that text. It takes no memory.
+pub fn draw<W: Output>(description: &Description, writer: &mut W) -> Result<(), RunFault>
+    ensures { Writes (W.written writer.old) (W.written writer.new) result
+        (graph_text description.now) }
+{
+    writer.write_fully(
+        b"digraph eros {\ngraph [rankdir=LR newrank=true]\nnode [fontsize=10 height=0 margin=0.05]\n\
+          edge [fontsize=8]\n",
+    )?;
+    draw_all_boxes(description, writer)?;
+    draw_all_owners(description, writer)?;
+    draw_all_arrows(description, writer)?;
+    writer.write_fully(b"}\n")
+}

@@ -1,6 +1,0 @@
-use Rattle.jobs.proofs.Names.{map, take, range_line}
-use Rattle.std.proofs.Common.{◌≡◌, ◌++◌}
-use Rattle.jobs.proofs.info.push_ranges.Given as goal
-
-abbrev pub invariant-loop-range : goal.invariant-loop-range
-invariant-loop-range l = l.lines.items ≡ l.fn.lines.items ++ map range_line (take l.range-index l.ranges)

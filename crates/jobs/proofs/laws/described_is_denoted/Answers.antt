@@ -1,5 +1,0 @@
-use Rattle.jobs.proofs.DescribedImages.{described_is_denoted}
-use Rattle.jobs.proofs.laws.described_is_denoted.Goals as goal
-
-pub returns : goal.returns
-returns c = described_is_denoted

@@ -1,0 +1,51 @@
+-- A description of an image, renumbered for other sizes.
+use Rattle.queries.specs.Names.{Written, Wrote, ℕ, List, Some, Result, Ok, Err, Members, parse_document, IsGeometry}
+use Rattle.queries.specs.Names.{WroteFront, Description, IsDescription, Sizes, IsNotRenumbered, IsRenumbered}
+use Rattle.queries.specs.Names.{NamesNodes, NamesPages, grown_geometry, description_text, Fault}
+use Rattle.std.specs.Prelude.{◌≡◌}
+use Rattle.jobs.specs.declared.fault.Fault.TheVariants as fault
+
+-- a text is that of a description, and is read as it
+pub record IsSpelling (d : Description) (text : List ℕ) : Type 0 where
+  pub table : Members
+  pub read : parse_document text ≡ Some table
+  pub said : IsDescription table d
+  pub spelled : text ≡ description_text d
+
+abbrev pub TellsText : Description → (List ℕ → Type 0) → Type 0
+TellsText d Reported = (text : List ℕ) × IsSpelling d text × Reported text
+
+-- the text of a description was written; or it couldn't be written whole; or memory ran out
+abbrev pub TellsDescription : Description → Written → Written → Result (Unit {0}) Fault → Type 0
+TellsDescription d output output_left (Ok a) = TellsText d (Wrote output output_left)
+TellsDescription d output output_left (Err fault.CannotWriteOutput) = TellsText d (WroteFront output output_left)
+TellsDescription d output output_left (Err fault.NoMemory) = output_left ≡ output
+TellsDescription d output output_left (Err _) = ⊥
+
+-- a description is another's, renumbered for sizes that have a number for each object
+pub record IsGrownFrom (sizes : Sizes) (d e : Description) : Type 0 where
+  pub geometry : e.geometry ≡ grown_geometry d.geometry sizes
+  pub limits : IsGeometry e.geometry
+  pub same : IsRenumbered d e
+  pub nodes : NamesNodes e.geometry.nodes d
+  pub pages : NamesPages d.geometry e.geometry d
+
+-- so it was; or there are no such sizes; or memory ran out
+abbrev pub GrowsDescription : Sizes → Description → Description → Result (Unit {0}) Fault → Type 0
+GrowsDescription sizes d e (Ok a) = IsGrownFrom sizes d e
+GrowsDescription sizes d e (Err (fault.Sizes why)) = IsNotRenumbered d (grown_geometry d.geometry sizes) why
+GrowsDescription sizes d e (Err fault.NoMemory) = Unit {0}
+GrowsDescription sizes d e (Err _) = ⊥
+
+abbrev pub TellsGrownText : Description → Sizes → (List ℕ → Type 0) → Type 0
+TellsGrownText d sizes Reported = (e : Description) × IsGrownFrom sizes d e × TellsText e Reported
+
+-- the text of a renumbered description was written; or a fault
+abbrev pub TellsGrown : Description → Sizes → Written → Written → Result (Unit {0}) Fault → Type 0
+TellsGrown d sizes output output_left (Ok a) = TellsGrownText d sizes (Wrote output output_left)
+TellsGrown d sizes output output_left (Err fault.CannotWriteOutput) = TellsGrownText d sizes
+    (WroteFront output output_left)
+TellsGrown d sizes output output_left (Err (fault.Sizes why)) = IsNotRenumbered d (grown_geometry d.geometry sizes) why
+    × (output_left ≡ output)
+TellsGrown d sizes output output_left (Err fault.NoMemory) = output_left ≡ output
+TellsGrown d sizes output output_left (Err _) = ⊥

@@ -1,0 +1,9 @@
+pub mod Names
+pub mod Diagnosed
+pub mod Drawing
+pub mod Explained
+pub mod Growing
+pub mod Images
+pub mod Info
+pub mod Laws
+pub mod Reaching

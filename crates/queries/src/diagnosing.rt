@@ -1,0 +1,69 @@
+// The command that says why an image is refused.
+ghost use Rattle.std.specs.Prelude.{◌≡◌, ◌≤◌, Option, Result, length};
+ghost use Rattle.image_explainer.specs.declared.fault.ImageFault.{ImageFault};
+ghost use Rattle.queries.specs.Diagnosed.{ExplainsImage, explained_status, explanation_text, without_fault};
+ghost use Rattle.jobs.specs.Faults.{IsReported};
+
+use device::Device;
+use image_explainer::{ImageFault, explain};
+use jobs::{Done, Fault, status};
+use migrator::WholeStore;
+use script::{LineText, Output};
+use std::alloc::Global;
+
+// The line about an image.
+fn explanation_line(found: Option<ImageFault>) -> LineText
+    ensures text { result ≡ explanation_text found }
+    ensures short { length result ≤ 260 }
+{
+    match found {
+        None => LineText::new(b"ok"),
+        Some(fault) => fault.line(),
+    }
+}
+
+// Opens a device, writes why its image is refused, if it is, and gives the device back.
+fn explain_and_tell<D: Device, S: WholeStore<D>, W: Output>(
+    alloc: Global,
+    device: D,
+    setting: S::Setting,
+    writer: &mut W,
+) -> (Result<Option<ImageFault>, Fault>, D)
+    ensures { ExplainsImage D.disk device result.1 (W.written writer.old) (W.written writer.new) result.0 }
+{
+    let (explained, device) = explain::<D, S>(alloc, device, setting);
+    match explained {
+        Ok(found) => match explanation_line(found).write_to(writer) {
+            Ok(()) => (Ok(found), device),
+            Err(_) => (Err(Fault::CannotWriteOutput), device),
+        },
+        Err(fault) => (Err(Fault::Open(fault)), device),
+    }
+}
+
+/// Opens a device as a run does, and writes `ok` if a run opens it; then the status is 0. If a run refuses
+/// the image, it writes one line with the object, slot, field or sector that breaks a rule, what is wrong
+/// there, and `(bad image K)` with the reason that `check` answers; then the status is 1. After a fault one
+/// line is written to `errors`, and the status is 1: `device failed`, `no memory`, or `cannot write output`
+/// where the writer fails.
+///
+/// The device is returned. Nothing is written to it at any moment.
+pub fn explain_image<D: Device, S: WholeStore<D>, W: Output, V: Output>(
+    alloc: Global,
+    device: D,
+    setting: S::Setting,
+    writer: &mut W,
+    errors: &mut V,
+) -> Done<D>
+    ensures { (outcome : Result (Option ImageFault) Fault) × (result.status ≡ explained_status outcome)
+        × IsReported (without_fault outcome) (V.written errors.old) (V.written errors.new)
+        × ExplainsImage D.disk device result.device (W.written writer.old) (W.written writer.new) outcome }
+{
+    let (outcome, device) = explain_and_tell::<D, S, W>(alloc, device, setting, writer);
+    let status = match outcome {
+        Ok(None) => 0,
+        Ok(Some(_)) => 1,
+        Err(fault) => status(Err(fault), errors),
+    };
+    Done { status, device }
+}

@@ -1,0 +1,143 @@
+// The command that draws what an image holds.
+ghost use Rattle.std.specs.Prelude.{◌≡◌, ◌<◌, ◌^◌, Result};
+ghost use Rattle.model.specs.Sound.{object_count};
+ghost use Rattle.description.specs.Described.{HasNumbers};
+ghost use Rattle.reach.specs.Reached.{AreSoundObjects};
+ghost use Rattle.queries.specs.Drawing.{DrawsImage, DrawsPart, KeepsHolders, KeepsPart, KeepsReached};
+ghost use Rattle.jobs.specs.Faults.{IsReported, status_of};
+
+use crate::saved::read_saved;
+use collections::NumberSet;
+use description::Description;
+use device::Device;
+use image_drawer::{draw, has_box, holders, restrict};
+use jobs::{Done, Fault, of_write};
+use migrator::WholeStore;
+use model::Object;
+use reach::{missing_process, reach};
+use script::Output;
+use std::alloc::Global;
+
+/// Which part of what an image saves is drawn. All of it, if both are `None`; with both, what both name.
+#[derive(Clone, Copy)]
+pub struct Focus {
+    /// Only what this process reaches: the least closed set.
+    pub from: Option<u64>,
+    /// Only this object, and the processes and nodes that hold a capability to it.
+    pub to: Option<u64>,
+}
+
+// Restricts a description to an object and its holders, if one is named.
+fn keep_holders(alloc: Global, to: Option<u64>, description: &mut Description) -> Result<(), Fault>
+    requires few { object_count description.old.geometry < 2 ^ 64 }
+    requires numbers { HasNumbers description.old }
+    ensures { KeepsHolders to description.old description.new result }
+{
+    let Some(object) = to else {
+        return Ok(());
+    };
+    if !has_box(description, object) {
+        return Err(Fault::NoObject(object));
+    }
+    match holders(alloc, description, object) {
+        Ok(inside) => {
+            restrict(description, &inside);
+            Ok(())
+        }
+        Err(_) => Err(Fault::NoMemory),
+    }
+}
+
+// Restricts a description to what a process reaches, if one is named.
+fn keep_reached(
+    alloc: Global,
+    objects: &[Object],
+    from: Option<u64>,
+    description: &mut Description,
+) -> Result<(), Fault>
+    requires { AreSoundObjects objects.now }
+    ensures { KeepsReached objects.now from description.old description.new result }
+{
+    let Some(process) = from else {
+        return Ok(());
+    };
+    if missing_process(objects, &[process]).is_some() {
+        return Err(Fault::NoProcess(process));
+    }
+    match reach(alloc, objects, &[process]) {
+        Ok(inside) => {
+            restrict(description, &inside);
+            Ok(())
+        }
+        Err(_) => Err(Fault::NoMemory),
+    }
+}
+
+// Restricts a description to what is to be drawn.
+fn keep_part(
+    alloc: Global,
+    objects: &[Object],
+    focus: Focus,
+    description: &mut Description,
+) -> Result<(), Fault>
+    requires few { object_count description.old.geometry < 2 ^ 64 }
+    requires numbers { HasNumbers description.old }
+    requires sound { AreSoundObjects objects.now }
+    ensures { KeepsPart objects.now focus description.old description.new result }
+{
+    match keep_holders(alloc, focus.to, description) {
+        Ok(()) => keep_reached(alloc, objects, focus.from, description),
+        Err(fault) => Err(fault),
+    }
+}
+
+// Draws a part of what is saved, and lets it go.
+fn draw_part<W: Output>(
+    alloc: Global,
+    whole: (Description, Vec<Object>),
+    focus: Focus,
+    writer: &mut W,
+) -> Result<(), Fault>
+    requires few { object_count whole.0.geometry < 2 ^ 64 }
+    requires numbers { HasNumbers whole.0 }
+    requires sound { AreSoundObjects whole.1.items }
+    ensures { DrawsPart whole.1.items focus whole.0 (W.written writer.old) (W.written writer.new) result }
+{
+    let (description, objects) = whole;
+    let mut description = description;
+    match keep_part(alloc, &objects, focus, &mut description) {
+        Ok(()) => of_write(draw(&description, writer)),
+        Err(fault) => Err(fault),
+    }
+}
+
+/// Opens a device as a run does, and writes the graph of what the checkpoint that it holds saves, in
+/// DOT: each object, who owns it, and each capability that names one. With a focus it leaves out all
+/// other objects, and the capabilities that name one. Then the status is 0.
+///
+/// After a fault one line is written to `errors`, and the status is 1:
+/// - `bad image` with a number from 1 to 10, `device failed` or `no memory`;
+/// - `no object` or `no process` with the number in the focus, if that is none;
+/// - `cannot write output` if the writer fails.
+///
+/// The device is returned. Nothing is written to it at any moment.
+pub fn draw_image<D: Device, S: WholeStore<D>, W: Output, V: Output>(
+    alloc: Global,
+    device: D,
+    setting: S::Setting,
+    focus: Focus,
+    writer: &mut W,
+    errors: &mut V,
+) -> Done<D>
+    ensures { (outcome : Result (Unit {0}) Fault) × (result.status ≡ status_of outcome)
+        × IsReported outcome (V.written errors.old) (V.written errors.new)
+        × DrawsImage D.disk focus device result.device (W.written writer.old) (W.written writer.new) outcome }
+{
+    match read_saved::<(Description, Vec<Object>), D, S>(alloc, device, setting) {
+        Ok((whole, device)) => {
+            let outcome = draw_part(alloc, whole, focus, writer);
+            Done::report(outcome, device, errors)
+        }
+        Err(refused) => Done::unopened(refused, errors),
+    }
+}

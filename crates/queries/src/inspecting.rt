@@ -1,0 +1,40 @@
+// The command that reports the sizes of an image, and how much it holds.
+ghost use Rattle.std.specs.Prelude.{◌≡◌, Result};
+ghost use Rattle.jobs.specs.Faults.{IsReported, status_of};
+ghost use Rattle.queries.specs.Info.{InspectsImage};
+
+use crate::info::{InfoLine, print_lines};
+use crate::saved::read_saved;
+use device::Device;
+use jobs::{Done, Fault, of_write};
+use migrator::WholeStore;
+use script::Output;
+use std::alloc::Global;
+
+/// Opens a device as a run does, and writes a line for each fact about its image: the version of
+/// the layout, how many nodes, pages and slots there may be, its home ranges, its sectors, the
+/// generation, age and entries of the checkpoint that it holds, and how many objects of each kind
+/// that saves. Then the status is 0. After a fault one line is written to `errors`, and the status
+/// is 1: `bad image` with a number from 1 to 10, `device failed` or `no memory`, and `cannot write
+/// output` where the writer fails.
+///
+/// The device is returned. Nothing is written to it at any moment.
+pub fn info_image<D: Device, S: WholeStore<D>, W: Output, V: Output>(
+    alloc: Global,
+    device: D,
+    setting: S::Setting,
+    writer: &mut W,
+    errors: &mut V,
+) -> Done<D>
+    ensures { (outcome : Result (Unit {0}) Fault) × (result.status ≡ status_of outcome)
+        × IsReported outcome (V.written errors.old) (V.written errors.new)
+        × InspectsImage D.disk device result.device (W.written writer.old) (W.written writer.new) outcome }
+{
+    match read_saved::<Vec<InfoLine>, D, S>(alloc, device, setting) {
+        Ok((lines, device)) => {
+            let outcome = of_write(print_lines(&lines, writer));
+            Done::report(outcome, device, errors)
+        }
+        Err(refused) => Done::unopened(refused, errors),
+    }
+}

@@ -1,0 +1,20 @@
+//! The commands of `eros` that only read, once their files are open, over any device and writer. They describe or draw
+//! an image, tell what it has and what processes can reach, and explain why a file is refused.
+#![tactic(auto)]
+
+mod describing;
+mod diagnosing;
+mod drawing;
+mod explaining;
+mod info;
+mod inspecting;
+pub mod laws;
+mod reaching;
+mod saved;
+
+pub use describing::describe_image;
+pub use diagnosing::explain_image;
+pub use drawing::{Focus, draw_image};
+pub use explaining::explain_description;
+pub use inspecting::info_image;
+pub use reaching::reach_image;
