@@ -44,17 +44,17 @@ def closure(names):
     return found
 
 
-def copy_to(folder, names, parts):
-    """Copies these crates to a folder: their files, and the folders in `parts`."""
+def copy_to(folder, names, parts, root=ROOT):
+    """Copies these crates from a root to a folder: their files, and the folders in `parts`."""
     folder = Path(folder)
     for name in names:
-        own = ROOT / "crates" / name
+        own = root / "crates" / name
         for part in own.iterdir():
             if part.is_dir() and part.name in parts:
                 shutil.copytree(part, folder / "crates" / name / part.name)
             elif part.is_file():
                 (folder / "crates" / name).mkdir(parents=True, exist_ok=True)
                 shutil.copy(part, folder / "crates" / name)
-    lines = (ROOT / "crates.txt").read_text().splitlines(keepends=True)
+    lines = (root / "crates.txt").read_text().splitlines(keepends=True)
     (folder / "crates.txt").write_text("".join(it for it in lines if (it.partition(":")[0].split() or [""])[0] in names))
-    shutil.copy(ROOT / "HANDLES", folder)
+    shutil.copy(root / "HANDLES", folder)

@@ -32,10 +32,11 @@ class Progress:
             self.report()
 
 
-def run(words, folder, take=lambda line: None):
-    """Runs a command, and passes its lines to `take`. If it fails, prints its output and ends the program."""
+def run(words, folder, take=lambda line: None, environment=None):
+    """Runs a command, in another environment if one is given, and passes its lines to `take`. If it fails, prints its output and ends the
+    program."""
     said = []
-    how = {"stdin": subprocess.DEVNULL, "stdout": subprocess.PIPE, "stderr": subprocess.STDOUT, "text": True, "errors": "replace"}
+    how = {"stdin": subprocess.DEVNULL, "stdout": subprocess.PIPE, "stderr": subprocess.STDOUT, "text": True, "errors": "replace", "env": environment}
     with subprocess.Popen(words, cwd=folder, **how) as running:
         for line in running.stdout:
             said.append(line)

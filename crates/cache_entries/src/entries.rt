@@ -12,9 +12,9 @@ ghost use Rattle.cache_entries.specs.Order.{AreOrdered, used_longest_ago, with_e
 ghost use Rattle.cache_entries.specs.Order.{used_in_turn, used_now};
 
 use crate::bodies::Bodies;
-use crate::capacity::Capacity;
 use crate::use_order::UseOrder;
 use capability::{Fresh, RootChange};
+use collections::Capacity;
 use model::{Cap, ContentRef};
 use std::alloc::{AllocError, Global};
 use std::marker::Model;

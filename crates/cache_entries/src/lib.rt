@@ -2,11 +2,9 @@
 #![tactic(auto)]
 
 mod bodies;
-mod capacity;
 mod entries;
 mod number_hasher;
 mod places;
 mod use_order;
 
-pub use capacity::{Capacity, GREATEST_CAPACITY, LEAST_CAPACITY};
 pub use entries::Entries;

@@ -1,13 +1,13 @@
-//! Sets of numbers, items by place, and counts that only proofs read.
+//! Sets of numbers, items by place, the capacity of a cache, and counts that only proofs read.
 #![tactic(auto)]
 
 mod bits;
+mod capacity;
 mod count;
 mod set;
 mod sparse_vec;
-#[cfg(test)]
-mod tests;
 
+pub use capacity::{Capacity, GREATEST_CAPACITY, LEAST_CAPACITY};
 pub use count::Tally;
 pub use set::NumberSet;
 pub use sparse_vec::SparseVec;

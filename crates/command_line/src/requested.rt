@@ -12,7 +12,7 @@ use crate::subcommands::{
     CACHE, DESCRIPTION, FILE, FROM, IMAGE, LOG, NEW, NODES, OLD, PAGES, PROCESS, SCRIPT, SHOWS,
     STOP_AFTER, STRICT, Subcommand, TO, TRACE,
 };
-use cache_entries::{Capacity, GREATEST_CAPACITY, LEAST_CAPACITY};
+use collections::{Capacity, GREATEST_CAPACITY, LEAST_CAPACITY};
 use clap::error::ErrorKind;
 use clap::{ArgMatches, Command, Error};
 use std::alloc::{AllocError, Global};

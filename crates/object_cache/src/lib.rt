@@ -13,6 +13,6 @@ mod saved_objects;
 mod staging;
 mod store;
 
-pub use cache_entries::Capacity;
+pub use collections::Capacity;
 pub use policy::{KeepAll, KeepRecent, Policy};
 pub use store::{BoundedCache, PlainStore, Store};

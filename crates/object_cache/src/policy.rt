@@ -2,8 +2,8 @@
 ghost use Rattle.std.specs.Prelude.{◌≡◌, ◌≤◌, Bool, true, false, ℕ};
 ghost use Rattle.object_cache.specs.StoreState.{all_of};
 
-use cache_entries::Capacity;
 use capability::MAX_FETCHED;
+use collections::Capacity;
 
 /// Which bodies a store keeps in memory.
 pub trait Policy: Drop {

@@ -1,4 +1,4 @@
-// The capacity of a store.
+// The capacity of a cache.
 ghost use Rattle.std.specs.Prelude.{◌≡◌, ◌≤◌, ◌↔◌, IfSome, IsSome};
 
 use std::marker::Model;

@@ -1,0 +1,116 @@
+"""Proves crates from nothing, side by side. One `rt ci` over all of them often gives a crate of the longest chain one processor while others
+are idle. Here each crate gets an `rt ci` of its own, which takes the crates below it from what earlier ones kept on the machine."""
+import os
+import shutil
+import subprocess
+import sys
+from concurrent.futures import FIRST_COMPLETED, ThreadPoolExecutor, wait
+from pathlib import Path
+
+from crates import ROOT, closure, copy_to
+from progress import run
+
+# A crate whose chain of crates above it has at least this share of the longest one is proved on several processors.
+NEAR = 0.9
+# How many times as long a line of a program takes as one of a library.
+PROGRAM = 3
+
+
+def lay_out(folder, crates):
+    """Formats the copied sources, because `rt ci` refuses others."""
+    with ThreadPoolExecutor() as pool:
+        for ran in pool.map(lambda name: subprocess.run(["rt", "fmt"], cwd=folder / "crates" / name, capture_output=True, text=True), crates):
+            if ran.returncode:
+                print(ran.stdout + ran.stderr, file=sys.stderr)
+                sys.exit(1)
+
+
+def work(name):
+    """How long a crate's proof is likely to take, in lines of code. A program is proved over concrete types, and compiled twice."""
+    source = ROOT / "crates" / name / "src"
+    lines = sum(it.read_bytes().count(b"\n") for it in source.rglob("*.rt"))
+    return lines * (PROGRAM if (source / "main.rt").exists() else 1)
+
+
+def chains(crates):
+    """For each crate, the work of the longest chain of crates that begins with it and ends at the top."""
+    chain = dict.fromkeys(crates, 0)
+    for name in reversed(crates):
+        chain[name] += work(name)
+        for it in crates[name]:
+            chain[it] = max(chain[it], chain[name])
+    return chain
+
+
+class NothingKept(Exception):
+    """An `rt ci` proved a crate again that an earlier one had proved."""
+
+
+class Proving:
+    """The proofs of some crates, lowest first, each with those that it names, whose sources lie in a folder."""
+
+    def __init__(self, folder, crates, progress):
+        self.folder, self.crates, self.progress = folder, [*crates], progress
+        self.below, self.chain = crates, chains(crates)
+        self.done, self.running, self.free = set(), {}, len(os.sched_getaffinity(0))
+        # How many processors an `rt ci` gives to a crate that is proved alone.
+        self.most = max(1, min(4, self.free // 2))
+
+    def prove(self, name, processors):
+        """Proves one crate over those below it, and returns the folder where it did."""
+        folder = self.folder / "proofs" / name
+        crates = closure([name])
+        copy_to(folder, crates, ("src", "specs", "proofs", "data"), self.folder / "sources")
+        proved = []
+
+        def take(line):
+            words = line.split()
+            if words[:1] == ["rt:"] and words[2:] == ["proved"]:
+                proved.append(words[1])
+            self.progress.read(line)
+
+        run(["rt", "ci"], folder, take, {**os.environ, "RT_JOBS": "1"} if processors == 1 else None)
+        if any(it != name for it in proved):
+            raise NothingKept(name)
+        return folder
+
+    def begin(self, pool, left):
+        """Begins the proofs for which a processor is free, those of the longest chains first."""
+        longest = max((self.chain[it] for it in self.crates if it not in self.done), default=0)
+        ready = [it for it in left if self.done.issuperset(self.below[it])]
+        for at, name in enumerate(ready):
+            others, is_near = len(ready) - at - 1, self.chain[name] >= NEAR * longest
+            if self.free < (self.most if is_near else 1):
+                break
+            processors = self.most if is_near or self.free >= others + self.most else 1
+            left.remove(name)
+            self.free -= processors
+            self.running[pool.submit(self.prove, name, processors)] = name, processors
+
+    def all(self):
+        """Proves all crates, and returns the folder of the last."""
+        left, folder = sorted(self.crates, key=lambda it: -self.chain[it]), None
+        with ThreadPoolExecutor() as pool:
+            while left or self.running:
+                self.begin(pool, left)
+                for ended in wait(self.running, return_when=FIRST_COMPLETED).done:
+                    name, processors = self.running.pop(ended)
+                    folder = ended.result()
+                    self.free += processors
+                    self.done.add(name)
+                    if left or self.running:
+                        shutil.rmtree(folder)
+        return folder
+
+
+def prove(folder, crates, progress):
+    """Proves these crates, lowest first, in a folder, and returns the folder with what that made. If this `rt ci` keeps nothing, one run
+    proves them all."""
+    sources = Path(folder) / "sources"
+    copy_to(sources, crates, ("src", "specs", "proofs", "data"))
+    lay_out(sources, crates)
+    try:
+        return Proving(Path(folder), crates, progress).all()
+    except NothingKept:
+        run(["rt", "ci"], sources, progress.read)
+        return sources
