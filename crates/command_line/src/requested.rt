@@ -12,9 +12,9 @@ use crate::subcommands::{
     CACHE, DESCRIPTION, FILE, FROM, IMAGE, LOG, NEW, NODES, OLD, PAGES, PROCESS, SCRIPT, SHOWS,
     STOP_AFTER, STRICT, Subcommand, TO, TRACE,
 };
-use collections::{Capacity, GREATEST_CAPACITY, LEAST_CAPACITY};
 use clap::error::ErrorKind;
 use clap::{ArgMatches, Command, Error};
+use collections::{Capacity, GREATEST_CAPACITY, LEAST_CAPACITY};
 use std::alloc::{AllocError, Global};
 use std::convert::AsStr;
 

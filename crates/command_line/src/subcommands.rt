@@ -5,9 +5,9 @@ ghost use Rattle.clap.specs.Words.{new_app, rule_of};
 ghost use Rattle.command_line.specs.Commands.{IsCommand, argument_rule, bare_app, eros_app, rules_of, subcommand_app};
 ghost use Rattle.command_line.specs.Commands.{subcommand_name, subcommands, with_rules, with_subcommands};
 
-use collections::{GREATEST_CAPACITY, LEAST_CAPACITY};
 use clap::builder::ValueParser;
 use clap::{Arg, ArgAction, Command};
+use collections::{GREATEST_CAPACITY, LEAST_CAPACITY};
 use std::alloc::{AllocError, Global};
 
 pub(crate) const DESCRIPTION: &str = "DESCRIPTION";
