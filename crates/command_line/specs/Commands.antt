@@ -4,7 +4,6 @@ use Rattle.clap.specs.Words.{App, Rule, Text, app_of, new_app, new_rule, with_ru
 use Rattle.clap.specs.declared.builder.action.ArgAction.TheVariants.{SetTrue}
 use Rattle.clap.specs.declared.builder.command.Command.{Command}
 use Rattle.clap.specs.declared.builder.command.Command.TheViews.{out-Command}
-use Rattle.clap.specs.declared.builder.value_parser.ValueParser.{ValueParser}
 use Rattle.clap.specs.declared.builder.value_parser.ValueParser.TheVariants.{Unsigned}
 use Rattle.command_line.specs.declared.subcommands.Argument.{Argument}
 use Rattle.command_line.specs.declared.subcommands.Argument.TheVariants as argument
@@ -15,26 +14,22 @@ use Rattle.command_line.specs.declared.subcommands.Subcommand.TheVariants as sub
 abbrev pub file_rule : Text → Rule
 file_rule name = record (new_rule name) { required = true }
 
--- how many objects a cache may hold: a number from 8 to 8192
-abbrev pub capacity_parser : ValueParser
-capacity_parser = Unsigned 8 8192
-
--- --cache C, which may be left out
-abbrev pub cache_rule : Rule
-cache_rule = record (new_rule (codes "cache")) {
-  long = Some (codes "cache");
-  value_names = 1;
-  parser = Some capacity_parser;
-}
-
 -- the greatest number that a word may write
 abbrev pub greatest_number : ℕ
 greatest_number = 18446744073709551615
 
--- --NAME VALUE, a number, which may be left out
+-- --NAME VALUE, a number within limits, which may be left out
+abbrev pub option_rule : Text → ℕ → ℕ → Rule
+option_rule name least most = record
+    (new_rule name) { long = Some name; value_names = 1; parser = Some (Unsigned least most) }
+
+-- --cache C, how many objects a cache may hold
+abbrev pub cache_rule : Rule
+cache_rule = option_rule (codes "cache") 8 8192
+
+-- --NAME VALUE, any number
 abbrev pub number_rule : Text → Rule
-number_rule name = record
-    (new_rule name) { long = Some name; value_names = 1; parser = Some (Unsigned 0 greatest_number) }
+number_rule name = option_rule name 0 greatest_number
 
 -- P [P ..], one or more numbers
 abbrev pub processes_rule : Rule

@@ -2,8 +2,8 @@
 ghost use Rattle.std.specs.Prelude.{◌≡◌, ◌≢◌, IfOk, MatchOption, false, map};
 ghost use Rattle.std.specs.List.{All};
 ghost use Rattle.clap.specs.Words.{new_app, rule_of};
-ghost use Rattle.command_line.specs.Commands.{IsCommand, argument_rule, bare_app, eros_app, rules_of, subcommand_app};
-ghost use Rattle.command_line.specs.Commands.{subcommand_name, subcommands, with_rules, with_subcommands};
+ghost use Rattle.command_line.specs.Commands.{IsCommand, argument_rule, bare_app, eros_app, option_rule, processes_rule};
+ghost use Rattle.command_line.specs.Commands.{rules_of, subcommand_app, subcommand_name, subcommands, with_rules, with_subcommands};
 
 use clap::builder::ValueParser;
 use clap::{Arg, ArgAction, Command};
@@ -62,6 +62,38 @@ enum Argument<'a> {
     Flag(&'a str, &'a str),
 }
 
+// An option that gives a number from `least` to `most`.
+fn number_arg<'a>(
+    alloc: Global,
+    name: &'a str,
+    value: &'a str,
+    help: &'a str,
+    least: u64,
+    most: u64,
+) -> Arg<'a>
+    ensures rule { rule_of result ≡ option_rule name.now least most }
+    ensures local { result.global ≡ false }
+{
+    let numbers = ValueParser::unsigned(least, most);
+    Arg::new(alloc, name)
+        .long(name)
+        .value_name(value)
+        .value_parser(numbers)
+        .help(help)
+}
+
+// The processes of `reach`, at least one.
+fn processes_arg<'a>(alloc: Global) -> Arg<'a>
+    ensures rule { rule_of result ≡ processes_rule }
+    ensures local { result.global ≡ false }
+{
+    let numbers = ValueParser::unsigned(0, u64::MAX);
+    let processes = Arg::new(alloc, PROCESS).num_args(1..).value_parser(numbers);
+    processes
+        .required(true)
+        .help("The numbers of the processes")
+}
+
 impl<'a> Argument<'a> {
     fn arg(self, alloc: Global) -> Arg<'a>
         ensures rule { rule_of result ≡ argument_rule self.entry }
@@ -69,23 +101,15 @@ impl<'a> Argument<'a> {
     {
         match self {
             Argument::File(name, help) => Arg::new(alloc, name).help(help).required(true),
-            Argument::Cache => Arg::new(alloc, CACHE)
-                .long("cache")
-                .value_name("C")
-                .value_parser(ValueParser::unsigned(LEAST_CAPACITY, GREATEST_CAPACITY))
-                .help(
-                    "Keeps at most C objects in memory, 8 to 8192, as --cache 100; without it, all objects",
-                ),
-            Argument::Processes => Arg::new(alloc, PROCESS)
-                .num_args(1..)
-                .value_parser(ValueParser::unsigned(0, u64::MAX))
-                .required(true)
-                .help("The numbers of the processes"),
-            Argument::Number(name, value, help) => Arg::new(alloc, name)
-                .long(name)
-                .value_name(value)
-                .value_parser(ValueParser::unsigned(0, u64::MAX))
-                .help(help),
+            Argument::Cache => {
+                let help =
+                    "Keeps at most C objects in memory, 8 to 8192, as --cache 100; without it, all objects";
+                number_arg(alloc, CACHE, "C", help, LEAST_CAPACITY, GREATEST_CAPACITY)
+            }
+            Argument::Processes => processes_arg(alloc),
+            Argument::Number(name, value, help) => {
+                number_arg(alloc, name, value, help, 0, u64::MAX)
+            }
             Argument::Flag(name, help) => Arg::new(alloc, name)
                 .long(name)
                 .action(ArgAction::SetTrue)
