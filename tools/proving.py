@@ -10,12 +10,6 @@ from pathlib import Path
 from crates import ROOT, closure, copy_to
 from progress import run
 
-# A crate whose chain of crates above it has at least this share of the longest one is proved on several processors.
-NEAR = 0.9
-# How many times as long a line of a program takes as one of a library.
-PROGRAM = 3
-
-
 def lay_out(folder, crates):
     """Formats the copied sources, because `rt ci` refuses others."""
     with ThreadPoolExecutor() as pool:
@@ -25,18 +19,16 @@ def lay_out(folder, crates):
                 sys.exit(1)
 
 
-def work(name):
-    """How long a crate's proof is likely to take, in lines of code. A program is proved over concrete types, and compiled twice."""
-    source = ROOT / "crates" / name / "src"
-    lines = sum(it.read_bytes().count(b"\n") for it in source.rglob("*.rt"))
-    return lines * (PROGRAM if (source / "main.rt").exists() else 1)
+def lines(name):
+    """How many lines of code a crate has. Its proof takes about as long as these."""
+    return sum(it.read_bytes().count(b"\n") for it in (ROOT / "crates" / name / "src").rglob("*.rt"))
 
 
 def chains(crates):
-    """For each crate, the work of the longest chain of crates that begins with it and ends at the top."""
+    """For each crate, the lines of the longest chain of crates that begins with it and ends at the top."""
     chain = dict.fromkeys(crates, 0)
     for name in reversed(crates):
-        chain[name] += work(name)
+        chain[name] += lines(name)
         for it in crates[name]:
             chain[it] = max(chain[it], chain[name])
     return chain
@@ -75,14 +67,15 @@ class Proving:
         return folder
 
     def begin(self, pool, left):
-        """Begins the proofs for which a processor is free, those of the longest chains first."""
+        """Begins the proofs for which a processor is free, those of the longest chains first. A crate gets more than one processor if it
+        begins the longest chain that is left, or if no other crate needs them."""
         longest = max((self.chain[it] for it in self.crates if it not in self.done), default=0)
         ready = [it for it in left if self.done.issuperset(self.below[it])]
-        for at, name in enumerate(ready):
-            others, is_near = len(ready) - at - 1, self.chain[name] >= NEAR * longest
-            if self.free < (self.most if is_near else 1):
+        for others, name in zip(reversed(range(len(ready))), ready):
+            if not self.free:
                 break
-            processors = self.most if is_near or self.free >= others + self.most else 1
+            has_most = self.free >= self.most and (self.chain[name] == longest or self.free >= others + self.most)
+            processors = self.most if has_most else 1
             left.remove(name)
             self.free -= processors
             self.running[pool.submit(self.prove, name, processors)] = name, processors
