@@ -10,6 +10,7 @@ from pathlib import Path
 from crates import ROOT, closure, copy_to
 from progress import run
 
+
 def lay_out(folder, crates):
     """Formats the copied sources, because `rt ci` refuses others."""
     with ThreadPoolExecutor() as pool:
