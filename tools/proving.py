@@ -10,6 +10,15 @@ from pathlib import Path
 from crates import ROOT, closure, copy_to
 from progress import run
 
+# The most bytes that a proof takes for each processor that it runs on.
+MEMORY = 3_000_000_000
+
+
+def processors():
+    """How many processors there are, or fewer if memory doesn't allow for proofs on all of them."""
+    memory = os.sysconf("SC_PAGE_SIZE") * os.sysconf("SC_PHYS_PAGES")
+    return max(1, min(len(os.sched_getaffinity(0)), memory // MEMORY))
+
 
 def lay_out(folder, crates):
     """Formats the copied sources, because `rt ci` refuses others."""
@@ -45,12 +54,12 @@ class Proving:
     def __init__(self, folder, crates, progress):
         self.folder, self.crates, self.progress = folder, [*crates], progress
         self.below, self.chain = crates, chains(crates)
-        self.done, self.running, self.free = set(), {}, len(os.sched_getaffinity(0))
+        self.done, self.running, self.free = set(), {}, processors()
         # How many processors an `rt ci` gives to a crate that is proved alone.
         self.most = max(1, min(4, self.free // 2))
 
-    def prove(self, name, processors):
-        """Proves one crate over those below it, and returns the folder where it did."""
+    def prove(self, name, share):
+        """Proves one crate over those below it on its share of the processors, and returns the folder where it did."""
         folder = self.folder / "proofs" / name
         crates = closure([name])
         copy_to(folder, crates, ("src", "specs", "proofs", "data"), self.folder / "sources")
@@ -62,7 +71,7 @@ class Proving:
                 proved.append(words[1])
             self.progress.read(line)
 
-        run(["rt", "ci"], folder, take, {**os.environ, "RT_JOBS": "1"} if processors == 1 else None)
+        run(["rt", "ci"], folder, take, {**os.environ, "RT_JOBS": "1"} if share == 1 else None)
         if any(it != name for it in proved):
             raise NothingKept(name)
         return folder
@@ -76,10 +85,10 @@ class Proving:
             if not self.free:
                 break
             has_most = self.free >= self.most and (self.chain[name] == longest or self.free >= others + self.most)
-            processors = self.most if has_most else 1
+            share = self.most if has_most else 1
             left.remove(name)
-            self.free -= processors
-            self.running[pool.submit(self.prove, name, processors)] = name, processors
+            self.free -= share
+            self.running[pool.submit(self.prove, name, share)] = name, share
 
     def all(self):
         """Proves all crates, and returns the folder of the last."""
@@ -88,9 +97,9 @@ class Proving:
             while left or self.running:
                 self.begin(pool, left)
                 for ended in wait(self.running, return_when=FIRST_COMPLETED).done:
-                    name, processors = self.running.pop(ended)
+                    name, share = self.running.pop(ended)
                     folder = ended.result()
-                    self.free += processors
+                    self.free += share
                     self.done.add(name)
                     if left or self.running:
                         shutil.rmtree(folder)
