@@ -6,21 +6,18 @@ ghost use Rattle.devices.specs.FileDevice.{file_disk};
 
 mod query;
 
-use crate::query::{Check, Info, Query, Reach};
+use crate::query::Query;
 use checkpoint::ObjectStore;
 use command_line::{Job, JobFault, Script, job};
 use description::Sizes;
-use device::MAX_SECTORS;
+use device::{Device, MAX_SECTORS};
 use devices::{FileDevice, FileFault, Fuse};
-use image_builder::{Blueprint, OldImage};
-use jobs::{
-    Fault, ShellInput, build_image, finish, run_image, run_shell, run_traced, upgrade_opened,
-};
-use migrator::WholeStore;
-use object_cache::{BoundedCache, Capacity, PlainStore};
-use queries::{Focus, explain_description, explain_image};
+use image_builder::Blueprint;
+use jobs::{Fault, ShellInput, build_image, check_image, finish, run_image, run_shell, run_traced};
+use object_cache::{Capacity, KeepAll, KeepRecent, PlainStore, Policy, Store};
+use queries::{Focus, explain_description};
 use runs::{ScriptReader, TraceOptions, Tracer};
-use script::{BufferedOutput, CountedWriter};
+use script::{BufferedOutput, CountedWriter, Output};
 use std::alloc::Global;
 use std::fmt::Display;
 use std::fs::{self, File};
@@ -29,15 +26,18 @@ use std::os::unix::fs::{FileTypeExt, MetadataExt};
 use std::process::ExitCode;
 use toml::Table;
 
+// What a command writes to: its output, and its errors.
+#[derive(Drop)]
+struct Streams<W, V> {
+    output: W,
+    errors: V,
+}
+
 // Standard error.
 type StandardError = CountedWriter<Stderr>;
 
 // Standard output, behind a buffer, and standard error.
-#[derive(Drop)]
-struct Stdio {
-    output: BufferedOutput<Stdout, Global>,
-    errors: StandardError,
-}
+type Stdio = Streams<BufferedOutput<Stdout, Global>, StandardError>;
 
 // The fault where the system refused something: that memory ran out, or something else.
 fn of_io(error: &io::Error, otherwise: Fault) -> Fault {
@@ -56,17 +56,31 @@ fn of_file(fault: FileFault, otherwise: Fault) -> Fault {
     }
 }
 
+// The fault where a text is no table: that memory ran out, or that it isn't TOML.
+fn of_toml(error: &toml::de::Error) -> Fault {
+    if error.is_memory() {
+        Fault::NoMemory
+    } else {
+        Fault::NotToml
+    }
+}
+
+// The table of a text.
+fn table_of(alloc: Global, text: &[u8]) -> Result<Table, Fault> {
+    match str::from_utf8(text) {
+        Ok(text) => match toml::table_from_str(alloc, text) {
+            Ok(table) => Ok(table),
+            Err(error) => Err(of_toml(&error)),
+        },
+        Err(_) => Err(Fault::NotToml),
+    }
+}
+
 // Reads the table of a description.
 fn read_table(rt: &HostRuntime, path: &str) -> Result<Table, Fault> {
-    let bytes = match fs::read(rt, path) {
-        Ok(bytes) => bytes,
-        Err(error) => return Err(of_io(&error, Fault::CannotReadDescription)),
-    };
-    let text = str::from_utf8(&bytes).map_err(|_| Fault::NotToml)?;
-    match toml::table_from_str(rt.alloc(), text) {
-        Ok(table) => Ok(table),
-        Err(error) if error.is_memory() => Err(Fault::NoMemory),
-        Err(_) => Err(Fault::NotToml),
+    match fs::read(rt, path) {
+        Ok(bytes) => table_of(rt.alloc(), &bytes),
+        Err(error) => Err(of_io(&error, Fault::CannotReadDescription)),
     }
 }
 
@@ -80,16 +94,23 @@ fn is_one_file(rt: &HostRuntime, one: &str, other: &str) -> bool {
 
 // The description of an image, from a file.
 fn read_blueprint(rt: &HostRuntime, description: &str) -> Result<Blueprint, Fault> {
-    let table = read_table(rt, description)?;
-    match Blueprint::read(rt.alloc(), &table) {
-        Ok(blueprint) => Ok(blueprint),
-        Err(fault) => Err(Fault::Build(fault)),
+    match read_table(rt, description) {
+        Ok(table) => match Blueprint::read(rt.alloc(), &table) {
+            Ok(blueprint) => Ok(blueprint),
+            Err(fault) => Err(Fault::Build(fault)),
+        },
+        Err(fault) => Err(fault),
     }
 }
 
 // A device in a new file, with `sectors` sectors, all zeros. A file that is there is
 // replaced, unless what the image is made of is read from it.
-fn create(rt: &HostRuntime, sectors: u64, source: &str, path: &str) -> Result<FileDevice, Fault>
+pub(crate) fn create(
+    rt: &HostRuntime,
+    sectors: u64,
+    source: &str,
+    path: &str,
+) -> Result<FileDevice, Fault>
     ensures { IfOk result (λ device. (file_disk device).sectors ≡ sectors) }
 {
     if sectors > MAX_SECTORS || is_one_file(rt, source, path) {
@@ -149,115 +170,154 @@ fn open_to_read(rt: &HostRuntime, image: &str) -> Result<FileDevice, Fault> {
     }
 }
 
-// Builds an image, and gives the status.
-fn build(rt: &HostRuntime, description: &str, image: &str, stdio: &mut Stdio) -> Result<u8, Fault> {
-    let blueprint = read_blueprint(rt, description)?;
-    let mut device = create(rt, blueprint.sectors(), description, image)?;
-    let Stdio { output, errors } = stdio;
-    Ok(build_image(rt.alloc(), &blueprint, &mut device, output, errors))
+// Builds an image from its description, which was read from a file, and gives the status.
+fn build_from(
+    rt: &HostRuntime,
+    blueprint: &Blueprint,
+    description: &str,
+    image: &str,
+    stdio: &mut Stdio,
+) -> Result<u8, Fault> {
+    match create(rt, blueprint.sectors(), description, image) {
+        Ok(mut device) => {
+            let Stdio { output, errors } = stdio;
+            Ok(build_image(rt.alloc(), blueprint, &mut device, output, errors))
+        }
+        Err(fault) => Err(fault),
+    }
 }
 
-// The device that a script runs over: it may be made to fail from some call on.
-type FileFuse = Fuse<FileDevice>;
+// Builds an image, and gives the status.
+fn build(rt: &HostRuntime, description: &str, image: &str, stdio: &mut Stdio) -> Result<u8, Fault> {
+    match read_blueprint(rt, description) {
+        Ok(blueprint) => build_from(rt, &blueprint, description, image, stdio),
+        Err(fault) => Err(fault),
+    }
+}
 
-// How a script is run.
+// How a script is run, if at all.
 #[derive(Clone, Copy)]
 enum Mode {
     Plain,
     Traced(TraceOptions),
     Shell,
+    // The image is only checked.
+    Check,
 }
 
-// Runs a script over the image on a device, by a store of this kind, traces it, and gives the status.
-fn trace_by<S: ObjectStore<FileFuse>, R: Read + Drop>(
-    rt: &HostRuntime,
-    device: FileFuse,
+// Runs a script over the image on a device, by a store of this kind, traces it in `notes`, and gives the status.
+fn trace_by<D: Device, S: ObjectStore<D>, R: Read + Drop, W: Output, V: Output + Drop>(
+    alloc: Global,
+    device: D,
     setting: S::Setting,
     script: R,
     options: TraceOptions,
-    stdio: &mut Stdio,
+    notes: V,
+    streams: &mut Streams<W, V>,
 ) -> u8 {
     let mut script = ScriptReader::new(script);
-    let mut tracer = Tracer::new(errors_of(rt), options);
-    let Stdio { output, errors } = stdio;
-    let done = run_traced::<_, S, _, _, _, _>(
-        rt.alloc(),
+    let mut tracer = Tracer::new(notes, options);
+    let Streams { output, errors } = streams;
+    run_traced::<_, S, _, _, _, _>(
+        alloc,
         device,
         setting,
         &mut script,
         output,
         &mut tracer,
         errors,
-    );
-    done.status
+    )
+    .status
 }
 
-// Runs the lines that a shell is given over the image on a device, and gives the status. It prompts
+// Runs the lines that a shell is given over the image on a device, and gives the status. It prompts in `notes`
 // if standard input and standard error are a terminal.
-fn shell_by<S: ObjectStore<FileFuse>, R: Read + Drop>(
+fn shell_by<D: Device, S: ObjectStore<D>, R: Read + Drop, W: Output, V: Output + Drop>(
     rt: &HostRuntime,
-    device: FileFuse,
+    device: D,
     setting: S::Setting,
     lines: R,
-    stdio: &mut Stdio,
+    notes: V,
+    streams: &mut Streams<W, V>,
 ) -> u8 {
     let is_prompting = rt.stdin().is_terminal() && rt.stderr().is_terminal();
-    let mut input = ShellInput::new(lines, errors_of(rt), is_prompting);
-    let Stdio { output, errors } = stdio;
-    let done = run_shell::<_, S, _, _, _>(rt.alloc(), device, setting, &mut input, output, errors);
-    done.status
+    let mut input = ShellInput::new(lines, notes, is_prompting);
+    let Streams { output, errors } = streams;
+    run_shell::<_, S, _, _, _>(rt.alloc(), device, setting, &mut input, output, errors).status
 }
 
 // Runs a script in a mode over the image on a device, by a store of this kind, and gives the status.
-fn run_in_mode<S: ObjectStore<FileFuse>, R: Read + Drop>(
+fn run_in_mode<D: Device, S: ObjectStore<D>, R: Read + Drop, W: Output, V: Output + Drop>(
     rt: &HostRuntime,
-    device: FileFuse,
+    device: D,
     setting: S::Setting,
     script: R,
     mode: Mode,
-    stdio: &mut Stdio,
+    notes: V,
+    streams: &mut Streams<W, V>,
 ) -> u8 {
     match mode {
         Mode::Plain => {
             let (alloc, mut script) = (rt.alloc(), ScriptReader::new(script));
-            let Stdio { output, errors } = stdio;
+            let Streams { output, errors } = streams;
             run_image::<_, S, _, _, _>(alloc, device, setting, &mut script, output, errors).status
         }
-        Mode::Traced(options) => trace_by::<S, _>(rt, device, setting, script, options, stdio),
-        Mode::Shell => shell_by::<S, _>(rt, device, setting, script, stdio),
+        Mode::Traced(options) => {
+            trace_by::<_, S, _, _, _>(rt.alloc(), device, setting, script, options, notes, streams)
+        }
+        Mode::Shell => shell_by::<_, S, _, _, _>(rt, device, setting, script, notes, streams),
+        Mode::Check => {
+            let Streams { output, errors } = streams;
+            check_image::<_, S, _, _>(rt.alloc(), device, setting, output, errors).status
+        }
     }
 }
 
-// Runs a script over the image on a device, with a bounded cache if `cache` has a capacity, and gives the status.
-fn run_with_cache<R: Read + Drop>(
+// As `run_in_mode`, by the store of a policy. Only here is a store of objects named for `ObjectStore`: that is dear.
+fn run_by_policy<D: Device, P: Policy, R: Read + Drop, W: Output, V: Output + Drop>(
     rt: &HostRuntime,
-    device: FileFuse,
+    device: D,
+    setting: P::Setting,
+    script: R,
+    mode: Mode,
+    notes: V,
+    streams: &mut Streams<W, V>,
+) -> u8 {
+    run_in_mode::<_, Store<_, P>, _, _, _>(rt, device, setting, script, mode, notes, streams)
+}
+
+// As `run_in_mode`, with a bounded cache if `cache` has a capacity.
+fn run_with_cache<D: Device, R: Read + Drop, W: Output, V: Output + Drop>(
+    rt: &HostRuntime,
+    device: D,
     cache: Option<Capacity>,
     script: R,
     mode: Mode,
-    stdio: &mut Stdio,
+    notes: V,
+    streams: &mut Streams<W, V>,
 ) -> u8 {
     match cache {
-        Some(capacity) => {
-            run_in_mode::<BoundedCache<_>, _>(rt, device, capacity, script, mode, stdio)
-        }
-        None => run_in_mode::<PlainStore<_>, _>(rt, device, (), script, mode, stdio),
+        Some(most) => run_by_policy::<_, KeepRecent, _, _, _>(
+            rt, device, most, script, mode, notes, streams,
+        ),
+        None => run_by_policy::<_, KeepAll, _, _, _>(rt, device, (), script, mode, notes, streams),
     }
 }
 
 // Opens a script, runs it over the image on a device, and gives the status.
-fn open_script_and_run(
+fn open_script_and_run<D: Device>(
     rt: &HostRuntime,
-    device: FileFuse,
+    device: D,
     script: &Script<'_>,
     cache: Option<Capacity>,
     mode: Mode,
     stdio: &mut Stdio,
 ) -> Result<u8, Fault> {
+    let notes = errors_of(rt);
     match script {
-        Script::Input => Ok(run_with_cache(rt, device, cache, rt.stdin(), mode, stdio)),
+        Script::Input => Ok(run_with_cache(rt, device, cache, rt.stdin(), mode, notes, stdio)),
         Script::File(path) => match File::open(rt, *path) {
-            Ok(file) => Ok(run_with_cache(rt, device, cache, file, mode, stdio)),
+            Ok(file) => Ok(run_with_cache(rt, device, cache, file, mode, notes, stdio)),
             Err(error) => Err(of_io(&error, Fault::CannotReadScript)),
         },
     }
@@ -281,35 +341,40 @@ fn open_image_and_run(
     open_script_and_run(rt, device, script, cache, mode, stdio)
 }
 
-// Writes what an image saves to a new one by version 2 of the layout, and gives the status. The new
-// file is made only once the old image was opened and read whole.
-fn upgrade<S: WholeStore<FileDevice>>(
+// Checks whether an image can be opened, and gives the status. One object at a time is in memory.
+fn check(rt: &HostRuntime, image: &str, stdio: &mut Stdio) -> Result<u8, Fault> {
+    let least = Capacity::new(8);
+    match open_to_read(rt, image) {
+        Ok(device) => {
+            let notes = errors_of(rt);
+            Ok(run_with_cache(rt, device, least, io::empty(), Mode::Check, notes, stdio))
+        }
+        Err(fault) => Err(fault),
+    }
+}
+
+// Answers a query about the image on a device, and gives the status. Only here is a store of objects named for
+// `WholeStore`.
+fn answer<D: Device, W: Output, V: Output>(
     rt: &HostRuntime,
-    old: &str,
-    new: &str,
-    setting: S::Setting,
-    stdio: &mut Stdio,
+    device: D,
+    query: Query<'_>,
+    streams: &mut Streams<W, V>,
 ) -> Result<u8, Fault> {
-    let device = open_to_read(rt, old)?;
-    let image = match OldImage::<_, S>::open(rt.alloc(), device, setting) {
-        Ok(image) => image,
-        Err(fault) => return Err(Fault::Upgrade(fault)),
-    };
-    let mut upgraded = create(rt, image.sectors(), old, new)?;
-    let Stdio { output, errors } = stdio;
-    Ok(upgrade_opened(rt.alloc(), image, &mut upgraded, output, errors))
+    query.answer::<_, PlainStore<_>, _, _>(rt, device, (), streams)
 }
 
 // Answers a query about an image, and gives the status.
-fn inspect<S: WholeStore<FileDevice>, Q: Query + Drop>(
+fn inspect(
     rt: &HostRuntime,
     image: &str,
-    query: Q,
-    setting: S::Setting,
+    query: Query<'_>,
     stdio: &mut Stdio,
 ) -> Result<u8, Fault> {
-    let device = open_to_read(rt, image)?;
-    Ok(query.answer::<S>(rt.alloc(), device, setting, stdio).status)
+    match open_to_read(rt, image) {
+        Ok(device) => answer(rt, device, query, stdio),
+        Err(fault) => Err(fault),
+    }
 }
 
 // How a script is run by these options.
@@ -327,63 +392,68 @@ fn refuse_file<C: Display + Drop>(rt: &HostRuntime, file: &str, cause: C) -> u8 
     1
 }
 
-// Says why the image in a file is refused, and gives the status.
-fn explain_file<S: WholeStore<FileDevice>>(
-    rt: &HostRuntime,
-    image: &str,
-    setting: S::Setting,
-    stdio: &mut Stdio,
-) -> Result<u8, Fault> {
-    match FileDevice::open_to_read(rt, image) {
-        Ok(device) => {
-            let Stdio { output, errors } = stdio;
-            let done = explain_image::<_, S, _, _>(rt.alloc(), device, setting, output, errors);
-            Ok(done.status)
-        }
-        Err(FileFault::NoMemory) => Err(Fault::NoMemory),
-        Err(fault) => Ok(refuse_file(rt, image, fault)),
+// The fault if memory ran out where the system refused a file. Else writes why the file can't be explained, and gives
+// the status.
+fn refuse_for(rt: &HostRuntime, file: &str, error: &io::Error) -> Result<u8, Fault> {
+    if error.kind() == ErrorKind::OutOfMemory {
+        Err(Fault::NoMemory)
+    } else {
+        Ok(refuse_file(rt, file, error))
     }
 }
 
-// Says why a regular file is refused as a description or an image, and gives the status. It is an image if its bytes
-// are no text, or one of them is zero.
-fn explain_regular<S: WholeStore<FileDevice>>(
+// The same where a file is no device.
+fn refuse_device(rt: &HostRuntime, file: &str, fault: FileFault) -> Result<u8, Fault> {
+    match fault {
+        FileFault::NoMemory => Err(Fault::NoMemory),
+        FileFault::Io | FileFault::Long | FileFault::Held => Ok(refuse_file(rt, file, fault)),
+    }
+}
+
+// Says why the image in a file is refused, and gives the status.
+fn explain_file(rt: &HostRuntime, image: &str, stdio: &mut Stdio) -> Result<u8, Fault> {
+    match FileDevice::open_to_read(rt, image) {
+        Ok(device) => answer(rt, device, Query::Explain, stdio),
+        Err(fault) => refuse_device(rt, image, fault),
+    }
+}
+
+// Says why the bytes of a file are refused as a description or an image, and gives the status. They are an image if
+// they are no text, or one of them is zero.
+fn explain_bytes(
     rt: &HostRuntime,
     file: &str,
-    setting: S::Setting,
+    bytes: &[u8],
     stdio: &mut Stdio,
 ) -> Result<u8, Fault> {
-    let bytes = match fs::read(rt, file) {
-        Ok(bytes) => bytes,
-        Err(error) if error.kind() == ErrorKind::OutOfMemory => return Err(Fault::NoMemory),
-        Err(error) => return Ok(refuse_file(rt, file, &error)),
-    };
-    match str::from_utf8(&bytes) {
+    match str::from_utf8(bytes) {
         Ok(text) if !bytes.contains(&0) => {
             let Stdio { output, errors } = stdio;
             Ok(explain_description(rt.alloc(), text, output, errors))
         }
-        _ => explain_file::<S>(rt, file, setting, stdio),
+        _ => explain_file(rt, file, stdio),
+    }
+}
+
+// Says why a regular file is refused as a description or an image, and gives the status.
+fn explain_regular(rt: &HostRuntime, file: &str, stdio: &mut Stdio) -> Result<u8, Fault> {
+    match fs::read(rt, file) {
+        Ok(bytes) => explain_bytes(rt, file, &bytes, stdio),
+        Err(error) => refuse_for(rt, file, &error),
     }
 }
 
 // Says why a file is refused as a description or an image, and gives the status. A block device may have an image. Any
 // other file that isn't regular, such as a FIFO, isn't opened: reading one waits until somebody writes to it.
-fn explain<S: WholeStore<FileDevice>>(
-    rt: &HostRuntime,
-    file: &str,
-    setting: S::Setting,
-    stdio: &mut Stdio,
-) -> Result<u8, Fault> {
+fn explain(rt: &HostRuntime, file: &str, stdio: &mut Stdio) -> Result<u8, Fault> {
     let kind = match fs::metadata(rt, file) {
         Ok(found) => found.file_type(),
-        Err(error) if error.kind() == ErrorKind::OutOfMemory => return Err(Fault::NoMemory),
-        Err(error) => return Ok(refuse_file(rt, file, &error)),
+        Err(error) => return refuse_for(rt, file, &error),
     };
     if kind.is_block_device() {
-        explain_file::<S>(rt, file, setting, stdio)
+        explain_file(rt, file, stdio)
     } else if kind.is_file() {
-        explain_regular::<S>(rt, file, setting, stdio)
+        explain_regular(rt, file, stdio)
     } else {
         Ok(refuse_file(rt, file, "not a regular file"))
     }
@@ -398,13 +468,8 @@ fn sizes_of(sizes: &command_line::Sizes) -> Sizes {
     }
 }
 
-// Does a job, and gives the status. An image that is only read is opened by a store of this kind.
-fn serve<S: WholeStore<FileDevice>>(
-    rt: &HostRuntime,
-    job: &Job<'_>,
-    setting: S::Setting,
-    stdio: &mut Stdio,
-) -> Result<u8, Fault> {
+// Does a job, and gives the status.
+fn serve(rt: &HostRuntime, job: &Job<'_>, stdio: &mut Stdio) -> Result<u8, Fault> {
     match job {
         Job::Build { description, image } => build(rt, description, image, stdio),
         Job::Run {
@@ -421,24 +486,24 @@ fn serve<S: WholeStore<FileDevice>>(
         Job::Shell { image, cache } => {
             open_image_and_run(rt, image, &Script::Input, *cache, Mode::Shell, None, stdio)
         }
-        Job::Check { image } => inspect::<S, _>(rt, image, Check, setting, stdio),
-        Job::Upgrade { old, new } => upgrade::<S>(rt, old, new, setting, stdio),
+        Job::Check { image } => check(rt, image, stdio),
+        Job::Upgrade { old, new } => inspect(rt, old, Query::Upgrade { old, new }, stdio),
         Job::Describe { image, sizes } => {
-            inspect::<S, _>(rt, image, sizes_of(sizes), setting, stdio)
+            inspect(rt, image, Query::Describe(sizes_of(sizes)), stdio)
         }
         Job::Draw { image, from, to } => {
             let (from, to) = (*from, *to);
-            inspect::<S, _>(rt, image, Focus { from, to }, setting, stdio)
+            inspect(rt, image, Query::Draw(Focus { from, to }), stdio)
         }
-        Job::Explain { file } => explain::<S>(rt, file, setting, stdio),
-        Job::Info { image } => inspect::<S, _>(rt, image, Info, setting, stdio),
+        Job::Explain { file } => explain(rt, file, stdio),
+        Job::Info { image } => inspect(rt, image, Query::Info, stdio),
         Job::Reach {
             image,
             processes,
             shows,
         } => {
             let (processes, shows) = (processes.as_slice(), *shows);
-            inspect::<S, _>(rt, image, Reach { processes, shows }, setting, stdio)
+            inspect(rt, image, Query::Reach { processes, shows }, stdio)
         }
     }
 }
@@ -446,7 +511,7 @@ fn serve<S: WholeStore<FileDevice>>(
 // Does a job, passes on what it wrote, and gives the status.
 fn serve_whole(rt: &HostRuntime, job: &Job<'_>) -> Result<u8, Fault> {
     let mut stdio = stdio_of(rt)?;
-    match serve::<PlainStore<_>>(rt, job, (), &mut stdio) {
+    match serve(rt, job, &mut stdio) {
         Ok(status) => Ok(finish(&mut stdio.output, status, &mut stdio.errors)),
         Err(fault) => Err(fault),
     }

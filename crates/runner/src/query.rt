@@ -1,105 +1,81 @@
 // The commands that only read an image, as queries about it.
-use crate::Stdio;
+use crate::{Streams, create};
 use description::Sizes;
-use devices::FileDevice;
-use jobs::{Done, check_image};
+use device::Device;
+use image_builder::OldImage;
+use jobs::{Fault, upgrade_opened};
 use migrator::WholeStore;
-use object_cache::{BoundedCache, Capacity};
-use queries::{Focus, describe_image, draw_image, info_image, reach_image};
-use std::alloc::Global;
+use queries::{Focus, describe_image, draw_image, explain_image, info_image, reach_image};
+use script::Output;
 
 /// What a command asks about an image that it only reads.
-pub(crate) trait Query {
-    /// Answers it about the image on a device, opened by a store of this kind.
-    fn answer<S: WholeStore<FileDevice>>(
-        self,
-        alloc: Global,
-        device: FileDevice,
-        setting: S::Setting,
-        stdio: &mut Stdio,
-    ) -> Done<FileDevice>;
+#[derive(Clone, Copy)]
+pub(crate) enum Query<'w> {
+    /// The description of what it saves, for an image of these sizes.
+    Describe(Sizes),
+    /// The graph of what it saves.
+    Draw(Focus),
+    /// Why a run refuses it.
+    Explain,
+    /// Its sizes, and what it holds.
+    Info,
+    /// What processes can ever change, or how they reach an object.
+    Reach {
+        processes: &'w [u64],
+        shows: Option<u64>,
+    },
+    /// What it saves, in a new image by version 2 of the layout.
+    Upgrade {
+        old: &'w str,
+        new: &'w str,
+    },
 }
 
-/// Whether the image can be opened. A check fetches one object at a time.
-#[derive(Clone, Copy)]
-pub(crate) struct Check;
+// Writes what the image on a device saves to a new one, and gives the status. The new file is made only once the old
+// image was opened and read whole.
+fn upgrade<D: Device, S: WholeStore<D>, W: Output, V: Output>(
+    rt: &HostRuntime,
+    device: D,
+    setting: S::Setting,
+    names: (&str, &str),
+    output: &mut W,
+    errors: &mut V,
+) -> Result<u8, Fault> {
+    let image = match OldImage::<_, S>::open(rt.alloc(), device, setting) {
+        Ok(image) => image,
+        Err(fault) => return Err(Fault::Upgrade(fault)),
+    };
+    let mut upgraded = create(rt, image.sectors(), names.0, names.1)?;
+    Ok(upgrade_opened(rt.alloc(), image, &mut upgraded, output, errors))
+}
 
-impl Query for Check {
-    fn answer<S: WholeStore<FileDevice>>(
+impl<'w> Query<'w> {
+    /// Answers it about the image on a device, opened by a store of this kind, and gives the status.
+    pub(crate) fn answer<D: Device, S: WholeStore<D>, W: Output, V: Output>(
         self,
-        alloc: Global,
-        device: FileDevice,
-        _setting: S::Setting,
-        stdio: &mut Stdio,
-    ) -> Done<FileDevice> {
-        let Some(least) = Capacity::new(8) else {
-            unreachable!()
+        rt: &HostRuntime,
+        device: D,
+        setting: S::Setting,
+        streams: &mut Streams<W, V>,
+    ) -> Result<u8, Fault> {
+        let alloc = rt.alloc();
+        let Streams { output, errors } = streams;
+        let done = match self {
+            Query::Describe(sizes) => describe_image::<_, S, _, _>(
+                alloc, device, setting, sizes, output, errors,
+            ),
+            Query::Draw(focus) => draw_image::<_, S, _, _>(
+                alloc, device, setting, focus, output, errors,
+            ),
+            Query::Explain => explain_image::<_, S, _, _>(alloc, device, setting, output, errors),
+            Query::Info => info_image::<_, S, _, _>(alloc, device, setting, output, errors),
+            Query::Reach { processes, shows } => {
+                reach_image::<_, S, _, _>(alloc, device, setting, processes, shows, output, errors)
+            }
+            Query::Upgrade { old, new } => {
+                return upgrade::<_, S, _, _>(rt, device, setting, (old, new), output, errors);
+            }
         };
-        let Stdio { output, errors } = stdio;
-        check_image::<_, BoundedCache<_>, _, _>(alloc, device, least, output, errors)
-    }
-}
-
-impl Query for Sizes {
-    fn answer<S: WholeStore<FileDevice>>(
-        self,
-        alloc: Global,
-        device: FileDevice,
-        setting: S::Setting,
-        stdio: &mut Stdio,
-    ) -> Done<FileDevice> {
-        let Stdio { output, errors } = stdio;
-        describe_image::<_, S, _, _>(alloc, device, setting, self, output, errors)
-    }
-}
-
-impl Query for Focus {
-    fn answer<S: WholeStore<FileDevice>>(
-        self,
-        alloc: Global,
-        device: FileDevice,
-        setting: S::Setting,
-        stdio: &mut Stdio,
-    ) -> Done<FileDevice> {
-        let Stdio { output, errors } = stdio;
-        draw_image::<_, S, _, _>(alloc, device, setting, self, output, errors)
-    }
-}
-
-/// The sizes of the image, and what it holds.
-#[derive(Clone, Copy)]
-pub(crate) struct Info;
-
-impl Query for Info {
-    fn answer<S: WholeStore<FileDevice>>(
-        self,
-        alloc: Global,
-        device: FileDevice,
-        setting: S::Setting,
-        stdio: &mut Stdio,
-    ) -> Done<FileDevice> {
-        let Stdio { output, errors } = stdio;
-        info_image::<_, S, _, _>(alloc, device, setting, output, errors)
-    }
-}
-
-/// What processes can ever change, or how they reach an object.
-#[derive(Clone, Copy)]
-pub(crate) struct Reach<'w> {
-    pub(crate) processes: &'w [u64],
-    pub(crate) shows: Option<u64>,
-}
-
-impl<'w> Query for Reach<'w> {
-    fn answer<S: WholeStore<FileDevice>>(
-        self,
-        alloc: Global,
-        device: FileDevice,
-        setting: S::Setting,
-        stdio: &mut Stdio,
-    ) -> Done<FileDevice> {
-        let Stdio { output, errors } = stdio;
-        let Reach { processes, shows } = self;
-        reach_image::<_, S, _, _>(alloc, device, setting, processes, shows, output, errors)
+        Ok(done.status)
     }
 }
