@@ -56,22 +56,14 @@ fn of_file(fault: FileFault, otherwise: Fault) -> Fault {
     }
 }
 
-// The fault where a text is no table: that memory ran out, or that it isn't TOML.
-fn of_toml(error: &toml::de::Error) -> Fault {
-    if error.is_memory() {
-        Fault::NoMemory
-    } else {
-        Fault::NotToml
-    }
-}
-
 // The table of a text.
 fn table_of(alloc: Global, text: &[u8]) -> Result<Table, Fault> {
-    match str::from_utf8(text) {
-        Ok(text) => match toml::table_from_str(alloc, text) {
-            Ok(table) => Ok(table),
-            Err(error) => Err(of_toml(&error)),
-        },
+    let Ok(text) = str::from_utf8(text) else {
+        return Err(Fault::NotToml);
+    };
+    match toml::table_from_str(alloc, text) {
+        Ok(table) => Ok(table),
+        Err(error) if error.is_memory() => Err(Fault::NoMemory),
         Err(_) => Err(Fault::NotToml),
     }
 }
@@ -206,28 +198,16 @@ enum Mode {
 }
 
 // Runs a script over the image on a device, by a store of this kind, traces it in `notes`, and gives the status.
-fn trace_by<D: Device, S: ObjectStore<D>, R: Read + Drop, W: Output, V: Output + Drop>(
+fn trace_by<D: Device, S: ObjectStore<D>, R: Read, W: Output, V: Output + Drop>(
     alloc: Global,
     device: D,
     setting: S::Setting,
-    script: R,
-    options: TraceOptions,
-    notes: V,
+    script: &mut ScriptReader<R>,
+    tracer: &mut Tracer<V>,
     streams: &mut Streams<W, V>,
 ) -> u8 {
-    let mut script = ScriptReader::new(script);
-    let mut tracer = Tracer::new(notes, options);
     let Streams { output, errors } = streams;
-    run_traced::<_, S, _, _, _, _>(
-        alloc,
-        device,
-        setting,
-        &mut script,
-        output,
-        &mut tracer,
-        errors,
-    )
-    .status
+    run_traced::<_, S, _, _, _, _>(alloc, device, setting, script, output, tracer, errors).status
 }
 
 // Runs the lines that a shell is given over the image on a device, and gives the status. It prompts in `notes`
@@ -263,7 +243,15 @@ fn run_in_mode<D: Device, S: ObjectStore<D>, R: Read + Drop, W: Output, V: Outpu
             run_image::<_, S, _, _, _>(alloc, device, setting, &mut script, output, errors).status
         }
         Mode::Traced(options) => {
-            trace_by::<_, S, _, _, _>(rt.alloc(), device, setting, script, options, notes, streams)
+            let (mut script, mut tracer) = (ScriptReader::new(script), Tracer::new(notes, options));
+            trace_by::<_, S, _, _, _>(
+                rt.alloc(),
+                device,
+                setting,
+                &mut script,
+                &mut tracer,
+                streams,
+            )
         }
         Mode::Shell => shell_by::<_, S, _, _, _>(rt, device, setting, script, notes, streams),
         Mode::Check => {
@@ -341,16 +329,11 @@ fn open_image_and_run(
     open_script_and_run(rt, device, script, cache, mode, stdio)
 }
 
-// Checks whether an image can be opened, and gives the status. One object at a time is in memory.
+// Checks whether an image can be opened, and gives the status. A check fetches one object at a time.
 fn check(rt: &HostRuntime, image: &str, stdio: &mut Stdio) -> Result<u8, Fault> {
-    let least = Capacity::new(8);
-    match open_to_read(rt, image) {
-        Ok(device) => {
-            let notes = errors_of(rt);
-            Ok(run_with_cache(rt, device, least, io::empty(), Mode::Check, notes, stdio))
-        }
-        Err(fault) => Err(fault),
-    }
+    let device = open_to_read(rt, image)?;
+    let (least, notes) = (Capacity::new(8), errors_of(rt));
+    Ok(run_with_cache(rt, device, least, io::empty(), Mode::Check, notes, stdio))
 }
 
 // Answers a query about the image on a device, and gives the status. Only here is a store of objects named for
@@ -371,10 +354,8 @@ fn inspect(
     query: Query<'_>,
     stdio: &mut Stdio,
 ) -> Result<u8, Fault> {
-    match open_to_read(rt, image) {
-        Ok(device) => answer(rt, device, query, stdio),
-        Err(fault) => Err(fault),
-    }
+    let device = open_to_read(rt, image)?;
+    answer(rt, device, query, stdio)
 }
 
 // How a script is run by these options.
@@ -392,8 +373,7 @@ fn refuse_file<C: Display + Drop>(rt: &HostRuntime, file: &str, cause: C) -> u8 
     1
 }
 
-// The fault if memory ran out where the system refused a file. Else writes why the file can't be explained, and gives
-// the status.
+// The same where the system refused a file. If memory ran out, it is a fault.
 fn refuse_for(rt: &HostRuntime, file: &str, error: &io::Error) -> Result<u8, Fault> {
     if error.kind() == ErrorKind::OutOfMemory {
         Err(Fault::NoMemory)
@@ -402,19 +382,12 @@ fn refuse_for(rt: &HostRuntime, file: &str, error: &io::Error) -> Result<u8, Fau
     }
 }
 
-// The same where a file is no device.
-fn refuse_device(rt: &HostRuntime, file: &str, fault: FileFault) -> Result<u8, Fault> {
-    match fault {
-        FileFault::NoMemory => Err(Fault::NoMemory),
-        FileFault::Io | FileFault::Long | FileFault::Held => Ok(refuse_file(rt, file, fault)),
-    }
-}
-
 // Says why the image in a file is refused, and gives the status.
 fn explain_file(rt: &HostRuntime, image: &str, stdio: &mut Stdio) -> Result<u8, Fault> {
     match FileDevice::open_to_read(rt, image) {
         Ok(device) => answer(rt, device, Query::Explain, stdio),
-        Err(fault) => refuse_device(rt, image, fault),
+        Err(FileFault::NoMemory) => Err(Fault::NoMemory),
+        Err(fault) => Ok(refuse_file(rt, image, fault)),
     }
 }
 
@@ -470,8 +443,8 @@ fn sizes_of(sizes: &command_line::Sizes) -> Sizes {
 
 // Does a job, and gives the status.
 fn serve(rt: &HostRuntime, job: &Job<'_>, stdio: &mut Stdio) -> Result<u8, Fault> {
-    match job {
-        Job::Build { description, image } => build(rt, description, image, stdio),
+    let (image, query) = match job {
+        Job::Build { description, image } => return build(rt, description, image, stdio),
         Job::Run {
             image,
             script,
@@ -481,31 +454,31 @@ fn serve(rt: &HostRuntime, job: &Job<'_>, stdio: &mut Stdio) -> Result<u8, Fault
             stop_after,
         } => {
             let mode = mode_of(*trace, *strict);
-            open_image_and_run(rt, image, script, *cache, mode, *stop_after, stdio)
+            return open_image_and_run(rt, image, script, *cache, mode, *stop_after, stdio);
         }
         Job::Shell { image, cache } => {
-            open_image_and_run(rt, image, &Script::Input, *cache, Mode::Shell, None, stdio)
+            let (script, mode) = (Script::Input, Mode::Shell);
+            return open_image_and_run(rt, image, &script, *cache, mode, None, stdio);
         }
-        Job::Check { image } => check(rt, image, stdio),
-        Job::Upgrade { old, new } => inspect(rt, old, Query::Upgrade { old, new }, stdio),
-        Job::Describe { image, sizes } => {
-            inspect(rt, image, Query::Describe(sizes_of(sizes)), stdio)
-        }
+        Job::Check { image } => return check(rt, image, stdio),
+        Job::Explain { file } => return explain(rt, file, stdio),
+        Job::Upgrade { old, new } => (*old, Query::Upgrade { old, new }),
+        Job::Describe { image, sizes } => (*image, Query::Describe(sizes_of(sizes))),
         Job::Draw { image, from, to } => {
             let (from, to) = (*from, *to);
-            inspect(rt, image, Query::Draw(Focus { from, to }), stdio)
+            (*image, Query::Draw(Focus { from, to }))
         }
-        Job::Explain { file } => explain(rt, file, stdio),
-        Job::Info { image } => inspect(rt, image, Query::Info, stdio),
+        Job::Info { image } => (*image, Query::Info),
         Job::Reach {
             image,
             processes,
             shows,
         } => {
             let (processes, shows) = (processes.as_slice(), *shows);
-            inspect(rt, image, Query::Reach { processes, shows }, stdio)
+            (*image, Query::Reach { processes, shows })
         }
-    }
+    };
+    inspect(rt, image, query, stdio)
 }
 
 // Does a job, passes on what it wrote, and gives the status.
