@@ -332,8 +332,11 @@ fn open_image_and_run(
 // Checks whether an image can be opened, and gives the status. A check fetches one object at a time.
 fn check(rt: &HostRuntime, image: &str, stdio: &mut Stdio) -> Result<u8, Fault> {
     let device = open_to_read(rt, image)?;
-    let (least, notes) = (Capacity::new(8), errors_of(rt));
-    Ok(run_with_cache(rt, device, least, io::empty(), Mode::Check, notes, stdio))
+    let Some(least) = Capacity::new(8) else {
+        unreachable!()
+    };
+    let (cache, notes) = (Some(least), errors_of(rt));
+    Ok(run_with_cache(rt, device, cache, io::empty(), Mode::Check, notes, stdio))
 }
 
 // Answers a query about the image on a device, and gives the status. Only here is a store of objects named for

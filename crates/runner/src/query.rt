@@ -37,7 +37,8 @@ fn upgrade<D: Device, S: WholeStore<D>, W: Output, V: Output>(
     rt: &HostRuntime,
     device: D,
     setting: S::Setting,
-    names: (&str, &str),
+    old: &str,
+    new: &str,
     output: &mut W,
     errors: &mut V,
 ) -> Result<u8, Fault> {
@@ -45,7 +46,7 @@ fn upgrade<D: Device, S: WholeStore<D>, W: Output, V: Output>(
         Ok(image) => image,
         Err(fault) => return Err(Fault::Upgrade(fault)),
     };
-    let mut upgraded = create(rt, image.sectors(), names.0, names.1)?;
+    let mut upgraded = create(rt, image.sectors(), old, new)?;
     Ok(upgrade_opened(rt.alloc(), image, &mut upgraded, output, errors))
 }
 
@@ -73,7 +74,7 @@ impl<'w> Query<'w> {
                 reach_image::<_, S, _, _>(alloc, device, setting, processes, shows, output, errors)
             }
             Query::Upgrade { old, new } => {
-                return upgrade::<_, S, _, _>(rt, device, setting, (old, new), output, errors);
+                return upgrade::<_, S, _, _>(rt, device, setting, old, new, output, errors);
             }
         };
         Ok(done.status)
