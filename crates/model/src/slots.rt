@@ -68,11 +68,10 @@ impl<C: Copy> Slots<C> {
     pub fn of(alloc: Global, slots: &[C; 32]) -> Result<Self, AllocError>
         ensures { IfOk result (λ copy. copy ≡ slots.now) }
     {
-        let mut items = Vec::with_capacity(alloc, SLOTS)?;
-        for index in 0..SLOTS {
-            items.push(slots[index])?;
+        match Vec::from_array(alloc, *slots) {
+            Ok(items) => Ok(Slots { items }),
+            Err(_) => Err(AllocError),
         }
-        Ok(Slots { items })
     }
 
     /// Puts this into a slot.
