@@ -2,8 +2,8 @@
 use Rattle.description.proofs.Names.{ℕ, zero, suc, List, [], length, map, Option, None, Some, slice_get, slice_index, slice_index_or, get_or, IsSomeAnd, refl}
 use Rattle.description.proofs.Names.{sym, ap, arith, All, All-cons, All-head, All-map, All-tail, none-some, same_Some, slice_get_within, AreDistinct, AreSlots}
 use Rattle.description.proofs.Names.{AreWords, HasFields, IsProcessEntry, IsSomeCapability, Description, NodeEntry, PageEntry, SlotEntry, WordEntry}
-use Rattle.description.proofs.Names.{BreaksField, BreaksIndexed, BreaksSlots, IsTwice, Indexed, Part, SlotFlaw}
-use Rattle.std.proofs.Common.{◌≡◌, ◌≢◌, ◌<◌, ◌≤◌, ◌∷◌, ◌∙◌}
+use Rattle.description.proofs.Names.{BreaksField, BreaksIndexed, BreaksSlots, IsTwice, Indexed, Part, SlotFlaw, cases_lt, inl, inr, slice_get-get_or}
+use Rattle.std.proofs.Common.{◌≡◌, ◌≢◌, ◌+◌, ◌<◌, ◌≤◌, ◌∷◌, ◌∙◌}
 use Rattle.description.specs.declared.flaw.Indexed.TheVariants as indexed
 use Rattle.description.specs.declared.flaw.Part.TheVariants as part
 use Rattle.description.specs.declared.flaw.SlotFlaw.TheVariants as slot
@@ -24,6 +24,19 @@ apart_distinct (m ∷ ns) n past apart = (
     first [] k lt is = absurd (omega arith)
     first (x ∷ xs) zero lt is = is
     first (x ∷ xs) (suc k) lt is = first xs k (omega arith) is
+
+pub apart_more : (ns : List ℕ) (n m : ℕ) → m ≡ slice_index ns n → ((j : ℕ) → n + 1 ≤ j → j < length ns → slice_index ns j ≢ m) → ApartBelow ns n →
+    ApartBelow ns (n + 1)
+apart_more ns n m is none apart k j lt less within = elim (cases_lt k n) [
+  | inl before ↦ apart k j before less within
+  | inr past ↦
+      let same : k ≡ n = omega (arith, lt, past) in
+      λ e. none j (omega (arith, less, same)) within (e ∙ ap (slice_index ns) same ∙ sym is)
+]
+
+pub twice_at : (ns : List ℕ) (i j n : ℕ) → i < length ns → n ≡ slice_index ns i → (i + 1 ≤ j) × (j < length ns) × (slice_index ns j ≡ n) → IsTwice ns i j
+twice_at ns i j n within is at =
+    (omega (arith, at.0), n, slice_get-get_or ns i 0 within ∙ ap Some (sym is), slice_get-get_or ns j 0 at.1 ∙ ap Some at.2)
 
 -- what holds of what is made of each holds of each so made
 pub all_unmapped : {A B : Type 0} (P : B → Type 0) (f : A → B) (xs : List A) → All P (map f xs) → All (λ x. P (f x)) xs

@@ -26,6 +26,10 @@ missed P Q e r same none part = search arith
 pub as_read : {A : Type 0} (P : A → Type 0) (r : Result A BuildFault) → Finds P r → Reads P r
 as_read P r is = search arith
 
+pub missed_read : {A B : Type 0} (P : A → Type 0) (Q : B → Type 0) (e : BuildFault) (r : Result B BuildFault) → IsErrAnd r (λ y. y ≡ e) →
+    (e ≡ fault.Shape) × ((x : A) → P x → ⊥) → ((y : B) → Q y → (x : A) × P x) → Reads Q r
+missed_read P Q e r same none part = as_read Q r (missed P Q e r same none part)
+
 pub in_table : {A : Type 0} (P : Members → A → Type 0) (d : Data) (ms : Members) (x : A) → d ≡ table ms → IsTable P d x → P ms x
 in_table P d ms x is said = subst (λ ns. P ns x) (search (arith, same_Some, said.0, sym said.1 ∙ is)) said.2
 

@@ -6,10 +6,14 @@ use Rattle.std.proofs.Common.{◌≡◌, ◌<◌, ◌∷◌}
 use Rattle.model.specs.declared.object.Content.TheVariants as content
 
 -- free headers with free contents are free frames
-pub blank_frames : (n : ℕ) → frames_in (replicate n blank_header) (replicate n content.Free) ≡ replicate n blank_frame
+blank_frames : (n : ℕ) → frames_in (replicate n blank_header) (replicate n content.Free) ≡ replicate n blank_frame
 unfolding frames_in
 blank_frames zero = refl
 blank_frames (suc n) = ap (λ (fs : List Frame). blank_frame ∷ fs) (blank_frames n)
+
+pub free_frames : (hs : List ObjectHeader) (cs : List (Content Cap)) (n : ℕ) → hs ≡ replicate n blank_header → cs ≡ replicate n content.Free →
+    frames_in hs cs ≡ replicate n blank_frame
+free_frames hs cs n headers contents = rw (headers, contents) (blank_frames n)
 
 -- a header with a role, never rescinded
 abbrev pub first_header : Role → ℕ → ObjectHeader

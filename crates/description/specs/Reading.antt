@@ -123,9 +123,9 @@ pub record IsProcess (ms : Members) (process : ProcessEntry) : Type 0 where
   pub space : AtOr (Some Void) (codes "space") IsCapability ms process.space
   pub registers : AtOr [] (codes "registers") (IsList IsSlot) ms process.registers.items
 
--- a number and an owner, in a table with no other keys than these and that of a list
-pub record HasNumberAndOwner (list : List ℕ) (ms : Members) (numbers : ℕ × ℕ) : Type 0 where
-  pub known : IsTrue (has_only (codes "number" ∷ codes "owner" ∷ list ∷ []) ms)
+-- a number and an owner, in a table with no other keys than these and one more
+pub record HasNumberAndOwner (other : List ℕ) (ms : Members) (numbers : ℕ × ℕ) : Type 0 where
+  pub known : IsTrue (has_only (codes "number" ∷ codes "owner" ∷ other ∷ []) ms)
   pub number : At (codes "number") IsNumber ms numbers.0
   pub owner : At (codes "owner") IsNumber ms numbers.1
 

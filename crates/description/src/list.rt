@@ -110,12 +110,11 @@ fn four_of(value: &Value) -> Result<[u64; 4], BuildFault>
     ensures { Finds (AreFour (view value.now)) result }
 {
     let (first, second, third, fourth) = quad_of(value)?;
-    Ok([
-        wide_number_of(first)?,
-        wide_number_of(second)?,
-        wide_number_of(third)?,
-        wide_number_of(fourth)?,
-    ])
+    let first = wide_number_of(first)?;
+    let second = wide_number_of(second)?;
+    let third = wide_number_of(third)?;
+    let fourth = wide_number_of(fourth)?;
+    Ok([first, second, third, fourth])
 }
 
 /// The four words at a key, zeros if the key is missing. `Shape` if another value is there.

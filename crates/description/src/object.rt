@@ -15,15 +15,26 @@ use model::{Capability, State};
 use std::alloc::Global;
 use toml::{Table, Value};
 
+// The number and the owner of an object whose table has these two and one more key.
+fn read_numbers(table: &Table, other: &str) -> Result<(u64, u64), BuildFault>
+    ensures { Finds (HasNumberAndOwner other.now (table_view table.now)) result }
+{
+    check_keys(table, &["number", "owner", other])?;
+    let owner = number(table, "owner")?;
+    let number = number(table, "number")?;
+    Ok((number, owner))
+}
+
 // Reads the table of a bank. `Shape` for any other.
 fn read_bank(table: &Table) -> Result<BankEntry, BuildFault>
     ensures { Finds (IsBank (table_view table.now)) result }
 {
-    check_keys(table, &["number", "owner", "limit"])?;
+    let (number, owner) = read_numbers(table, "limit")?;
+    let limit = wide_number(table, "limit")?;
     Ok(BankEntry {
-        number: number(table, "number")?,
-        owner: number(table, "owner")?,
-        limit: wide_number(table, "limit")?,
+        number,
+        owner,
+        limit,
     })
 }
 
@@ -83,16 +94,6 @@ fn is_process(table: &Table) -> bool
         Ok(_) => may_have_list::<SlotEntry>(table, "registers"),
         Err(_) => false,
     }
-}
-
-// The number and the owner of an object whose table has these two and a list at a key.
-fn read_numbers(table: &Table, list: &str) -> Result<(u64, u64), BuildFault>
-    ensures { Finds (HasNumberAndOwner list.now (table_view table.now)) result }
-{
-    check_keys(table, &["number", "owner", list])?;
-    let owner = number(table, "owner")?;
-    let number = number(table, "number")?;
-    Ok((number, owner))
 }
 
 // Whether a table has a number and an owner, and at a key nothing or a list of values of this type.
