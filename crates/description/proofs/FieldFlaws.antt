@@ -2,7 +2,7 @@
 use Rattle.description.proofs.Names.{ℕ, zero, suc, List, [], length, map, Option, None, Some, slice_get, slice_index, slice_index_or, get_or, IsSomeAnd, refl}
 use Rattle.description.proofs.Names.{sym, ap, arith, All, All-cons, All-head, All-map, All-tail, none-some, same_Some, slice_get_within, AreDistinct, AreSlots}
 use Rattle.description.proofs.Names.{AreWords, HasFields, IsProcessEntry, IsSomeCapability, Description, NodeEntry, PageEntry, SlotEntry, WordEntry}
-use Rattle.description.proofs.Names.{BreaksField, BreaksIndexed, BreaksSlots, IsTwice, Indexed, Part, SlotFlaw, cases_lt, inl, inr, slice_get-get_or}
+use Rattle.description.proofs.Names.{BreaksField, BreaksIndexed, BreaksSlots, IsTwice, Indexed, Part, SlotFlaw, cases_lt, inl, inr, slice_get-get_or, MatchOption, is_some, true, false, false≢true, true≢false}
 use Rattle.std.proofs.Common.{◌≡◌, ◌≢◌, ◌+◌, ◌<◌, ◌≤◌, ◌∷◌, ◌∙◌}
 use Rattle.description.specs.declared.flaw.Indexed.TheVariants as indexed
 use Rattle.description.specs.declared.flaw.Part.TheVariants as part
@@ -103,3 +103,13 @@ field_refuted d (part.Slots k flaw) broken has =
 field_refuted d (part.Words k flaw) broken has = all_refuted (λ (p : PageEntry). AreWords p.words.items) _ _ k broken
     (λ p is out. indexed_refuted 0 512 (map (λ w. w.index) p.words.items) flaw out
     (All-map (λ n. (0 ≤ n) × (n < 512)) (λ w. w.index) p.words.items (λ i e lt. (omega arith, is.places i e lt))) is.distinct) has.pages
+
+-- a part that was found
+pub flaw_refuted : (d : Description) (which : Option Part) → MatchOption which (HasFields d) (λ part. BreaksField d part) → is_some which ≡ true →
+    HasFields d → ⊥
+flaw_refuted d None found there has = false≢true there
+flaw_refuted d (Some part) found there has = field_refuted d part found has
+
+pub unflawed : (d : Description) (which : Option Part) → MatchOption which (HasFields d) (λ part. BreaksField d part) → is_some which ≡ false → HasFields d
+unflawed d None found none = found
+unflawed d (Some part) found none = absurd (true≢false none)

@@ -17,7 +17,6 @@ use crate::world::World;
 use std::alloc::{AllocError, Global};
 
 // Why a description names no world, if it names none.
-#[tactic(auto, using(crate::proofs::NamedTargets::named_targets, crate::proofs::FieldFlaws::field_refuted))]
 fn check(alloc: Global, description: &Description) -> Result<(), BuildFault>
     requires { IsGeometry description.now.geometry }
     ensures numbers { OnOk result (HasNumbers description.now) }
