@@ -17,6 +17,7 @@ pub mod Plain
 mod Puts
 mod Quoted
 mod ReadBack
+mod ReadOnly
 mod Rising
 mod Said
 pub mod SameTables
