@@ -1,6 +1,6 @@
 -- Lines that are written one behind the other.
 use Rattle.image_describer.proofs.Names.{nat_tests, arith, ℕ, List, [], Some, append-nil, append_assoc, sym, ap, Field, begin_line, field_line, field_lines}
-use Rattle.image_describer.proofs.Names.{list_unless_empty}
+use Rattle.image_describer.proofs.Names.{flat_map, join_by, length, list_unless_empty}
 use Rattle.std.proofs.Common.{◌≡◌, ◌∷◌, ◌++◌, ◌∙◌}
 
 -- the lines of fields were written behind a text
@@ -25,3 +25,13 @@ same_list {A = A} old new key f xs ys made is = made ∙ ap (λ (zs : List A). o
 pub same_value : {A : Type 0} (old new key : List ℕ) (f : A → List ℕ) (x y : A) → new ≡ old ++ field_line (key, Some (f x)) → y ≡ x →
     new ≡ old ++ field_line (key, Some (f y))
 same_value {A = A} old new key f x y made is = made ∙ ap (λ (z : A). old ++ field_line (key, Some (f z))) (sym is)
+
+-- items behind a first one, each behind a separator
+pub joined_none : {A : Type 0} (f : A → List ℕ) (sep old : List ℕ) (xs : List A) → length xs ≡ 0 → old ≡ old ++ join_by f sep xs
+joined_none f sep old [] none = sym (append-nil old)
+joined_none f sep old (x ∷ xs) none = absurd (omega (arith, none))
+
+pub joined_more : {A : Type 0} (f : A → List ℕ) (sep old mid new : List ℕ) (x : A) (xs others : List A) → xs ≡ x ∷ others → mid ≡ old ++ f x →
+    new ≡ mid ++ flat_map (λ y. sep ++ f y) others → new ≡ old ++ join_by f sep xs
+joined_more f sep old mid new x xs others is one rest =
+    rw is (rest ∙ ap (λ (text : List ℕ). text ++ flat_map (λ y. sep ++ f y) others) one ∙ append_assoc old (f x) (flat_map (λ y. sep ++ f y) others))

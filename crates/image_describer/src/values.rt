@@ -128,9 +128,9 @@ fn put_joined<T: Item>(text: &mut String, items: &[T]) -> Result<(), AllocError>
     ensures { OnOk result (string_bytes text.new
         ≡ string_bytes text.old ++ join_by T.text_of (codes ", ") items.now) }
 {
-    match items {
-        [] => Ok(()),
-        [first, others @ ..] => {
+    match items.split_first() {
+        None => Ok(()),
+        Some((first, others)) => {
             first.put(text)?;
             put_others(text, others)
         }
