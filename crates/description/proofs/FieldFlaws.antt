@@ -2,7 +2,8 @@
 use Rattle.description.proofs.Names.{ℕ, zero, suc, List, [], length, map, Option, None, Some, slice_get, slice_index, slice_index_or, get_or, IsSomeAnd, refl}
 use Rattle.description.proofs.Names.{sym, ap, arith, All, All-cons, All-head, All-map, All-tail, none-some, same_Some, slice_get_within, AreDistinct, AreSlots}
 use Rattle.description.proofs.Names.{AreWords, HasFields, IsProcessEntry, IsSomeCapability, Description, NodeEntry, PageEntry, SlotEntry, WordEntry}
-use Rattle.description.proofs.Names.{BreaksField, BreaksIndexed, BreaksSlots, IsTwice, Indexed, Part, SlotFlaw, cases_lt, inl, inr, slice_get-get_or, MatchOption, is_some, true, false, false≢true, true≢false}
+use Rattle.description.proofs.Names.{BreaksField, BreaksIndexed, BreaksSlots, IsTwice, Indexed, Part, SlotFlaw, cases_lt, inl, inr, slice_get-get_or}
+use Rattle.description.proofs.Names.{MatchOption, is_some, true, false, false≢true, true≢false}
 use Rattle.std.proofs.Common.{◌≡◌, ◌≢◌, ◌+◌, ◌<◌, ◌≤◌, ◌∷◌, ◌∙◌}
 use Rattle.description.specs.declared.flaw.Indexed.TheVariants as indexed
 use Rattle.description.specs.declared.flaw.Part.TheVariants as part

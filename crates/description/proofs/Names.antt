@@ -30,12 +30,13 @@ pub use Rattle.std.proofs.Common.{Bool, Bor, Global, IfNone, IfSome, IsErrAnd, I
 pub use Rattle.std.proofs.Common.{codes, drop, false, get_or, inl, inr, is_eq, is_ok, is_some, length, map, nat_cmp, nat_eq, pos, refl, replicate, rules}
 pub use Rattle.std.proofs.Common.{slice_get, slice_index, slice_index_or, slice_set, subst, suc, sym, take, true, true≢false, unwrap_or, vec_len, zero, ℕ, ℤ}
 pub use Rattle.std.proofs.Math.ListN.{get_or-map}
-pub use Rattle.std.proofs.iter.runs.Made.{chains}
 pub use Rattle.std.proofs.lemmas.Bool.{cases_eq, cases_lt, false≢true}
 pub use Rattle.std.proofs.lemmas.Bool.Decides.{nat_tests}
 pub use Rattle.std.proofs.lemmas.Cmp.{same_from_slice_cmp}
 pub use Rattle.std.proofs.lemmas.Grind.{common_steps}
 pub use Rattle.std.proofs.lemmas.Int.{to_z-of_z}
+pub use Rattle.std.proofs.lemmas.Iterator.{YieldsList-from_map, YieldsList-from_slice, items_from_collect}
+pub use Rattle.std.proofs.lemmas.Iterator.Consumers.{YieldsList-at, YieldsList-from_chain}
 pub use Rattle.std.proofs.lemmas.List.{drop_all, drop_more, ext_get_or, get_or-set_other, get_or-set_same, length-replicate, length-set, take_all, take_more}
 pub use Rattle.std.proofs.lemmas.List.Elements.{All-append, All-cons, All-contains, All-head, All-map, All-more, All-nil, All-replicate, All-set, All-tail}
 pub use Rattle.std.proofs.lemmas.List.Elements.{AllZip-get_or, Contains-append_cases, Contains-append_left, Contains-append_right, Contains-get_or}

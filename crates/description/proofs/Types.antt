@@ -2,7 +2,7 @@
 use Rattle.description.proofs.Names.{nat_tests, inl, inr, ℕ, ℤ, true, false, Option, Some, None, is_some, List, Result, IfSome, IfNone, sym, arith, none-some}
 use Rattle.description.proofs.Names.{same_Some, unsigned_abs, is_negative, IsWellFormed, named, capability_text, state_text, Capability, Number, State, Data}
 use Rattle.description.proofs.Names.{string, integer, as_integer, as_str, IsCapability, IsNumber, IsState, IsWideNumber, Finds, BuildFault}
-use Rattle.std.proofs.Common.{◌≡◌, ◌≢◌, ◌^◌, ◌<◌, ◌≤◌, ◌∙◌}
+use Rattle.std.proofs.Common.{◌≡◌, ◌≢◌, ◌^◌, ◌<◌, ◌≤◌}
 use Rattle.description.proofs.Once.{capability_once}
 
 pub integer_is : (d : Data) (z : ℤ) → Some z ≡ as_integer d → d ≡ integer z

@@ -3,7 +3,8 @@ pub use Rattle.capability.proofs.FrameLists.{annex_used, known_used, object_past
 pub use Rattle.capability.proofs.Keeping.{keepable_later}
 pub use Rattle.capability.proofs.Mapped.{kind_map, mapped}
 pub use Rattle.capability.proofs.Roles.{role_read}
-pub use Rattle.capability.specs.Parts.{Parts, frames_of, objects_in}
+pub use Rattle.capability.proofs.SnapshotLaws.{only_reads_twice}
+pub use Rattle.capability.specs.Parts.{AreSound, OnlyFetches, OnlyReads, Parts, frames_of, objects_in}
 pub use Rattle.capability.specs.Plain.{fresh_cap}
 pub use Rattle.description.proofs.DescribedOnce.{described_once}
 pub use Rattle.description.proofs.Entries.{IsFrameOf, IsOf, described_cases, described_of, in_range}
@@ -48,6 +49,7 @@ unfoldable pub use Rattle.model.specs.Text.{capability_text}
 pub use Rattle.model.specs.World.{World, annex_at, content_at, is_process, object_at, owner_at}
 pub use Rattle.model.specs.contracts.object.Role.{the_type}
 pub use Rattle.model.specs.declared.access.Access.{Access}
+pub use Rattle.model.specs.declared.answer.Refusal.{Refusal}
 pub use Rattle.model.specs.declared.capability.Cap.{Cap}
 pub use Rattle.model.specs.declared.capability.Capability.{Capability}
 pub use Rattle.model.specs.declared.capability.Capability.TheVariants.{Number, Page, Space, Void}
@@ -57,14 +59,16 @@ pub use Rattle.model.specs.declared.geometry.Geometry.{Geometry}
 pub use Rattle.model.specs.declared.object.Content.{Content}
 pub use Rattle.model.specs.declared.object.Object.{Object}
 pub use Rattle.model.specs.declared.object.Role.{Role}
+pub use Rattle.model.specs.declared.object.Root.{Root}
 pub use Rattle.model.specs.declared.object.State.{State}
 pub use Rattle.model.specs.declared.object.State.TheVariants.{Available, Running, Waiting}
 pub use Rattle.recovery.proofs.Looking.{HasLooked}
 pub use Rattle.recovery.proofs.Tables.{frames_looked}
 pub use Rattle.recovery.proofs.Unsound.{sound_named}
-pub use Rattle.std.proofs.Common.{Bool, Equal, Greater, IfSome, IsSomeAnd, Less, List, MatchOption, None, Option, Ordering, Some, [], ap, append-nil}
-pub use Rattle.std.proofs.Common.{append_assoc, arith, codes, decimal, false, get_or, inl, inr, is_eq, length, map, nat_cmp, nat_lt, not, option_and_then}
-pub use Rattle.std.proofs.Common.{option_map, option_to_list, pos, refl, rules, slice_index_or, string_bytes, subst, suc, sym, take, true, unwrap_or, zero, ℕ}
+pub use Rattle.std.proofs.Common.{Bool, Equal, Err, Greater, IfSome, IsErrAnd, IsSomeAnd, Less, List, MatchOption, None, Ok, Option, Ordering, Result, Some, []}
+pub use Rattle.std.proofs.Common.{ap, append-nil, append_assoc, arith, codes, decimal, false, get_or, inl, inr, is_eq, length, map, nat_cmp, nat_lt, not}
+pub use Rattle.std.proofs.Common.{option_and_then, option_map, option_to_list, pos, refl, rules, slice_index_or, string_bytes, subst, suc, sym, take, true}
+pub use Rattle.std.proofs.Common.{unwrap_or, zero, ℕ}
 pub use Rattle.std.proofs.Math.ListN.{get_or-map}
 pub use Rattle.std.proofs.lemmas.Bool.{cases_Bool, cases_lt, true≢false}
 pub use Rattle.std.proofs.lemmas.Bool.Decides.{nat_tests}

@@ -1,16 +1,11 @@
 -- Read-only calls, one after another.
-use Rattle.image_describer.proofs.Names.{HasLooked, List, Object, Parts, arith, ap, cases_lt, frames_looked, inl, inr, objects_in, objects_of, subst, sym}
-use Rattle.image_describer.proofs.Names.{ℕ, Capability, Content, IsTrue, content_at, is_annex, is_root, refl, root_in, is_process, annex_at}
+use Rattle.image_describer.proofs.Names.{HasLooked, List, Object, Parts, arith, ap, cases_lt, frames_looked, inl, inr, objects_in, objects_of, subst, sym, ℕ}
+use Rattle.image_describer.proofs.Names.{Capability, Content, IsTrue, content_at, is_annex, is_root, refl, root_in, is_process, annex_at, Root}
+use Rattle.image_describer.proofs.Names.{only_reads_twice, AreSound, OnlyFetches, OnlyReads, frames_of, IsSoundFrames, Frame, Geometry, Refusal, Err, IsErrAnd}
+use Rattle.image_describer.proofs.Names.{Ok, Result}
+use Rattle.std.proofs.Common.{◌≡◌, ◌∙◌}
 use Rattle.model.specs.declared.object.Content.TheVariants as content
-use Rattle.model.specs.declared.object.Root.{Root}
-use Rattle.capability.proofs.SnapshotLaws.{only_reads_twice}
-use Rattle.capability.specs.Parts.{AreSound, OnlyFetches, OnlyReads, frames_of}
-use Rattle.model.specs.Keepable.{IsSoundFrames}
-use Rattle.model.specs.declared.frame.Frame.{Frame}
-use Rattle.model.specs.declared.geometry.Geometry.{Geometry}
-use Rattle.model.specs.declared.answer.Refusal.{Refusal}
 use Rattle.model.specs.declared.answer.Refusal.TheVariants as refusal
-use Rattle.std.proofs.Common.{Err, IsErrAnd, Ok, Result, ◌≡◌, ◌∙◌}
 
 module _ {S : Type 0} {parts : S → Parts} {Continues : S → S → Type 0} {s t : S} where
   -- what was read is sound, and holds the same objects

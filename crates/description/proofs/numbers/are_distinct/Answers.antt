@@ -1,4 +1,4 @@
-use Rattle.description.proofs.Names.{sym, refl, true, false, slice_index_or, length-replicate, length-set}
+use Rattle.description.proofs.Names.{sym, refl, false, slice_index_or, length-replicate, length-set}
 use Rattle.std.proofs.Common.{◌∙◌}
 use Rattle.std.specs.Prelude.{Bool}
 use Rattle.description.proofs.Lists.{all_new, still_new, ended_new}

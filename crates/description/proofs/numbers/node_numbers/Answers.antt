@@ -1,6 +1,5 @@
-use Rattle.description.proofs.Names.{rules, BankEntry, NodeEntry, ProcessEntry}
-use Rattle.std.proofs.lemmas.Iterator.{YieldsList-from_map, YieldsList-from_slice, items_from_collect}
-use Rattle.std.proofs.lemmas.Iterator.Consumers.{YieldsList-at, YieldsList-from_chain}
+use Rattle.description.proofs.Names.{rules, BankEntry, NodeEntry, ProcessEntry, YieldsList-from_map, YieldsList-from_slice, items_from_collect, YieldsList-at}
+use Rattle.description.proofs.Names.{YieldsList-from_chain}
 use Rattle.description.proofs.numbers.node_numbers.Goals as goal
 
 pub returns : goal.returns

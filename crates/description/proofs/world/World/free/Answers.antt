@@ -1,4 +1,4 @@
-use Rattle.description.proofs.Names.{ap, arith, length, length-replicate, replicate}
+use Rattle.description.proofs.Names.{ap, arith, length, length-replicate}
 use Rattle.std.proofs.Common.{◌≡◌, ◌∙◌}
 use Rattle.model.specs.declared.object.Content.TheVariants as content
 use Rattle.description.proofs.Worlds.{free_frames}
