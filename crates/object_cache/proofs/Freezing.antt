@@ -8,7 +8,6 @@ use Rattle.object_cache.proofs.Names.{frame_in, length_in, Entry, entry_at, Memo
 use Rattle.object_cache.proofs.Names.{frozen_body, frozen_frame, frozen_at, contents_in, frozen_in, StoreState, IsCache, AreFrozen, snapshots_of, cache_of}
 use Rattle.object_cache.proofs.Names.{frozen_seen, is_kept, left_of, sum_by-replicate, get_or_default}
 use Rattle.std.proofs.Common.{◌≡◌, ◌<◌, ◌≤◌, ◌||◌, ◌∷◌, ◌∙◌}
-use Rattle.model.specs.declared.object.Content.TheVariants as content
 use Rattle.object_cache.proofs.Marking.{alike}
 use Rattle.object_cache.proofs.Objects.{content_in, saved_below}
 use Rattle.object_cache.proofs.Puts.{held_touched}

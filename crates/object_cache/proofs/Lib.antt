@@ -14,3 +14,5 @@ mod Fetched
 mod Presenting
 mod Journaling
 mod Opening
+mod Saving
+mod Exits

@@ -9,12 +9,12 @@ pub use Rattle.cache_entries.specs.Order.{AreOrdered, EntriesState, used_in_turn
 pub use Rattle.capability.proofs.FrameLists.{frame_in, length_in}
 pub use Rattle.capability.proofs.Keeping.{keepable_at}
 pub use Rattle.capability.specs.Objects.{changed_root, with_root_in, with_slots_in}
-pub use Rattle.capability.specs.Parts.{Becomes, HaveTheirRoles, fresh_content}
+pub use Rattle.capability.specs.Parts.{Becomes, HaveTheirRoles, OnlyFetches, fresh_content}
 pub use Rattle.checkpoint.proofs.Journaling.{content_is_page, journal_there, known_page, next_same, page_is, role_is_page}
 pub use Rattle.checkpoint.proofs.Lists.{maps_same}
-pub use Rattle.checkpoint.specs.Journal.{is_page_role, next_journaled}
-pub use Rattle.checkpoint.specs.Refused.{IsCommitAnswer, IsJournalAnswer}
-pub use Rattle.checkpoint.specs.Saved.{Holds, LeavesEither, LeavesOneOf, SavedFrames, home_saved, journaled_saved, most, with_words}
+pub use Rattle.checkpoint.specs.Journal.{is_page_role, is_same_page, next_journaled}
+pub use Rattle.checkpoint.specs.Refused.{IsCommitAnswer, IsJournalAnswer, IsTurnedAway}
+pub use Rattle.checkpoint.specs.Saved.{Holds, LeavesEither, LeavesOneOf, LeavesSaved, SavedFrames, home_saved, journaled_saved, most, with_words}
 pub use Rattle.checkpoint.specs.Snapshots.{MayCommit, Snapshots, committed, freezing, journaled, moved, next_saved}
 pub use Rattle.checkpoint.specs.Store.{FrozenFrames, OpensStore, all_frozen, stabilized, whole}
 pub use Rattle.collections.specs.Marks.{HasNoneMarked}
@@ -66,16 +66,17 @@ pub use Rattle.std.proofs.lemmas.Option.{none-some, same_Some}
 pub use Rattle.std.proofs.lemmas.Result.{err_from_is_err_and, on_err_weaker, on_ok_weaker}
 pub use Rattle.std.specs.Cmp.{nat_eq_equiv}
 pub use Rattle.std.specs.List.{All, Contains, list_any, range_with_len, slice_get}
-pub use Rattle.std.specs.Prelude.{IsErrAnd, OnErr, OnOk, count_by, is_err, slice_index_or}
-pub use Rattle.object_cache.specs.Journaled.{SavesPage, entry_body, held_now}
+pub use Rattle.std.specs.Prelude.{IsErr, IsErrAnd, OnErr, OnOk, count_by, is_err, slice_index_or}
+pub use Rattle.object_cache.specs.Journaled.{JournalsPage, MaySave, SavesPage, entry_body, held_now, is_saved_page}
 pub use Rattle.object_cache.specs.Memory.{Apart, FrozenState, Held, Memory, Nothing, Shared, apart_body, below_body, content_at, frozen_at, frozen_body}
 pub use Rattle.object_cache.specs.Memory.{frozen_frame, frozen_state_by, frozen_state_in_memory, frozen_state_of, held_behind, in_staging, mark_at, masked}
 pub use Rattle.object_cache.specs.Memory.{memory_of, newest_body, own_body, own_body_of, own_frame, present_at, present_body, put_body, released}
 unfoldable pub use Rattle.object_cache.specs.Memory.{contents_in, frozen_in, frozen_states_in}
-pub use Rattle.object_cache.specs.Prepared.{UsesSome, on_device_with}
+pub use Rattle.object_cache.specs.Prepared.{UsesSome, on_device_with, readied}
 pub use Rattle.object_cache.specs.PresentLaws.{continues_same, goes_on_same, goes_on_twice}
-pub use Rattle.object_cache.specs.StoreState.{AreAll, AreFrozen, AreInserted, AreTaken, ContinuesIn, GoesOnIn, HaveRoom, HoldBodies, IsAnnouncedIn, IsBounded}
-pub use Rattle.object_cache.specs.StoreState.{IsCache, IsFetchedIn, IsJustOpened, IsOpenOver, IsUnkept, IsWhole, MayPutFrozen, PutsBy, StoreState, TakenState}
-pub use Rattle.object_cache.specs.StoreState.{all_of, bodies_of, cache_of, cached_at, frozen_seen, frozen_state_at, is_kept, on_device, on_device_frozen}
-pub use Rattle.object_cache.specs.StoreState.{parts_of, pending_count, snapshots_of, view_of, with_body, with_cached, with_content_in, without_cached}
+pub use Rattle.object_cache.specs.StoreState.{AreAll, AreFrozen, AreInserted, AreKeepableIn, AreTaken, ContinuesIn, GoesOnIn, HaveRoom, HoldBodies}
+pub use Rattle.object_cache.specs.StoreState.{IsAnnouncedIn, IsBounded, IsCache, IsFetchedIn, IsJustOpened, IsKeepableIn, IsOpenOver, IsUnkept, IsWhole}
+pub use Rattle.object_cache.specs.StoreState.{MayPutFrozen, PutsBy, StoreState, TakenState, all_of, bodies_of, cache_of, cached_at, frozen_seen}
+pub use Rattle.object_cache.specs.StoreState.{frozen_state_at, is_kept, on_device, on_device_frozen, parts_of, pending_count, snapshots_of, view_of, with_body}
+pub use Rattle.object_cache.specs.StoreState.{with_cached, with_content_in, without_cached}
 unfoldable pub use Rattle.object_cache.specs.StoreState.{cached_in}

@@ -17,7 +17,6 @@ use Rattle.object_cache.proofs.Objects.{unwritten_alike, of_each}
 use Rattle.object_cache.proofs.Puts.{has_free_slot}
 use Rattle.object_cache.proofs.Caching.{nothing_frozen_state, frozen_state_entry}
 use Rattle.model.specs.declared.object.Role.TheVariants as role
-use Rattle.model.specs.declared.object.Content.TheVariants as content
 
 none_frozen_state : (o : Option Entry) (touched : Bool) → frozen_state_of o false touched ≡ Nothing
 none_frozen_state o touched = search arith

@@ -2,8 +2,10 @@
 use Rattle.object_cache.specs.Names.{ℕ, Bool, Option, Some, None, List, Cap, Content, ObjectHeader, Stored, newest}
 use Rattle.object_cache.specs.Names.{Entry, entry_at, frame_at, is_same_page, Disk, DurableState, stored_of, is_sound}
 use Rattle.object_cache.specs.Names.{Result, IfOk, OnOk, OnErr, Counts, LeavesEither, journaled_saved, journaled}
-use Rattle.object_cache.specs.Names.{on_snapshots}
-use Rattle.std.specs.Prelude.{◌≡◌, ◌+◌, ◌<◌, ◌≤◌, ◌^◌}
+use Rattle.object_cache.specs.Names.{on_snapshots, IsErrOf, option_map, words_in, Refusal, is_page_role, next_journaled}
+use Rattle.object_cache.specs.Names.{IsJournalAnswer, IsTurnedAway, LeavesOneOf, left_of}
+use Rattle.std.specs.Prelude.{◌≡◌, ◌⊎◌, ◌+◌, ◌<◌, ◌≤◌, ◌^◌}
+use Rattle.model.specs.declared.answer.Refusal.TheVariants as refusal
 use Rattle.model.specs.declared.object.Role.TheVariants as role
 
 -- the body in its entry or, if it has none, the newest on the device
@@ -41,3 +43,19 @@ pub record SavesPage {D E : Type 0} (disk : D → Disk) (s t : DurableState D) (
   pub any_moment : LeavesEither (disk s.beneath) (disk t.beneath) (stored_of disk s).saved
       (journaled_saved age n words (stored_of disk s).saved)
   pub cause : Counts (disk s.beneath) (disk t.beneath) result
+
+-- a page was journaled, or this was refused; `h` is its present header
+pub record JournalsPage {D : Type 0} (disk : D → Disk) (s t : DurableState D) (es : List (Option Entry))
+    (h : ObjectHeader) (is_known : Bool) (n age : ℕ) (result : Result ℕ Refusal) : Type 0 where
+  pub journaled : OnOk result
+      (stored_of disk t ≡ on_snapshots (journaled age n (words_in (held_now es (stored_of disk s) n))) (stored_of disk s))
+  pub unchanged : OnErr result (stored_of disk t ≡ stored_of disk s)
+  pub turned_away : IsTurnedAway result → t ≡ s
+  pub plan : t.books.plan ≡ s.books.plan
+  pub answer : IsJournalAnswer (disk s.beneath) (disk t.beneath) (option_map left_of (stored_of disk s).frozen)
+      (stored_of disk s).saved is_known (is_page_role h.role) (is_saved_page (stored_of disk s) h n) result
+  pub sound : IsErrOf result refusal.Fault ⊎ is_sound disk t
+  pub size : (disk t.beneath).sectors ≡ (disk s.beneath).sectors
+  pub any_moment : LeavesOneOf (disk s.beneath) (disk t.beneath) (stored_of disk s).saved
+      (next_journaled age n (words_in (held_now es (stored_of disk s) n)) (stored_of disk s).frozen
+      (stored_of disk s).saved (is_page_role h.role) (is_saved_page (stored_of disk s) h n))

@@ -3,11 +3,10 @@ use Rattle.object_cache.specs.Names.{ℕ, Bool, true, false, Option, Some, None,
 use Rattle.object_cache.specs.Names.{List, length, map, replicate, slice_index_or, slice_set, range_with_len, Cap}
 use Rattle.object_cache.specs.Names.{ObjectHeader, Content, Frame, frame_at, header_at, headers, AreKeepable}
 use Rattle.object_cache.specs.Names.{touched_count, untouched, is_member, object_count, Disk, Peeks, Put, Absent}
-use Rattle.object_cache.specs.Names.{Broken, Kept, put_at, most, DurableState, FrozenPuts, Stored, GoesOn, saved_state}
-use Rattle.object_cache.specs.Names.{seen_of, stored_of, is_sound, SavedState, Parts, HaveTheirRoles, Snapshots}
-use Rattle.object_cache.specs.Names.{FrozenFrames, View, stabilized, Entry, EntriesState, entry_at, new_entry}
-use Rattle.object_cache.specs.Names.{AllDiffer, changing, with_entry_of, without, nat_le, IsKeepable, HasFreeSlot}
-use Rattle.object_cache.specs.Names.{held_at, frames_of}
+use Rattle.object_cache.specs.Names.{Broken, Kept, put_at, most, DurableState, FrozenPuts, Stored, GoesOn, stored_of}
+use Rattle.object_cache.specs.Names.{is_sound, Parts, HaveTheirRoles, Snapshots, FrozenFrames, View, stabilized, Entry}
+use Rattle.object_cache.specs.Names.{EntriesState, entry_at, new_entry, AllDiffer, changing, with_entry_of, without}
+use Rattle.object_cache.specs.Names.{nat_le, IsKeepable, HasFreeSlot, held_at, frames_of}
 use Rattle.std.specs.Prelude.{◌≡◌, ◌⊎◌, ◌<◌, ◌∷◌, ◌||◌, ◌≤◌, if◌then◌else◌}
 use Rattle.model.specs.declared.object.Role.TheVariants as role
 use Rattle.object_cache.specs.Memory.{Held, Memory, FrozenState, Nothing, frozen_state_by, mark_at, present_at}

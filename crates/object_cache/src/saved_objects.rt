@@ -79,6 +79,7 @@ fn all_entries(
         if entries.fits(capacity, count) && drop_all_kept(&mut entries, count) {
             return Ok(entries);
         }
+        drop(entries);
     }
     let mut entries = Entries::new(alloc, capacity, count)?;
     insert_all(&mut entries, count);
@@ -128,9 +129,10 @@ impl<P: Policy> Intake for SavedObjects<P> {
         memory: &mut Option<Entries>,
     ) -> Result<Self, AllocError> {
         let count = (geometry.nodes + geometry.pages) as usize;
+        let headers = Vec::with_capacity(alloc, count)?;
         let entries = first_entries::<P>(alloc, count, memory)?;
         Ok(SavedObjects {
-            headers: Vec::with_capacity(alloc, count)?,
+            headers,
             entries,
             count,
             policy: PhantomData,
@@ -175,6 +177,7 @@ impl<P: Policy> SavedObjects<P> {
         match entries {
             Some(entries) => {
                 if headers.len() != count {
+                    drop(entries);
                     return Err(AllocError);
                 }
                 Ok((headers, entries))

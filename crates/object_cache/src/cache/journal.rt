@@ -1,20 +1,20 @@
 // Saving the present words of one page without a checkpoint.
 ghost use Rattle.std.specs.Prelude.{◌≡◌, ◌⊎◌, ◌<◌, ◌≤◌, ◌^◌, None, length, nat_lt, option_map, true, IfOk, OnOk, OnErr};
-ghost use Rattle.std.specs.Prelude.{IsErrOf, Err, is_some, IfErr, IfSome};
+ghost use Rattle.std.specs.Prelude.{Bool, IsErrOf, Err, IfErr};
 ghost use Rattle.model.specs.Frame.{frame_at, header_at, content_behind};
 ghost use Rattle.model.specs.Keepable.{AreKeepable};
 ghost use Rattle.model.specs.Object.{is_page, words_in};
 ghost use Rattle.model.specs.Sound.{object_count};
 ghost use Rattle.device.specs.Calls.{Counts};
 ghost use Rattle.capability.specs.Parts.{frames_of};
-ghost use Rattle.checkpoint.specs.Saved.{LeavesOneOf, LeavesSaved};
+ghost use Rattle.checkpoint.specs.Saved.{LeavesOneOf};
 ghost use Rattle.checkpoint.specs.Snapshots.{journaled, left_in};
 ghost use Rattle.checkpoint.specs.Store.{whole};
-ghost use Rattle.migrator.specs.Durable.{on_snapshots, stored_of, is_sound, left_of, newest, ReadsStore};
+ghost use Rattle.migrator.specs.Durable.{stored_of, is_sound, left_of, newest, ReadsStore};
 ghost use Rattle.checkpoint.specs.Refused.{IsJournalAnswer, IsTurnedAway, IsJournalCheck};
 ghost use Rattle.checkpoint.specs.Journal.{is_page_now, is_page_role, is_same_page, is_still_saved, next_journaled};
 ghost use Rattle.checkpoint.specs.Journal.{words_now};
-ghost use Rattle.object_cache.specs.Journaled.{MaySave, SavesPage, held_now, is_saved_page};
+ghost use Rattle.object_cache.specs.Journaled.{JournalsPage, MaySave, SavesPage, held_now};
 ghost use Rattle.object_cache.specs.StoreState.{parts_of, view_of};
 ghost use Rattle.layout.specs.Frames.{IsObject};
 
@@ -36,53 +36,45 @@ fn is_of_page(role: Role) -> bool
     }
 }
 
-// The saved header of a number, if a page with this allocation count is saved there.
+// The saved header of a page that may be journaled, by its allocation count. It reads the device.
+//
+// It is refused by `NotJournaled(Renewed)` exactly if no page with this allocation count is saved there. `Fault`
+// exactly if the device failed.
 fn page_saved<D: Device>(
     durable: &mut Durable<D>,
     number: u64,
     allocations: u64,
-) -> Result<Option<ObjectHeader>, Failed>
+) -> Result<ObjectHeader, Refusal>
     requires object { IsObject durable.old.books.plan.geometry number }
     requires home { (stored_of D.disk durable.old).saved.entries ≡ 0 }
-    ensures found { IfOk result (λ page. is_some page ≡ is_same_page allocations
-        (frame_at (stored_of D.disk durable.old).saved.frames number)) }
-    ensures header { IfOk result (λ page. IfSome page (λ header. header
-        ≡ (frame_at (stored_of D.disk durable.old).saved.frames number).header)) }
+    ensures answer { (is_known : Bool) → IsJournalCheck (D.disk durable.old.beneath) (D.disk durable.new.beneath) None
+        (stored_of D.disk durable.old).saved is_known true (is_same_page allocations
+        (frame_at (stored_of D.disk durable.old).saved.frames number)) result }
+    ensures header { IfOk result (λ header. header
+        ≡ (frame_at (stored_of D.disk durable.old).saved.frames number).header) }
+    ensures late { IfErr result (λ why. IsTurnedAway (Err why) → ⊥) }
     ensures reads { ReadsStore D.disk durable.old durable.new }
-    ensures cause { Counts (D.disk durable.old.beneath) (D.disk durable.new.beneath) result }
 {
     let header = durable.saved_header(number)?;
     if is_of_page(header.role) && allocations == header.allocations {
-        return Ok(Some(header));
+        return Ok(header);
     }
-    Ok(None)
+    Err(Refusal::NotJournaled(Unjournaled::Renewed))
 }
 
-// The saved header of a page that may be journaled. `header` is its present header, and `is_known` says whether an
-// object has its number. It takes no memory, and writes nothing.
-//
-// It is refused as `ObjectStore::journal` is; only for `Renewed` it reads the device. `Fault` exactly if the device
-// failed.
+// Refuses a page that may not be journaled, by all but what is saved of it. `header` is its present header, and
+// `is_known` says whether an object has its number. It is refused as `ObjectStore::journal` is, without a device call.
 fn may_journal<D: Device>(
-    durable: &mut Durable<D>,
+    durable: &Durable<D>,
     header: ObjectHeader,
     is_known: bool,
-    number: u64,
-) -> Result<ObjectHeader, Refusal>
-    requires object { is_page_role header.role ≡ true → IsObject durable.old.books.plan.geometry number }
-    ensures answer { IsJournalCheck (D.disk durable.old.beneath) (D.disk durable.new.beneath)
-        (option_map left_of (stored_of D.disk durable.old).frozen) (stored_of D.disk durable.old).saved is_known
-        (is_page_role header.role)
-        (is_same_page header.allocations (frame_at (stored_of D.disk durable.old).saved.frames number)) result }
-    ensures header { IfOk result (λ saved. saved
-        ≡ (frame_at (stored_of D.disk durable.new).saved.frames number).header) }
-    ensures turned_away { IfErr result (λ why. IsTurnedAway (Err why) → durable.new ≡ durable.old) }
-    ensures stored { stored_of D.disk durable.new ≡ stored_of D.disk durable.old }
-    ensures plan { durable.new.books.plan ≡ durable.old.books.plan }
-    ensures size { (D.disk durable.new.beneath).sectors ≡ (D.disk durable.old.beneath).sectors }
-    ensures sound { is_sound D.disk durable.old → is_sound D.disk durable.new }
-    ensures any_moment { is_sound D.disk durable.old → LeavesSaved (D.disk durable.old.beneath)
-        (D.disk durable.new.beneath) (stored_of D.disk durable.old).saved }
+) -> Result<(), Refusal>
+    ensures free { OnOk result ((stored_of D.disk durable.now).frozen ≡ None) }
+    ensures home { OnOk result ((stored_of D.disk durable.now).saved.entries ≡ 0) }
+    ensures page { OnOk result (is_page_role header.role ≡ true) }
+    ensures answer { IfErr result (λ why. (is_saved : Bool) → IsJournalAnswer (D.disk durable.now.beneath)
+        (D.disk durable.now.beneath) (option_map left_of (stored_of D.disk durable.now).frozen)
+        (stored_of D.disk durable.now).saved is_known (is_page_role header.role) is_saved (Err why)) }
 {
     if durable.left().is_some() {
         return Err(Refusal::CheckpointRunning);
@@ -96,10 +88,7 @@ fn may_journal<D: Device>(
     if !is_of_page(header.role) {
         return Err(Refusal::NotJournaled(Unjournaled::NotPage));
     }
-    match page_saved(durable, number, header.allocations)? {
-        Some(saved) => Ok(saved),
-        None => Err(Refusal::NotJournaled(Unjournaled::Renewed)),
-    }
+    Ok(())
 }
 
 // Saves a page with the words of a body and its saved header, as `Durable::save_page` does.
@@ -177,25 +166,12 @@ fn journal_page<D: Device>(
     requires sound { is_sound D.disk durable.old }
     requires later { (stored_of D.disk durable.old).saved.age < age }
     requires most { age ≤ 2 ^ 62 }
-    ensures journaled { OnOk result (stored_of D.disk durable.new ≡ on_snapshots (journaled age number (words_in
-        (held_now entries.now.at (stored_of D.disk durable.old) number))) (stored_of D.disk durable.old)) }
-    ensures unchanged { OnErr result (stored_of D.disk durable.new ≡ stored_of D.disk durable.old) }
-    ensures turned_away { IsTurnedAway result → durable.new ≡ durable.old }
-    ensures plan { durable.new.books.plan ≡ durable.old.books.plan }
-    ensures answer { IsJournalAnswer (D.disk durable.old.beneath) (D.disk durable.new.beneath)
-        (option_map left_of (stored_of D.disk durable.old).frozen) (stored_of D.disk durable.old).saved
-        (nat_lt number (length table.now)) (is_page_role (header_at table.now number).role)
-        (is_saved_page (stored_of D.disk durable.old) (header_at table.now number) number) result }
-    ensures sound { IsErrOf result Refusal.Fault ⊎ is_sound D.disk durable.new }
-    ensures size { (D.disk durable.new.beneath).sectors ≡ (D.disk durable.old.beneath).sectors }
-    ensures any_moment { LeavesOneOf (D.disk durable.old.beneath) (D.disk durable.new.beneath)
-        (stored_of D.disk durable.old).saved (next_journaled age number
-        (words_in (held_now entries.now.at (stored_of D.disk durable.old) number)) (stored_of D.disk durable.old).frozen
-        (stored_of D.disk durable.old).saved (is_page_role (header_at table.now number).role)
-        (is_saved_page (stored_of D.disk durable.old) (header_at table.now number) number)) }
+    ensures { JournalsPage D.disk durable.old durable.new entries.now.at (header_at table.now number)
+        (nat_lt number (length table.now)) number age result }
 {
     let header = table.header(number);
-    let saved = may_journal(durable, header, number < table.count(), number)?;
+    may_journal(durable, header, number < table.count())?;
+    let saved = page_saved(durable, number, header.allocations)?;
     let generation = save_present(durable, entries, scratch, saved, number, age)?;
     Ok(generation)
 }

@@ -105,7 +105,10 @@ impl<D: Device> Cache<D> {
                     scratch,
                 })
             }
-            Err(_) => Err(durable),
+            Err(_) => {
+                drop(entries);
+                Err(durable)
+            }
         }
     }
 }

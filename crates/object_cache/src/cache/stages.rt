@@ -1,5 +1,6 @@
 // The stages of a checkpoint.
-ghost use Rattle.std.specs.Prelude.{◌≡◌, ◌-◌, Some, IfOk, OnOk, OnErr};
+ghost use Rattle.std.specs.Prelude.{◌≡◌, ℕ, ◌-◌, Some, false, true, length, replicate, IfOk, OnOk, OnErr};
+ghost use Rattle.model.specs.Frame.{header_at};
 ghost use Rattle.model.specs.Machine.{touched_count, untouched};
 ghost use Rattle.device.specs.Calls.{Counts};
 ghost use Rattle.capability.specs.Parts.{frames_of};
@@ -9,12 +10,16 @@ ghost use Rattle.checkpoint.specs.Refused.{IsCommitAnswer, IsFreezeAnswer, IsRef
 ghost use Rattle.checkpoint.specs.Snapshots.{MayCommit, committed, freezing, left_in, moved, moved_saved, next_saved};
 ghost use Rattle.checkpoint.specs.Store.{all_frozen, whole, FrozenFrames};
 ghost use Rattle.migrator.specs.WholeStore.{AreObjectsOf};
+ghost use Rattle.object_cache.specs.Memory.{mark_at};
 ghost use Rattle.object_cache.specs.StoreState.{AreKeepableIn, IsWhole, parts_of, view_of};
 
 use crate::all_objects::copy_objects;
 use crate::cache::Cache;
+use crate::headers::FrozenHeaders;
 use cache_entries::Entries;
+use capability::ObjectTable;
 use checkpoint::Checkpoint;
+use collections::NumberSet;
 use device::{Device, Failed};
 use layout::Superblock;
 use migrator::{AllObjects, Durable};
@@ -22,10 +27,32 @@ use model::Refusal;
 use std::alloc::{AllocError, Global};
 use std::mem;
 
+// Makes the dirty numbers pending, with their headers of now. None is dirty or touched then.
+fn take_written(
+    frozen_headers: &mut FrozenHeaders,
+    table: &ObjectTable,
+    pending: &mut NumberSet,
+    dirty: &mut NumberSet,
+    touched: &mut NumberSet,
+)
+    requires each { length dirty.old ≡ length frozen_headers.old }
+    ensures count { length frozen_headers.new ≡ length frozen_headers.old }
+    ensures marked { (n : ℕ) → mark_at dirty.old n ≡ true
+        → header_at frozen_headers.new n ≡ header_at table.now n }
+    ensures pending { pending.new ≡ dirty.old }
+    ensures dirty { dirty.new ≡ replicate (length pending.old) false }
+    ensures touched { touched.new ≡ replicate (length touched.old) false }
+{
+    frozen_headers.take_marked(table, dirty);
+    mem::swap(pending, dirty);
+    dirty.clear();
+    touched.clear();
+}
+
 impl<D: Device> Cache<D> {
-    // The durable store. Leaves the entries in `memory`; all else in memory is dropped.
-    fn into_durable(self, memory: &mut Option<Entries>) -> Durable<D>
-        ensures { result ≡ self.durable }
+    // The durable store and the entries. All else in memory is dropped.
+    fn into_durable(self) -> (Durable<D>, Entries)
+        ensures { result.0 ≡ self.durable }
     {
         let Cache {
             durable,
@@ -42,8 +69,7 @@ impl<D: Device> Cache<D> {
         // Dropped by calls: the drop of each field here would be a step of this proof.
         drop((table, touched, dirty, pending));
         drop((frozen_headers, staging, scratch));
-        *memory = Some(entries);
-        durable
+        (durable, entries)
     }
 
     /// The durable store below, and copies of all present objects if each has an entry.
@@ -53,7 +79,9 @@ impl<D: Device> Cache<D> {
         ensures objects { IfOk result.1 (λ objects. AreObjectsOf (parts_of D.disk self) objects) }
     {
         let objects = copy_objects(alloc, &self.table, &self.entries);
-        (self.into_durable(&mut None), objects)
+        let (durable, entries) = self.into_durable();
+        drop(entries);
+        (durable, objects)
     }
 
     /// The superblock of the device.
@@ -74,14 +102,18 @@ impl<D: Device> Cache<D> {
     pub fn into_device(self) -> D
         ensures { result ≡ self.durable.beneath }
     {
-        self.close(&mut None)
+        let (durable, entries) = self.into_durable();
+        drop(entries);
+        durable.into_device()
     }
 
     /// The device. Makes no call of it. Leaves the entries in `memory`.
     pub fn close(self, memory: &mut Option<Entries>) -> D
         ensures { result ≡ self.durable.beneath }
     {
-        self.into_durable(memory).into_device()
+        let (durable, entries) = self.into_durable();
+        drop(memory.replace(entries));
+        durable.into_device()
     }
 
     /// The generation, the age and the number of entries of the committed checkpoint.
@@ -161,10 +193,13 @@ impl<D: Device> Cache<D> {
     {
         let size = self.touched_count;
         self.durable.freeze(size)?;
-        self.frozen_headers.take_marked(&self.table, &self.dirty);
-        mem::swap(&mut self.pending, &mut self.dirty);
-        self.dirty.clear();
-        self.touched.clear();
+        take_written(
+            &mut self.frozen_headers,
+            &self.table,
+            &mut self.pending,
+            &mut self.dirty,
+            &mut self.touched,
+        );
         self.touched_count = 0;
         self.left = size;
         Ok(size)

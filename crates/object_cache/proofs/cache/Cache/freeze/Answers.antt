@@ -7,26 +7,26 @@ freeze-requires-clause-enough g c = freeze_enough g.D.Device.disk c.self.view_is
 
 pub invariant_of-self-2 : goal.invariant_of-self-2
 invariant_of-self-2 g c =
-    rw (c.clear.ensures, c.clear-2.ensures, c.swap.ensures.x_after, c.swap.ensures.y_after)
+    rw (c.take_written.ensures.dirty, c.take_written.ensures.touched, c.take_written.ensures.pending)
     (freeze_stands g.D.Device.disk c.self.view_is c.self.invariant c.freeze.new.self c.in_ok-freeze.ensures.answer.0 c.in_ok-freeze.ensures.frozen
-    c.take_marked.new.self c.take_marked.ensures.count c.take_marked.ensures.marked c.requires.keepable)
+    c.take_written.new.frozen_headers c.take_written.ensures.count c.take_written.ensures.marked c.requires.keepable)
 
 pub returns-clause-contents : goal.returns-clause-contents
 returns-clause-contents g c =
-    rw (c.clear.ensures, c.clear-2.ensures, c.swap.ensures.x_after, c.swap.ensures.y_after)
+    rw (c.take_written.ensures.dirty, c.take_written.ensures.touched, c.take_written.ensures.pending)
     (freeze_contents g.D.Device.disk c.self.view_is c.self.invariant c.freeze.new.self c.in_ok-freeze.ensures.answer.0 c.in_ok-freeze.ensures.frozen
-    c.take_marked.new.self c.take_marked.ensures.count c.take_marked.ensures.marked c.requires.keepable)
+    c.take_written.new.frozen_headers c.take_written.ensures.count c.take_written.ensures.marked c.requires.keepable)
 
 pub returns-clause-touched : goal.returns-clause-touched
 returns-clause-touched g c =
-    rw c.clear-2.ensures (freeze_touched g.D.Device.disk c.self.view_is c.self.invariant c.freeze.new.self c.in_ok-freeze.ensures.answer.0
-    c.in_ok-freeze.ensures.frozen c.take_marked.new.self c.take_marked.ensures.count c.take_marked.ensures.marked c.requires.keepable)
+    rw c.take_written.ensures.touched (freeze_touched g.D.Device.disk c.self.view_is c.self.invariant c.freeze.new.self c.in_ok-freeze.ensures.answer.0
+    c.in_ok-freeze.ensures.frozen c.take_written.new.frozen_headers c.take_written.ensures.count c.take_written.ensures.marked c.requires.keepable)
 
 pub returns-clause-snapshots : goal.returns-clause-snapshots
 returns-clause-snapshots g c =
-    rw (c.clear.ensures, c.clear-2.ensures, c.swap.ensures.x_after, c.swap.ensures.y_after)
+    rw (c.take_written.ensures.dirty, c.take_written.ensures.touched, c.take_written.ensures.pending)
     (freeze_snapshots g.D.Device.disk c.self.view_is c.self.invariant c.freeze.new.self c.in_ok-freeze.ensures.answer.0 c.in_ok-freeze.ensures.frozen
-    c.take_marked.new.self c.take_marked.ensures.count c.take_marked.ensures.marked c.requires.keepable)
+    c.take_written.new.frozen_headers c.take_written.ensures.count c.take_written.ensures.marked c.requires.keepable)
 
 pub returns-clause-sound : goal.returns-clause-sound
 returns-clause-sound g c = λ sound. c.freeze.ensures.sound (subst (λ t. is_sound g.D.Device.disk t.durable) (sym c.self.view_is) sound)

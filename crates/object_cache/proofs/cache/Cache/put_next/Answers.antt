@@ -1,4 +1,4 @@
-use Rattle.object_cache.proofs.Names.{on_ok_weaker, true≢false, sym, ap, arith, pending_count}
+use Rattle.object_cache.proofs.Names.{on_ok_weaker, true≢false, sym, ap, arith, pending_count, goes_on_same, ok_counts, refl}
 use Rattle.std.proofs.Common.{◌∙◌}
 use Rattle.std.specs.Prelude.{is_some}
 use Rattle.object_cache.proofs.Turns.{few_left, none_marked}
@@ -21,3 +21,33 @@ returns-in-Some-clause-few g c = λ f f_is. few_left g.D.Device.disk c.self.view
 
 pub returns-in-None-clause-few : goal.returns-in-None-clause-few
 returns-in-None-clause-few g c = λ f f_is. few_left g.D.Device.disk c.self.view_is c.self.invariant f f_is
+
+pub returns-then-is_held-clause-put : goal.returns-then-is_held-clause-put
+returns-then-is_held-clause-put g c = c.empty_staging.ensures.put
+
+pub returns-then-is_held-clause-continues : goal.returns-then-is_held-clause-continues
+returns-then-is_held-clause-continues g c = c.empty_staging.ensures.continues
+
+pub returns-then-is_held-clause-cause : goal.returns-then-is_held-clause-cause
+returns-then-is_held-clause-cause g c = c.empty_staging.ensures.cause
+
+pub returns-in-Some-clause-fewer : goal.returns-in-Some-clause-fewer
+returns-in-Some-clause-fewer g c = on_ok_weaker c.put_pending.result (λ less. omega (arith, less)) c.put_pending.ensures.fewer
+
+pub returns-in-Some-clause-put : goal.returns-in-Some-clause-put
+returns-in-Some-clause-put g c = c.put_pending.ensures.put
+
+pub returns-in-Some-clause-continues : goal.returns-in-Some-clause-continues
+returns-in-Some-clause-continues g c = c.put_pending.ensures.continues
+
+pub returns-in-Some-clause-cause : goal.returns-in-Some-clause-cause
+returns-in-Some-clause-cause g c = c.put_pending.ensures.cause
+
+pub returns-in-None-clause-put : goal.returns-in-None-clause-put
+returns-in-None-clause-put g c = refl
+
+pub returns-in-None-clause-continues : goal.returns-in-None-clause-continues
+returns-in-None-clause-continues g c = goes_on_same g.D.Device.disk g.met.D.Device.only_now c.args.self.now
+
+pub returns-in-None-clause-cause : goal.returns-in-None-clause-cause
+returns-in-None-clause-cause g c = ok_counts refl

@@ -1,6 +1,8 @@
-use Rattle.object_cache.proofs.Names.{ap, frozen_state_at, goes_on_twice, sym}
+use Rattle.object_cache.proofs.Names.{ap, frozen_state_at, goes_on_twice, sym, on_ok_weaker, counts_on, counted_ok, arith, refl, pending_count}
 use Rattle.std.proofs.Common.{◌∙◌}
 use Rattle.object_cache.proofs.Fetched.{pending_known}
+use Rattle.object_cache.proofs.Exits.{no_ok, counts_as}
+use Rattle.object_cache.proofs.Outcomes.{frozen_written, on_device_as, put_on}
 use Rattle.object_cache.proofs.cache.Cache.put_pending.Goals as goal
 
 pub frozen_state-requires : goal.frozen_state-requires
@@ -19,3 +21,35 @@ pub returns-in-Nothing-clause-continues : goal.returns-in-Nothing-clause-continu
 returns-in-Nothing-clause-continues g c =
     goes_on_twice g.D.Device.disk g.met.D.Device.counts_now c.args.self.now c.take_below.new.self c.put_held.new.self c.take_below.ensures.continues
     c.put_held.ensures.continues
+
+pub returns-in_err-take_below-clause-fewer : goal.returns-in_err-take_below-clause-fewer
+returns-in_err-take_below-clause-fewer g c = no_ok c.from_residual.result _ _ c.from_residual.ensures.1
+
+pub returns-in_err-take_below-clause-put : goal.returns-in_err-take_below-clause-put
+returns-in_err-take_below-clause-put g c = on_device_as c.args.self.now c.take_below.ensures.rest refl
+
+pub returns-in_err-take_below-clause-continues : goal.returns-in_err-take_below-clause-continues
+returns-in_err-take_below-clause-continues g c = c.take_below.ensures.continues
+
+pub returns-in_err-take_below-clause-cause : goal.returns-in_err-take_below-clause-cause
+returns-in_err-take_below-clause-cause g c = counts_as c.from_residual.result _ c.from_residual.ensures.1 c.in_err-take_below.ensures.cause
+
+pub returns-in-Nothing-clause-fewer : goal.returns-in-Nothing-clause-fewer
+returns-in-Nothing-clause-fewer g c =
+    on_ok_weaker c.put_held.result (λ less. omega (arith, less, ap (λ t. pending_count t) c.take_below.ensures.rest)) c.put_held.ensures.fewer
+
+pub returns-in-Nothing-clause-put : goal.returns-in-Nothing-clause-put
+returns-in-Nothing-clause-put g c =
+    put_on c.args.self.now c.take_below.new.self c.put_held.new.self (on_device_as c.args.self.now c.take_below.ensures.rest refl) c.put_held.ensures.put
+
+pub returns-in-Nothing-clause-cause : goal.returns-in-Nothing-clause-cause
+returns-in-Nothing-clause-cause g c = counts_on (counted_ok c.in_ok-take_below.ensures.cause) c.put_held.ensures.cause
+
+pub returns : goal.returns
+returns g c = record {
+  fewer = c.put_own_frozen.ensures.fewer;
+  put = (frozen_written c.put_own_frozen.result c.args.self.now c.put_own_frozen.new.self c.args.number c.put_own_frozen.ensures.put
+      c.put_own_frozen.ensures.unput).1;
+  continues = c.put_own_frozen.ensures.continues;
+  cause = c.put_own_frozen.ensures.cause;
+}

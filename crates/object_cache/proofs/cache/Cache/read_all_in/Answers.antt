@@ -1,6 +1,7 @@
-use Rattle.object_cache.proofs.Names.{arith, counted_ok, goes_on_twice, ap, slice_index_or, take, without, on_err}
+use Rattle.object_cache.proofs.Names.{arith, counted_ok, counts_on, goes_on_twice, ap, slice_index_or, take, without, on_err, ok_counts}
 use Rattle.std.proofs.Common.{◌∙◌, ◌∷◌}
 use Rattle.object_cache.proofs.Fetched.{rest_on, stopped_at, used_more, same_front, rest_of, uses_none}
+use Rattle.object_cache.proofs.Exits.{no_ok, counts_as, all_keepable}
 use Rattle.object_cache.proofs.cache.Cache.read_all_in.Goals as goal
 
 pub loop-number-init : goal.loop-number-init
@@ -51,3 +52,41 @@ returns-in_err-fetch_one-clause-stopped g c =
     on_err c.from_residual-in_err-fetch_one.result
     (stopped_at s.capacity c.loop-number.number-index stop.0 c.args.fetched.now s.order c.loop-number.self.order c.fetch_one.new.self.order before.4
     (omega (arith, stop.1, before.2.capacity)) stop.2)
+
+pub fetch_one-requires-clause-empty : goal.fetch_one-requires-clause-empty
+fetch_one-requires-clause-empty g c = c.loop-number.invariant.1
+
+pub fetch_one-requires-clause-keepable : goal.fetch_one-requires-clause-keepable
+fetch_one-requires-clause-keepable g c = all_keepable c.loop-number.invariant.2 c.loop-number.invariant.0 c.requires.keepable
+
+pub returns-clause-rest : goal.returns-clause-rest
+returns-clause-rest g c = c.loop-number.invariant.0
+
+pub returns-clause-continues : goal.returns-clause-continues
+returns-clause-continues g c = c.loop-number.invariant.2
+
+pub returns-clause-cause : goal.returns-clause-cause
+returns-clause-cause g c = ok_counts c.loop-number.invariant.3
+
+pub returns-in_err-empty_staging-clause-order : goal.returns-in_err-empty_staging-clause-order
+returns-in_err-empty_staging-clause-order g c = no_ok c.from_residual.result _ _ c.from_residual.ensures.1
+
+pub returns-in_err-empty_staging-clause-rest : goal.returns-in_err-empty_staging-clause-rest
+returns-in_err-empty_staging-clause-rest g c = rest_of c.args.self.now c.empty_staging.new.self c.empty_staging.ensures.put
+
+pub returns-in_err-empty_staging-clause-continues : goal.returns-in_err-empty_staging-clause-continues
+returns-in_err-empty_staging-clause-continues g c = c.empty_staging.ensures.continues
+
+pub returns-in_err-empty_staging-clause-cause : goal.returns-in_err-empty_staging-clause-cause
+returns-in_err-empty_staging-clause-cause g c = counts_as c.from_residual.result _ c.from_residual.ensures.1 c.in_err-empty_staging.ensures.cause
+
+pub returns-in_err-fetch_one-clause-order : goal.returns-in_err-fetch_one-clause-order
+returns-in_err-fetch_one-clause-order g c = no_ok c.from_residual-in_err-fetch_one.result _ _ c.from_residual-in_err-fetch_one.ensures.1
+
+pub returns-in_err-fetch_one-clause-rest : goal.returns-in_err-fetch_one-clause-rest
+returns-in_err-fetch_one-clause-rest g c = rest_on c.args.self.now c.loop-number.self c.fetch_one.new.self c.loop-number.invariant.0 c.fetch_one.ensures.rest
+
+pub returns-in_err-fetch_one-clause-cause : goal.returns-in_err-fetch_one-clause-cause
+returns-in_err-fetch_one-clause-cause g c =
+    counts_as c.from_residual-in_err-fetch_one.result _ c.from_residual-in_err-fetch_one.ensures.1
+    (counts_on c.loop-number.invariant.3 c.in_err-fetch_one.ensures.cause)

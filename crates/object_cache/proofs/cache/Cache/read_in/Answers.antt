@@ -1,6 +1,7 @@
-use Rattle.object_cache.proofs.Names.{on_err_weaker, on_ok_weaker, goes_on_twice, counted_ok, counts_on, ap, arith, on_err}
+use Rattle.object_cache.proofs.Names.{on_err_weaker, on_ok_weaker, goes_on_twice, counted_ok, counts_on, ap, arith, on_err, length}
 use Rattle.std.proofs.Common.{◌∙◌, ◌∷◌, ◌-◌}
 use Rattle.object_cache.proofs.Fetched.{rest_on, read_rest, read_staging, pushed_to_front, stops_none}
+use Rattle.object_cache.proofs.Exits.{no_ok, counts_as}
 use Rattle.object_cache.proofs.cache.Cache.read_in.Goals as goal
 
 pub returns : goal.returns
@@ -30,3 +31,26 @@ returns g c = record {
 pub returns-in_err-make_room-clause-stopped : goal.returns-in_err-make_room-clause-stopped
 returns-in_err-make_room-clause-stopped g c =
     on_err c.from_residual.result (stops_none c.args.self.now.capacity c.args.self.now.order c.make_room.new.self.order c.in_err-make_room.ensures.stays)
+
+pub read-requires : goal.read-requires
+read-requires g c = record {
+  known = omega (arith, c.requires.known, ap (λ t. length t.headers) c.make_room.ensures.rest);
+  uncached = c.make_room.ensures.uncached c.args.number c.requires.uncached;
+  empty = c.make_room.ensures.empty c.requires.empty;
+  room = c.in_ok-make_room.ensures.room;
+}
+
+pub returns-in_err-make_room-clause-order : goal.returns-in_err-make_room-clause-order
+returns-in_err-make_room-clause-order g c = no_ok c.from_residual.result _ _ c.from_residual.ensures.1
+
+pub returns-in_err-make_room-clause-rest : goal.returns-in_err-make_room-clause-rest
+returns-in_err-make_room-clause-rest g c = c.make_room.ensures.rest
+
+pub returns-in_err-make_room-clause-empty : goal.returns-in_err-make_room-clause-empty
+returns-in_err-make_room-clause-empty g c = c.make_room.ensures.empty c.requires.empty
+
+pub returns-in_err-make_room-clause-continues : goal.returns-in_err-make_room-clause-continues
+returns-in_err-make_room-clause-continues g c = c.make_room.ensures.continues
+
+pub returns-in_err-make_room-clause-cause : goal.returns-in_err-make_room-clause-cause
+returns-in_err-make_room-clause-cause g c = counts_as c.from_residual.result _ c.from_residual.ensures.1 c.in_err-make_room.ensures.cause
