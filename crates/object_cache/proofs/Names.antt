@@ -66,7 +66,7 @@ pub use Rattle.std.proofs.lemmas.Option.{none-some, same_Some}
 pub use Rattle.std.proofs.lemmas.Result.{err_from_is_err_and, on_err_weaker, on_ok_weaker}
 pub use Rattle.std.specs.Cmp.{nat_eq_equiv}
 pub use Rattle.std.specs.List.{All, Contains, list_any, range_with_len, slice_get}
-pub use Rattle.std.specs.Prelude.{IsErr, IsErrAnd, OnErr, OnOk, count_by, is_err, slice_index_or}
+pub use Rattle.std.specs.Prelude.{IsErr, IsErrAnd, IsErrOf, OnErr, OnOk, count_by, is_err, slice_index_or}
 pub use Rattle.object_cache.specs.Journaled.{JournalsPage, MaySave, SavesPage, entry_body, held_now, is_saved_page}
 pub use Rattle.object_cache.specs.Memory.{Apart, FrozenState, Held, Memory, Nothing, Shared, apart_body, below_body, content_at, frozen_at, frozen_body}
 pub use Rattle.object_cache.specs.Memory.{frozen_frame, frozen_state_by, frozen_state_in_memory, frozen_state_of, held_behind, in_staging, mark_at, masked}

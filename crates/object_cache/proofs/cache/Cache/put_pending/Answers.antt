@@ -17,33 +17,23 @@ put_held-requires g c =
           ∙ ap (frozen_state_at c.args.self.now.frozen_state) held.2 ∙ sym c.frozen_state.ensures.state ∙ c.in-Nothing.is,
     )
 
-pub returns-in-Nothing-clause-continues : goal.returns-in-Nothing-clause-continues
-returns-in-Nothing-clause-continues g c =
-    goes_on_twice g.D.Device.disk g.met.D.Device.counts_now c.args.self.now c.take_below.new.self c.put_held.new.self c.take_below.ensures.continues
-    c.put_held.ensures.continues
+pub returns-in-Nothing : goal.returns-in-Nothing
+returns-in-Nothing g c = record {
+  continues =
+      goes_on_twice g.D.Device.disk g.met.D.Device.counts_now c.args.self.now c.take_below.new.self c.put_held.new.self c.take_below.ensures.continues
+      c.put_held.ensures.continues;
+  fewer = on_ok_weaker c.put_held.result (λ less. omega (arith, less, ap (λ t. pending_count t) c.take_below.ensures.rest)) c.put_held.ensures.fewer;
+  put = put_on c.args.self.now c.take_below.new.self c.put_held.new.self (on_device_as c.args.self.now c.take_below.ensures.rest refl) c.put_held.ensures.put;
+  cause = counts_on (counted_ok c.in_ok-take_below.ensures.cause) c.put_held.ensures.cause;
+}
 
-pub returns-in_err-take_below-clause-fewer : goal.returns-in_err-take_below-clause-fewer
-returns-in_err-take_below-clause-fewer g c = no_ok c.from_residual.result _ _ c.from_residual.ensures.1
-
-pub returns-in_err-take_below-clause-put : goal.returns-in_err-take_below-clause-put
-returns-in_err-take_below-clause-put g c = on_device_as c.args.self.now c.take_below.ensures.rest refl
-
-pub returns-in_err-take_below-clause-continues : goal.returns-in_err-take_below-clause-continues
-returns-in_err-take_below-clause-continues g c = c.take_below.ensures.continues
-
-pub returns-in_err-take_below-clause-cause : goal.returns-in_err-take_below-clause-cause
-returns-in_err-take_below-clause-cause g c = counts_as c.from_residual.result _ c.from_residual.ensures.1 c.in_err-take_below.ensures.cause
-
-pub returns-in-Nothing-clause-fewer : goal.returns-in-Nothing-clause-fewer
-returns-in-Nothing-clause-fewer g c =
-    on_ok_weaker c.put_held.result (λ less. omega (arith, less, ap (λ t. pending_count t) c.take_below.ensures.rest)) c.put_held.ensures.fewer
-
-pub returns-in-Nothing-clause-put : goal.returns-in-Nothing-clause-put
-returns-in-Nothing-clause-put g c =
-    put_on c.args.self.now c.take_below.new.self c.put_held.new.self (on_device_as c.args.self.now c.take_below.ensures.rest refl) c.put_held.ensures.put
-
-pub returns-in-Nothing-clause-cause : goal.returns-in-Nothing-clause-cause
-returns-in-Nothing-clause-cause g c = counts_on (counted_ok c.in_ok-take_below.ensures.cause) c.put_held.ensures.cause
+pub returns-in_err-take_below : goal.returns-in_err-take_below
+returns-in_err-take_below g c = record {
+  fewer = no_ok c.from_residual.result _ _ c.from_residual.ensures.1;
+  put = on_device_as c.args.self.now c.take_below.ensures.rest refl;
+  continues = c.take_below.ensures.continues;
+  cause = counts_as c.from_residual.result _ c.from_residual.ensures.1 c.in_err-take_below.ensures.cause;
+}
 
 pub returns : goal.returns
 returns g c = record {

@@ -16,16 +16,36 @@ loop-number-init g c =
       same_front s.capacity s.order c.empty_staging.new.self.order (ap (λ t. t.order) put) c.requires.bounded,
     )
 
-pub returns-in_err-empty_staging-clause-stopped : goal.returns-in_err-empty_staging-clause-stopped
-returns-in_err-empty_staging-clause-stopped g c =
-    let s = c.args.self.now in
-    on_err c.from_residual.result (uses_none s.capacity c.args.fetched.now s.order c.empty_staging.new.self.order
-    (ap (λ t. t.order) c.empty_staging.ensures.put))
+pub returns-in_err-empty_staging : goal.returns-in_err-empty_staging
+returns-in_err-empty_staging g c = record {
+  stopped =
+      let s = c.args.self.now in
+      on_err c.from_residual.result (uses_none s.capacity c.args.fetched.now s.order c.empty_staging.new.self.order
+      (ap (λ t. t.order) c.empty_staging.ensures.put));
+  order = no_ok c.from_residual.result _ _ c.from_residual.ensures.1;
+  rest = rest_of c.args.self.now c.empty_staging.new.self c.empty_staging.ensures.put;
+  continues = c.empty_staging.ensures.continues;
+  cause = counts_as c.from_residual.result _ c.from_residual.ensures.1 c.in_err-empty_staging.ensures.cause;
+}
 
-pub returns-in_err-fetch_one-clause-continues : goal.returns-in_err-fetch_one-clause-continues
-returns-in_err-fetch_one-clause-continues g c =
-    goes_on_twice g.D.Device.disk g.met.D.Device.counts_now c.args.self.now c.loop-number.self c.fetch_one.new.self c.loop-number.invariant.2
-    c.fetch_one.ensures.continues
+pub returns-in_err-fetch_one : goal.returns-in_err-fetch_one
+returns-in_err-fetch_one g c = record {
+  continues =
+      goes_on_twice g.D.Device.disk g.met.D.Device.counts_now c.args.self.now c.loop-number.self c.fetch_one.new.self c.loop-number.invariant.2
+      c.fetch_one.ensures.continues;
+  stopped =
+      let s = c.args.self.now in
+      let before = c.loop-number.invariant in
+      let stop = c.in_err-fetch_one.ensures.stopped in
+      on_err c.from_residual-in_err-fetch_one.result
+      (stopped_at s.capacity c.loop-number.number-index stop.0 c.args.fetched.now s.order c.loop-number.self.order c.fetch_one.new.self.order before.4
+      (omega (arith, stop.1, before.2.capacity)) stop.2);
+  order = no_ok c.from_residual-in_err-fetch_one.result _ _ c.from_residual-in_err-fetch_one.ensures.1;
+  rest = rest_on c.args.self.now c.loop-number.self c.fetch_one.new.self c.loop-number.invariant.0 c.fetch_one.ensures.rest;
+  cause =
+      counts_as c.from_residual-in_err-fetch_one.result _ c.from_residual-in_err-fetch_one.ensures.1
+      (counts_on c.loop-number.invariant.3 c.in_err-fetch_one.ensures.cause);
+}
 
 pub loop-number-preserved : goal.loop-number-preserved
 loop-number-preserved g c =
@@ -44,15 +64,6 @@ loop-number-preserved g c =
           without (slice_index_or c.args.fetched.now c.loop-number.number-index 0) t.order)) before.2.capacity),
     )
 
-pub returns-in_err-fetch_one-clause-stopped : goal.returns-in_err-fetch_one-clause-stopped
-returns-in_err-fetch_one-clause-stopped g c =
-    let s = c.args.self.now in
-    let before = c.loop-number.invariant in
-    let stop = c.in_err-fetch_one.ensures.stopped in
-    on_err c.from_residual-in_err-fetch_one.result
-    (stopped_at s.capacity c.loop-number.number-index stop.0 c.args.fetched.now s.order c.loop-number.self.order c.fetch_one.new.self.order before.4
-    (omega (arith, stop.1, before.2.capacity)) stop.2)
-
 pub fetch_one-requires-clause-empty : goal.fetch_one-requires-clause-empty
 fetch_one-requires-clause-empty g c = c.loop-number.invariant.1
 
@@ -67,26 +78,3 @@ returns-clause-continues g c = c.loop-number.invariant.2
 
 pub returns-clause-cause : goal.returns-clause-cause
 returns-clause-cause g c = ok_counts c.loop-number.invariant.3
-
-pub returns-in_err-empty_staging-clause-order : goal.returns-in_err-empty_staging-clause-order
-returns-in_err-empty_staging-clause-order g c = no_ok c.from_residual.result _ _ c.from_residual.ensures.1
-
-pub returns-in_err-empty_staging-clause-rest : goal.returns-in_err-empty_staging-clause-rest
-returns-in_err-empty_staging-clause-rest g c = rest_of c.args.self.now c.empty_staging.new.self c.empty_staging.ensures.put
-
-pub returns-in_err-empty_staging-clause-continues : goal.returns-in_err-empty_staging-clause-continues
-returns-in_err-empty_staging-clause-continues g c = c.empty_staging.ensures.continues
-
-pub returns-in_err-empty_staging-clause-cause : goal.returns-in_err-empty_staging-clause-cause
-returns-in_err-empty_staging-clause-cause g c = counts_as c.from_residual.result _ c.from_residual.ensures.1 c.in_err-empty_staging.ensures.cause
-
-pub returns-in_err-fetch_one-clause-order : goal.returns-in_err-fetch_one-clause-order
-returns-in_err-fetch_one-clause-order g c = no_ok c.from_residual-in_err-fetch_one.result _ _ c.from_residual-in_err-fetch_one.ensures.1
-
-pub returns-in_err-fetch_one-clause-rest : goal.returns-in_err-fetch_one-clause-rest
-returns-in_err-fetch_one-clause-rest g c = rest_on c.args.self.now c.loop-number.self c.fetch_one.new.self c.loop-number.invariant.0 c.fetch_one.ensures.rest
-
-pub returns-in_err-fetch_one-clause-cause : goal.returns-in_err-fetch_one-clause-cause
-returns-in_err-fetch_one-clause-cause g c =
-    counts_as c.from_residual-in_err-fetch_one.result _ c.from_residual-in_err-fetch_one.ensures.1
-    (counts_on c.loop-number.invariant.3 c.in_err-fetch_one.ensures.cause)

@@ -28,9 +28,15 @@ returns g c = record {
   cause = counts_on (counted_ok c.in_ok-make_room.ensures.cause) c.read.ensures.cause;
 }
 
-pub returns-in_err-make_room-clause-stopped : goal.returns-in_err-make_room-clause-stopped
-returns-in_err-make_room-clause-stopped g c =
-    on_err c.from_residual.result (stops_none c.args.self.now.capacity c.args.self.now.order c.make_room.new.self.order c.in_err-make_room.ensures.stays)
+pub returns-in_err-make_room : goal.returns-in_err-make_room
+returns-in_err-make_room g c = record {
+  stopped = on_err c.from_residual.result (stops_none c.args.self.now.capacity c.args.self.now.order c.make_room.new.self.order c.in_err-make_room.ensures.stays);
+  order = no_ok c.from_residual.result _ _ c.from_residual.ensures.1;
+  rest = c.make_room.ensures.rest;
+  empty = c.make_room.ensures.empty c.requires.empty;
+  continues = c.make_room.ensures.continues;
+  cause = counts_as c.from_residual.result _ c.from_residual.ensures.1 c.in_err-make_room.ensures.cause;
+}
 
 pub read-requires : goal.read-requires
 read-requires g c = record {
@@ -39,18 +45,3 @@ read-requires g c = record {
   empty = c.make_room.ensures.empty c.requires.empty;
   room = c.in_ok-make_room.ensures.room;
 }
-
-pub returns-in_err-make_room-clause-order : goal.returns-in_err-make_room-clause-order
-returns-in_err-make_room-clause-order g c = no_ok c.from_residual.result _ _ c.from_residual.ensures.1
-
-pub returns-in_err-make_room-clause-rest : goal.returns-in_err-make_room-clause-rest
-returns-in_err-make_room-clause-rest g c = c.make_room.ensures.rest
-
-pub returns-in_err-make_room-clause-empty : goal.returns-in_err-make_room-clause-empty
-returns-in_err-make_room-clause-empty g c = c.make_room.ensures.empty c.requires.empty
-
-pub returns-in_err-make_room-clause-continues : goal.returns-in_err-make_room-clause-continues
-returns-in_err-make_room-clause-continues g c = c.make_room.ensures.continues
-
-pub returns-in_err-make_room-clause-cause : goal.returns-in_err-make_room-clause-cause
-returns-in_err-make_room-clause-cause g c = counts_as c.from_residual.result _ c.from_residual.ensures.1 c.in_err-make_room.ensures.cause

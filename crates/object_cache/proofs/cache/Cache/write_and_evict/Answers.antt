@@ -23,10 +23,20 @@ returns g c =
           counted_ok c.in_ok-write_back.ensures.cause ∙ counted_ok c.in_ok-write_frozen.ensures.cause);
     }
 
-pub returns-in_err-write_back-clause-continues : goal.returns-in_err-write_back-clause-continues
-returns-in_err-write_back-clause-continues g c =
-    goes_on_twice g.D.Device.disk g.met.D.Device.counts_now c.args.self.now c.write_frozen.new.self c.write_back.new.self c.write_frozen.ensures.continues
-    c.write_back.ensures.continues
+pub returns-in_err-write_back : goal.returns-in_err-write_back
+returns-in_err-write_back g c = record {
+  continues =
+      goes_on_twice g.D.Device.disk g.met.D.Device.counts_now c.args.self.now c.write_frozen.new.self c.write_back.new.self c.write_frozen.ensures.continues
+      c.write_back.ensures.continues;
+  away = no_ok c.from_residual-in_err-write_back.result _ _ c.from_residual-in_err-write_back.ensures.1;
+  stays =
+      on_err c.from_residual-in_err-write_back.result
+      (put_on c.args.self.now c.write_frozen.new.self c.write_back.new.self c.write_frozen.ensures.put c.write_back.ensures.put);
+  empty = λ empty. c.write_back.ensures.staging ∙ c.write_frozen.ensures.empty empty;
+  cause =
+      counts_as c.from_residual-in_err-write_back.result _ c.from_residual-in_err-write_back.ensures.1
+      (counts_on (counted_ok c.in_ok-write_frozen.ensures.cause) c.in_err-write_back.ensures.cause);
+}
 
 pub write_back-requires : goal.write_back-requires
 write_back-requires g c = record {
@@ -43,33 +53,11 @@ drop_entry-requires-clause-clean g c = c.in_ok-write_back.ensures.clean
 pub drop_entry-requires-clause-frozen_state : goal.drop_entry-requires-clause-frozen_state
 drop_entry-requires-clause-frozen_state g c = ap (λ l. frozen_state_at l c.args.number) c.write_back.ensures.frozen_state ∙ c.in_ok-write_frozen.ensures.frozen_written
 
-pub returns-in_err-write_frozen-clause-away : goal.returns-in_err-write_frozen-clause-away
-returns-in_err-write_frozen-clause-away g c = no_ok c.from_residual.result _ _ c.from_residual.ensures.1
-
-pub returns-in_err-write_frozen-clause-stays : goal.returns-in_err-write_frozen-clause-stays
-returns-in_err-write_frozen-clause-stays g c = on_err c.from_residual.result c.write_frozen.ensures.put
-
-pub returns-in_err-write_frozen-clause-empty : goal.returns-in_err-write_frozen-clause-empty
-returns-in_err-write_frozen-clause-empty g c = c.write_frozen.ensures.empty
-
-pub returns-in_err-write_frozen-clause-continues : goal.returns-in_err-write_frozen-clause-continues
-returns-in_err-write_frozen-clause-continues g c = c.write_frozen.ensures.continues
-
-pub returns-in_err-write_frozen-clause-cause : goal.returns-in_err-write_frozen-clause-cause
-returns-in_err-write_frozen-clause-cause g c = counts_as c.from_residual.result _ c.from_residual.ensures.1 c.in_err-write_frozen.ensures.cause
-
-pub returns-in_err-write_back-clause-away : goal.returns-in_err-write_back-clause-away
-returns-in_err-write_back-clause-away g c = no_ok c.from_residual-in_err-write_back.result _ _ c.from_residual-in_err-write_back.ensures.1
-
-pub returns-in_err-write_back-clause-stays : goal.returns-in_err-write_back-clause-stays
-returns-in_err-write_back-clause-stays g c =
-    on_err c.from_residual-in_err-write_back.result
-    (put_on c.args.self.now c.write_frozen.new.self c.write_back.new.self c.write_frozen.ensures.put c.write_back.ensures.put)
-
-pub returns-in_err-write_back-clause-empty : goal.returns-in_err-write_back-clause-empty
-returns-in_err-write_back-clause-empty g c = λ empty. c.write_back.ensures.staging ∙ c.write_frozen.ensures.empty empty
-
-pub returns-in_err-write_back-clause-cause : goal.returns-in_err-write_back-clause-cause
-returns-in_err-write_back-clause-cause g c =
-    counts_as c.from_residual-in_err-write_back.result _ c.from_residual-in_err-write_back.ensures.1
-    (counts_on (counted_ok c.in_ok-write_frozen.ensures.cause) c.in_err-write_back.ensures.cause)
+pub returns-in_err-write_frozen : goal.returns-in_err-write_frozen
+returns-in_err-write_frozen g c = record {
+  away = no_ok c.from_residual.result _ _ c.from_residual.ensures.1;
+  stays = on_err c.from_residual.result c.write_frozen.ensures.put;
+  empty = c.write_frozen.ensures.empty;
+  continues = c.write_frozen.ensures.continues;
+  cause = counts_as c.from_residual.result _ c.from_residual.ensures.1 c.in_err-write_frozen.ensures.cause;
+}
