@@ -35,8 +35,8 @@ module _ {D : Type 0} {s t : StoreState D} where
 
 module _ {D : Type 0} where
   -- another order
-  pub used_rest : (s t : StoreState D) → t ≡ record s { order = t.order } → t ≡ on_device_with s t
-  used_rest s t is = is ∙ ap (λ x. record (on_device s x) { cached = x.cached; order = x.order }) (sym is)
+  pub used_rest : (s t : StoreState D) {os : List ℕ} → t ≡ record s { order = os } → t ≡ on_device_with s t
+  used_rest s t is = is ∙ ap (on_device_with s) (sym is)
 
   -- numbers were announced, or not
   readied_on : (s t u : StoreState D) → t ≡ record s { frozen_state = t.frozen_state } → u ≡ readied t u → u ≡ readied s u

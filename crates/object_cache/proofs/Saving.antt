@@ -3,7 +3,7 @@ use Rattle.object_cache.proofs.Names.{ℕ, Bool, true, List, Option, Some, None,
 use Rattle.object_cache.proofs.Names.{Frame, ObjectHeader, frame_at, words_in, SavedFrames, Holds, LeavesEither, LeavesOneOf, journaled_saved, leaves_weaker}
 use Rattle.object_cache.proofs.Names.{DurableState, GoesOn, ReadsStore, stored_of, is_sound, left_of, on_snapshots, journaled, next_journaled, is_page_role}
 use Rattle.object_cache.proofs.Names.{Refusal, IsJournalAnswer, SavesPage, held_now, counted_ok, counts_on, on_err_weaker, on_ok_weaker, role_is_page, IfOk}
-use Rattle.object_cache.proofs.Names.{is_same_page, IsTurnedAway, LeavesSaved, JournalsPage, MaySave, is_saved_page}
+use Rattle.object_cache.proofs.Names.{is_same_page, IsTurnedAway, LeavesSaved, JournalsPage, MaySave, is_saved_page, IsErrAnd, Counts, err_counts}
 use Rattle.std.proofs.Common.{◌≡◌, ◌⊎◌, ◌+◌, ◌<◌, ◌≤◌, ◌^◌, ◌∙◌}
 use Rattle.model.specs.declared.answer.Refusal.TheVariants as refusal
 use Rattle.model.specs.declared.object.Role.TheVariants as role
@@ -28,7 +28,7 @@ same_role : (a : ℕ) (f : Frame) → is_same_page a f ≡ true → f.header.rol
 same_role a f same = search (arith, role_is_page)
 
 module _ {D : Type 0} (disk : D → Disk) {s t : DurableState D} (reads : ReadsStore disk s t) (sound : is_sound disk s) where
-  saves_after : {E : Type 0} {u : DurableState D} {n age : ℕ} {ws : List ℕ} {r : Result ℕ E} → (disk t.beneath).failures ≡ (disk s.beneath).failures →
+  pub saves_after : {E : Type 0} {u : DurableState D} {n age : ℕ} {ws : List ℕ} {r : Result ℕ E} → (disk t.beneath).failures ≡ (disk s.beneath).failures →
       SavesPage disk t u n age ws r → SavesPage disk s u n age ws r
   saves_after {u = u} {n = n} {age = age} {ws = ws} {r = r} same saves = record {
     stored = on_ok_weaker r (λ is. is ∙ ap (on_snapshots (journaled age n ws)) reads.stored) saves.stored;
@@ -39,6 +39,21 @@ module _ {D : Type 0} (disk : D → Disk) {s t : DurableState D} (reads : ReadsS
     size = saves.size ∙ reads.goes_on.size;
     any_moment = read_first disk s t (disk u.beneath) age n ws ws reads sound refl saves.any_moment;
     cause = counts_on same saves.cause;
+  }
+
+  -- it was read alone
+  pub not_saved : {T E : Type 0} {n age : ℕ} {ws : List ℕ} {e : E} (r : Result ℕ E) (Q : E → Type 0) → IsErrAnd r Q →
+      Counts {T = T} (disk s.beneath) (disk t.beneath) (Err e) → SavesPage disk s t n age ws r
+  not_saved {n = n} {age = age} {ws = ws} (Ok g) Q failed counts = absurd failed
+  not_saved {n = n} {age = age} {ws = ws} (Err e) Q failed counts = record {
+    stored = tt;
+    unchanged = reads.stored;
+    plan = ap (λ b. b.plan) reads.books;
+    generation = tt;
+    sound = tt;
+    size = reads.goes_on.size;
+    any_moment = leaves_one (Some (journaled_saved age n ws (stored_of disk s).saved)) (reads.goes_on.any_moment sound);
+    cause = err_counts refl counts;
   }
 
   -- with its words of now

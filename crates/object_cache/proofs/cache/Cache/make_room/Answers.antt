@@ -1,5 +1,6 @@
 use Rattle.object_cache.proofs.Names.{Counts, rules, arith, None, sym, ap, length, subst, OnOk, OnErr, header_at, held_at, IsKeepable, most, stored_of}
-use Rattle.object_cache.proofs.Names.{keepable_at, GoesOnIn, IsFetchedIn, cache_of, on_device, parts_of, without_cached, memory_of}
+use Rattle.object_cache.proofs.Names.{keepable_at, GoesOnIn, IsFetchedIn, cache_of, on_device, parts_of, without_cached, memory_of, goes_on_same, ok_counts}
+use Rattle.object_cache.proofs.Names.{refl}
 use Rattle.std.proofs.Common.{◌∙◌, ◌≡◌, ◌≤◌}
 use Rattle.object_cache.proofs.Outcomes.{away_rest}
 use Rattle.object_cache.proofs.FrozenStates.{evicted, is_least, some_least}
@@ -52,3 +53,21 @@ returns-then-is_full g c =
       continues = subst (λ t. GoesOnIn g.D.Device.disk t u) seen said.continues;
       cause = subst (λ t. Counts (g.D.Device.disk t.durable.beneath) (g.D.Device.disk u.durable.beneath) r) seen said.cause;
     }
+
+pub returns-clause-uncached : goal.returns-clause-uncached
+returns-clause-uncached g c = λ n none. none
+
+pub returns-clause-unchanged : goal.returns-clause-unchanged
+returns-clause-unchanged g c = λ less. refl
+
+pub returns-clause-rest : goal.returns-clause-rest
+returns-clause-rest g c = refl
+
+pub returns-clause-empty : goal.returns-clause-empty
+returns-clause-empty g c = λ empty. empty
+
+pub returns-clause-continues : goal.returns-clause-continues
+returns-clause-continues g c = goes_on_same g.D.Device.disk g.met.D.Device.only_now c.args.self.now
+
+pub returns-clause-cause : goal.returns-clause-cause
+returns-clause-cause g c = ok_counts refl
