@@ -1,7 +1,8 @@
 -- What one exit of a function gives of the calls before it.
 use Rattle.object_cache.proofs.Names.{Result, Ok, Err, OnOk, OnErr, IsErrAnd, is_err, err_from_is_err_and, err_counts, Counts, Disk, ap, sym, subst, ℕ, most}
 use Rattle.object_cache.proofs.Names.{StoreState, GoesOnIn, IsFetchedIn, AreKeepable, IsKeepable, parts_of, stored_of, header_at, held_at, frames_in, on_device}
-use Rattle.object_cache.proofs.Names.{on_device_with, List, Bool, readied, AreKeepableIn, IsKeepableIn, OnlyFetches, false, true≢false, ContinuesIn}
+use Rattle.object_cache.proofs.Names.{on_device_with, List, Bool, readied, AreKeepableIn, IsKeepableIn, OnlyFetches, false, true≢false, ContinuesIn, Held}
+use Rattle.object_cache.proofs.Names.{released, Some, None, arith}
 use Rattle.std.proofs.Common.{◌≡◌, ◌∙◌}
 
 -- an error says nothing of success
@@ -55,6 +56,10 @@ module _ {D : Type 0} where
   prepared_on s t u first second =
       let is = second ∙ ap (λ x. readied x u) first in
       is ∙ ap (λ x. record (on_device_with s x) { touched = x.touched; dirty = u.dirty; frozen_state = u.frozen_state }) (sym is)
+
+-- the body in the staging buffer is released
+pub released_own : (h : Held) → released h.number (Some h) ≡ None
+released_own h = search arith
 
 -- a store that doesn't keep all bodies
 module _ {D : Type 0} {disk : D → Disk} {s t : StoreState D} {all : Bool} (some : all ≡ false) where
