@@ -6,8 +6,9 @@ use Rattle.description_explainer.proofs.Names.{BankOwner, BankLimit, ProcessRoot
 use Rattle.description_explainer.proofs.Names.{ProcessSpace, ProcessRegisters, NodeNumber, NodeOwner, NodeSlots, PageNumber, PageOwner, PageWords, Flaw, Item}
 use Rattle.description_explainer.proofs.Names.{TableName, HasBadItem, HasItemAs, IsBadAt, IsFlawAt, IsTableOf, IsWholeItem, BreaksShape, Fits, HasItem, IsFlaw}
 use Rattle.description_explainer.proofs.Names.{IsItem, IsTableAt, key_name, keys_of, object_at, Bor, vec_of, zero, suc, [], length, get_or, Vec, Global, ap}
-use Rattle.description_explainer.proofs.Names.{items_view, HasList}
-use Rattle.std.proofs.Common.{◌≡◌, ◌<◌, ◌^◌, ◌∷◌, ◌∙◌}
+use Rattle.description_explainer.proofs.Names.{items_view, HasList, Bool, At, IsNumber, Unknown, Misfit}
+use Rattle.std.proofs.Common.{◌≡◌, ◌≢◌, ◌<◌, ◌^◌, ◌∷◌, ◌∙◌, ◌⊎◌}
+use Rattle.std.specs.Prelude.{◌↔◌}
 use Rattle.description_explainer.specs.declared.faults.place.TableName.TheVariants as name
 
 pub item_viewed : (vs : List Value) (i : ℕ) (v : Value) → i < length vs → get_or vs i v ≡ v → get_item i (items_view vs) ≡ Some (view v)
@@ -40,6 +41,25 @@ IsPlain key = (i : ℕ) → object_at key i ≡ None
 
 pub plain_item : (key : Key) (i : ℕ) → object_at key i ≡ None → (d : Data) → IsItem key d → IsWholeItem key d
 plain_item key i plain d said = grind (arith, nat_tests, none-some)
+
+-- a key at which a number has to stand
+abbrev pub TakesNumber : Key → Type 0
+TakesNumber key = (key ≡ Nodes) ⊎ ((key ≡ Pages) ⊎ ((key ≡ Log) ⊎ ((key ≡ BankNumber) ⊎ ((key ≡ BankOwner) ⊎ ((key ≡ ProcessRoot) ⊎ ((key ≡ ProcessAnnex) ⊎
+    ((key ≡ ProcessOwner) ⊎ ((key ≡ NodeNumber) ⊎ ((key ≡ NodeOwner) ⊎ ((key ≡ PageNumber) ⊎ (key ≡ PageOwner)))))))))))
+
+pub number_fits : (key : Key) (ms : Members) (text : List ℕ) (r : Bool) → TakesNumber key → text ≡ key_name key
+    → IsTrue r ↔ ((n : ℕ) × At text IsNumber ms n) → IsTrue r ↔ Fits key ms
+number_fits key ms text r which is both = grind (arith, nat_tests)
+
+-- the keys of an object's table aren't those of lists of objects
+pub plain_key : (which : TableName) (key : Key) → which ≢ name.Whole → Contains (keys_of which) key → IsPlain key
+plain_key which key object there i = grind (arith, nat_tests)
+
+-- what is wrong at a key of a table
+pub flaw_of : (keys : List Key) (key : Key) (ms : Members) (flaw : Flaw) → Contains keys key → IsFlawAt key ms flaw → IsFlaw keys ms flaw
+flaw_of keys key ms (Unknown k) there is = absurd is
+flaw_of keys key ms (Misfit k) there is = rw is.0 (there, is.1, is.2)
+flaw_of keys key ms (Item k i) there is = rw is.0 (there, is.1)
 
 -- a table with all its keys, and no others, says what it has to
 module _ (ms : Members) where

@@ -1,7 +1,6 @@
 mod Names
 mod Explanations
 mod Flaws
-mod Joined
 mod NamedCapabilities
 mod NumberPlaces
 mod Ranges

@@ -13,8 +13,8 @@ pub use Rattle.description.specs.Described.{AreSlots, HasFields, HasNumbers, Hol
 pub use Rattle.description.specs.Faults.{fault_number}
 pub use Rattle.description.specs.FieldFlaws.{BreaksField, IsOutside, IsTwice}
 pub use Rattle.description.specs.Laid.{Entry, OfAnnex, OfBank, OfNode, OfPage, OfRoot}
-pub use Rattle.description.specs.Reading.{AreFour, At, AtOr, HasList, IsBank, IsCapability, IsDescription, IsList, IsNode, IsPage, IsProcess, IsRange, IsSlot}
-pub use Rattle.description.specs.Reading.{IsState, IsTable, IsWord, has_only}
+pub use Rattle.description.specs.Reading.{AreFour, At, AtOr, HasList, IsBank, IsCapability, IsDescription, IsList, IsNode, IsNumber, IsPage, IsProcess, IsRange}
+pub use Rattle.description.specs.Reading.{IsSlot, IsState, IsTable, IsWord, has_only}
 unfoldable pub use Rattle.description.specs.Reading.{IsWideNumber}
 pub use Rattle.description.specs.Rules.{IsFirstBroken, IsWithinLimits, Refuses}
 pub use Rattle.description.specs.declared.entry.Description.{Description}
@@ -37,18 +37,19 @@ pub use Rattle.model.specs.declared.geometry.Geometry.{Geometry}
 pub use Rattle.recovery.proofs.BankFaults.{unbanked_refuted}
 pub use Rattle.recovery.specs.Consistency.{IsUnbanked}
 pub use Rattle.recovery.specs.declared.consistency.reason.Unbanked.{Unbanked}
-pub use Rattle.std.proofs.Common.{Err, Global, IsSomeAnd, List, None, Ok, Option, Result, Some, String, Vec, [], ap, arith, codes, decimal, drop, get_or, inl}
-pub use Rattle.std.proofs.Common.{inr, length, map, option_map, refl, slice_get, string_bytes, subst, suc, sym, take, unwrap_or, zero, ℕ}
+pub use Rattle.std.proofs.Common.{Bool, Err, Global, IsSomeAnd, List, None, Ok, Option, Result, Some, String, Vec, [], ap, arith, codes, decimal, drop, get_or}
+pub use Rattle.std.proofs.Common.{inl, inr, length, map, option_map, refl, slice_get, string_bytes, subst, suc, sym, take, unwrap_or, zero, ℕ}
 pub use Rattle.std.proofs.lemmas.Bool.{cases_eq, false≢true}
 pub use Rattle.std.proofs.lemmas.Bool.Decides.{nat_tests}
 pub use Rattle.std.proofs.lemmas.Grind.{common_steps}
 pub use Rattle.std.proofs.lemmas.List.{append_assoc, drop_more, get_or_default, length-append, length-map, take_more}
 pub use Rattle.std.proofs.lemmas.List.Elements.{All-cons, All-contains, All-head, All-more, All-tail}
-pub use Rattle.std.proofs.lemmas.Option.{get_or_from_slice_get, none-some, same_Some, slice_get-map}
+pub use Rattle.std.proofs.lemmas.Option.{get_or_from_slice_get, gets, none-some, same_Some, slice_get-map}
 pub use Rattle.std.proofs.lemmas.Result.{IfOk-weaker}
 pub use Rattle.std.specs.Borrow.{Bor}
 pub use Rattle.std.specs.List.{All, Contains}
 pub use Rattle.std.specs.Prelude.{IfNone, IfSome, IsTrue, MatchOption, OnOk}
+pub use Rattle.std.specs.Slice.{IsItemAt}
 pub use Rattle.toml.specs.Data.{Data, Items, Members, array, get_item, get_member, table}
 pub use Rattle.toml.specs.View.{items_view, table_view, view}
 pub use Rattle.toml.specs.declared.value.Value.{Value}
@@ -59,14 +60,14 @@ pub use Rattle.description_explainer.specs.FaultOutcomes.{AllHave, AllIn, AllOfP
 pub use Rattle.description_explainer.specs.FaultOutcomes.{IsWholeItem, OneLacks, place_of}
 pub use Rattle.description_explainer.specs.Places.{rule_fault}
 pub use Rattle.description_explainer.specs.Shapes.{BreaksShape, Fits, HasItem, IsFlaw, IsItem, IsTableAt, IsUnlisted, key_name, keys_of, object_at}
-pub use Rattle.description_explainer.specs.Text.{IsExplanation, item_text, process_text}
+pub use Rattle.description_explainer.specs.Text.{IsExplanation}
 pub use Rattle.description_explainer.specs.declared.faults.key.Key.{Key}
 pub use Rattle.description_explainer.specs.declared.faults.key.Key.TheVariants.{Age, BankLimit, BankNumber, BankOwner, Banks, Layout, Log, NodeList, NodeNumber}
 pub use Rattle.description_explainer.specs.declared.faults.key.Key.TheVariants.{NodeOwner, NodeSlots, Nodes, PageList, PageNumber, PageOwner, PageWords, Pages}
 pub use Rattle.description_explainer.specs.declared.faults.key.Key.TheVariants.{ProcessAnnex, ProcessKey, ProcessOwner, ProcessRegisters, ProcessRoot}
 pub use Rattle.description_explainer.specs.declared.faults.key.Key.TheVariants.{ProcessSpace, ProcessState, ProcessWords, Processes, Ranges}
 pub use Rattle.description_explainer.specs.declared.faults.place.Flaw.{Flaw}
-pub use Rattle.description_explainer.specs.declared.faults.place.Flaw.TheVariants.{Item}
+pub use Rattle.description_explainer.specs.declared.faults.place.Flaw.TheVariants.{Item, Misfit, Unknown}
 pub use Rattle.description_explainer.specs.declared.faults.place.Held.{Held}
 pub use Rattle.description_explainer.specs.declared.faults.place.Limit.{Limit}
 pub use Rattle.description_explainer.specs.declared.faults.place.Misnumbered.{Misnumbered}

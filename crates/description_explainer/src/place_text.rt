@@ -1,8 +1,9 @@
 // The text of a place. Each call fails only where memory runs out.
 ghost use Rattle.std.specs.Prelude.{◌≡◌, ℕ, ◌++◌, List, [], IfOk, MatchOption, OnOk, codes, string_bytes};
-ghost use Rattle.description_explainer.specs.Text.{IsFlawText, IsPlaceText, IsShapeText, field_text, indexed_entry};
-ghost use Rattle.description_explainer.specs.Text.{item_text, limit_text, misnumbered_text, named_text, owner_text};
-ghost use Rattle.description_explainer.specs.Text.{rule_text, slot_entry, table_text, target_text};
+ghost use Rattle.description_explainer.specs.Text.{IsFlawText, IsPlaceText, IsShapeText, entry_text, field_text};
+ghost use Rattle.description_explainer.specs.Text.{indexed_entry, item_text, limit_text, misnumbered_text, named_text};
+ghost use Rattle.description_explainer.specs.Text.{node_text, owner_text, page_text, process_text, rule_text};
+ghost use Rattle.description_explainer.specs.Text.{slot_entry, table_text, target_text};
 
 use crate::faults::{Flaw, Held, Limit, Misnumbered, Named, ShapePlace, TableName};
 use crate::naming::{put_node, put_object, put_page, put_process};
@@ -129,7 +130,22 @@ fn slot_entry(flaw: SlotFlaw) -> usize
     }
 }
 
-// Writes a list of a process, a node or a page, and an entry there.
+// Writes a process and a field of it.
+#[tactic(auto, using(std::proofs::Common::append_assoc))]
+fn put_process_field(
+    text: &mut String,
+    description: &Description,
+    k: usize,
+    field: &str,
+) -> Result<(), AllocError>
+    ensures { OnOk result (string_bytes text.new
+        ≡ string_bytes text.old ++ (process_text description.now k ++ field.now)) }
+{
+    put_process(text, description, k)?;
+    text.push_str(field)
+}
+
+// Writes an entry in a list of an object.
 fn put_entry(text: &mut String, list: &str, i: usize) -> Result<(), AllocError>
     ensures { OnOk result (string_bytes text.new
         ≡ string_bytes text.old ++ (codes ", " ++ item_text list.now i [])) }
@@ -137,57 +153,73 @@ fn put_entry(text: &mut String, list: &str, i: usize) -> Result<(), AllocError>
     write!(text, ", {list}[{i}]")
 }
 
+// Writes a register of a process, by its index in the list.
 #[tactic(auto, using(std::proofs::Common::append_assoc))]
+fn put_register(
+    text: &mut String,
+    description: &Description,
+    k: usize,
+    i: usize,
+) -> Result<(), AllocError>
+    ensures { OnOk result (string_bytes text.new
+        ≡ string_bytes text.old ++ entry_text (process_text description.now k) (codes "registers") i) }
+{
+    put_process(text, description, k)?;
+    put_entry(text, "registers", i)
+}
+
+// Writes a slot of a node, by its index in the list.
+#[tactic(auto, using(std::proofs::Common::append_assoc))]
+fn put_slot(
+    text: &mut String,
+    description: &Description,
+    k: usize,
+    i: usize,
+) -> Result<(), AllocError>
+    ensures { OnOk result (string_bytes text.new
+        ≡ string_bytes text.old ++ entry_text (node_text description.now k) (codes "slots") i) }
+{
+    put_node(text, description, k)?;
+    put_entry(text, "slots", i)
+}
+
+// Writes a word of a page, by its index in the list.
+#[tactic(auto, using(std::proofs::Common::append_assoc))]
+fn put_word(
+    text: &mut String,
+    description: &Description,
+    k: usize,
+    i: usize,
+) -> Result<(), AllocError>
+    ensures { OnOk result (string_bytes text.new
+        ≡ string_bytes text.old ++ entry_text (page_text description.now k) (codes "words") i) }
+{
+    put_page(text, description, k)?;
+    put_entry(text, "words", i)
+}
+
 fn put_field(text: &mut String, description: &Description, part: Part) -> Result<(), AllocError>
     ensures { OnOk result
         (string_bytes text.new ≡ string_bytes text.old ++ field_text description.now part) }
 {
     match part {
-        Part::State(k) => {
-            put_process(text, description, k)?;
-            text.push_str(", state")
-        }
-        Part::Key(k) => {
-            put_process(text, description, k)?;
-            text.push_str(", key")
-        }
-        Part::Space(k) => {
-            put_process(text, description, k)?;
-            text.push_str(", space")
-        }
-        Part::Registers(k, flaw) => {
-            put_process(text, description, k)?;
-            put_entry(text, "registers", slot_entry(flaw))
-        }
-        Part::Slots(k, flaw) => {
-            put_node(text, description, k)?;
-            put_entry(text, "slots", slot_entry(flaw))
-        }
-        Part::Words(k, flaw) => {
-            put_page(text, description, k)?;
-            put_entry(text, "words", indexed_entry(flaw))
-        }
+        Part::State(k) => put_process_field(text, description, k, ", state"),
+        Part::Key(k) => put_process_field(text, description, k, ", key"),
+        Part::Space(k) => put_process_field(text, description, k, ", space"),
+        Part::Registers(k, flaw) => put_register(text, description, k, slot_entry(flaw)),
+        Part::Slots(k, flaw) => put_slot(text, description, k, slot_entry(flaw)),
+        Part::Words(k, flaw) => put_word(text, description, k, indexed_entry(flaw)),
     }
 }
 
-#[tactic(auto, using(std::proofs::Common::append_assoc))]
 fn put_target(text: &mut String, description: &Description, held: Held) -> Result<(), AllocError>
     ensures { OnOk result
         (string_bytes text.new ≡ string_bytes text.old ++ target_text description.now held) }
 {
     match held {
-        Held::Space(k) => {
-            put_process(text, description, k)?;
-            text.push_str(", space")
-        }
-        Held::Register(k, i) => {
-            put_process(text, description, k)?;
-            put_entry(text, "registers", i)
-        }
-        Held::Slot(k, i) => {
-            put_node(text, description, k)?;
-            put_entry(text, "slots", i)
-        }
+        Held::Space(k) => put_process_field(text, description, k, ", space"),
+        Held::Register(k, i) => put_register(text, description, k, i),
+        Held::Slot(k, i) => put_slot(text, description, k, i),
     }
 }
 

@@ -1,5 +1,5 @@
 // What an explanation says. Each call that writes fails only where memory runs out.
-ghost use Rattle.std.specs.Prelude.{IfOk, string_bytes};
+ghost use Rattle.std.specs.Prelude.{◌≡◌, ◌++◌, IfOk, codes, decimal, string_bytes};
 ghost use Rattle.description_explainer.specs.Text.{IsExplanation};
 
 use crate::faults::{Flaw, Held, Key, Limit, Misnumbered, Named, ShapePlace, TableName};
@@ -7,7 +7,9 @@ use crate::naming::listed_number;
 use crate::place::{Place, Rule};
 use crate::place_text::{indexed_entry, list_of, parts_of, place_text};
 use description::member::member;
-use description::{Description, Indexed, Part, ProcessEntry, SlotEntry, SlotFlaw, is_capability};
+use description::{
+    Description, Indexed, Part, ProcessEntry, SlotEntry, SlotFlaw, WordEntry, is_capability,
+};
 use home_ranges::NumberRange;
 use model::{Capability, Geometry};
 use recovery::Unbanked;
@@ -57,11 +59,16 @@ fn keys_in(table: TableName) -> &'static str {
     }
 }
 
+// The value of an index in a list, if it is there.
+fn item_at(list: &Value, i: usize) -> Option<&Value> {
+    list.as_array()?.get(i)
+}
+
 // The table of that name, if there is one.
 fn table_at<'a>(whole: &'a Table, name: TableName) -> Option<&'a Table> {
     match list_of(name) {
         None => Some(whole),
-        Some((key, k)) => member(whole, key)?.as_array()?.get(k)?.as_table(),
+        Some((key, k)) => item_at(member(whole, key)?, k)?.as_table(),
     }
 }
 
@@ -79,12 +86,7 @@ fn text_at<'a>(whole: &'a Table, name: TableName, key: &str) -> &'a str {
 }
 
 fn entry_at<'a>(whole: &'a Table, name: TableName, key: &str, i: usize) -> Option<&'a str> {
-    value_at(whole, name, key)?
-        .as_array()?
-        .get(i)?
-        .as_array()?
-        .get(1)?
-        .as_str()
+    item_at(item_at(value_at(whole, name, key)?, i)?, 1)?.as_str()
 }
 
 fn entry_text<'a>(whole: &'a Table, name: TableName, key: &str, i: usize) -> &'a str {
@@ -158,12 +160,17 @@ fn put_range(
     }
 }
 
+// Writes that a number of objects or slots is outside its limits.
+fn put_outside(text: &mut String, number: u64, least: u64) -> Result<(), AllocError> {
+    write!(text, ": {number} is not from {least} to 4096")
+}
+
 fn put_limit(text: &mut String, description: &Description, limit: Limit) -> Result<(), AllocError> {
     let Geometry { nodes, pages, log } = description.geometry;
     match limit {
-        Limit::Nodes => write!(text, ": {nodes} is not from 16 to 4096"),
-        Limit::Pages => write!(text, ": {pages} is not from 1 to 4096"),
-        Limit::Log => write!(text, ": {log} is not from 16 to 4096"),
+        Limit::Nodes => put_outside(text, nodes, 16),
+        Limit::Pages => put_outside(text, pages, 1),
+        Limit::Log => put_outside(text, log, 16),
         Limit::Age => write!(
             text,
             ": {} is above 4611686018427387904, 2^62",
@@ -279,6 +286,17 @@ impl Entries {
         }
     }
 
+    // Writes what is wrong with an entry in a list of words.
+    fn put_word(
+        self,
+        text: &mut String,
+        words: &[WordEntry],
+        flaw: Indexed,
+    ) -> Result<(), AllocError> {
+        let index = words.get(indexed_entry(flaw)).map_or(0, |word| word.index);
+        self.put_indexed(text, index, flaw)
+    }
+
     // Writes what is wrong with an entry in a list of slots or registers.
     fn put_slot(
         self,
@@ -354,13 +372,7 @@ fn put_field(
             None => Ok(()),
         },
         Part::Words(k, flaw) => match description.pages.get(k) {
-            Some(page) => {
-                let index = page
-                    .words
-                    .get(indexed_entry(flaw))
-                    .map_or(0, |word| word.index);
-                Entries::words(k).put_indexed(text, index, flaw)
-            }
+            Some(page) => Entries::words(k).put_word(text, &page.words, flaw),
             None => Ok(()),
         },
     }
@@ -384,12 +396,17 @@ fn put_absent(text: &mut String, capability: Capability) -> Result<(), AllocErro
     }
 }
 
+// What an entry of a list names, or nothing.
+fn named_at(slots: &[SlotEntry], i: usize) -> Option<Capability> {
+    slots.get(i)?.capability
+}
+
 // What a process or a node holds, or nothing.
 fn held_at(description: &Description, held: Held) -> Option<Capability> {
     match held {
         Held::Space(k) => description.processes.get(k)?.space,
-        Held::Register(k, i) => description.processes.get(k)?.registers.get(i)?.capability,
-        Held::Slot(k, i) => description.nodes.get(k)?.slots.get(i)?.capability,
+        Held::Register(k, i) => named_at(&description.processes.get(k)?.registers, i),
+        Held::Slot(k, i) => named_at(&description.nodes.get(k)?.slots, i),
     }
 }
 
@@ -452,14 +469,27 @@ fn put_fault(text: &mut String, table: &Table, place: &Place<'_>) -> Result<(), 
     }
 }
 
+// Says what is wrong at a place.
+fn what_at(alloc: Global, table: &Table, place: &Place<'_>) -> Result<String, AllocError> {
+    let mut what = String::new(alloc);
+    put_fault(&mut what, table, place)?;
+    Ok(what)
+}
+
+// The line of a place, of what is wrong there, and of the number of a fault.
+fn line(alloc: Global, at: &str, what: &str, number: u64) -> Result<String, AllocError>
+    ensures { IfOk result (λ text. string_bytes text
+        ≡ at.now ++ (what.now ++ (codes " (bad description " ++ (decimal number ++ codes ")")))) }
+{
+    format!(in alloc; "{at}{what} (bad description {number})")
+}
+
 /// The line that names a place in the table of a description, says what has to stand there, and ends with the
 /// number of the fault that `build` answers. Fails only where memory runs out.
 pub fn explanation(alloc: Global, table: &Table, place: &Place<'_>) -> Result<String, AllocError>
     ensures { IfOk result (λ text. IsExplanation place.now (string_bytes text)) }
 {
     let at = place_text(alloc, place)?;
-    let mut what = String::new(alloc);
-    put_fault(&mut what, table, place)?;
-    let number = place.fault().number();
-    format!(in alloc; "{at}{what} (bad description {number})")
+    let what = what_at(alloc, table, place)?;
+    line(alloc, &at, &what, place.fault().number())
 }

@@ -29,32 +29,32 @@ fn fits(table: &Table, key: Key) -> bool
     ensures { IsTrue result ↔ Fits key (table_view table.now) }
 {
     match key {
-        Key::Nodes => has_number(table, "nodes"),
-        Key::Pages => has_number(table, "pages"),
-        Key::Log => has_number(table, "log"),
+        Key::Nodes
+        | Key::Pages
+        | Key::Log
+        | Key::BankNumber
+        | Key::BankOwner
+        | Key::ProcessRoot
+        | Key::ProcessAnnex
+        | Key::ProcessOwner
+        | Key::NodeNumber
+        | Key::NodeOwner
+        | Key::PageNumber
+        | Key::PageOwner => has_number(table, key.name()),
         Key::Layout => may_have_number(table, "layout", 1),
         Key::Age => may_have_number(table, "age", 0),
+        Key::ProcessKey => may_have_number(table, "key", 0),
+        Key::BankLimit => wide_number(table, "limit").is_ok(),
+        Key::ProcessState => state(table, "state").is_ok(),
+        Key::ProcessWords => four_or_zeros(table, "words").is_ok(),
+        Key::ProcessSpace => capability_or_void(table, "space").is_ok(),
         Key::Ranges => may_have_list::<NumberRange>(table, "ranges"),
         Key::Banks => may_have_list::<BankEntry>(table, "bank"),
         Key::Processes => may_have_list::<ProcessEntry>(table, "process"),
         Key::NodeList => may_have_list::<NodeEntry>(table, "node"),
         Key::PageList => may_have_list::<PageEntry>(table, "page"),
-        Key::BankNumber => has_number(table, "number"),
-        Key::BankOwner => has_number(table, "owner"),
-        Key::BankLimit => wide_number(table, "limit").is_ok(),
-        Key::ProcessRoot => has_number(table, "root"),
-        Key::ProcessAnnex => has_number(table, "annex"),
-        Key::ProcessOwner => has_number(table, "owner"),
-        Key::ProcessState => state(table, "state").is_ok(),
-        Key::ProcessKey => may_have_number(table, "key", 0),
-        Key::ProcessWords => four_or_zeros(table, "words").is_ok(),
-        Key::ProcessSpace => capability_or_void(table, "space").is_ok(),
         Key::ProcessRegisters => may_have_list::<SlotEntry>(table, "registers"),
-        Key::NodeNumber => has_number(table, "number"),
-        Key::NodeOwner => has_number(table, "owner"),
         Key::NodeSlots => may_have_list::<SlotEntry>(table, "slots"),
-        Key::PageNumber => has_number(table, "number"),
-        Key::PageOwner => has_number(table, "owner"),
         Key::PageWords => may_have_list::<WordEntry>(table, "words"),
     }
 }
@@ -107,6 +107,30 @@ fn first_misfit(table: &Table, name: TableName) -> Option<Key>
     None
 }
 
+// The names of the keys of a table.
+fn names_of(name: TableName) -> &'static [&'static str]
+    ensures { map (λ k. k.now) result.now ≡ map key_name (keys_of name) }
+{
+    match name {
+        TableName::Whole => &[
+            "nodes", "pages", "log", "layout", "age", "ranges", "bank", "process", "node", "page",
+        ],
+        TableName::Bank(_) => &["number", "owner", "limit"],
+        TableName::Process(_) => &[
+            "root",
+            "annex",
+            "owner",
+            "state",
+            "key",
+            "words",
+            "space",
+            "registers",
+        ],
+        TableName::Node(_) => &["number", "owner", "slots"],
+        TableName::Page(_) => &["number", "owner", "words"],
+    }
+}
+
 // A key that is none of the table's, if there is one.
 fn stranger_in<'a>(table: &'a Table, name: TableName) -> Option<&'a str>
     ensures key { IfSome result (λ key. IsTrue (has_key key.now (table_view table.entry.now))) }
@@ -114,31 +138,7 @@ fn stranger_in<'a>(table: &'a Table, name: TableName) -> Option<&'a str>
     ensures none { IfNone result
         (IsTrue (has_only (map key_name (keys_of name)) (table_view table.entry.now))) }
 {
-    match name {
-        TableName::Whole => unknown_key(
-            table,
-            &[
-                "nodes", "pages", "log", "layout", "age", "ranges", "bank", "process", "node",
-                "page",
-            ],
-        ),
-        TableName::Bank(_) => unknown_key(table, &["number", "owner", "limit"]),
-        TableName::Process(_) => unknown_key(
-            table,
-            &[
-                "root",
-                "annex",
-                "owner",
-                "state",
-                "key",
-                "words",
-                "space",
-                "registers",
-            ],
-        ),
-        TableName::Node(_) => unknown_key(table, &["number", "owner", "slots"]),
-        TableName::Page(_) => unknown_key(table, &["number", "owner", "words"]),
-    }
+    unknown_key(table, names_of(name))
 }
 
 // The first value of a list that says none of this type, with its index. Nothing if there is no list.

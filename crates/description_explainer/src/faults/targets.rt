@@ -135,22 +135,24 @@ fn failing_in_processes<N: Naming>(naming: &N, processes: &[ProcessEntry]) -> Op
         (λ bad. IsSomeAnd (slice_get processes.now bad.0)
         (λ p. OneOfProcess (N.Passes naming.now) bad.0 p bad.1)) }
 {
-    processes.iter().enumerate().find_map(|(k, process)| match failing_in_process(
-        naming, k, process,
-    ) {
-        Some(at) => Some((k, at)),
-        None => None,
-    })
+    for (k, process) in processes.iter().enumerate() {
+        if let Some(at) = failing_in_process(naming, k, process) {
+            return Some((k, at));
+        }
+    }
+    None
 }
 
 fn failing_in_nodes<N: Naming>(naming: &N, nodes: &[NodeEntry]) -> Option<Held>
     ensures { MatchOption result (All (λ n. AllIn (N.Passes naming.now) n.slots.items) nodes.now)
         (λ at. OneOfNodes (N.Passes naming.now) nodes.now at) }
 {
-    nodes.iter().enumerate().find_map(|(k, node)| match first_failing(naming, &node.slots) {
-        Some(i) => Some(Held::Slot(k, i)),
-        None => None,
-    })
+    for (k, node) in nodes.iter().enumerate() {
+        if let Some(i) = first_failing(naming, &node.slots) {
+            return Some(Held::Slot(k, i));
+        }
+    }
+    None
 }
 
 /// Which capability of a description doesn't pass, if there is one.

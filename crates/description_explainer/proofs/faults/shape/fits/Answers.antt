@@ -1,6 +1,11 @@
 use Rattle.description_explainer.proofs.Names.{[], Some, codes, Void, table_view, AreFour, At, AtOr, IsCapability, IsState, IsWideNumber, read_or_not}
 use Rattle.std.proofs.Common.{◌∷◌}
+use Rattle.description_explainer.proofs.Flaws.{number_fits}
 use Rattle.description_explainer.proofs.faults.shape.fits.Goals as goal
+
+pub returns-in-Nodes : goal.returns-in-Nodes
+returns-in-Nodes c =
+    number_fits c.args.key (table_view c.args.table.now) c.name.result.now c.has_number.result c.in-Nodes.is c.name.ensures c.has_number.ensures
 
 pub returns-in-BankLimit : goal.returns-in-BankLimit
 returns-in-BankLimit c = let ms = table_view c.args.table.now in rw c.in-BankLimit.is
