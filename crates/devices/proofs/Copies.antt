@@ -5,7 +5,7 @@ use Rattle.devices.proofs.Names.{MayLeave, disk_of, writes_of, image_whole, IsCo
 use Rattle.devices.specs.Sound.{now_of}
 use Rattle.devices.specs.SoundLaws.{present_whole}
 use Rattle.std.proofs.Common.{◌≡◌, ◌<◌, ◌≤◌, ◌+◌, ◌-◌, ◌*◌, ◌∷◌, ◌++◌, ◌∙◌}
-use Rattle.devices.proofs.Past.{replay-append, replay-one, written-durable}
+use Rattle.devices.proofs.Past.{elapses_one, elapses_still, replay-append, replay-one, written-durable}
 use Rattle.devices.proofs.Disks as Disks
 
 -- a file to which nothing has been done
@@ -111,8 +111,21 @@ module _ (sectors : ℕ) (copy first : List ℕ) (events : List Event) (sound : 
   synced_narrows (Ok x) failures risen ok err = narrows_ok ok failures risen
   synced_narrows (Err e) failures risen ok err = narrows_err err failures risen
 
+  pub synced_back : {T E : Type 0} (r : Result T E) (failures risen : ℕ) → OnErr r (more ≡ events)
+      → OnErr r (Narrows (disk_of sectors (image_of again) more risen) (disk_of sectors (image_of first) events failures))
+  synced_back (Ok x) failures risen err = tt
+  synced_back (Err e) failures risen err = λ c left. rw (again_is, err) left
+
+  pub synced_elapses : {T E : Type 0} (r : Result T E) (failures risen : ℕ) → OnOk r (more ≡ events ++ synced ∷ []) → OnErr r (more ≡ events)
+      → Elapses (disk_of sectors (image_of first) events failures) (disk_of sectors (image_of again) more risen)
+  synced_elapses (Ok x) failures risen ok err = rw (again_is, ok) (elapses_one sectors (image_of first) events synced failures risen)
+  synced_elapses (Err e) failures risen ok err = rw (again_is, err) (elapses_still sectors (image_of first) events failures risen)
+
   -- after a power cut
   module _ (is : more ≡ events ++ cut Keep ∷ []) where
+    pub cut_elapses : (failures risen : ℕ) → Elapses (disk_of sectors (image_of first) events failures) (disk_of sectors (image_of again) more risen)
+    cut_elapses failures risen = rw (again_is, is) (elapses_one sectors (image_of first) events (cut Keep) failures risen)
+
     now_cut : now_of first more ≡ at_first old.present
     now_cut = ap (λ (es : List Event). now_of first es) is ∙ replay-one (at_first (image_of first)) events (cut Keep)
 

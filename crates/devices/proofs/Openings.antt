@@ -2,9 +2,11 @@
 use Rattle.devices.proofs.Names.{nat_tests, ℕ, List, [], Option, option_map, IfSome, length, take, refl, sym, ap, subst, append-nil, arith, drop, length-append}
 use Rattle.devices.proofs.Names.{length-take-le, take-append-le, concat-append, concat, Disk, Agrees, image_of, sectors_of, Access, Create, Lock, OpeningCall}
 use Rattle.devices.proofs.Names.{opened, locked, measured, got, resized, listed, resizes, KeepsLength, reads, Gets, LoadsLocked, MakesZeros, IsOpened, IsMade}
-use Rattle.devices.proofs.Names.{GetsFrom, Adds, AreSectors, Elsewhere, min, take-append-add, take_all, take-put_mid_below, TakesLock, Exclusive}
+use Rattle.devices.proofs.Names.{GetsFrom, Adds, AreSectors, Elsewhere, min, take-append-add, take_all, take-put_mid_below, TakesLock, Exclusive, FileFault}
+use Rattle.devices.proofs.Names.{Loads, Result, Ok, Err, OnOk, IfOk, IfErr, inl, inr, nat_lt}
 use Rattle.devices.specs.OpeningCalls.{synced}
-use Rattle.std.proofs.Common.{◌≡◌, ◌+◌, ◌*◌, ◌≤◌, ◌∷◌, ◌++◌, ◌∙◌, ◌%◌}
+use Rattle.std.proofs.Common.{if◌then◌else◌, ◌⊎◌, ◌≢◌, ◌<◌, ◌/◌, ◌≡◌, ◌+◌, ◌*◌, ◌≤◌, ◌∷◌, ◌++◌, ◌∙◌, ◌%◌}
+use Rattle.devices.specs.declared.fault.FileFault.TheVariants as fault
 use Rattle.devices.proofs.Deeds.{adds_none, adds_more}
 use Rattle.devices.proofs.Stored.{front_part}
 use borrow.Rule.Slice.PartMut.{put_mid}
@@ -25,9 +27,6 @@ resizes_append (listed path ∷ a) b = resizes_append a b
 -- calls that don't set the length
 pub keeps_length : (a b : Calls) (more : List OpeningCall) → Adds a b more → resizes more ≡ 0 → KeepsLength a b
 keeps_length a b more adds none = grind (arith, nat_tests, resizes_append)
-
-pub keeps_synced : (a b : Calls) → Adds a b (synced ∷ []) → option_map resizes b ≡ option_map resizes a
-keeps_synced a b adds = keeps_length a b (synced ∷ []) adds refl
 
 -- pieces, and then more
 reads_append : (byte : ℕ) (ps qs : List (List ℕ)) → reads byte (ps ++ qs) ≡ reads byte ps ++ reads (byte + length (concat ps)) qs
@@ -87,15 +86,33 @@ sectors_on a b c old new part at byte next byte_is same whole inside end written
     let reaches : take (byte + length part) new ≡ take next new = grind (arith, nat_tests, take_all) in
     subst (Gets a c) (all ∙ reaches) (gets_join 0 byte a b c (take byte old) part (omega (arith, size)) gets more)
 
--- a file that is locked, emptied, lengthened and synced, and then its folder
-pub fills : (path : List ℕ) (n : ℕ) (a b c d e f : Calls) → TakesLock Exclusive a b → Adds b c (resized 0 ∷ []) → Adds c d (resized n ∷ []) →
-    Adds d e (synced ∷ []) → Adds e f (listed path ∷ []) → MakesZeros path n a f
-fills path n a b c d e f took emptied extended kept seen =
-    let last : Adds d f (synced ∷ listed path ∷ []) = adds_more d e f (synced ∷ []) (listed path ∷ []) kept seen in
-    let more : Adds b f (resized 0 ∷ resized n ∷ synced ∷ listed path ∷ []) =
-    adds_more b c f (resized 0 ∷ []) (resized n ∷ synced ∷ listed path ∷ []) emptied
-    (adds_more c d f (resized n ∷ []) (synced ∷ listed path ∷ []) extended last) in
-    (took.0, took.1, adds_more a b f (locked Exclusive took.0 ∷ []) (resized 0 ∷ resized n ∷ synced ∷ listed path ∷ []) took.2 more)
+-- a file that is emptied, lengthened and synced, and then its folder
+pub filled : {T E : Type 0} (r : Result T E) (path : List ℕ) (n : ℕ) (a b c d e : Calls) → Adds a b (resized 0 ∷ []) → Adds b c (resized n ∷ []) →
+    Adds c d (synced ∷ []) → OnOk r (Adds d e (listed path ∷ [])) → OnOk r (Adds a e (resized 0 ∷ resized n ∷ synced ∷ listed path ∷ []))
+filled (Err x) path n a b c d e emptied extended kept seen = tt
+filled (Ok x) path n a b c d e emptied extended kept seen =
+    adds_more a b e (resized 0 ∷ []) (resized n ∷ synced ∷ listed path ∷ []) emptied
+    (adds_more b c e (resized n ∷ []) (synced ∷ listed path ∷ []) extended (adds_more c d e (synced ∷ []) (listed path ∷ []) kept seen))
+
+-- the same, of a file that is locked before
+pub fills : (path : List ℕ) (n : ℕ) (a b c : Calls) → TakesLock Exclusive a b → Adds b c (resized 0 ∷ resized n ∷ synced ∷ listed path ∷ [])
+    → MakesZeros path n a c
+fills path n a b c took more = (took.0, took.1, adds_more a b c (locked Exclusive took.0 ∷ []) (resized 0 ∷ resized n ∷ synced ∷ listed path ∷ []) took.2 more)
+
+-- a file that is locked, synced and read
+pub loads_locked : (r : Result (List ℕ) FileFault) (lock : Lock) (a b c d : Calls) → TakesLock lock a b → Adds b c (synced ∷ []) →
+    IfOk r (λ copy. Loads c d copy) → IfOk r (λ copy. LoadsLocked lock a d copy)
+loads_locked (Err x) lock a b c d took kept loads = tt
+loads_locked (Ok copy) lock a b c d took kept loads =
+    let read : List OpeningCall = measured loads.0 ∷ reads 0 loads.1 in (
+      took.0,
+      loads.0,
+      loads.1,
+      took.1,
+      loads.2,
+      loads.3,
+      adds_more a b d (locked lock took.0 ∷ []) (synced ∷ read) took.2 (adds_more b c d (synced ∷ []) read kept loads.4),
+    )
 
 -- a file that was just opened, and then loaded
 pub opens : (path : List ℕ) (access : Access) (lock : Lock) (a b : Calls) (copy : List ℕ) (disk : Disk)
@@ -108,3 +125,28 @@ opens path access lock a b copy disk is loads size seen = grind (arith, nat_test
 pub makes : (path : List ℕ) (sectors n : ℕ) (a b : Calls) → IfSome a (λ calls. calls ≡ opened path Create ∷ []) → n ≡ 512 * sectors → MakesZeros path n a b
     → IfSome b (λ calls. IsMade path sectors calls)
 makes path sectors n a b is size zeros = grind (arith, nat_tests)
+
+-- a fault that is passed on
+pub same_fault : {T : Type 0} (r : Result T FileFault) (y e f : FileFault) → r ≡ Err y → y ≡ e → r ≡ Err f → e ≡ f
+same_fault r y e f is from given = cc
+
+pub not_long : {T : Type 0} (r : Result T FileFault) (y : FileFault) → r ≡ Err y → y ≡ fault.Io → r ≡ Err fault.Long → ⊥
+not_long r y is io long = cc
+
+pub not_held : {T : Type 0} (r : Result T FileFault) (y : FileFault) → r ≡ Err y → y ≡ fault.Io → r ≡ Err fault.Held → ⊥
+not_held r y is io held = cc
+
+pub not_given : {T : Type 0} (r : Result T FileFault) (f : FileFault) → IfErr r (λ e. e ≢ f) → r ≡ Err f → ⊥
+not_given r f none is = grind (arith, nat_tests)
+
+pub neither_long : (y e : FileFault) → y ≡ e → (e ≡ fault.Io) ⊎ (e ≡ fault.Held) → y ≢ fault.Long
+neither_long y e is (inl io) long = cc
+neither_long y e is (inr held) long = cc
+
+-- the whole sectors of a number of bytes
+module _ (r : Result ℕ FileFault) (most n : ℕ) (is : r ≡ (if nat_lt most n then Err fault.Long else Ok (n / 512))) where
+  pub too_long : (e : FileFault) → r ≡ Err e → (most < n) × (e ≡ fault.Long)
+  too_long e err = grind (arith, nat_tests)
+
+  pub short : (s : ℕ) → r ≡ Ok s → (n ≤ most) × (s ≡ n / 512)
+  short s ok = grind (arith, nat_tests)

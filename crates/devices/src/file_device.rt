@@ -112,7 +112,6 @@ impl<F: SectorFile> Device for CopiedFile<F> {
         answer
     }
 
-    #[tactic(auto, using(crate::proofs::Copies::synced_only))]
     fn sync(&mut self) -> Result<(), Failed> {
         self.file.sync()
     }

@@ -4,8 +4,9 @@ ghost use Rattle.std.specs.Prelude.{nat_lt};
 ghost use Rattle.std.specs.Prelude.{if◌then◌else◌, IfErr, IfOk, IfSome, IsErrOf, OnOk, OnErr, Ok, Err};
 ghost use Rattle.device.specs.Calls.{Agrees, Only, sectors_of, image_of};
 ghost use Rattle.devices.specs.FileDevice.{file_disk, raw_file};
-ghost use Rattle.devices.specs.OpeningCalls.{locked, measured, synced, Gets, GetsFrom, Loads, LoadsLocked};
-ghost use Rattle.devices.specs.OpeningCalls.{TakesLock, MakesZeros, KeepsLength, IsOpened, IsMade, Mirrors};
+ghost use Rattle.devices.specs.OpeningCalls.{listed, locked, measured, resized, synced, Gets, GetsFrom, Loads};
+ghost use Rattle.devices.specs.OpeningCalls.{LoadsLocked, TakesLock, MakesZeros, KeepsLength, IsOpened, IsMade};
+ghost use Rattle.devices.specs.OpeningCalls.{Mirrors};
 ghost use Rattle.devices.specs.RawCalls.{Adds};
 
 use crate::fault::FileFault;
@@ -15,7 +16,7 @@ use crate::openable::{Access, Lock, LockAnswer, Openable};
 use crate::sector_copy::SectorCopy;
 use device::{MAX_SECTORS, SECTOR_SIZE};
 use std::alloc::Global;
-use std::io::ErrorKind;
+use std::io::{self, ErrorKind};
 
 // The number of whole sectors in this number of bytes, or `Long`.
 fn whole_sectors(bytes: u64) -> Result<u64, FileFault>
@@ -105,7 +106,6 @@ fn get_all<F: Openable>(
 }
 
 // Reads all whole sectors of the file.
-#[tactic(auto, using(crate::proofs::Openings::keeps_length))]
 fn load<F: Openable>(alloc: Global, file: &mut F) -> Result<SectorCopy, FileFault>
     ensures read { IfOk result (λ copy. Loads (F.opening file.old) (F.opening file.new) copy) }
     ensures few { IfOk result (λ copy. sectors_of copy ≤ 131072) }
@@ -137,7 +137,6 @@ fn take_lock<F: Openable>(file: &mut F, lock: Lock) -> Result<(), FileFault>
 }
 
 // Locks the file, makes it durable and reads it. At `Held` the only call was for the lock.
-#[tactic(auto, using(crate::proofs::Openings::keeps_synced))]
 fn load_locked<F: Openable>(
     alloc: Global,
     file: &mut F,
@@ -157,9 +156,20 @@ fn load_locked<F: Openable>(
     load(alloc, file)
 }
 
+// Empties the file, fills it with zeros and makes it durable.
+fn fill_zeros<F: Openable>(rt: &HostRuntime, file: &mut F, path: &str, bytes: u64) -> io::Result<()>
+    ensures ok { OnOk result (Adds (F.opening file.old) (F.opening file.new)
+        (resized 0 ∷ resized bytes ∷ synced ∷ listed path.now ∷ [])) }
+    ensures calls { F.calls file.new ≡ F.calls file.old }
+{
+    file.resize(0)?;
+    file.resize(bytes)?;
+    file.sync()?;
+    file.sync_folder(rt, path)
+}
+
 // Locks the file, fills it with zeros and makes it durable. At `Held` the only call was for the
 // lock.
-#[tactic(auto, using(crate::proofs::Openings::fills))]
 fn make_zeros<F: Openable>(
     rt: &HostRuntime,
     file: &mut F,
@@ -173,10 +183,7 @@ fn make_zeros<F: Openable>(
     ensures calls { F.calls file.new ≡ F.calls file.old }
 {
     take_lock(file, Lock::Exclusive)?;
-    file.resize(0)?;
-    file.resize(bytes)?;
-    file.sync()?;
-    file.sync_folder(rt, path)?;
+    fill_zeros(rt, file, path, bytes)?;
     Ok(())
 }
 

@@ -1,7 +1,7 @@
-use Rattle.devices.proofs.Names.{nat_tests, arith, refl, length, length-replicate, zeros_are, file_disk}
+use Rattle.devices.proofs.Names.{ap, arith, refl, length, length-replicate, zeros_are, file_disk, err_from_is_err_and}
 use Rattle.std.proofs.Common.{◌≡◌, ◌*◌, ◌∙◌}
 use Rattle.devices.proofs.Mirrored.{made_mirrors}
-use Rattle.devices.proofs.Openings.{makes}
+use Rattle.devices.proofs.Openings.{makes, neither_long}
 use Rattle.devices.proofs.open.CopiedFile+HostFile+F.create.Goals as goal
 
 pub returns-clause-opening : goal.returns-clause-opening
@@ -15,8 +15,22 @@ pub returns-clause-zeros : goal.returns-clause-zeros
 returns-clause-zeros g c i lt =
     c.over.ensures.seen i ∙ zeros_are c.in_ok-zeros.zeros (512 * c.args.sectors) c.args.sectors i c.in_ok-zeros.ensures refl lt
 
+pub returns-clause-size : goal.returns-clause-size
+returns-clause-size g c =
+    let count : length c.in_ok-zeros.zeros ≡ 512 * c.args.sectors = ap length c.in_ok-zeros.ensures ∙ length-replicate (512 * c.args.sectors) 0 in
+    omega (arith, c.over.ensures.size, count)
+
 pub returns-clause-mirror : goal.returns-clause-mirror
 returns-clause-mirror g c =
-    let count : length c.in_ok-zeros.zeros ≡ 512 * c.args.sectors = grind (arith, nat_tests, length-replicate) in
-    let size : (file_disk c.over.result).sectors ≡ c.args.sectors = omega (arith, c.over.ensures.size, count) in
-    made_mirrors (file_disk c.over.result) c.args.path.now c.args.sectors _ size (returns-clause-zeros g c) (returns-clause-opening g c)
+    made_mirrors (file_disk c.over.result) c.args.path.now c.args.sectors _ (returns-clause-size g c) (returns-clause-zeros g c) (returns-clause-opening g c)
+
+pub returns-clause-durable : goal.returns-clause-durable
+returns-clause-durable g c = c.over.ensures.durable
+
+pub returns-clause-failures : goal.returns-clause-failures
+returns-clause-failures g c = c.over.ensures.failures
+
+pub returns-in_err-make_zeros-clause-fault : goal.returns-in_err-make_zeros-clause-fault
+returns-in_err-make_zeros-clause-fault g c =
+    let p = err_from_is_err_and c.from_residual-in_err-make_zeros.result c.from_residual-in_err-make_zeros.ensures.1 in
+    rw p.1 (neither_long p.0 _ p.2 c.in_err-make_zeros.ensures.fault)
