@@ -1,6 +1,6 @@
 -- The names that the proofs here cite: of other crates, and of the definitions of this one.
 pub use Rattle.collections.specs.SparseVec.{item_at}
-pub use Rattle.device.proofs.Flat.{got_inside, rewritten, zeros_are}
+pub use Rattle.device.proofs.Flat.{got_inside, put_elsewhere, put_written, rewritten, zeros_are}
 pub use Rattle.device.specs.Calls.{Agrees, AreSectors, Elsewhere, Narrows, Only, Patches, Tears, image_of, sectors_of}
 pub use Rattle.device.specs.Disk.{Disk, Image, IsWhole}
 pub use Rattle.device.specs.Moments.{Elapses}

@@ -9,7 +9,6 @@ use crate::record::{Action, Outcome, RecordEntry};
 use device::SECTOR_SIZE;
 
 /// Puts whole sectors in the place of those from `at` on.
-#[tactic(auto, using(device::proofs::Flat::put_written, device::proofs::Flat::put_elsewhere))]
 pub fn put(sectors: &mut [u8], at: usize, from: &[u8])
     requires whole { length from.now % 512 ≡ 0 }
     requires inside { 512 * (at + sectors_of from.now) ≤ length sectors.old }
