@@ -33,7 +33,6 @@ pub fn state_word(state: State) -> &'static [u8]
 }
 
 // Begins the first line of a process.
-#[tactic(auto, using(crate::proofs::Texts::process_text))]
 fn begin_process(line: &mut LineText, number: u64, owner: u64, root: &Root<Capability>)
     ensures text { line.new ≡ spaced (headed (codes "process") number owner
         ++ (codes "annex" ∷ decimal root.now.annex ∷ state_text root.now.state
