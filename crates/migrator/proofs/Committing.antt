@@ -1,5 +1,5 @@
 -- The frozen frames become the saved ones.
-use Rattle.migrator.proofs.Names.{nat_tests, IsPlan, ℕ, Bool, cond, Option, Some, None, List, length, refl, sym, ap, subst, arith, replicate, length-replicate}
+use Rattle.migrator.proofs.Names.{nat_tests, IsPlan, ℕ, Option, Some, None, List, length, refl, sym, ap, subst, arith, replicate, length-replicate}
 use Rattle.migrator.proofs.Names.{Frame, frame_at, IsKeepable, AreKeepable, Image, Disk, Entry, Extent, CheckpointHeader, IsDirectory, IsFrameOf, frame_from}
 use Rattle.migrator.proofs.Names.{IsHeader, frame_in, frame_slot_in, half_sector, count_of, frame_read, frames_read, IsSpelt, AreSpelt, Plan, IsApart, IsInside}
 use Rattle.migrator.proofs.Names.{half_extent, half_within, length_read, read_at, spelt_same, spelt_at, beside_frame_slot, places_within, header_sector}

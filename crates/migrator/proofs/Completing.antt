@@ -264,9 +264,6 @@ module _ {p : Plan} (generation : ℕ) {es : List Entry} (i : ℕ) {rank : ℕ} 
 pub touches_none : {at n : ℕ} {disk : Disk} → OnlyNow disk → Touches at n disk disk
 touches_none {at} {n} {disk} only_now = grind (arith, nat_tests)
 
-pub keeps_one_none : {p : Plan} {generation : ℕ} {es : List Entry} {i : ℕ} {disk : Disk} → OnlyNow disk → KeepsOne p generation es i disk disk None
-keeps_one_none {p} {generation} {es} {i} {disk} only_now = grind (arith, nat_tests)
-
 slots_hold : (p : Plan) (generation : ℕ) {slot : ℕ} → slot < p.geometry.log → IsInside (record { sector = slot_sector p generation slot; length = 8 })
     (record { sector = half_sector p generation; length = 9 * p.geometry.log })
 slots_hold p generation low = record { starts = omega arith; ends = omega (arith, low) }

@@ -183,7 +183,7 @@ module _ {disk : Disk} {b : Books} {n age : ℕ} (may : MayReplace disk b n age)
   replaced_stored = grind (arith, nat_tests, puts_same, slot_same, after_same, parity, none_frozen, frames_next)
 
   pub may_replace : MayAdopt disk b (replaced_header age b) (one_entry n)
-  may_replace = search (arith, may_adopt_idle, parity, header_fits, kept, some, directory_next, spelt_next, spares_log, inside_half)
+  may_replace = search (arith, may_adopt_idle, parity, header_fits, some, directory_next, spelt_next, spares_log, inside_half)
 
   pub replaced_on : stored_on disk (adopted (replaced_header age b) (one_entry n) b) ≡ on_snapshots (replaced age n (first_frame disk.seen b n))
       (stored_on disk b)

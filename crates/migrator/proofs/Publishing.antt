@@ -137,7 +137,7 @@ module _ {old mid : Disk} {b : Books} {o : Option Unwritten} {k age : ℕ} (may 
   was = may.stands.kept
 
   pub mid_stays : Stays old mid b (record b { unwritten = o })
-  mid_stays = search (arith, kept_with, mid_kept, was, has_after, stored_after, goes_seen, goes_after)
+  mid_stays = search (arith, kept_with, mid_kept, has_after, stored_after, goes_seen, goes_after)
 
   module _ (none : o ≡ None) (complete : AreComplete mid.seen b.plan (frozen_generation b) (entries_of b.frozen)) where
     now : IsCompleted old (seen_by old.seen b) b k mid
@@ -313,7 +313,7 @@ module _ {disk : Disk} {b : Books} (next : CheckpointHeader) (es : List Entry) (
     }
 
     spares : SparesKept b sectors
-    spares = search (arith, homes_spare, kept, inside, none_spares, blank, half_spares, idle_half)
+    spares = search (arith, homes_spare, inside, none_spares, blank, half_spares, idle_half)
 
     spares_next : SparesKept (with_header b next es) sectors
     spares_next = record {

@@ -181,7 +181,6 @@ impl Books {
 
     /// Writes the frame of an object for the checkpoint on its way into a slot of its own, in the half of the log that
     /// nothing saved lies in. After `Failed` the slot may hold any bytes.
-    #[tactic(auto, using(crate::proofs::PutFrames::puts_none))]
     pub(crate) fn put_running<D: Device>(
         &mut self,
         device: &mut D,

@@ -72,17 +72,15 @@ fn fill<D: Device>(
     ensures reads { ReadsOnly (D.disk device.old) (D.disk device.new) }
     ensures cause { Counts (D.disk device.old) (D.disk device.new) result }
 {
-    let mut whole = [0; CLUSTER_BYTES];
     let first = entry.object - rank;
-    gather(device, plan, generation, &[], first, &mut whole)?;
+    gather(device, plan, generation, &[], first, cluster)?;
     let log = Log::new(plan);
     let at = log.slot_sector(generation, entry.slot);
     let mut node = [0; NODE_FRAME_BYTES];
     read_packed(device, at, rank, &mut node)?;
-    pack_node(&node, rank as usize, &mut whole);
+    pack_node(&node, rank as usize, cluster);
     let home = Home::new(plan);
-    home.blank_rest(first, &mut whole);
-    cluster.copy_from_slice(&whole);
+    home.blank_rest(first, cluster);
     Ok(())
 }
 

@@ -15,7 +15,6 @@ use layout::{CheckpointHeader, PAGE_FRAME_BYTES};
 
 impl Books {
     // Copies the next saved frame home, where it didn't go there with the one before it.
-    #[tactic(auto, using(crate::proofs::Moving::moved_on))]
     fn move_next<D: Device>(
         &mut self,
         device: &mut D,
@@ -42,7 +41,6 @@ impl Books {
     }
 
     // Publishes that all that is saved is home.
-    #[tactic(auto, using(crate::proofs::Moving::finished_stored, crate::proofs::Publishing::publishes_as))]
     fn finish<D: Device>(&mut self, device: &mut D, spare: &mut Directory) -> Result<(), Failed>
         requires { MayFinish (D.disk device.old) self.old }
         ensures { Publishes (D.disk device.old) (D.disk device.new) self.old self.new

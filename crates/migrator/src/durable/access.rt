@@ -66,7 +66,14 @@ impl<D: Device> Durable<D> {
     pub fn into_device(self) -> D
         ensures { result ≡ self.beneath }
     {
-        self.device
+        let Durable {
+            device,
+            books,
+            spare,
+        } = self;
+        drop(books);
+        drop(spare);
+        device
     }
 
     /// Reads what lies below a frame of an object that is kept in memory: the frozen one that was

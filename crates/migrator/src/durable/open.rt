@@ -33,6 +33,7 @@ pub struct Opened<D: Device, I: Intake> {
 
 // The five structs below are each built by one function and taken apart by the next. They are here for the prover: a
 // function that takes memory has an exit for each call that may fail, and is proved for all values that it owns there.
+// A call of `drop` is proved once for its type.
 
 // Memory for the saved directory, and for another.
 #[derive(Drop)]
@@ -104,9 +105,9 @@ impl Reserve {
     {
         let count = (geometry.nodes + geometry.pages) as usize;
         Ok(Reserve {
+            buffer: ClusterBuffer::new(alloc)?,
             directories: Directories::new(alloc, geometry.log)?,
             tables: Tables::new(alloc, count)?,
-            buffer: ClusterBuffer::new(alloc)?,
         })
     }
 }
@@ -148,55 +149,19 @@ fn first_books(
     }
 }
 
-// Reads the whole image of the superblock `plan`, and takes the superblock and the memory along.
+// Reads the whole image of a superblock: the directory into the reserve, and the frames are taken.
+#[tactic(auto, using(crate::proofs::Opening::reads_none))]
 fn read_into<D: Device, I: Intake>(
     alloc: Global,
     device: &mut D,
-    plan: Superblock,
-    reserve: Reserve,
-    taken: I,
-    scratch: &mut Scratch,
-) -> Result<Parts<I>, OpenFault>
-    requires plan { HasPlan (D.disk device.old).seen (D.disk device.old).sectors plan }
-    requires reserved { IsReserve plan reserve }
-    requires none { I.Took taken [] }
-    requires room { count_of plan ≤ I.room taken }
-    ensures plan { IfOk result (λ parts. parts.plan ≡ plan) }
-    ensures whole { IfOk result (λ parts. IsReadInto I.Took (D.disk device.old).seen
-        parts.plan parts.header parts.reserve parts.taken) }
-    ensures refused { IfErr result (λ e.
-        IsBadFor (D.disk device.old).seen (D.disk device.old).sectors e) }
-    ensures reads { ReadsOnly (D.disk device.old) (D.disk device.new) }
-    ensures cause { CountsOpen (D.disk device.old) (D.disk device.new) result }
-{
-    let mut reserve = reserve;
-    let mut taken = taken;
-    let saved = &mut reserve.directories.saved;
-    match read_image(alloc, device, &plan, saved, scratch, &mut taken) {
-        Ok(header) => Ok(Parts {
-            plan,
-            header,
-            reserve,
-            taken,
-        }),
-        Err(fault) => Err(fault),
-    }
-}
-
-// Makes an intake and a scratch buffer, and reads the whole image of the superblock `plan` with them (`read_into`).
-#[tactic(auto, using(crate::proofs::Opening::reads_none))]
-fn read_with_sink<D: Device, I: Intake>(
-    alloc: Global,
-    device: &mut D,
-    plan: Superblock,
-    reserve: Reserve,
+    plan: &Superblock,
+    reserve: &mut Reserve,
     memory: &mut I::Memory,
-) -> Result<Parts<I>, OpenFault>
-    requires plan { HasPlan (D.disk device.old).seen (D.disk device.old).sectors plan }
-    requires reserved { IsReserve plan reserve }
-    ensures plan { IfOk result (λ parts. parts.plan ≡ plan) }
-    ensures whole { IfOk result (λ parts. IsReadInto I.Took (D.disk device.old).seen
-        parts.plan parts.header parts.reserve parts.taken) }
+) -> Result<(CheckpointHeader, I), OpenFault>
+    requires plan { HasPlan (D.disk device.old).seen (D.disk device.old).sectors plan.now }
+    requires reserved { IsReserve plan.now reserve.old }
+    ensures whole { IfOk result (λ read. IsReadInto I.Took (D.disk device.old).seen
+        plan.now read.0 reserve.new read.1) }
     ensures refused { IfErr result (λ e.
         IsBadFor (D.disk device.old).seen (D.disk device.old).sectors e) }
     ensures reads { ReadsOnly (D.disk device.old) (D.disk device.new) }
@@ -204,8 +169,15 @@ fn read_with_sink<D: Device, I: Intake>(
 {
     match Sink::new(alloc, plan.geometry(), memory) {
         Ok(sink) => {
-            let Sink { taken, mut scratch } = sink;
-            read_into(alloc, device, plan, reserve, taken, &mut scratch)
+            let Sink {
+                mut taken,
+                mut scratch,
+            } = sink;
+            let saved = &mut reserve.directories.saved;
+            match read_image(alloc, device, plan, saved, &mut scratch, &mut taken) {
+                Ok(header) => Ok((header, taken)),
+                Err(fault) => Err(fault),
+            }
         }
         Err(_) => Err(OpenFault::NoMemory),
     }
@@ -228,8 +200,19 @@ fn read_parts<D: Device, I: Intake>(
     ensures cause { CountsOpen (D.disk device.old) (D.disk device.new) result }
 {
     match sync_and_read_superblock(device) {
-        Ok(superblock) => match Reserve::new(alloc, superblock.geometry()) {
-            Ok(reserve) => read_with_sink(alloc, device, superblock, reserve, memory),
+        Ok(plan) => match Reserve::new(alloc, plan.geometry()) {
+            Ok(mut reserve) => match read_into(alloc, device, &plan, &mut reserve, memory) {
+                Ok((header, taken)) => Ok(Parts {
+                    plan,
+                    header,
+                    reserve,
+                    taken,
+                }),
+                Err(fault) => {
+                    drop(reserve);
+                    Err(fault)
+                }
+            },
             Err(_) => Err(OpenFault::NoMemory),
         },
         Err(fault) => Err(fault),

@@ -1,7 +1,10 @@
-use Rattle.migrator.proofs.Names.{rules, counts_on}
-use Rattle.std.proofs.Common.{◌≡◌}
+use Rattle.migrator.proofs.Names.{counted_ok, counts_on}
 use Rattle.migrator.proofs.Gathering.{copied_blank, cluster_touched}
+use Rattle.migrator.proofs.PlacesApart.{reads_touch}
 use Rattle.migrator.proofs.copy.copy_cluster.Goals as goal
+
+pub returns-in_err-gather-clause-touches : goal.returns-in_err-gather-clause-touches
+returns-in_err-gather-clause-touches g c = reads_touch c.gather.ensures.reads
 
 pub returns-clause-copied : goal.returns-clause-copied
 returns-clause-copied g c =
@@ -14,6 +17,4 @@ pub returns-clause-touches : goal.returns-clause-touches
 returns-clause-touches g c = cluster_touched c.args.first c.new-home.ensures c.requires.shape c.gather.ensures.reads c.write_frame.ensures.writes
 
 pub returns-clause-cause : goal.returns-clause-cause
-returns-clause-cause g c =
-    let same : (g.D.Device.disk c.gather.new.device).failures ≡ (g.D.Device.disk c.args.device.now).failures = search rules in
-    counts_on same c.write_frame.ensures.cause
+returns-clause-cause g c = counts_on (counted_ok c.in_ok-gather.ensures.cause) c.write_frame.ensures.cause

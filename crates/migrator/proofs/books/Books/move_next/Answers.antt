@@ -1,5 +1,5 @@
 use Rattle.migrator.proofs.Names.{arith, own_slot}
-use Rattle.migrator.proofs.Moving.{copied_durable, copied_moved, passed_durable, uncopied_durable, uncopied_moved}
+use Rattle.migrator.proofs.Moving.{copied_durable, copied_moved, moved_on, passed_durable, uncopied_durable, uncopied_moved}
 use Rattle.migrator.proofs.Publishing.{on_err}
 use Rattle.migrator.proofs.books.Books.move_next.Goals as goal
 
@@ -7,6 +7,12 @@ pub returns-then-not-is_first-clause-stands : goal.returns-then-not-is_first-cla
 returns-then-not-is_first-clause-stands g c =
     let follows = rw c.as_slice-entries.ensures at (c.is_first.ensures.no c.if-not-is_first.true) in
     passed_durable (g.D.Device.disk c.args.device.now) c.requires.stands c.requires.some follows.0 follows.1
+
+pub returns-then-not-is_first-clause-moved : goal.returns-then-not-is_first-clause-moved
+returns-then-not-is_first-clause-moved g c = moved_on (g.met.D.Device.only_now c.args.device.now)
+
+pub copy_home-requires-clause-directory : goal.copy_home-requires-clause-directory
+copy_home-requires-clause-directory g c = rw c.as_slice-entries.ensures c.requires.stands.kept.directory
 
 pub returns-in_err-copy_home-clause-stands : goal.returns-in_err-copy_home-clause-stands
 returns-in_err-copy_home-clause-stands g c =

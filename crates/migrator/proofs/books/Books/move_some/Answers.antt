@@ -1,7 +1,7 @@
-use Rattle.migrator.proofs.Names.{refl, arith, rules, counted_ok}
-use Rattle.std.proofs.Common.{◌<◌, ◌+◌, ◌∙◌}
+use Rattle.migrator.proofs.Names.{ℕ, refl, subst, arith, rules, counted_ok, counts_on, MovedBy}
+use Rattle.std.proofs.Common.{◌≡◌, ◌<◌, ◌+◌, ◌∙◌}
 use Rattle.migrator.proofs.Moving.{moved_more, moved_none, next_low}
-use Rattle.migrator.proofs.Publishing.{on_err}
+use Rattle.migrator.proofs.Publishing.{err_counts, ok_counts, on_err}
 use Rattle.migrator.proofs.books.Books.move_some.Goals as goal
 
 pub loop-init : goal.loop-init
@@ -25,11 +25,29 @@ loop-preserved g c = (
   λ none. absurd (omega (arith, none)),
 )
 
-pub returns-in_err-move_next-clause-unmoved : goal.returns-in_err-move_next-clause-unmoved
-returns-in_err-move_next-clause-unmoved g c =
+pub returns-in_err-move_next : goal.returns-in_err-move_next
+returns-in_err-move_next g c =
     let lt : c.loop.counter < c.args.count = search rules in
-    on_err c.from_residual.result (
-      c.loop.counter + 0,
-      omega (arith, lt),
-      moved_more c.loop.invariant.1 c.in_err-move_next.ensures.unmoved,
-    )
+    record {
+      stands = c.move_next.ensures.stands;
+      moved = search rules;
+      unmoved = on_err c.from_residual.result (
+        c.loop.counter + 0,
+        omega (arith, lt),
+        moved_more c.loop.invariant.1 c.in_err-move_next.ensures.unmoved,
+      );
+      none = λ none. absurd (omega (arith, none, lt));
+      cause = err_counts c.from_residual.ensures.0 (counts_on c.loop.invariant.2 c.in_err-move_next.ensures.cause);
+    }
+
+pub returns : goal.returns
+returns g c =
+    let done : c.loop.counter ≡ c.args.count = search rules in
+    record {
+      stands = c.loop.invariant.0;
+      moved = subst (λ (n : ℕ). MovedBy (g.D.Device.disk c.args.device.now) (g.D.Device.disk c.loop.device) c.args.self.now c.loop.self n) done
+          c.loop.invariant.1;
+      unmoved = tt;
+      none = λ none. c.loop.invariant.3 (done ∙ none);
+      cause = ok_counts c.loop.invariant.2;
+    }

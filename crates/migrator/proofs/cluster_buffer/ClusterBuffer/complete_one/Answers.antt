@@ -1,11 +1,28 @@
+use Rattle.migrator.proofs.Names.{rules, ℕ, List, Option, None, Disk, Entry, KeepsOne, Plan, ReadsOnly, elsewhere_same, slot_bytes, subst, unwritten_of}
 use Rattle.migrator.proofs.Names.{on_ok_weaker, Some, refl, sym, ap, arith, Image, agrees_is, slot_sector, entry_at, shape_of, own_of, Unwritten, counted_ok}
 use Rattle.migrator.proofs.Names.{counts_on, mended}
-use Rattle.std.proofs.Common.{◌∙◌, ◌-◌}
+use Rattle.std.proofs.Common.{◌≡◌, ◌∙◌, ◌-◌}
+use Rattle.std.specs.Vec.{with_items}
 use Rattle.migrator.proofs.PlacesApart.{touches_on, reads_touch}
 use Rattle.migrator.proofs.Tables.{rewritten}
-use Rattle.migrator.proofs.Publishing.{ok_counts}
-use Rattle.migrator.proofs.Completing.{either_of, kept_one, one_complete, own_complete, keeps_one_none, later_complete, zeros_written}
+use Rattle.migrator.proofs.Opening.{reads_none}
+use Rattle.migrator.proofs.Publishing.{err_counts, ok_counts}
+use Rattle.migrator.proofs.Completing.{either_of, kept_one, one_complete, own_complete, later_complete, zeros_written}
 use Rattle.migrator.proofs.cluster_buffer.ClusterBuffer.complete_one.Goals as goal
+
+-- nothing is written
+read_keeps : {p : Plan} {generation : ℕ} {es : List Entry} {i : ℕ} {old new : Disk} {now : Option Unwritten} → now ≡ None → ReadsOnly old new →
+    KeepsOne p generation es i old new now
+read_keeps {p} {generation} {es} {i} {old} {new} none reads = subst (KeepsOne p generation es i old new) (sym none) (record {
+  touches = reads_touch reads;
+  elsewhere = elsewhere_same (slot_sector p generation (entry_at es i).slot) 8 old.seen new.seen reads.seen;
+  own = ap (λ (image : Image). slot_bytes image p generation (entry_at es i).slot (entry_at es i).object) (agrees_is new.seen old.seen reads.seen);
+  unwritten = tt;
+})
+
+none_still : (sector : Option ℕ) (old new : List ℕ) {was : Option Unwritten} → unwritten_of sector old ≡ was → was ≡ None → unwritten_of sector new ≡ None
+none_still None old new is none = refl
+none_still (Some sector) old new is none = cc
 
 pub returns-in_default : goal.returns-in_default
 returns-in_default g c =
@@ -16,7 +33,7 @@ returns-in_default g c =
       none = c.requires.none;
       complete = own_complete c.args.generation c.args.index c.shape.ensures.plan c.requires.directory c.requires.within disk.seen own;
       zeros = λ first rank is. absurd (c.in_default.not-Packed rank (c.shape.ensures.value ∙ is));
-      keeps = rw c.requires.none (keeps_one_none (g.met.D.Device.only_now c.args.device.now));
+      keeps = read_keeps c.requires.none (reads_none (g.met.D.Device.only_now c.args.device.now));
       cause = ok_counts refl;
     }
 
@@ -28,8 +45,19 @@ returns-then-not-is_first g c =
       none = c.requires.none;
       complete = later_complete c.args.generation c.args.index c.shape.ensures.plan c.requires.directory c.requires.within disk.seen follows;
       zeros = λ first. absurd (first (c.args.index - 1) (omega (arith, follows.0)) follows.1);
-      keeps = rw c.requires.none (keeps_one_none (g.met.D.Device.only_now c.args.device.now));
+      keeps = read_keeps c.requires.none (reads_none (g.met.D.Device.only_now c.args.device.now));
       cause = ok_counts refl;
+    }
+
+pub returns-in_err-fill : goal.returns-in_err-fill
+returns-in_err-fill g c =
+    record {
+      none = search rules;
+      complete = search rules;
+      zeros = search rules;
+      keeps = read_keeps (none_still c.self.inside.sector c.self.inside.bytes.items (with_items c.self.inside.bytes c.fill.new.cluster).items c.self.view_is
+          c.requires.none) c.fill.ensures.reads;
+      cause = err_counts c.from_residual.ensures.0 c.in_err-fill.ensures.cause;
     }
 
 pub returns : goal.returns

@@ -10,12 +10,12 @@ put_running-requires g c =
     let room = subst (λ t. (f : FrozenPuts) → (stored_of g.D.Device.disk t).frozen ≡ Some f → HasFreeSlot f.size f.put c.args.number) (sym c.self.view_is)
     c.requires.room in (
       c.in-Some.field-0,
-      search (
-        c.self.invariant,
-        c.in-Some.is,
-        subst (λ t. IsObject t.books.plan.geometry c.args.number) (sym c.self.view_is) c.requires.object,
-        subst (λ t. IsKeepable t.books.plan.geometry most c.args.number (record { header = c.args.header; content = (content_behind c.args.content) }))
-            (sym c.self.view_is) c.requires.keepable,
-        room (frozen_of (seen_by disk.seen b) b c.in-Some.field-0) (ap (option_map (frozen_of (seen_by disk.seen b) b)) c.in-Some.is),
-      ),
+      record {
+        stands = c.self.invariant;
+        running = c.in-Some.is;
+        object = subst (λ t. IsObject t.books.plan.geometry c.args.number) (sym c.self.view_is) c.requires.object;
+        keepable = subst (λ t. IsKeepable t.books.plan.geometry most c.args.number
+            (record { header = c.args.header; content = (content_behind c.args.content) })) (sym c.self.view_is) c.requires.keepable;
+        room = room (frozen_of (seen_by disk.seen b) b c.in-Some.field-0) (ap (option_map (frozen_of (seen_by disk.seen b) b)) c.in-Some.is);
+      },
     )
