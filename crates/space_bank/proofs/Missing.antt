@@ -1,7 +1,8 @@
 -- The least free numbers, and numbers that aren't free, found by marks. What is counted, a number at a time. Usages, added up over the numbers.
 use Rattle.space_bank.proofs.Names.{and-false, nat_tests, ℕ, zero, suc, None, Some, Bool, cond, List, [], length, ⊎_elim, refl, sym, ap, subst, zero-add, arith}
 use Rattle.space_bank.proofs.Names.{cases_lt, range_with_len, Geometry, Object, are_free, free_nodes, free_pages, is_free, content_at, MakeProcess, process_at}
-use Rattle.space_bank.proofs.Names.{AreCounted, BanksState, AreMarked, HasNoneMarked, IsNextMarked, is_marked, map, IsTrue, slice_index, SomeIff}
+use Rattle.space_bank.proofs.Names.{AreCounted, BanksState, AreMarked, HasNoneMarked, IsNextMarked, is_marked, map, IsTrue, slice_index, slice_set}
+use Rattle.space_bank.proofs.Names.{get_or-set_other, get_or-set_same}
 use Rattle.space_bank.proofs.Names.{get_or-map-range_with_len, length-map-range_with_len, map-range_with_len_more, Cap, Capability, ObjectHeader, Content}
 use Rattle.space_bank.proofs.Names.{usage, held_at, Role, is_bank, is_root, limit_in, role_of, object_count, Parts, objects_in, content_there, mapped, AreKept}
 use Rattle.space_bank.proofs.Names.{kept_number, ContentRef, content_behind, true, false, inl, inr, filter, length_objects, keepable_count, AreFree, is_listed}
@@ -10,6 +11,7 @@ use Rattle.space_bank.proofs.Names.{enumerate_from, cases_eq, eq-eqb, get_or_pas
 use Rattle.space_bank.proofs.Names.{count_by-le-length, count_by_more_no, count_by_more_yes, is_under, free, is_member, object_at, IsTree, chain_once, IsRaised}
 use Rattle.std.proofs.Common.{◌≡◌, ◌+◌, ◌-◌, ◌<◌, ◌≤◌, ◌∙◌, ◌∷◌, ◌^◌, ◌++◌, ◌≢◌, ◌==◌, ◌&&◌}
 use Rattle.model.specs.declared.object.ContentRef.TheVariants as content_ref
+use Rattle.model.specs.declared.object.Role.TheVariants as role
 use Rattle.space_bank.proofs.Tallies.{marks_counted}
 
 -- marks of the numbers from a base on
@@ -105,13 +107,25 @@ numbers_more old now r n one kept new headers contents is so more =
     more ∙ ap (λ (xs : List ℕ). xs ++ one ∷ []) so ∙ ap (λ (m : ℕ). map f (range_with_len 0 n) ++ m ∷ []) here
     ∙ sym (map-range_with_len_more f 0 n n (zero-add n))
 
+-- the limits, and the annexes read behind them, are those of the objects that are left
+pub kept_looked : (p q r : Parts) (nodes : ℕ) (limits annexes : List ℕ) → q.headers ≡ p.headers → q.contents ≡ p.contents → r.headers ≡ q.headers →
+    r.contents ≡ q.contents → nodes ≡ r.geometry.nodes
+    → limits ≡ map (λ n. kept_number role.Bank (content_at (objects_in p) n)) (range_with_len 0 nodes)
+    → annexes ≡ map (λ n. kept_number role.Root (content_at (objects_in q) n)) (range_with_len 0 nodes)
+    → AreKept (objects_in r) r.geometry.nodes limits annexes
+kept_looked p q r nodes limits annexes headers contents headers_too contents_too size limits_are annexes_are =
+    grind (arith, nat_tests, objects_looked p q headers contents, objects_looked q r headers_too contents_too)
+
 -- numbers of nodes and pages fit, since there is a header for each
 pub numbers_fit : (p : Parts) (hs : List ObjectHeader) (h : Geometry) (count : ℕ) → hs ≡ p.headers → count ≡ length hs → count < 2 ^ 64 → h ≡ p.geometry →
     length p.headers ≡ object_count p.geometry → h.nodes + h.pages < 2 ^ 64
 numbers_fit p hs h count table is fits same all = grind (arith, nat_tests)
 
-pub room_replying : (count room : ℕ) → SomeIff (Some room) (count + 2 < 2 ^ 64) (count + 2) → room ≡ count + 2
-room_replying count room is = is.1
+-- one number more is marked
+pub marks_more : (os : List Object) (first n : ℕ) (marks new : List Bool) (free : Bool) → n < length marks → new ≡ slice_set marks n free →
+    free ≡ is_free (content_at os (first + n)) → ((m : ℕ) → m < n → is_marked marks m ≡ is_free (content_at os (first + m))) →
+    (m : ℕ) → m < n + 1 → is_marked new m ≡ is_free (content_at os (first + m))
+marks_more os first n marks new free inside is here so_far m lt = grind (arith, nat_tests, get_or-set_same, get_or-set_other)
 
 -- what is counted, part by part
 module _ (g : Geometry) (os : List Object) (s : BanksState) (below : (b : ℕ) → IsTrue (is_bank (content_at os b)) → b < g.nodes)

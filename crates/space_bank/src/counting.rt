@@ -194,21 +194,14 @@ impl Banks {
             (objects_in (F.parts store.now))) }
     {
         let geometry = store.geometry();
-        let room = match store.table().count().checked_add(2) {
-            Some(room) => room,
-            None => return Err(AllocError),
-        };
-        let nodes = free_numbers(alloc, store, 0, geometry.nodes)?;
-        let pages = free_numbers(alloc, store, geometry.nodes, geometry.pages)?;
-        let usages = count_usages(alloc, store, geometry.nodes)?;
-        let listed = Vec::with_capacity(alloc, room as usize)?;
+        let room = store.table().count().saturating_add(2);
         Ok(Banks {
-            nodes,
-            pages,
-            usages,
             limits,
             annexes,
-            listed,
+            listed: Vec::with_capacity(alloc, room as usize)?,
+            usages: count_usages(alloc, store, geometry.nodes)?,
+            nodes: free_numbers(alloc, store, 0, geometry.nodes)?,
+            pages: free_numbers(alloc, store, geometry.nodes, geometry.pages)?,
         })
     }
 }

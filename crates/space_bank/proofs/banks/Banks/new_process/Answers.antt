@@ -1,4 +1,5 @@
 use Rattle.space_bank.proofs.Names.{List, ap, subst, sym, slice_set, Geometry, Object, new_annex, new_root, with_new, AreKeepable, BanksState, frames_of}
+use Rattle.space_bank.proofs.Names.{keeps_twice}
 use Rattle.std.proofs.Common.{◌∙◌}
 use Rattle.space_bank.proofs.Tallies.{process_carried, still_free, taken_one, taken_two}
 use Rattle.space_bank.proofs.banks.Banks.new_process.Goals as goal
@@ -11,6 +12,15 @@ make-requires-2-clause-free g c =
     still_free p.geometry sound.0 p (g.F.Frames.parts c.make.new.store) c.args.root c.args.annex c.args.bank (new_root c.args.annex)
     (c.make.ensures.keepable sound.0 c.ranges.annex.fits sound.1.keepable) c.make.ensures.snapshots.count c.make.ensures.objects at.0 c.requires.may.two
     c.requires.may.annex_unused
+
+pub returns-clause-objects : goal.returns-clause-objects
+returns-clause-objects g c =
+    c.make-2.ensures.objects ∙ ap (λ (os : List Object). with_new os c.args.annex c.args.bank new_annex) c.make.ensures.objects
+
+pub returns-clause-snapshots : goal.returns-clause-snapshots
+returns-clause-snapshots g c =
+    keeps_twice g.F.Frames.parts g.F.Frames.IsFetched g.F.PresentFrames.IsAnnounced g.F.Frames.ContinuesTo g.met.F.Frames.continues_twice c.args.store.now
+    c.make.new.store c.make-2.new.store c.make.ensures.snapshots c.make-2.ensures.snapshots
 
 pub returns-clause-carried : goal.returns-clause-carried
 returns-clause-carried g c =

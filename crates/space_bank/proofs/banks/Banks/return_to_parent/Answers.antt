@@ -1,5 +1,5 @@
 use Rattle.space_bank.proofs.Names.{[], ℕ, List, ap, arith, drop, length, subst, sym, take, length-append, Capability, Geometry, Content, chain, owned_by}
-use Rattle.space_bank.proofs.Names.{header_at, AreKeepable, is_free, owner_at, frames_of, objects_in, BanksState, AreTransferred, IsRaised, rules}
+use Rattle.space_bank.proofs.Names.{is_member, true, rescind, header_at, AreKeepable, is_free, owner_at, frames_of, objects_in, BanksState, AreTransferred, IsRaised, rules}
 use Rattle.std.proofs.Common.{◌≡◌, ◌<◌, ◌+◌, ◌-◌, ◌^◌, ◌∙◌, ◌++◌, ◌∷◌}
 use Rattle.space_bank.proofs.Renewing.{snapshots_then_ended, ended_snapshots, listed_rest, released_then, SameFree, drop_next, transferred_allocations}
 use Rattle.space_bank.proofs.Renewing.{transferred_calls, inherited_by, mark_one, one_all, one_enough, only_used, owned_used, rest_all, returned_carried}
@@ -8,10 +8,12 @@ use Rattle.space_bank.proofs.Tallies.{transferred_same, serve_count}
 use Rattle.space_bank.proofs.banks.Banks.return_to_parent.Goals as goal
 
 pub release-requires-clause-asks : goal.release-requires-clause-asks
-release-requires-clause-asks g c = search (rules, owner_is_bank)
+release-requires-clause-asks g c = owner_is_bank c.requires.asks c.owner-parent.ensures
 
 pub release-requires-clause-enough : goal.release-requires-clause-enough
-release-requires-clause-enough g c = search (rules, one_enough)
+release-requires-clause-enough g c = λ x member.
+    one_enough c.requires.asks c.requires.other x
+    (subst (λ (n : ℕ). is_member (chain (objects_in (g.F.Frames.parts c.args.store.now)) n) x ≡ true) c.owner-parent.ensures member)
 
 pub transfer-requires : goal.transfer-requires
 transfer-requires g c =
@@ -39,7 +41,15 @@ rescind-requires g c =
     }
 
 pub returns-clause-objects : goal.returns-clause-objects
-returns-clause-objects g c = search (rules, listed_rest, drop_next, inherited_by)
+returns-clause-objects g c =
+    let os = objects_in (g.F.Frames.parts c.args.store.now) in
+    let us = objects_in (g.F.Frames.parts c.transfer.new.store) in
+    let b = c.args.bank in
+    let part = listed_rest c.args.self.now (c.args.skip + 1) c.deref.ensures.value c.self.view_is c.release.ensures.kept
+    ∙ drop_next c.args.self.now.listed c.args.skip b (owned_by os b) c.requires.listed in
+    c.rescind.ensures.objects ∙ ap (rescind (b ∷ [])) (inherited_by os us b
+    (subst (λ (n : ℕ). AreTransferred (owned_by os b) n os us) c.owner-parent.ensures
+    (subst (λ (list : List ℕ). AreTransferred list c.owner-parent.result os us) part c.transfer.ensures.objects)))
 
 pub returns-clause-carried : goal.returns-clause-carried
 returns-clause-carried g c =
