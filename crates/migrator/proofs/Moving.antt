@@ -173,9 +173,10 @@ module _ {old mid : Disk} {a b : Books} {count some : ℕ} (few : a.moved ≤ a.
   left_number = omega (arith, left_is)
 
   -- not all is home yet, or all was
-  pub migrates_left : {T E : Type 0} {value : T} → IsDurable mid b → IsSoundOn old a → (a.header.entries ≡ 0) ⊎ (b.moved < b.header.entries) →
+  pub migrates_left : {T E : Type 0} {value : T} → IsDurable mid b → IsSoundOn old a → (b.header.entries ≡ 0) ⊎ (b.moved < b.header.entries) →
       mid.failures ≡ old.failures → Migrates {T = T} {E = E} old mid a b count (Ok value)
-  migrates_left {T} {E} {value} stands sound why none = grind (arith, nat_tests)
+  migrates_left {T} {E} {value} stands sound why none =
+      let same : b.header.entries ≡ a.header.entries = ap (λ (x : Books). x.header.entries) so_far.books in grind (arith, nat_tests)
 
   -- all is home
   module _ (all : b.moved ≡ b.header.entries) where

@@ -24,6 +24,10 @@ use Rattle.migrator.proofs.Putting.{puts_blank}
 pub reads_more : {a b c : Disk} → ReadsOnly a b → ReadsOnly b c → ReadsOnly a c
 reads_more {a} {b} {c} first second = grind (arith, nat_tests)
 
+-- a sync before it
+pub only_reads_on : {a b c : Disk} → OnlyReads a b → ReadsOnly b c → OnlyReads a c
+only_reads_on {a} {b} {c} first second = grind (arith, nat_tests)
+
 -- before the first
 pub reads_none : {disk : Disk} → ((c : Image) → disk.left_since disk.moment c → disk.may_leave c) → ReadsOnly disk disk
 reads_none {disk} only_now = grind (arith, nat_tests)

@@ -1,5 +1,4 @@
-use Rattle.migrator.proofs.Names.{refl, subst, counted_ok, Books}
-use Rattle.std.proofs.Common.{◌≡◌, ◌⊎◌, ◌<◌}
+use Rattle.migrator.proofs.Names.{refl, counted_ok}
 use Rattle.migrator.proofs.Moving.{all_number, migrates_all, migrates_left, migrates_part}
 use Rattle.migrator.proofs.books.Books.migrate.Goals as goal
 
@@ -22,8 +21,5 @@ returns-then-is_to_finish-clause-migrates g c = migrates_all c.requires.stands.k
 
 pub returns-clause-migrates : goal.returns-clause-migrates
 returns-clause-migrates g c =
-    let mid = c.move_some.new.self in
-    let why = subst (λ (b : Books). (b.header.entries ≡ 0) ⊎ (mid.moved < mid.header.entries)) c.in_ok-move_some.ensures.moved.books
-    (c.is_to_finish.ensures.no c.if-is_to_finish.false) in
-    migrates_left c.requires.stands.kept.few c.share-some.ensures.lesser c.in_ok-move_some.ensures.moved c.move_some.ensures.stands c.requires.sound why
-    (counted_ok c.in_ok-move_some.ensures.cause)
+    migrates_left c.requires.stands.kept.few c.share-some.ensures.lesser c.in_ok-move_some.ensures.moved c.move_some.ensures.stands c.requires.sound
+    (c.is_to_finish.ensures.no c.if-is_to_finish.false) (counted_ok c.in_ok-move_some.ensures.cause)

@@ -1,4 +1,5 @@
 use Rattle.migrator.proofs.Names.{sym, subst, ℕ, Image, agrees_is, IsBadFor, IsReadInto}
+use Rattle.migrator.proofs.Opening.{only_reads_on}
 use Rattle.migrator.proofs.durable.open.read_parts.Goals as goal
 
 pub read_into-requires-clause-reserved : goal.read_into-requires-clause-reserved
@@ -10,6 +11,12 @@ returns-in-Ok-read_into-clause-whole g c =
     let seen = agrees_is (g.D.Device.disk c.sync_and_read_superblock.new.device).seen (g.D.Device.disk c.args.device.now).seen read.seen in
     subst (λ (i : Image). IsReadInto g.I.Intake.Took i c.in-Ok.plan c.in-Ok-read_into.header c.read_into.new.reserve c.in-Ok-read_into.taken) seen
     c.in-Ok-read_into.ensures.whole
+
+pub returns-in-Ok-read_into-clause-only_reads : goal.returns-in-Ok-read_into-clause-only_reads
+returns-in-Ok-read_into-clause-only_reads g c = only_reads_on c.sync_and_read_superblock.ensures.only_reads c.read_into.ensures.reads
+
+pub returns-in-Err-read_into-clause-only_reads : goal.returns-in-Err-read_into-clause-only_reads
+returns-in-Err-read_into-clause-only_reads g c = only_reads_on c.sync_and_read_superblock.ensures.only_reads c.read_into.ensures.reads
 
 pub returns-in-Err-read_into-clause-refused : goal.returns-in-Err-read_into-clause-refused
 returns-in-Err-read_into-clause-refused g c =
