@@ -1,4 +1,4 @@
-use Rattle.gate.proofs.Names.{arith, subst, sym, frames_of, objects_in, keepable_later, IsWithinObject, MayHold}
+use Rattle.gate.proofs.Names.{arith, subst, sym, frames_of, objects_in, keepable_later, keeps_twice, IsWithinObject, MayHold}
 use Rattle.std.proofs.Common.{◌+◌}
 use Rattle.gate.proofs.Standing.{fits_kept, in_geometry, node_is_no_annex}
 use Rattle.gate.proofs.change.make.Goals as goal
@@ -40,3 +40,9 @@ returns-in-Space-clause-keepable g c age young held k =
     let here = subst (MayHold old.geometry (objects_in old)) c.in-Space.is held in
     keepable_later old.geometry age (age + 1) (frames_of (g.F.Frames.parts c.set_space.new.store)) (omega arith)
     (c.set_space.ensures.keepable age (fits_kept old.geometry age old k c.in-Space.held here.0, here.1) k)
+
+pub returns-in-SetState-clause-snapshots : goal.returns-in-SetState-clause-snapshots
+returns-in-SetState-clause-snapshots g c =
+    let F = g.F.Frames in
+    keeps_twice F.parts F.IsFetched g.F.PresentFrames.IsAnnounced F.ContinuesTo g.met.F.Frames.continues_twice _ _ _ c.set_state.ensures.snapshots
+    c.consume.ensures.snapshots

@@ -1,4 +1,4 @@
-use Rattle.gate.proofs.Names.{List, arith, sym, subst, All, Capability, frames_of, keepable_later, FitsCap}
+use Rattle.gate.proofs.Names.{List, arith, sym, subst, All, Capability, frames_of, keepable_later, keeps_twice, FitsCap}
 use Rattle.std.proofs.Common.{◌+◌, ◌∙◌}
 use Rattle.gate.proofs.Standing.{in_geometry}
 use Rattle.gate.proofs.gates.enter.Goals as goal
@@ -20,3 +20,15 @@ returns-else-gate-clause-keepable g c age young fits k =
     (rw before.ensures.snapshots.geometry fits) in
     keepable_later (g.F.Frames.parts c.args.store.now).geometry age (age + 1) (frames_of (g.F.Frames.parts c.deliver.new.store)) (omega arith)
     (in_geometry (sym before.ensures.snapshots.geometry) (c.deliver.ensures.keepable age all first))
+
+pub returns-else-gate-clause-snapshots : goal.returns-else-gate-clause-snapshots
+returns-else-gate-clause-snapshots g c =
+    let F = g.F.Frames in
+    keeps_twice F.parts F.IsFetched g.F.PresentFrames.IsAnnounced F.ContinuesTo g.met.F.Frames.continues_twice _ _ _ c.set_state_at_gate.ensures.snapshots
+    c.deliver.ensures.snapshots
+
+pub returns-then-gate-clause-snapshots : goal.returns-then-gate-clause-snapshots
+returns-then-gate-clause-snapshots g c =
+    let F = g.F.Frames in
+    let twice = keeps_twice F.parts F.IsFetched g.F.PresentFrames.IsAnnounced F.ContinuesTo g.met.F.Frames.continues_twice in
+    twice _ _ _ (twice _ _ _ c.set_state_at_gate.ensures.snapshots c.deliver.ensures.snapshots) c.consume.ensures.snapshots

@@ -1,4 +1,4 @@
-use Rattle.gate.proofs.Names.{rules, true, List, None, sym, ap, subst, All, slice_index, err_from_is_err_and, Capability, Geometry, Object, can_start}
+use Rattle.gate.proofs.Names.{true, List, None, sym, ap, subst, All, slice_index, err_from_is_err_and, Capability, Geometry, Object, can_start}
 use Rattle.gate.proofs.Names.{IsNoBankOrder, is_process, objects_in, entered, received, written_through, FitsCap, process_known}
 use Rattle.std.proofs.Common.{◌≡◌, ◌||◌, ◌∙◌}
 use Rattle.gate.proofs.Effects.{effect_through, gate_code, gate_invoked, gate_process, gate_stalled, received_fits, carried_out, found_stalled, unannounced}
@@ -11,7 +11,9 @@ fetch_process-requires-clause-process g c =
     gate_process (g.F.Frames.parts c.args.store.now) c.requires.sound c.args.gate c.requires.requested c.requires.gate
 
 pub fetch_process-requires-clause-annex : goal.fetch_process-requires-clause-annex
-fetch_process-requires-clause-annex g c = search (rules, annex_there, gate_process)
+fetch_process-requires-clause-annex g c =
+    let old = g.F.Frames.parts c.args.store.now in
+    annex_there old c.requires.sound c.args.gate.process (gate_process old c.requires.sound c.args.gate c.requires.requested c.requires.gate)
 
 pub can_enter-requires-clause-process : goal.can_enter-requires-clause-process
 can_enter-requires-clause-process g c =
@@ -40,7 +42,13 @@ enter-requires-clause-receiver g c =
 
 pub enter-requires-clause-calls : goal.enter-requires-clause-calls
 enter-requires-clause-calls g c =
-    search (rules, only_reads_again, looked_as, prepared_as, calls_below, looked_sound, looked_number, process_known, gate_process)
+    let old = g.F.Frames.parts c.args.store.now in
+    let now = g.F.Frames.parts c.announce_gate.new.store in
+    let there : ReadsAs old now =
+    only_reads_again (looked_as c.in_ok-annex.ensures.fetches.snapshots) (prepared_as c.in_ok-announce_gate.ensures.prepares) in
+    let process = gate_process old c.requires.sound c.args.gate c.requires.requested c.requires.gate in
+    calls_below now (looked_sound there c.requires.sound) c.args.gate.process
+    (looked_number there c.args.gate.process (process_known old c.args.gate.process process))
 
 pub enter-requires-clause-current : goal.enter-requires-clause-current
 enter-requires-clause-current g c =
