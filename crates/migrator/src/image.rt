@@ -65,7 +65,6 @@ pub(crate) fn sync_and_read_superblock<D: Device>(device: &mut D) -> Result<Supe
 }
 
 // Reads the saved frames of all objects, which are taken.
-#[tactic(auto, using(crate::proofs::Opening::reads_more))]
 fn take_frames<D: Device, I: Intake>(
     alloc: Global,
     device: &mut D,
@@ -99,7 +98,6 @@ fn take_frames<D: Device, I: Intake>(
 
 /// Reads what is committed, and every saved frame once: the directory into the first of the entries, and the frames are
 /// taken. Each refusal has the least reason that holds.
-#[tactic(auto, using(crate::proofs::Opening::reads_more))]
 pub(crate) fn read_image<D: Device, I: Intake>(
     alloc: Global,
     device: &mut D,

@@ -105,7 +105,6 @@ impl Books {
 
     /// Saves a page with other words, under its saved header, where no checkpoint is on its way and all that
     /// is saved is home.
-    #[tactic(auto, using(crate::proofs::Publishing::publishes_none))]
     pub(crate) fn save_page<D: Device>(
         &mut self,
         device: &mut D,

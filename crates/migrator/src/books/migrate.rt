@@ -101,7 +101,6 @@ impl Books {
 
     /// Copies `count` of the saved frames home, in the order of their numbers, and returns how many are left. Once none
     /// is, it makes them durable and publishes a header that says so.
-    #[tactic(auto, using(crate::proofs::Moving::left_number))]
     pub(crate) fn migrate<D: Device>(
         &mut self,
         device: &mut D,

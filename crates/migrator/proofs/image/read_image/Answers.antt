@@ -1,5 +1,5 @@
 use Rattle.migrator.proofs.Names.{take, subst, err_from_is_err_and, Image, agrees_is, IsBadAt}
-use Rattle.migrator.proofs.Opening.{bad_frame}
+use Rattle.migrator.proofs.Opening.{bad_frame, reads_more}
 use Rattle.migrator.proofs.image.read_image.Goals as goal
 
 pub returns-in_err-take_frames-clause-refused : goal.returns-in_err-take_frames-clause-refused
@@ -11,6 +11,12 @@ returns-in_err-take_frames-clause-refused g c =
     rw (p.1, p.2) (bad_frame _
     c.requires.plan (rw c.new-log.ensures at c.in_ok-header.ensures.found).0 (rw c.new-log.ensures at c.in_ok-header.ensures.found).1
     c.in_err-take_frames.ensures.refused.1 bad)
+
+pub returns-in_err-take_frames-clause-reads : goal.returns-in_err-take_frames-clause-reads
+returns-in_err-take_frames-clause-reads g c = reads_more c.find_committed.ensures.reads c.take_frames.ensures.reads
+
+pub returns-clause-reads : goal.returns-clause-reads
+returns-clause-reads g c = reads_more c.find_committed.ensures.reads c.take_frames.ensures.reads
 
 pub returns-clause-found : goal.returns-clause-found
 returns-clause-found g c =

@@ -24,6 +24,9 @@ loop-number-preserved g c =
       omega (arith, c.loop-number.invariant.4, c.in_ok-take_frame.ensures.room),
     )
 
+pub returns-in_err-take_frame-clause-reads : goal.returns-in_err-take_frame-clause-reads
+returns-in_err-take_frame-clause-reads g c = reads_more c.loop-number.invariant.0 c.take_frame.ensures.reads
+
 pub returns-clause-took : goal.returns-clause-took
 returns-clause-took g c =
     let end : c.loop-number.number ≡ c.geometry-geometry.result.nodes + c.geometry-geometry.result.pages = search rules in

@@ -1,5 +1,6 @@
 use Rattle.migrator.proofs.Names.{refl, counted_ok}
-use Rattle.migrator.proofs.Moving.{all_number, migrates_all, migrates_left, migrates_part}
+use Rattle.std.proofs.Common.{◌∙◌}
+use Rattle.migrator.proofs.Moving.{all_number, left_number, migrates_all, migrates_left, migrates_part}
 use Rattle.migrator.proofs.books.Books.migrate.Goals as goal
 
 pub returns-in_err-move_some-clause-migrates : goal.returns-in_err-move_some-clause-migrates
@@ -18,6 +19,10 @@ returns-then-is_to_finish-clause-left g c =
 pub returns-then-is_to_finish-clause-migrates : goal.returns-then-is_to_finish-clause-migrates
 returns-then-is_to_finish-clause-migrates g c = migrates_all c.requires.stands.kept.few c.share-some.ensures.lesser c.in_ok-move_some.ensures.moved
     (c.is_to_finish.ensures.yes c.if-is_to_finish.true).1 c.requires.sound (counted_ok c.in_ok-move_some.ensures.cause) c.in_ok-finish.ensures refl
+
+pub returns-clause-left : goal.returns-clause-left
+returns-clause-left g c = c.share-some.ensures.left
+    ∙ left_number c.requires.stands.kept.few c.share-some.ensures.lesser c.in_ok-move_some.ensures.moved
 
 pub returns-clause-migrates : goal.returns-clause-migrates
 returns-clause-migrates g c =
