@@ -37,7 +37,6 @@ fn list_target(banks: &mut Banks, change: Change)
 }
 
 // Plans an order that isn't a bank's, and lists what it writes. First fetches what it reads.
-#[tactic(auto, using(crate::proofs::Standing::keepable_most, crate::proofs::Standing::register_kind))]
 #[inline(always)]
 fn plan_object_order<F: Frames>(
     store: &mut F,

@@ -1,10 +1,33 @@
-use Rattle.gate.proofs.Names.{rules, ap, objects_in, BanksState}
+use Rattle.gate.proofs.Names.{true, List, ap, subst, sym, Object, annex_at, is_process, objects_in, BanksState}
+use Rattle.std.proofs.Common.{◌≡◌}
 use Rattle.gate.proofs.Plans.{object_planned, process_there}
-use Rattle.gate.proofs.Standing.{ReadsAs, few_objects, looked_as, looked_objects, now_sound, register_kind}
+use Rattle.gate.proofs.Standing.{ReadsAs, annex_there, few_objects, keepable_most, looked_as, looked_objects, now_sound, register_kind}
 use Rattle.gate.proofs.kernel_object.plan_object_order.Goals as goal
 
 pub plan-plan-requires-clause-process : goal.plan-plan-requires-clause-process
-plan-plan-requires-clause-process g c p is = search (rules, looked_as, register_kind, looked_objects, process_there)
+plan-plan-requires-clause-process g c q is =
+    let p = g.F.Frames.parts c.args.store.now in
+    let i = c.args.invocation.now in
+    let kind = register_kind p c.requires.sound i.process i.register c.args.caller.invoked c.requires.requested.invoked in
+    subst (λ (us : List Object). is_process us q ≡ true) (sym (looked_objects (looked_as c.in_ok-fetch_named.ensures.fetches.snapshots)))
+    (process_there (objects_in p) c.args.caller.invoked kind q is)
+
+pub plan-plan-requires-clause-annex : goal.plan-plan-requires-clause-annex
+plan-plan-requires-clause-annex g c q is =
+    subst (λ (us : List Object). g.F.Frames.IsFetched c.fetch_named.new.store (annex_at us q))
+    (sym (looked_objects (looked_as c.in_ok-fetch_named.ensures.fetches.snapshots))) (c.in_ok-fetch_named.ensures.annex q is)
+
+pub fetch_named-requires : goal.fetch_named-requires
+fetch_named-requires g c =
+    let p = g.F.Frames.parts c.args.store.now in
+    let i = c.args.invocation.now in
+    let kind = register_kind p c.requires.sound i.process i.register c.args.caller.invoked c.requires.requested.invoked in
+    record {
+      keepable = keepable_most p c.requires.sound;
+      counted = c.requires.counted;
+      kind = kind;
+      annex = λ q is. annex_there p c.requires.sound q (process_there (objects_in p) c.args.caller.invoked kind q is);
+    }
 
 pub returns-clause-planned : goal.returns-clause-planned
 returns-clause-planned g c =
