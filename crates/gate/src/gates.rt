@@ -187,7 +187,6 @@ fn can_enter<F: Frames>(store: &F, invocation: &Invocation, gate: Gate) -> bool
 
 /// An invocation by a running process through a gate. A start capability needs an available
 /// process, or one that returns to itself.
-#[tactic(auto, using(crate::proofs::Standing::keepable_most))]
 pub fn invoke_gate<F: PresentFrames>(
     store: &mut F,
     banks: &Banks,

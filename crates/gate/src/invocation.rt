@@ -26,7 +26,6 @@ use space_bank::Banks;
 /// the start capability isn't available. `LogFull`: with what the invocation writes, more numbers
 /// were written since the last checkpoint than half of the log holds. `Fault`: the device failed.
 /// There is no other refusal.
-#[tactic(auto, using(crate::proofs::Standing::keepable_most))]
 pub fn invoke<F: PresentFrames>(
     store: &mut F,
     banks: &mut Banks,

@@ -6,6 +6,9 @@ use Rattle.gate.proofs.Standing.{running_process, gate_no_bank, renews_invoked, 
 use Rattle.gate.proofs.Standing.{looked_as, looked_number, looked_objects, looked_sound, only_reads_again, now_sound, prepared_as}
 use Rattle.gate.proofs.gates.invoke_gate.Goals as goal
 
+pub fetch_process-requires-clause-keepable : goal.fetch_process-requires-clause-keepable
+fetch_process-requires-clause-keepable g c = keepable_most (g.F.Frames.parts c.args.store.now) c.requires.sound
+
 pub fetch_process-requires-clause-process : goal.fetch_process-requires-clause-process
 fetch_process-requires-clause-process g c =
     gate_process (g.F.Frames.parts c.args.store.now) c.requires.sound c.args.gate c.requires.requested c.requires.gate

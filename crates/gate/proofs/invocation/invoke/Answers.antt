@@ -1,8 +1,11 @@
 use Rattle.std.proofs.Common.{rules}
 use Rattle.gate.proofs.BankStates.{counted_after}
 use Rattle.gate.proofs.Effects.{invoked_looked}
-use Rattle.gate.proofs.Standing.{gate_no_bank, looked_as, looked_objects, requested_by}
+use Rattle.gate.proofs.Standing.{gate_no_bank, keepable_most, looked_as, looked_objects, requested_by}
 use Rattle.gate.proofs.invocation.invoke.Goals as goal
+
+pub fetch_process-requires-clause-keepable : goal.fetch_process-requires-clause-keepable
+fetch_process-requires-clause-keepable g c = keepable_most (g.F.Frames.parts c.args.store.now) c.requires.sound
 
 pub returns-in-Some-clause-counted : goal.returns-in-Some-clause-counted
 returns-in-Some-clause-counted g c = search (rules, looked_as, counted_after, looked_objects, gate_no_bank)
