@@ -133,7 +133,6 @@ fn set_state_at_gate<F: PresentFrames>(store: &mut F, invocation: &Invocation)
 
 // Sends the message through the gate. A gate that works only once is consumed at the end, so a copy
 // of it that was sent arrives void.
-#[tactic(auto, using(crate::proofs::Plans::after_process, crate::proofs::Plans::after_annex))]
 fn enter<F: PresentFrames>(
     store: &mut F,
     invocation: &Invocation,

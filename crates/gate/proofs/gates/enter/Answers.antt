@@ -1,7 +1,25 @@
-use Rattle.gate.proofs.Names.{List, arith, sym, subst, All, Capability, frames_of, keepable_later, keeps_twice, FitsCap}
-use Rattle.std.proofs.Common.{◌+◌, ◌∙◌}
+use Rattle.gate.proofs.Names.{Object, annex_at, ap, is_process, objects_in, List, arith, sym, subst, All, Capability, frames_of, keepable_later, keeps_twice, FitsCap}
+use Rattle.std.proofs.Common.{◌≡◌, ◌+◌, ◌∙◌}
+use Rattle.gate.proofs.Plans.{after_annex, after_process}
 use Rattle.gate.proofs.Standing.{in_geometry}
 use Rattle.gate.proofs.gates.enter.Goals as goal
+
+pub deliver-requires : goal.deliver-requires
+deliver-requires g c =
+    let i = c.args.invocation.now in
+    let q = c.args.gate.process in
+    let os = objects_in (g.F.Frames.parts c.args.store.now) in
+    let mid = c.set_state_at_gate.new.store in
+    let before = c.set_state_at_gate.ensures in
+    let annex : c.args.annex ≡ annex_at (objects_in (g.F.Frames.parts mid)) q =
+    c.requires.annex ∙ sym (ap (λ (us : List Object). annex_at us q) before.objects ∙ after_annex os i q) in
+    record {
+      process = ap (λ (us : List Object). is_process us q) before.objects ∙ after_process os i c.requires.process q ∙ c.requires.receiver;
+      root_fetched = before.snapshots.fetched q c.requires.fetched.1;
+      root_announced = before.snapshots.announced q c.requires.announced.0;
+      annex_fetched = subst (g.F.Frames.IsFetched mid) annex (before.snapshots.fetched c.args.annex c.requires.fetched.2);
+      annex_announced = subst (g.F.PresentFrames.IsAnnounced mid) annex (before.snapshots.announced c.args.annex c.requires.announced.1);
+    }
 
 pub returns-then-gate-clause-keepable : goal.returns-then-gate-clause-keepable
 returns-then-gate-clause-keepable g c age young fits k =
