@@ -16,7 +16,6 @@ use model::{Capability, Content, Role};
 impl Banks {
     // Makes a free number, fetched and announced, a page, a node or a bank that `bank` owns. No
     // limit in the chain of `bank` may be reached, and a new bank needs fewer than 16 banks in it.
-    #[tactic(auto, using(crate::proofs::Tallies::free_role))]
     pub(crate) fn allocate<F: PresentFrames>(
         &mut self,
         store: &mut F,
@@ -58,7 +57,6 @@ impl Banks {
     }
 
     // Makes two free numbers, fetched and announced, the root and the annex of a process of a bank.
-    #[tactic(auto, using(crate::proofs::Tallies::free_role))]
     pub(crate) fn new_process<F: PresentFrames>(
         &mut self,
         store: &mut F,

@@ -86,7 +86,6 @@ impl Banks {
     }
 
     // What a capability frees, where the bank owns it.
-    #[tactic(auto, using(crate::proofs::Plans::process_room))]
     fn plan_free<F: Frames>(&mut self, store: &F, bank: u64, capability: Capability) -> OrderPlan
         requires bank { MayServe (F.parts store.now) self.old bank }
         requires few { length self.old.listed ≤ 2 }

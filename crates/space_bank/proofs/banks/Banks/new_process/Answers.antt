@@ -1,8 +1,13 @@
 use Rattle.space_bank.proofs.Names.{List, ap, subst, sym, slice_set, Geometry, Object, new_annex, new_root, with_new, AreKeepable, BanksState, frames_of}
 use Rattle.space_bank.proofs.Names.{keeps_twice}
 use Rattle.std.proofs.Common.{◌∙◌}
-use Rattle.space_bank.proofs.Tallies.{process_carried, still_free, taken_one, taken_two}
+use Rattle.space_bank.proofs.Tallies.{free_role, process_carried, still_free, taken_one, taken_two}
 use Rattle.space_bank.proofs.banks.Banks.new_process.Goals as goal
+
+pub make-requires-clause-free : goal.make-requires-clause-free
+make-requires-clause-free g c =
+    let known = (g.met.F.PresentFrames.known_announced c.args.store.now c.args.root c.requires.announced).0 in
+    free_role c.requires.asks c.args.root known c.requires.may.unused
 
 pub make-requires-2-clause-free : goal.make-requires-2-clause-free
 make-requires-2-clause-free g c =

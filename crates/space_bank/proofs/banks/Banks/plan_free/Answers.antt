@@ -1,8 +1,12 @@
 use Rattle.space_bank.proofs.Names.{ℕ, List, [], append_assoc, sym, ap, Void, GiveUp, objects_in, BanksState, annex_among, annex_of}
 use Rattle.std.proofs.Common.{◌++◌, ◌∙◌, ◌∷◌}
 use Rattle.model.specs.declared.order.ResultCode.TheVariants as code
-use Rattle.space_bank.proofs.Plans.{may_free, annex_kept, frees_none_there, frees_other_there, frees_own_there, planned_made, planned_refused}
+use Rattle.space_bank.proofs.Plans.{may_free, annex_kept, frees_none_there, frees_other_there, frees_own_there, planned_made, planned_refused, process_room}
 use Rattle.space_bank.proofs.banks.Banks.plan_free.Goals as goal
+
+pub list_annex-requires : goal.list_annex-requires
+list_annex-requires g c = λ q is.
+    process_room c.args.capability q c.in-Some.object c.requires.bank c.requires.sent is c.requires.few c.list.ensures
 
 pub returns-in-None-clause-planned : goal.returns-in-None-clause-planned
 returns-in-None-clause-planned g c = λ args is.
