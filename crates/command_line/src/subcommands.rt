@@ -2,8 +2,9 @@
 ghost use Rattle.std.specs.Prelude.{◌≡◌, ◌≢◌, IfOk, MatchOption, false, map};
 ghost use Rattle.std.specs.List.{All};
 ghost use Rattle.clap.specs.Words.{new_app, rule_of};
-ghost use Rattle.command_line.specs.Commands.{IsCommand, argument_rule, bare_app, eros_app, option_rule, processes_rule};
-ghost use Rattle.command_line.specs.Commands.{rules_of, subcommand_app, subcommand_name, subcommands, with_rules, with_subcommands};
+ghost use Rattle.command_line.specs.Commands.{IsCommand, argument_rule, bare_app, eros_app, option_rule};
+ghost use Rattle.command_line.specs.Commands.{processes_rule, rules_of, subcommand_app, subcommand_name, subcommands};
+ghost use Rattle.command_line.specs.Commands.{with_rules, with_subcommands};
 
 use clap::builder::ValueParser;
 use clap::{Arg, ArgAction, Command};

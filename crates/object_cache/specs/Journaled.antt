@@ -47,8 +47,8 @@ pub record SavesPage {D E : Type 0} (disk : D → Disk) (s t : DurableState D) (
 -- a page was journaled, or this was refused; `h` is its present header
 pub record JournalsPage {D : Type 0} (disk : D → Disk) (s t : DurableState D) (es : List (Option Entry))
     (h : ObjectHeader) (is_known : Bool) (n age : ℕ) (result : Result ℕ Refusal) : Type 0 where
-  pub journaled : OnOk result
-      (stored_of disk t ≡ on_snapshots (journaled age n (words_in (held_now es (stored_of disk s) n))) (stored_of disk s))
+  pub journaled : OnOk result (stored_of disk t
+      ≡ on_snapshots (journaled age n (words_in (held_now es (stored_of disk s) n))) (stored_of disk s))
   pub unchanged : OnErr result (stored_of disk t ≡ stored_of disk s)
   pub turned_away : IsTurnedAway result → t ≡ s
   pub plan : t.books.plan ≡ s.books.plan

@@ -8,8 +8,8 @@ returns c =
     items_from_collect c.collect.result c.collect.ensures.ran (YieldsList-from_chain
     (YieldsList-at c.chain-3.ensures.first (YieldsList-from_chain
     (YieldsList-at c.chain-2.ensures.first (YieldsList-from_chain
-    (YieldsList-at c.chain.ensures.first (YieldsList-from_map _ (λ (b : BankEntry). b.number) (YieldsList-from_slice d.banks.items cc) c.map-banks.ensures.closure
-    (λ x r q k. search rules)))
+    (YieldsList-at c.chain.ensures.first (YieldsList-from_map _ (λ (b : BankEntry). b.number) (YieldsList-from_slice d.banks.items cc)
+    c.map-banks.ensures.closure (λ x r q k. search rules)))
     (YieldsList-at c.chain.ensures.second (YieldsList-from_map _ (λ (p : ProcessEntry). p.root) (YieldsList-from_slice d.processes.items cc)
     c.map-roots.ensures.closure (λ x r q k. search rules)))
     c.chain.ensures.first_done c.chain.ensures.second_done))

@@ -27,7 +27,8 @@ pub returns-in_err-banks : goal.returns-in_err-banks
 returns-in_err-banks c = failed _ _ c.in_err-banks.field-0.0 _ c.from_residual-in_err-banks.ensures.1 c.in_err-banks.ensures (λ d is. (d.banks.items, is.banks))
 
 pub returns-in_err-processes : goal.returns-in_err-processes
-returns-in_err-processes c = failed _ _ c.in_err-processes.field-0.0 _ c.from_residual-in_err-processes.ensures.1 c.in_err-processes.ensures (λ d is. (d.processes.items, is.processes))
+returns-in_err-processes c = failed _ _ c.in_err-processes.field-0.0 _
+    c.from_residual-in_err-processes.ensures.1 c.in_err-processes.ensures (λ d is. (d.processes.items, is.processes))
 
 pub returns-in_err-nodes : goal.returns-in_err-nodes
 returns-in_err-nodes c = failed _ _ c.in_err-nodes.field-0.0 _ c.from_residual-in_err-nodes.ensures.1 c.in_err-nodes.ensures (λ d is. (d.nodes.items, is.nodes))

@@ -6,7 +6,8 @@ pub put-requires : goal.put-requires
 put-requires g c = All-head g.T.Item.MayBePut c.in-Some.first.now c.in-Some.others.now (subst (All g.T.Item.MayBePut) c.in-Some.ensures.cases.0 c.requires)
 
 pub put_others-requires : goal.put_others-requires
-put_others-requires g c = All-tail g.T.Item.MayBePut c.in-Some.first.now c.in-Some.others.now (subst (All g.T.Item.MayBePut) c.in-Some.ensures.cases.0 c.requires)
+put_others-requires g c = All-tail g.T.Item.MayBePut c.in-Some.first.now c.in-Some.others.now
+    (subst (All g.T.Item.MayBePut) c.in-Some.ensures.cases.0 c.requires)
 
 pub returns-in-None : goal.returns-in-None
 returns-in-None g c = joined_none g.T.Item.text_of (codes ", ") (string_bytes c.args.text.now) c.args.items.now c.in-None.ensures.cases

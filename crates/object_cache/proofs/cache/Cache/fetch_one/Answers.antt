@@ -48,7 +48,8 @@ pub read_in-requires-clause-keepable : goal.read_in-requires-clause-keepable
 read_in-requires-clause-keepable g c = subst (AreKeepableIn g.D.Device.disk) (sym (c.use_now.ensures.unchanged c.if-use_now.false)) c.requires.keepable
 
 pub returns-clause-rest : goal.returns-clause-rest
-returns-clause-rest g c = subst (λ t. c.read_in.new.self ≡ on_device_with t c.read_in.new.self) (c.use_now.ensures.unchanged c.if-use_now.false) c.read_in.ensures.rest
+returns-clause-rest g c = subst (λ t. c.read_in.new.self ≡ on_device_with t c.read_in.new.self)
+    (c.use_now.ensures.unchanged c.if-use_now.false) c.read_in.ensures.rest
 
 pub returns-clause-empty : goal.returns-clause-empty
 returns-clause-empty g c = c.read_in.ensures.empty

@@ -8,7 +8,8 @@ pub returns : goal.returns
 returns g c = record {
   fetched = on_ok c.make_writable.result (λ n has. c.make_writable.ensures.fetched n (c.in_ok-fetch.ensures.fetched n has));
   announced = c.make_writable.ensures.announced;
-  touched = on_ok_weaker c.make_writable.result (λ is. is ∙ ap (λ t. touching t.touched c.args.written.now) c.fetch.ensures.rest) c.make_writable.ensures.touched;
+  touched = on_ok_weaker c.make_writable.result (λ is. is ∙ ap (λ t. touching t.touched c.args.written.now) c.fetch.ensures.rest)
+      c.make_writable.ensures.touched;
   untouched = on_err_weaker c.make_writable.result (λ is. is ∙ ap (λ t. t.touched) c.fetch.ensures.rest) c.make_writable.ensures.untouched;
   within = c.make_writable.ensures.within;
   before = c.fetch.ensures.within;

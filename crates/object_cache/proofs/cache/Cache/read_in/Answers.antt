@@ -30,7 +30,8 @@ returns g c = record {
 
 pub returns-in_err-make_room : goal.returns-in_err-make_room
 returns-in_err-make_room g c = record {
-  stopped = on_err c.from_residual.result (stops_none c.args.self.now.capacity c.args.self.now.order c.make_room.new.self.order c.in_err-make_room.ensures.stays);
+  stopped = on_err c.from_residual.result (stops_none c.args.self.now.capacity c.args.self.now.order
+      c.make_room.new.self.order c.in_err-make_room.ensures.stays);
   order = no_ok c.from_residual.result _ _ c.from_residual.ensures.1;
   rest = c.make_room.ensures.rest;
   empty = c.make_room.ensures.empty c.requires.empty;

@@ -51,7 +51,8 @@ pub drop_entry-requires-clause-clean : goal.drop_entry-requires-clause-clean
 drop_entry-requires-clause-clean g c = c.in_ok-write_back.ensures.clean
 
 pub drop_entry-requires-clause-frozen_state : goal.drop_entry-requires-clause-frozen_state
-drop_entry-requires-clause-frozen_state g c = ap (λ l. frozen_state_at l c.args.number) c.write_back.ensures.frozen_state ∙ c.in_ok-write_frozen.ensures.frozen_written
+drop_entry-requires-clause-frozen_state g c = ap (λ l. frozen_state_at l c.args.number) c.write_back.ensures.frozen_state
+    ∙ c.in_ok-write_frozen.ensures.frozen_written
 
 pub returns-in_err-write_frozen : goal.returns-in_err-write_frozen
 returns-in_err-write_frozen g c = record {

@@ -1,5 +1,6 @@
 use Rattle.space_bank.proofs.Names.{[], ℕ, List, ap, arith, drop, length, subst, sym, take, length-append, Capability, Geometry, Content, chain, owned_by}
-use Rattle.space_bank.proofs.Names.{is_member, true, rescind, header_at, AreKeepable, is_free, owner_at, frames_of, objects_in, BanksState, AreTransferred, IsRaised, rules}
+use Rattle.space_bank.proofs.Names.{is_member, true, rescind, header_at, AreKeepable, is_free, owner_at, frames_of, objects_in, BanksState}
+use Rattle.space_bank.proofs.Names.{AreTransferred, IsRaised, rules}
 use Rattle.std.proofs.Common.{◌≡◌, ◌<◌, ◌+◌, ◌-◌, ◌^◌, ◌∙◌, ◌++◌, ◌∷◌}
 use Rattle.space_bank.proofs.Renewing.{snapshots_then_ended, ended_snapshots, listed_rest, released_then, SameFree, drop_next, transferred_allocations}
 use Rattle.space_bank.proofs.Renewing.{transferred_calls, inherited_by, mark_one, one_all, one_enough, only_used, owned_used, rest_all, returned_carried}
