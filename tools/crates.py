@@ -14,11 +14,21 @@ def kit():
     return Path(subprocess.run(["rt", "doc"], capture_output=True, text=True, check=True).stdout.strip()).parent
 
 
-def libraries():
-    """The repository's crates, each with those that it names. A line may have more words before the colon than the name."""
+def named():
+    """The repository's crates, each with the libraries that it names. A line may have more words before the colon than the name."""
     lines = [it.partition("#")[0].partition(":") for it in (ROOT / "crates.txt").read_text().splitlines()]
-    named = {name.split()[0]: below.split() for name, colon, below in lines if colon}
-    return {name: [it for it in below if it in named] for name, below in named.items()}
+    return {name.split()[0]: below.split() for name, colon, below in lines if colon}
+
+
+def libraries():
+    """The repository's crates, each with those of them that it names."""
+    crates = named()
+    return {name: [it for it in below if it in crates] for name, below in crates.items()}
+
+
+def rlib(folder, name):
+    """Where a folder has the library that `rt ci` made of a crate."""
+    return folder / "crates" / name / "out" / "rlib" / f"{name}.rlib"
 
 
 def refuse_unknown(names, crates):
