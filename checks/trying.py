@@ -49,7 +49,8 @@ def check(crate, folder, libraries, functions, kept, jobs):
     Takes from `kept` what earlier checks proved, and adds to it."""
     more = [word for it in functions for word in ("--only", it)]
     how = {"stdin": subprocess.DEVNULL, "stdout": subprocess.PIPE, "stderr": subprocess.STDOUT, "text": True, "errors": "replace"}
-    ran = subprocess.run(rattle("check", crate, libraries, *more, "--jobs", jobs, "--incremental", kept), cwd=folder, **how)
+    words = rattle("check", crate, libraries, "src/lib.rt", *more, "--jobs", jobs, "--incremental", kept)
+    ran = subprocess.run(words, cwd=folder, **how)
     return ran.returncode, ran.stdout.splitlines()
 
 
