@@ -331,8 +331,7 @@ const SUBCOMMANDS: &[Subcommand] = &[
 fn bare<'a>(alloc: Global) -> Result<Command<'a>, AllocError>
     ensures { IfOk result (IsCommand bare_app) }
 {
-    let command = Command::new(alloc, "eros")
-        .bin_name("eros")?
+    Command::new(alloc, "eros")
         .version(VERSION)
         .about("The core of a persistent capability system")
         .after_help(
@@ -352,8 +351,8 @@ fn bare<'a>(alloc: Global) -> Result<Command<'a>, AllocError>
              Status 0: success, whatever the answers are. Status 1: a fault, with one line on standard error, or a\n\
              file that explain found bad. Status 2: the command line isn't understood.",
         )
-        .subcommand_required(true);
-    Ok(command)
+        .subcommand_required(true)
+        .bin_name("eros")
 }
 
 /// The command line of `eros`. Fails where memory runs out.
