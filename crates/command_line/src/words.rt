@@ -21,7 +21,9 @@ pub fn job<'a, S: AsStr>(alloc: Global, words: &'a [S]) -> Result<Job<'a>, JobFa
     ensures refused { IfErr result (IsRefused (map S.text words.entry.now)) }
 {
     let mut command = command(alloc)?;
-    match read_job(alloc, &mut command, words) {
+    let read = read_job(alloc, &mut command, words);
+    drop(command);
+    match read {
         Ok(job) => Ok(job),
         Err(error) => Err(JobFault::of(error)),
     }
