@@ -57,7 +57,7 @@ pub use Rattle.model_laws.proofs.SoundParts.{IsFramed, nearly_from}
 pub use Rattle.model_laws.proofs.Usage.{SameFrame, chain_same, tests_at, usage_same}
 pub use Rattle.std.proofs.Common.{Bool, Global, List, None, Some, Vec, [], add-one, ap, append_assoc, arith, cond, drop, false, get_or, inl, inr, length, map}
 pub use Rattle.std.proofs.Common.{min, nat_eq, not, refl, rules, subst, suc, sym, take, true, vec_len, zero, zero-add, ℕ, ⊎_elim}
-pub use Rattle.std.proofs.Math.Bool.{and-false, or-false}
+pub use Rattle.std.proofs.Math.Bool.{and-false}
 pub use Rattle.std.proofs.lemmas.Bool.{cases_eq, cases_lt, eq-eqb, false_from_ne_true, false≢true, le-leb, lt-leb, ne_eqb, or_cases}
 pub use Rattle.std.proofs.lemmas.Bool.Decides.{nat_tests}
 pub use Rattle.std.proofs.lemmas.Grind.{common_steps}

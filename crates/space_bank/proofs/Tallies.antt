@@ -1,17 +1,17 @@
 -- What sound frames that are counted say of their objects. What is counted, where objects come, go or are transferred. A walk along a chain, owner by owner.
-use Rattle.space_bank.proofs.Names.{or-false, nat_tests, ℕ, true, false, List, length, refl, sym, ap, arith, IsTrue, slice_index, Cap, Capability, Geometry}
+use Rattle.space_bank.proofs.Names.{nat_tests, ℕ, true, false, List, length, refl, sym, ap, arith, IsTrue, slice_index, Cap, Capability, Geometry}
 use Rattle.space_bank.proofs.Names.{Content, Object, chain, usage, has_quota, conveyed, header_at, held_at, AreKeepable, world_at, is_free, limit_in}
 use Rattle.space_bank.proofs.Names.{map_content, role_of, is_member, HasShape, object_count, content_at, IsTree, chain_banks, tree_of, member_passes, IsNow}
 use Rattle.space_bank.proofs.Names.{IsFramed, nearly_from, Parts, frames_of, objects_in, content_there, keepable_at, keepable_count, BanksState, HaveTheirRoles}
 use Rattle.space_bank.proofs.Names.{MayServe, is_bank, keepable_roles, MayShift, inl, inr, Bool, [], subst, slice_set, cases_eq, get_or-set_other}
 use Rattle.space_bank.proofs.Names.{get_or-set_same, length-set, owner_at, chain_itself, chain_length, chain_longer, chain_nonempty, chain_once, chain_unfolds}
-use Rattle.space_bank.proofs.Names.{chain_zero, member_tail, owner_bank, IsRaised, IsShifted, take, eq-eqb, ne_eqb, list_any_more, object_at, AreTransferred}
+use Rattle.space_bank.proofs.Names.{chain_zero, member_tail, owner_bank, IsRaised, IsShifted, take, list_any_more, object_at, AreTransferred}
 use Rattle.space_bank.proofs.Names.{slice_index_or, get_or-append_right, get_or_append_left, length-append, new_annex, new_root, with_new, is_root, root_in}
 use Rattle.space_bank.proofs.Names.{at_new, at_other, chain_new, length_new, new_bank_kept, tree_new, usage_new, usage_new_bank, AreCounted, marks_of}
 use Rattle.space_bank.proofs.Names.{is_marked, Void, AreCurrent, Fresh, FreshFits, fresh_content, length_objects, keepable_later, CarriesOut, IsFreshAt}
 use Rattle.space_bank.proofs.Names.{IsMadeUnder, IsMade, MakesOne, MakesTwo}
 use Rattle.std.proofs.Common.{◌≡◌, ◌≢◌, ◌+◌, ◌^◌, ◌<◌, ◌≤◌, ◌∙◌, ◌-◌, ◌||◌, ◌∷◌}
-use Rattle.std.specs.Prelude.{if◌then◌else◌, nat_eq}
+use Rattle.std.specs.Prelude.{if◌then◌else◌, nat_eq, ◌==◌}
 use Rattle.model.specs.declared.object.Content.TheVariants as content
 use Rattle.model.specs.declared.object.Role.TheVariants as role
 use Rattle.capability.specs.declared.present.Fresh.TheVariants as fresh
@@ -186,30 +186,21 @@ pub transferred_used : (list : List ℕ) (b : ℕ) (os us : List Object) → Are
 transferred_used list b os us are n used = ap (λ (c : Content Capability). is_free c) (transferred_same list b os us are n) ∙ used
 
 -- one more of a list
-either : (b : Bool) → (b || true) ≡ true
-either b = grind (arith, nat_tests)
-
-module _ (list : List ℕ) (i n : ℕ) (inside : i < length list) where
-  pub taken_here : n ≡ slice_index list i → is_member (take (i + 1) list) n ≡ true
-  taken_here e = list_any_more (nat_eq n) list i 0 inside
-      ∙ (ap (λ b. is_member (take i list) n || b) (eq-eqb n (slice_index list i) e) ∙ either (is_member (take i list) n))
-
-  pub taken_before : n ≢ slice_index list i → is_member (take (i + 1) list) n ≡ is_member (take i list) n
-  taken_before differ = list_any_more (nat_eq n) list i 0 inside
-      ∙ (ap (λ b. is_member (take i list) n || b) (ne_eqb n (slice_index list i) differ) ∙ or-false (is_member (take i list) n))
+taken : (list : List ℕ) (i n : ℕ) → i < length list → is_member (take (i + 1) list) n ≡ (is_member (take i list) n || (n == slice_index list i))
+taken list i n inside = list_any_more (nat_eq n) list i 0 inside
 
 pub transferred_more : (list : List ℕ) (i b : ℕ) (os us vs : List Object) → i < length list → slice_index list i < length us →
     AreTransferred (take i list) b os us
     → vs ≡ slice_set us (slice_index list i) (record { owner = b; content = content_at us (slice_index list i) }) → AreTransferred (take (i + 1) list) b os vs
 transferred_more list i b os us vs inside known are is =
-    grind (arith, nat_tests, length-set, get_or-set_same, transferred_same, taken_here, get_or-set_other, taken_before)
+    grind (arith, nat_tests, length-set, get_or-set_same, transferred_same, taken, get_or-set_other)
 
 -- one more of a list was marked as free
 pub marked_more : (before now next : List Bool) (list : List ℕ) (i : ℕ) → i < length list → slice_index list i < length now
     → next ≡ slice_set now (slice_index list i) true
     → ((n : ℕ) → slice_index_or now n false ≡ (if is_member (take i list) n then true else slice_index_or before n false))
     → (n : ℕ) → slice_index_or next n false ≡ (if is_member (take (i + 1) list) n then true else slice_index_or before n false)
-marked_more before now next list i inside known is marks n = grind (arith, nat_tests, taken_here, get_or-set_same, taken_before, get_or-set_other)
+marked_more before now next list i inside known is marks n = grind (arith, nat_tests, taken, get_or-set_same, get_or-set_other)
 
 -- each number is marked as what it is
 abbrev pub AreMarked : Geometry → List Object → List Bool → Type 0
