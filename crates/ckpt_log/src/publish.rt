@@ -46,7 +46,6 @@ pub(crate) fn close_gate<D: Device>(device: &mut D, at: u64) -> Result<(), Faile
 
 // Closes the gate of a header if it is open, then writes the header. A crash at any moment leaves the
 // same committed header.
-#[tactic(auto, using(crate::proofs::Commits::closing_keeps, crate::proofs::Commits::gate_is))]
 fn prepare<D: Device>(device: &mut D, header: CheckpointHeader) -> Result<(), Failed>
     requires inside { 5 ≤ (D.disk device.old).sectors }
     requires durable { Only (D.disk device.old).seen (D.disk device.old) }
@@ -114,7 +113,6 @@ impl<'a> Log<'a> {
     ///
     /// It writes only the header's own slot: the gate with 0 and zeros if it is open, then the header,
     /// then the gate with 1 and zeros. Each write is durable before the next.
-    #[tactic(auto, using(crate::proofs::Runs::sync_order, crate::proofs::Runs::sync_run))]
     pub fn publish<D: Device>(&self, device: &mut D, header: CheckpointHeader) -> Result<(), Failed>
         requires spelt { IsHeader self.now.geometry.log header }
         requires inside { 5 ≤ (D.disk device.old).sectors }

@@ -6,6 +6,11 @@ pub returns-in_err-close_gate-clause-any_moment : goal.returns-in_err-close_gate
 returns-in_err-close_gate-clause-any_moment g c =
     closing_run (gate_is c.args.header c.of-slot.result c.of-slot.ensures.value c.gate.ensures.value) c.requires.next c.close_gate.ensures.any_moment
 
+pub returns-in_err-close_gate-clause-keeps : goal.returns-in_err-close_gate-clause-keeps
+returns-in_err-close_gate-clause-keeps g c =
+    let place = gate_is c.args.header c.of-slot.result c.of-slot.ensures.value c.gate.ensures.value in
+    closing_keeps c.requires.next (rw place at c.close_gate.ensures.elsewhere) (rw place at c.close_gate.ensures.closed_before)
+
 pub returns-clause-keeps : goal.returns-clause-keeps
 returns-clause-keeps g c =
     let place = gate_is c.args.header c.of-slot.result c.of-slot.ensures.value c.gate.ensures.value in
