@@ -55,7 +55,6 @@ fn close_in_turn<D: Device>(device: &mut D, slot: HeaderSlot) -> Result<(), Fail
 /// closed gate.
 ///
 /// It allocates nothing. Returns `Failed` exactly if the device failed.
-#[tactic(auto, using(device::proofs::Images::agrees_is, crate::proofs::Closings::keeps_same))]
 pub fn close_gates<D: Device>(device: &mut D) -> Result<(), Failed>
     requires inside { 5 ≤ (D.disk device.old).sectors }
 

@@ -115,7 +115,6 @@ impl<'a> Log<'a> {
     ///
     /// Returns `Failed` exactly if the device failed, and `BadDirectory` exactly if the sectors spell no
     /// directory of this length. After either, `into` may hold any entries.
-    #[tactic(auto, using(crate::proofs::Directories::no_entries, crate::proofs::Directories::few_bytes))]
     pub fn read_directory<D: Device>(
         &self,
         device: &mut D,

@@ -4,12 +4,10 @@ use Rattle.ckpt_log.proofs.Runs.{sync_run, commit_run, sync_order, commit_order,
 use Rattle.ckpt_log.proofs.log.Log.publish.Goals as goal
 
 pub returns-in_err-sync-clause-any_moment : goal.returns-in_err-sync-clause-any_moment
-returns-in_err-sync-clause-any_moment g c =
-    sync_run c.requires.one (g.met.D.Device.only_now c.args.device.now) c.sync.ensures.time c.sync.ensures.crash
+returns-in_err-sync-clause-any_moment g c = sync_run c.requires.one (g.met.D.Device.only_now c.args.device.now) c.sync.ensures.time c.sync.ensures.crash
 
 pub returns-in_err-sync-clause-in_order : goal.returns-in_err-sync-clause-in_order
-returns-in_err-sync-clause-in_order g c =
-    sync_order c.args.header (g.met.D.Device.only_now c.args.device.now) c.sync.ensures.time c.sync.ensures.crash
+returns-in_err-sync-clause-in_order g c = sync_order c.args.header (g.met.D.Device.only_now c.args.device.now) c.sync.ensures.time c.sync.ensures.crash
 
 pub returns-in_err-prepare-clause-any_moment : goal.returns-in_err-prepare-clause-any_moment
 returns-in_err-prepare-clause-any_moment g c =
