@@ -79,7 +79,6 @@ impl<'a> Log<'a> {
     ///
     /// It allocates nothing, and without entries it doesn't call the device. Returns `Failed` exactly if
     /// the device failed; then the sectors of the directory may hold any bytes.
-    #[tactic(auto, using(crate::proofs::Directories::no_entries, crate::proofs::Directories::none_behind))]
     pub fn write_directory<D: Device>(
         &self,
         device: &mut D,
