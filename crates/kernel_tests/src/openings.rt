@@ -1,12 +1,47 @@
 // The calls that open or make a device.
 use crate::recorded::{Made, Recorded};
-use devices::{Access, CopiedFile, HostFile};
+use devices::{Access, CopiedFile, FileFault, HostFile};
 use std::fmt::{self, Display, Formatter, Write};
 use std::fs;
 use std::process::Abort;
 use std::test::Fail;
 
 type Device = CopiedFile<HostFile<Recorded>>;
+
+// The calls that open or make a device, by access to its file.
+const OPENINGS: &[(Access, &[&str])] = &[
+    (
+        Access::Write,
+        &[
+            "opened",
+            "Exclusive Granted",
+            "synced",
+            "measured 1535",
+            "got 0 1024",
+        ],
+    ),
+    (
+        Access::Read,
+        &[
+            "opened to read",
+            "Shared Granted",
+            "synced",
+            "measured 1535",
+            "got 0 1024",
+        ],
+    ),
+    (
+        Access::Create,
+        &[
+            "opened or made",
+            "Exclusive Granted",
+            "resized 0",
+            "resized 512",
+            "synced",
+            "listed",
+        ],
+    ),
+];
 
 // A call in short.
 impl Display for Made {
@@ -39,26 +74,23 @@ fn are_made(
     Ok(())
 }
 
+// Opens or makes a device.
+fn device_by(rt: &HostRuntime, path: &str, access: Access) -> Result<Device, FileFault> {
+    match access {
+        Access::Read => Device::open_to_read(rt, path),
+        Access::Write => Device::open(rt, path),
+        Access::Create => Device::create(rt, path, 1),
+    }
+}
+
 #[test]
 fn a_file_is_locked_synced_and_read(rt: HostRuntime) -> Result<(), Fail> {
     let path = "file_device_recorded";
     let bytes = vec![in rt.alloc(); 3; 1024 + 511]?;
     fs::write(&rt, path, bytes.as_slice())?;
-    let (exclusive, shared) = ("Exclusive Granted", "Shared Granted");
-    let got = "got 0 1024";
-    let opened = ["opened", exclusive, "synced", "measured 1535", got];
-    are_made(&rt, &Device::open(&rt, path)?, &opened)?;
-    let opened = ["opened to read", shared, "synced", "measured 1535", got];
-    are_made(&rt, &Device::open_to_read(&rt, path)?, &opened)?;
-    let made = [
-        "opened or made",
-        exclusive,
-        "resized 0",
-        "resized 512",
-        "synced",
-        "listed",
-    ];
-    are_made(&rt, &Device::create(&rt, path, 1)?, &made)?;
+    for (access, expected) in OPENINGS {
+        are_made(&rt, &device_by(&rt, path, *access)?, expected)?;
+    }
     fs::remove_file(&rt, path)?;
     Ok(())
 }

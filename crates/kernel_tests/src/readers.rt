@@ -1,7 +1,6 @@
 // Runs of scripts that come in pieces, or whose reader is interrupted or fails.
 use crate::worlds::{FIRST_WORLD, SECOND_WORLD, device_of, run_over};
 use device::Device;
-use object_cache::PlainStore;
 use runs::ScriptReader;
 use script::{CountedWriter, RunFault};
 use std::alloc::{AllocError, Global};
@@ -53,9 +52,7 @@ fn is_answered<D: Device>(
 ) -> Result<(), Fail> {
     let mut answers = CountedWriter::new(Vec::new(rt.alloc()));
     let mut script = ScriptReader::new(&mut *reader);
-    let alloc = rt.alloc();
-    let outcome = run_over::<_, PlainStore<_>, _, _>(alloc, device, (), &mut script, &mut answers)?;
-    let is_expected = match outcome {
+    let is_expected = match run_over(rt.alloc(), device, &mut script, &mut answers)? {
         Ok(()) => !reader.fails,
         Err(RunFault::Read) => reader.fails,
         Err(_) => false,

@@ -4,6 +4,7 @@ use device::Device;
 use devices::{Memory, Outcome};
 use image_builder::build;
 use kernel::Kernel;
+use object_cache::PlainStore;
 use runs::{Script, run};
 use script::{Output, RunFault};
 use std::alloc::Global;
@@ -49,26 +50,26 @@ fn built<D: Device>(alloc: Global, description: &str, device: D) -> Result<D, Fa
     Ok(device)
 }
 
-/// The kernel over a device. An error if the device isn't opened.
-pub(crate) fn opened<D: Device, S: ObjectStore<D>>(
-    alloc: Global,
-    device: D,
-    setting: S::Setting,
-) -> Result<Kernel<D, S>, Fail> {
-    match Kernel::<D, S>::open(alloc, device, setting) {
-        Ok(kernel) => Ok(kernel),
-        Err(_) => Err(Fail::new("a device that isn't opened")),
-    }
-}
-
-/// How a run over a device ends.
-pub(crate) fn run_over<D: Device, S: ObjectStore<D>, R: Script, W: Output>(
+// How a run over a device ends, by a store of any kind.
+fn run_by<D: Device, S: ObjectStore<D>, R: Script, W: Output>(
     alloc: Global,
     device: D,
     setting: S::Setting,
     reader: &mut R,
     writer: &mut W,
 ) -> Result<Result<(), RunFault>, Fail> {
-    let mut kernel = opened::<D, S>(alloc, device, setting)?;
-    Ok(run(&mut kernel, reader, writer))
+    match Kernel::<D, S>::open(alloc, device, setting) {
+        Ok(mut kernel) => Ok(run(&mut kernel, reader, writer)),
+        Err(_) => Err(Fail::new("a device that isn't opened")),
+    }
+}
+
+/// How a run over a device ends. Only here is a store named: that is dear.
+pub(crate) fn run_over<D: Device, R: Script, W: Output>(
+    alloc: Global,
+    device: D,
+    reader: &mut R,
+    writer: &mut W,
+) -> Result<Result<(), RunFault>, Fail> {
+    run_by::<_, PlainStore<_>, _, _>(alloc, device, (), reader, writer)
 }

@@ -1,10 +1,7 @@
 // Answers to writers that take little, are interrupted, or fail.
-use crate::worlds::{FIRST_WORLD, device_of, opened, run_over};
-use checkpoint::ObjectStore;
+use crate::worlds::{FIRST_WORLD, device_of, run_over};
 use device::Device;
-use kernel::Kernel;
-use object_cache::PlainStore;
-use runs::{ScriptReader, run};
+use runs::ScriptReader;
 use script::{BufferedOutput, CountedWriter, RunFault};
 use std::alloc::Global;
 use std::io;
@@ -56,9 +53,9 @@ impl Write for Narrow {
 }
 
 // Writes the answers to a script to a writer. If its room is too small, it takes what fits and the run fails.
-fn is_written<D: Device, S: ObjectStore<D>>(
-    rt: &impl Abort,
-    kernel: &mut Kernel<D, S>,
+fn is_written<D: Device>(
+    rt: &(impl Abort + AllocGlobal),
+    device: D,
     writer: Narrow,
     script: &[u8],
     expected: &[u8],
@@ -66,7 +63,7 @@ fn is_written<D: Device, S: ObjectStore<D>>(
     let room = writer.room;
     let mut reader = ScriptReader::new(script);
     let mut writer = CountedWriter::new(writer);
-    let is_expected = match run(kernel, &mut reader, &mut writer) {
+    let is_expected = match run_over(rt.alloc(), device, &mut reader, &mut writer)? {
         Ok(()) => room >= expected.len(),
         Err(RunFault::Write) => room < expected.len(),
         Err(_) => false,
@@ -79,43 +76,21 @@ fn is_written<D: Device, S: ObjectStore<D>>(
     Ok(())
 }
 
-// Does so for writers of each width and room. The script changes nothing, so one kernel serves all runs.
-fn are_written<D: Device, S: ObjectStore<D>>(
-    rt: &(impl Abort + AllocGlobal),
-    kernel: &mut Kernel<D, S>,
-    script: &[u8],
-    expected: &[u8],
-) -> Result<(), Fail> {
-    for width in [1, 7, 4096] {
-        for fails in [false, true] {
-            for room in 0..expected.len() + 2 {
-                let writer = Narrow::new(rt.alloc(), width, room, fails);
-                is_written(rt, kernel, writer, script, expected)?;
-            }
-        }
-    }
-    Ok(())
-}
-
-// Does so over a device.
-fn are_written_over<D: Device, S: ObjectStore<D>>(
-    rt: &(impl Abort + AllocGlobal),
-    device: D,
-    setting: S::Setting,
-    script: &[u8],
-    expected: &[u8],
-) -> Result<(), Fail> {
-    let mut kernel = opened::<D, S>(rt.alloc(), device, setting)?;
-    are_written(rt, &mut kernel, script, expected)
-}
-
 // At whatever byte of the answers a writer fails or takes nothing, it has taken the bytes before.
 #[test]
 fn a_failing_writer_ends_the_run(rt: HostRuntime) -> Result<(), Fail> {
     let script = b"show 5\nshow 01\nshow 16\n";
     let expected = b"node 5 owner 0\nend\nbad line\npage 16 owner 0\nend\n";
-    let device = device_of(rt.alloc(), FIRST_WORLD)?;
-    are_written_over::<_, PlainStore<_>>(&rt, device, (), script, expected)
+    for width in [1, 7, 4096] {
+        for fails in [false, true] {
+            for room in 0..expected.len() + 2 {
+                let writer = Narrow::new(rt.alloc(), width, room, fails);
+                let device = device_of(rt.alloc(), FIRST_WORLD)?;
+                is_written(&rt, device, writer, script, expected)?;
+            }
+        }
+    }
+    Ok(())
 }
 
 // Buffers the 19 bytes of an answer for a writer with this room. The run fails unless the writer takes all of them.
@@ -127,9 +102,7 @@ fn is_passed_on<D: Device>(
     let buffer = BufWriter::new(rt.alloc(), Narrow::new(rt.alloc(), 4096, room, true))?;
     let mut writer = BufferedOutput::new(buffer);
     let mut reader = ScriptReader::new(b"show 5\n".as_slice());
-    let alloc = rt.alloc();
-    let outcome = run_over::<_, PlainStore<_>, _, _>(alloc, device, (), &mut reader, &mut writer)?;
-    let is_expected = match outcome {
+    let is_expected = match run_over(rt.alloc(), device, &mut reader, &mut writer)? {
         Ok(()) => room == 19,
         Err(RunFault::Write) => room < 19,
         Err(_) => false,
