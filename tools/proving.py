@@ -91,7 +91,7 @@ class Proving:
     def refuse(self, name):
         """Tries the edits of one crate. What was refused is kept for the whole gate, which reports it."""
         folder = self.copy("edits", name)
-        copy_to(folder, [name], ("must-fail",))
+        shutil.copytree(ROOT / "crates" / name / "must-fail", folder / "crates" / name / "must-fail")
         subprocess.run(["nice", "-n", "19", "rt", "ci"], cwd=folder, capture_output=True, env={**os.environ, "RT_JOBS": "1"})
         shutil.rmtree(folder)
 
