@@ -22,7 +22,10 @@ LACKS = r"has no field|is not in scope|has no `|was not admitted|is no name"
 
 
 def most_at_once():
-    """How many checks run at once: one for each processor, or fewer if memory doesn't allow for that."""
+    """How many checks run at once: RT_JOBS, as for `rt ci`, or one for each processor, or fewer if memory doesn't allow for that."""
+    given = os.environ.get("RT_JOBS", "")
+    if given.isdigit():
+        return max(1, int(given))
     memory = os.sysconf("SC_PAGE_SIZE") * os.sysconf("SC_PHYS_PAGES")
     return max(1, min(len(os.sched_getaffinity(0)), memory // MEMORY))
 
