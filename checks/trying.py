@@ -11,6 +11,7 @@ from pathlib import Path
 from crates import ROOT, closure, copy_to, rlib
 from edit_files import applied
 from progress import run
+from proving import processors
 from rattle import rattle
 
 # The most bytes that a check of one function takes.
@@ -26,8 +27,7 @@ def most_at_once():
     given = os.environ.get("RT_JOBS", "")
     if given.isdigit():
         return max(1, int(given))
-    memory = os.sysconf("SC_PAGE_SIZE") * os.sysconf("SC_PHYS_PAGES")
-    return max(1, min(len(os.sched_getaffinity(0)), memory // MEMORY))
+    return processors(MEMORY)
 
 
 def are_proved(crates):

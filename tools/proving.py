@@ -17,10 +17,10 @@ MEMORY = 3_000_000_000
 LOADING = 500
 
 
-def processors():
-    """How many processors there are, or fewer if memory doesn't allow for proofs on all of them."""
-    memory = os.sysconf("SC_PAGE_SIZE") * os.sysconf("SC_PHYS_PAGES")
-    return max(1, min(len(os.sched_getaffinity(0)), memory // MEMORY))
+def processors(memory=MEMORY):
+    """How many processors there are, or fewer if there isn't this memory for each of them."""
+    whole = os.sysconf("SC_PAGE_SIZE") * os.sysconf("SC_PHYS_PAGES")
+    return max(1, min(len(os.sched_getaffinity(0)), whole // memory))
 
 
 def lay_out(folder, crates):
