@@ -42,7 +42,7 @@ export const EXERCISES = [
         world: "first-steps",
         script: ["call 1 6 2 0 42 0 0 0 0 0", "checkpoint", "stabilize 3", "commit"],
         task: "Run the script. Under “Cut the power”, move the slider through all calls of the commit. From which call on can the new state open? Also give the unsynced sectors other outcomes.",
-        hint: "Call 7 opens the gate of the new header, and call 8 syncs. Before call 7 only the old state opens. Between them the outcome of one sector decides.",
+        hint: "The last write opens the gate of the new header. Before it only the old state opens, and after the sync only the new one. Between them the outcome of one sector decides.",
         isDone: ({last}, {tried, outcomes}) => last?.text === "commit" && tried.size === last.calls.length + 1 && outcomes.has("old") && outcomes.has("new"),
         progress: ({last}, {tried}) => (last?.text === "commit" ? `${tried.size} of ${last.calls.length + 1} places tried.` : ""),
     },

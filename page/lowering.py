@@ -150,7 +150,7 @@ class Body:
         return {0xFC: self.bulk, 0xFD: self.vector}[code]() if code in (0xFC, 0xFD) else None
 
     def skip(self, code):
-        """Reads over the rest of an instruction that stays as it is. Returns what comes before it."""
+        """Reads over the rest of an instruction that stays the same. Returns what comes before it."""
         it, before = self.it, b""
         if code in BLOCKS or code in (0x41, 0x42):
             it.signed()

@@ -74,8 +74,11 @@ export class MachineView {
         if (this.reached) {
             this.forget();
         } else {
-            this.process = this.selected;
-            this.reached = await this.app.program.reach(this.app.session.saved(), this.selected);
+            const {session} = this.app, {last} = session, process = this.selected;
+            const reached = await this.app.program.reach(session.saved(), process);
+            // A line that was run meanwhile may have changed it.
+            if (this.app.session !== session || session.last !== last) return;
+            [this.process, this.reached] = [process, reached];
         }
         this.app.refresh();
     }

@@ -7,7 +7,7 @@ import {Kernel} from "./machine.mjs";
 import {MachineView} from "./machine_view.mjs";
 import {PowerView} from "./power_view.mjs";
 import {Program} from "./program.mjs";
-import {ScriptView, linesOf, nextRow} from "./script_view.mjs";
+import {ScriptView, isSkipped, linesOf, nextRow} from "./script_view.mjs";
 import {Session} from "./session.mjs";
 
 const OWN = "(own image)";
@@ -43,9 +43,9 @@ class App {
 
     /** Begins with an image. */
     start(image) {
-        this.image = image;
+        const session = new Session(this.kernel, image);
         this.session?.machine.close();
-        this.session = new Session(this.kernel, image);
+        Object.assign(this, {image, session});
         this.view.selected = null;
         this.refresh();
     }
@@ -61,23 +61,22 @@ class App {
         return row < this.lines.length;
     }
 
-    /** What changed counts from here. */
-    changing(what) {
+    step() {
         this.view.forget();
-        const result = what();
+        this.runNext();
         this.session.look();
         this.refresh();
-        return result;
     }
 
-    step() {
-        return this.changing(() => this.runNext());
-    }
-
+    /** Runs the rest of the script. What the last line changes is marked. */
     run() {
-        this.changing(() => {
-            while (this.runNext()) this.session.look();
-        });
+        this.view.forget();
+        const last = this.lines.findLastIndex((it) => !isSkipped(it));
+        do {
+            if (nextRow(this.lines, this.session.next) === last) this.session.look();
+        } while (this.runNext());
+        this.session.look();
+        this.refresh();
     }
 
     back() {
@@ -110,8 +109,7 @@ class App {
     /** Goes on from the image that a power cut leaves. */
     cut(image, opened) {
         this.view.forget();
-        this.session.open(image);
-        this.session.events.at(-1).opened = opened;
+        this.session.open(image, opened);
         this.refresh();
     }
 

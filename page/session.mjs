@@ -13,12 +13,12 @@ export class Session {
         this.open(image);
     }
 
-    /** Closes the machine, and opens another image in its place, as after a power cut. */
-    open(image) {
+    /** Closes the machine, and opens another image in its place: what a power cut left, which opens at this saved state. */
+    open(image, state = null) {
         const opened = this.kernel.open(image);
         this.machine?.close();
         this.machine = opened;
-        this.events.push({image: image.slice(), next: this.next});
+        this.events.push({image: image.slice(), next: this.next, opened: state});
         this.storage = new Storage(image).carryOut(opened.calls());
         this.before = this.storage.copy();
         this.last = null;
@@ -27,7 +27,7 @@ export class Session {
         this.seen = this.objects;
     }
 
-    /** Runs a line of the script, which stands in this row. */
+    /** Runs a line of the script, which stands in this row. Then `look` reads what it changed. */
     step(text, row) {
         this.before = this.storage.copy();
         const answer = this.machine.step(`${text}\n`), calls = this.machine.calls();
@@ -50,15 +50,15 @@ export class Session {
     /** Undoes the last line or power cut. Returns whether there was one. */
     back() {
         if (this.events.length < 2) return false;
-        const events = this.events.slice(0, -1), begin = events.findLastIndex((it) => it.image);
+        const events = this.events.slice(0, -1), begin = events.findLastIndex((it) => it.image), lines = events.slice(begin + 1);
         this.events = events.slice(0, begin);
         this.next = events[begin].next;
-        this.open(events[begin].image);
-        for (const it of events.slice(begin + 1)) {
-            this.look();
+        this.open(events[begin].image, events[begin].opened);
+        lines.forEach((it, at) => {
+            if (at === lines.length - 1) this.look();
             this.step(it.text, it.row);
-        }
-        this.look();
+        });
+        if (lines.length) this.look();
         return true;
     }
 
