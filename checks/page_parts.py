@@ -2,11 +2,12 @@
 import random
 import re
 
-# Mistakes in examples/two-processes.toml: old and new text, and a text that the line of the mistake alone has, or None.
+# Mistakes in examples/two-processes.toml: old and new text, and a text that the line of the
+# mistake is the last to have, or None.
 BROKEN = [
     ("log = 16", "logs = 16", "logs = 16"),
     ("log = 16", "log = 15", "log = 15"),
-    ("root = 3", "root = 1", "root = 1\n"),
+    ("root = 3", "root = 1", "root = 1"),
     ('[2, "bank 0"]', '[2, "bank 00"]', "bank 00"),
     ('[2, "bank 0"]', '[2, "bank 3"]', "bank 3"),
     ("limit = 1000", "limit = 3", "limit = 3"),
@@ -52,7 +53,8 @@ def large_world(seed):
     text = "nodes = 48\npages = 16\nlog = 16\n"
     text += "".join(f"[[bank]]\nnumber = {it}\nowner = {owner}\nlimit = {1000 if it == 0 else 60}\n" for it, owner in banks.items())
     for it in roots:
-        text += f'[[process]]\nroot = {it}\nannex = {it + 1}\nowner = {chance.choice([*banks])}\nstate = "running"\nregisters = [{places(1, 28, chance.randrange(5))}]\n'
+        text += f'[[process]]\nroot = {it}\nannex = {it + 1}\nowner = {chance.choice([*banks])}\nstate = "running"\n'
+        text += f"registers = [{places(1, 28, chance.randrange(5))}]\n"
     text += "".join(f"[[node]]\nnumber = {it}\nowner = {chance.choice([*banks])}\nslots = [{places(0, 32, chance.randrange(5))}]\n" for it in nodes)
     return text + "".join(f"[[page]]\nnumber = {it}\nowner = {chance.choice([*banks])}\nwords = [[0, {chance.randrange(9)}]]\n" for it in pages)
 

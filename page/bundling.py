@@ -9,7 +9,7 @@ HERE = Path(__file__).resolve().parent
 EXAMPLES = HERE.parent / "examples"
 FIRST = "first-steps"
 # The files of the page, each after those that it imports from.
-FILES = """machine objects layout picture image power session program script_view machine_view disk_view power_view description_view
+FILES = """markup machine objects layout picture image power session program script_view machine_view disk_view power_view description_view
     lesson main""".split()
 IMPORT = re.compile(r'^import \{[^}]*\} from "\./(\w+)\.mjs";\n', re.M)
 NO_SCRIPT = "# This world has no script: write lines of your own.\n"

@@ -2,7 +2,7 @@
 
 import {committed, isUsed, namesOf, structures} from "./image.mjs";
 import {SECTOR} from "./machine.mjs";
-import {escaped} from "./picture.mjs";
+import {classes, tag} from "./markup.mjs";
 
 // The most cells, and units, that are drawn of one structure.
 const MOST_CELLS = 3000, MOST_UNITS = 500;
@@ -44,8 +44,9 @@ export class DiskView {
     refresh() {
         const {storage, last} = this.app.session, {parts} = this, written = writtenBy(last?.calls ?? []), unsynced = new Set(storage.synced.keys());
         const header = committed(storage.image);
-        this.find("header").textContent = `${storage.image.length / SECTOR} sectors of ${SECTOR} bytes. `
-            + (header ? `Header ${header.slot} counts: sequence number ${header.sequence}, generation ${header.generation}, age ${header.age}, ${header.entries} objects in the log.` : "");
+        const {slot, sequence, generation, age, entries} = header ?? {};
+        this.find("header").textContent = `${storage.image.length / SECTOR} sectors of ${SECTOR} bytes. ` + (header
+            ? `Header ${slot} counts: sequence number ${sequence}, generation ${generation}, age ${age}, ${entries} objects in the log.` : "");
         const strip = this.find("strip");
         strip.innerHTML = parts.map((it) => this.part(it, written, unsynced)).join("");
         strip.setAttribute("role", "img");
@@ -61,13 +62,14 @@ export class DiskView {
         };
         let shown = units.map((unit) => ({unit, cells: states(unit)}));
         if (shown.length > MOST_UNITS) shown = shown.filter(({cells}) => cells.some(Boolean)).slice(0, MOST_UNITS);
-        const more = units.length - shown.length;
-        return `<div class="part ${kind}"><h3>${name}</h3><div class="units">${shown.map((it) => this.unit(it)).join("")}${more ? `<span class="muted">${more} more</span>` : ""}</div></div>`;
+        const more = units.length - shown.length, rest = more ? tag("span", {class: "muted"}, more, " more") : "";
+        return tag("div", {class: `part ${kind}`}, tag("h3", {}, name), tag("div", {class: "units"}, ...shown.map((it) => this.unit(it)), rest));
     }
 
     unit({unit, cells}) {
         const isWritten = cells.some((it) => it === "written" || it === "unsynced");
-        const title = `${unit.name}: ${unit.count === 1 ? `sector ${unit.first}` : `sectors ${unit.first} to ${unit.first + unit.count - 1}`}`;
-        return `<span class="unit${isWritten ? " written" : ""}" title="${escaped(title)}">${unit.short ? `<b>${unit.short}</b>` : ""}${cells.map((it) => `<i class="${it}"></i>`).join("")}</span>`;
+        const {name, short, first, count} = unit, title = `${name}: ${count === 1 ? `sector ${first}` : `sectors ${first} to ${first + count - 1}`}`;
+        const drawn = cells.map((it) => tag("i", {class: it}));
+        return tag("span", {class: classes({unit: true, written: isWritten}), title}, short && tag("b", {}, short), ...drawn);
     }
 }

@@ -41,15 +41,18 @@ export const EXERCISES = [
         title: "A commit, cut at each call",
         world: "first-steps",
         script: ["call 1 6 2 0 42 0 0 0 0 0", "checkpoint", "stabilize 3", "commit"],
-        task: "Run the script. Under “Cut the power”, move the slider through all calls of the commit. From which call on can the new state open? Also give the unsynced sectors other outcomes.",
-        hint: "The last write opens the gate of the new header. Before it only the old state opens, and after the sync only the new one. Between them the outcome of one sector decides.",
+        task: "Run the script. Under “Cut the power”, move the slider through all calls of the commit. From which call on can the new state open? "
+            + "Also give the unsynced sectors other outcomes.",
+        hint: "The last write opens the gate of the new header. Before it only the old state opens, and after the sync only the new one. "
+            + "Between them the outcome of one sector decides.",
         isDone: ({last}, {tried, outcomes}) => last?.text === "commit" && tried.size === last.calls.length + 1 && outcomes.has("old") && outcomes.has("new"),
         progress: ({last}, {tried}) => (last?.text === "commit" ? `${tried.size} of ${last.calls.length + 1} places tried.` : ""),
     },
     {
         title: "A confined viewer",
         world: "confined",
-        script: ["# Process 3 holds node 5 weakly. It fetches page 16 from slot 0, and tries to write to it.", "call 3 1 1 0 0 0 0 0 0 0", "call 3 28 2 0 9 0 0 0 0 0"],
+        script: ["# Process 3 holds node 5 weakly. It fetches page 16 from slot 0, and tries to write to it.", "call 3 1 1 0 0 0 0 0 0 0",
+            "call 3 28 2 0 9 0 0 0 0 0"],
         task: "Run the script: process 3 gets result code 2. Then click process 3, and mark what it can ever change. Neither node 5 nor page 16 is in it.",
         hint: "It can change itself, its bank, and what that bank makes. It holds node 5 weakly, so it can only read what is there.",
         isDone: ({objects}, {view}) => codeOf(objects, 3) === "2" && view.process === 3 && Boolean(view.reached) && !view.reached.has(16),
@@ -69,7 +72,8 @@ export class Lesson {
     exercise({title, task, hint}, at) {
         const made = document.createElement("section");
         made.className = "exercise";
-        made.innerHTML = `<h3></h3><p class="task"></p><div class="bar"><button></button><span role="status"></span></div><details><summary class="hint">Hint</summary><p class="hint"></p></details>`;
+        made.innerHTML = `<h3></h3><p class="task"></p><div class="bar"><button></button><span role="status"></span></div>
+            <details><summary class="hint">Hint</summary><p class="hint"></p></details>`;
         made.querySelector("h3").textContent = `${at + 1}. ${title}`;
         made.querySelector(".task").textContent = task;
         made.querySelector("details p").textContent = hint;

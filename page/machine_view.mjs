@@ -89,7 +89,8 @@ export class MachineView {
         this.layout = layout;
         this.find("picture").innerHTML = draw(layout, {changed, before: seen, reached: this.reached, selected: this.selected});
         const left = [...objects.values()].filter((it) => it.kind !== "annex").length - layout.boxes.length;
-        this.find("now").textContent = (session.isDown ? "The machine is down; this is what it was before. " : "") + (left ? `${left} more objects aren't drawn.` : "");
+        const notes = [session.isDown && "The machine is down; this is what it was before.", left && `${left} more objects aren't drawn.`];
+        this.find("now").textContent = notes.filter(Boolean).join(" ");
         this.find("changes").textContent = this.changes(changed);
         this.find("words").textContent = [...objects.values()].map((it) => (changed.has(it.number) ? `(changed) ${it.text}` : it.text)).join("\n\n");
         this.showObject(changed);
@@ -99,7 +100,8 @@ export class MachineView {
     changes(changed) {
         const {objects, seen} = this.app.session, list = (numbers, from) => numbers.map((it) => titleOf(from.get(it))).join(", ");
         const all = [...changed].filter((it) => (objects.get(it) ?? seen.get(it)).kind !== "annex");
-        const made = all.filter((it) => !seen.has(it)), freed = all.filter((it) => !objects.has(it)), rest = all.filter((it) => seen.has(it) && objects.has(it));
+        const made = all.filter((it) => !seen.has(it)), freed = all.filter((it) => !objects.has(it));
+        const rest = all.filter((it) => seen.has(it) && objects.has(it));
         const parts = [["Changed", rest, objects], ["New", made, objects], ["Freed", freed, seen]];
         const said = parts.filter(([, numbers]) => numbers.length).map(([what, numbers, from]) => `${what}: ${list(numbers, from)}.`);
         return said.join(" ") || "The last line changed no object.";

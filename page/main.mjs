@@ -36,6 +36,7 @@ class App {
         const {description, script} = this.worlds.get(name), {image, fault} = await this.program.build(description);
         if (fault) throw new Error(`${name}: ${fault}`);
         this.world.value = name;
+        this.find("fault").hidden = true;
         this.description.set(description);
         this.lines = lines ?? linesOf(script);
         this.start(image);

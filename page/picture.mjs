@@ -2,27 +2,24 @@
 
 import {changedRows, titleOf} from "./objects.mjs";
 import {ROW, TITLE, WIDTH} from "./layout.mjs";
+import {classes, escaped, tag} from "./markup.mjs";
 
 const LETTERS = 21, HUES = 7;
-const ESCAPES = {"&": "&amp;", "<": "&lt;", ">": "&gt;", '"': "&quot;"};
-
-export function escaped(text) {
-    return String(text).replace(/[&<>"]/g, (it) => ESCAPES[it]);
-}
 
 function shortened(text, letters = LETTERS) {
     return text.length > letters ? `${text.slice(0, letters - 1)}…` : text;
 }
 
 function frame({bank, x, y, width, height, nest}) {
-    return `<rect class="frame" data-bank="${bank}" data-nest="${nest}" x="${x}" y="${y}" width="${width}" height="${height}" rx="8"/>`;
+    return tag("rect", {class: "frame", "data-bank": bank, "data-nest": nest, x, y, width, height, rx: 8});
 }
 
 /** A line of a box: its label, and its text. */
-function rowText({label, text}, at, isChanged) {
-    const y = TITLE + ROW * at, mark = isChanged ? `<rect class="fresh" x="1" y="${y}" width="${WIDTH - 2}" height="${ROW}"/>` : "";
-    const said = text && shortened(text, LETTERS - label.length - 1);
-    return `${mark}<text class="row${isChanged ? " changed" : ""}" x="7" y="${y + 11}"><tspan class="label">${escaped(label)}</tspan> ${escaped(said)}</text>`;
+function rowText({label, text}, at, changed) {
+    const y = TITLE + ROW * at, said = text && shortened(text, LETTERS - label.length - 1);
+    const mark = changed ? tag("rect", {class: "fresh", x: 1, y, width: WIDTH - 2, height: ROW}) : "";
+    const words = [tag("tspan", {class: "label"}, escaped(label)), " ", escaped(said)];
+    return mark + tag("text", {class: classes({row: true, changed}), x: 7, y: y + 11}, ...words);
 }
 
 function title({object}) {
@@ -36,29 +33,31 @@ function described({object}, marks) {
 }
 
 function box(it, {before, changed, reached, selected}) {
-    const {object, number} = it, fresh = before.has(number) ? changedRows(before.get(number), object) : new Set(object.rows.map((row) => row.key));
-    const isChanged = changed.has(number), isReached = reached?.has(number), marks = [isChanged && "changed", isReached && "in reach"].filter(Boolean);
-    const classes = ["object", object.kind, ...(isChanged ? ["changed"] : []), ...(reached ? [isReached ? "reached" : "unreached"] : []),
-        ...(selected === number ? ["selected"] : [])];
+    const {object, number, x, y, height} = it, isChanged = changed.has(number), isReached = reached?.has(number) ?? false;
+    const fresh = before.has(number) ? changedRows(before.get(number), object) : new Set(object.rows.map((row) => row.key));
+    const marks = [isChanged && "changed", isReached && "in reach"].filter(Boolean);
     const rows = it.shown.map((row, at) => rowText(row, at, isChanged && fresh.has(row.key)));
     if (it.more) rows.push(rowText({label: "…", text: `${it.more} more`}, it.shown.length, false));
-    return `<g class="${classes.join(" ")}" data-number="${number}" tabindex="0" role="button" aria-label="${escaped(described(it, marks))}" transform="translate(${it.x} ${it.y})">`
-        + `<rect class="body" width="${WIDTH}" height="${it.height}" rx="${object.kind === "process" ? 11 : 3}"/>`
-        + `<text class="title" x="7" y="15">${escaped(title(it))}</text>${isChanged ? `<text class="star" x="${WIDTH - 14}" y="15">✱</text>` : ""}${rows.join("")}</g>`;
+    const kinds = {object: true, [object.kind]: true, changed: isChanged, reached: isReached, unreached: reached && !isReached, selected: selected === number};
+    const given = {class: classes(kinds), "data-number": number, tabindex: 0, role: "button", transform: `translate(${x} ${y})`};
+    return tag("g", {...given, "aria-label": described(it, marks)},
+        tag("rect", {class: "body", width: WIDTH, height, rx: object.kind === "process" ? 11 : 3}),
+        tag("text", {class: "title", x: 7, y: 15}, escaped(title(it))),
+        isChanged ? tag("text", {class: "star", x: WIDTH - 14, y: 15}, "✱") : "", ...rows);
 }
 
 function net({to, access, side, sources, segments, joints, tip}) {
     const [x, y] = tip, back = side === "left" ? -7 : 7, from = [...new Set(sources.map((it) => it.from.number))];
     const lines = segments.map(([x1, y1, x2, y2]) => `M${x1} ${y1}L${x2} ${y2}`).join("");
-    const dots = joints.map(([x, y]) => `<circle cx="${x}" cy="${y}" r="2"/>`).join("");
-    return `<g class="net ${access} hue${to.number % HUES}" data-to="${to.number}" data-from="${from.join(" ")}"><path class="line" d="${lines}"/>`
-        + `<path class="tip" d="M${x} ${y}l${back} -4v8z"/>${dots}</g>`;
+    const dots = joints.map(([cx, cy]) => tag("circle", {cx, cy, r: 2}));
+    return tag("g", {class: `net ${access} hue${to.number % HUES}`, "data-to": to.number, "data-from": from.join(" ")},
+        tag("path", {class: "line", d: lines}), tag("path", {class: "tip", d: `M${x} ${y}l${back} -4v8z`}), ...dots);
 }
 
 /** The picture of a layout. `marks` has what is changed since `before`, what is in reach or null, and what is selected. */
 export function draw({width, height, boxes, frames, nets}, marks) {
-    const nested = [...frames].sort((a, b) => b.nest - a.nest), count = boxes.length;
-    const name = `${count} objects and their capabilities; the list below says the same in words`;
-    return `<svg width="${width}" height="${height}" viewBox="0 0 ${width} ${height}" role="group" aria-label="${name}">`
-        + nested.map(frame).join("") + nets.map(net).join("") + boxes.map((it) => box(it, marks)).join("") + "</svg>";
+    const nested = [...frames].sort((a, b) => b.nest - a.nest);
+    const name = `${boxes.length} objects and their capabilities; the list below says the same in words`;
+    return tag("svg", {width, height, viewBox: `0 0 ${width} ${height}`, role: "group", "aria-label": name},
+        ...nested.map(frame), ...nets.map(net), ...boxes.map((it) => box(it, marks)));
 }

@@ -1,7 +1,7 @@
 // A power cut after any device call of the last line, and what opens then.
 
 import {callInWords} from "./disk_view.mjs";
-import {escaped} from "./picture.mjs";
+import {classes, escaped, tag} from "./markup.mjs";
 import {OUTCOMES, afterCalls, chanceOf, judged, leftBy, placeOf} from "./power.mjs";
 
 const MOST_OBJECTS = 12, MOST_LINES = 8;
@@ -59,8 +59,8 @@ export class PowerView {
         this.left = leftBy(this.storage, this.outcomes);
         this.judgement = judged(kernel, this.left, session.before.image, session.storage.image);
         this.find("count").textContent = `${first} of ${calls.length}`;
-        const {name, parts} = this.app.disk, item = (it, at) => `<li class="${at < first ? "" : "lost"}${at === first ? " here" : ""}">${escaped(callInWords(it, name))}</li>`;
-        this.find("calls").innerHTML = parts && calls.map(item).join("");
+        const {name} = this.app.disk, item = (it, at) => tag("li", {class: classes({lost: at >= first, here: at === first})}, escaped(callInWords(it, name)));
+        this.find("calls").innerHTML = calls.map(item).join("");
         this.showSectors();
         this.showVerdict();
         this.app.lesson?.note(this.judgement, first, calls.length);
@@ -74,7 +74,8 @@ export class PowerView {
         this.find("outcomes").hidden = !sectors.length;
         this.find("sectors").innerHTML = sectors.map((it) => {
             const outcome = OUTCOMES.find((one) => one.name === (this.outcomes.get(it) ?? "kept"));
-            return `<button class="${outcome.name}" data-sector="${it}" title="${escaped(name(it))}" aria-label="sector ${it}, ${escaped(name(it))}: ${outcome.name}, it ${outcome.says}">${it} ${outcome.mark}</button>`;
+            const said = `sector ${it}, ${name(it)}: ${outcome.name}, it ${outcome.says}`;
+            return tag("button", {class: outcome.name, "data-sector": it, title: name(it), "aria-label": said}, it, " ", outcome.mark);
         }).join("");
     }
 
@@ -98,10 +99,12 @@ export class PowerView {
         const differing = [...numbers].sort((a, b) => a - b).filter((it) => new Set(columns.map(([, state]) => text(state, it))).size > 1);
         if (!differing.length) return "";
         const cut = (it) => (it.split("\n").length > MOST_LINES ? [...it.split("\n").slice(0, MOST_LINES), "…"].join("\n") : it);
-        const cell = (state, number) => `<td class="${text(state, number) === text(opened, number) ? "same" : ""}"><pre>${escaped(cut(text(state, number)))}</pre></td>`;
-        const row = (number) => `<tr>${columns.map(([, it]) => cell(it, number)).join("")}</tr>`;
-        const more = differing.length > MOST_OBJECTS ? `<p class="muted">${differing.length - MOST_OBJECTS} more objects differ.</p>` : "";
-        return `<div class="scroll"><table><caption class="hidden">Objects that differ</caption><thead><tr>${columns.map(([name]) => `<th scope="col">${name}</th>`).join("")}</tr></thead>`
-            + `<tbody>${differing.slice(0, MOST_OBJECTS).map(row).join("")}</tbody></table></div>${more}`;
+        const same = (state, number) => text(state, number) === text(opened, number);
+        const cell = (state, number) => tag("td", {class: classes({same: same(state, number)})}, tag("pre", {}, escaped(cut(text(state, number)))));
+        const row = (number) => tag("tr", {}, ...columns.map(([, it]) => cell(it, number)));
+        const head = tag("thead", {}, tag("tr", {}, ...columns.map(([name]) => tag("th", {scope: "col"}, name))));
+        const body = tag("tbody", {}, ...differing.slice(0, MOST_OBJECTS).map(row)), left = differing.length - MOST_OBJECTS;
+        return tag("div", {class: "scroll"}, tag("table", {}, tag("caption", {class: "hidden"}, "Objects that differ"), head, body))
+            + (left > 0 ? tag("p", {class: "muted"}, `${left} more objects differ.`) : "");
     }
 }

@@ -1,6 +1,6 @@
 // The script: its lines with their answers, and the buttons that run them.
 
-import {escaped} from "./picture.mjs";
+import {classes, escaped, tag} from "./markup.mjs";
 import {placeOf} from "./power.mjs";
 
 const LONGEST = 256;
@@ -68,7 +68,7 @@ export class ScriptView {
             if (it.text !== undefined) answers.set(it.row, it.answer);
             else if (at > 0) cuts.set(it.next, [...(cuts.get(it.next) ?? []), it.opened]);
         });
-        const cut = (row) => (cuts.get(row) ?? []).map((it) => `<li class="cut">The power was cut. The image opened at ${escaped(it ? placeOf(it) : "its saved state")}.</li>`).join("");
+        const cut = (row) => (cuts.get(row) ?? []).map((it) => tag("li", {class: "cut"}, `The power was cut. The image opened at ${placeOf(it)}.`)).join("");
         this.rows.innerHTML = lines.map((line, row) => cut(row) + this.row(line, row, row === next, answers.get(row))).join("") + cut(lines.length);
         this.rows.querySelector(".next")?.scrollIntoView({block: "nearest"});
         if (next >= lines.length) this.rows.scrollTop = this.rows.scrollHeight;
@@ -78,9 +78,8 @@ export class ScriptView {
     }
 
     row(line, row, isNext, answer) {
-        const state = isNext ? ' class="next" aria-current="step"' : "", comment = isSkipped(line) ? " comment" : "";
-        const refused = answer && !CARRIED_OUT.test(answer) ? " refused" : "";
-        const said = answer ? `<pre class="answer${refused}">${escaped(answer.trimEnd())}</pre>` : "";
-        return `<li${state}><span class="number code">${isNext ? "▶" : row + 1}</span><pre class="line${comment}">${escaped(line) || " "}</pre>${said}</li>`;
+        const refused = !CARRIED_OUT.test(answer), said = answer ? tag("pre", {class: classes({answer: true, refused})}, escaped(answer.trimEnd())) : "";
+        return tag("li", {class: classes({next: isNext}), "aria-current": isNext && "step"}, tag("span", {class: "number code"}, isNext ? "▶" : row + 1),
+            tag("pre", {class: classes({line: true, comment: isSkipped(line)})}, escaped(line) || " "), said);
     }
 }
