@@ -1,5 +1,6 @@
 """Compiles a proved crate to WebAssembly. `rattle` proves the crate and makes its LLVM module for 64-bit ARM, which has the sizes and
 alignments of 64-bit WebAssembly. The module gets the triple of the latter, and is compiled and linked with a heap."""
+import os
 import re
 import shutil
 import subprocess
@@ -57,7 +58,8 @@ def keeper(folder, kept):
 def module_of(libraries, crate, source, folder, *more):
     """Proves a crate over the libraries that a folder has, and returns its LLVM module as text."""
     kept = folder / f"{crate}.bc"
-    words = rattle("build", crate, libraries, source, "--target", MADE_FOR, "--toolchain", keeper(folder, kept), "-o", folder / "none", *more)
+    how = "--target", MADE_FOR, "--toolchain", keeper(folder, kept), "--jobs", len(os.sched_getaffinity(0)), "-o", folder / "none"
+    words = rattle("build", crate, libraries, source, *how, *more)
     said = subprocess.run(words, cwd=ROOT / "crates" / crate, stdin=subprocess.DEVNULL, stdout=subprocess.PIPE, stderr=subprocess.STDOUT, text=True)
     if not kept.exists():
         sys.exit(said.stdout)
