@@ -5,13 +5,33 @@ import os
 import subprocess
 import sys
 import threading
+import time
 from pathlib import Path
 
 from cases import Wrong, need
-from common import EXAMPLES, ROOT
+from common import ROOT
 
 sys.path.insert(0, str(ROOT / "python"))
 import vezhnake  # noqa: E402
+
+KILLS = 100
+
+
+def kill(words, image, chance, times=KILLS, after=lambda number: None):
+    """Kills a counter at random moments and starts it again. Returns the last count."""
+    last, environment = None, {**os.environ, "PYTHONPATH": str(ROOT / "python")}
+    for number in range(times):
+        with subprocess.Popen([*words, image, "100000000"], stdout=subprocess.PIPE, env=environment) as counter:
+            first = counter.stdout.readline()
+            time.sleep(chance.random() * 0.05)
+            counter.kill()
+            counts = [int(it) for it in (first + counter.stdout.read()).split(b"\n")[:-1]]
+        need(counts, f"{words[-1]} counts nothing")
+        need(last is None or last < counts[0] <= last + 2, f"{words[-1]}: after kill {number} it continues with {counts[0]} after {last}")
+        need(counts == [*range(counts[0], counts[0] + len(counts))], f"{words[-1]} leaves out a count: {counts}")
+        last = counts[-1]
+        after(number)
+    return last
 
 
 def raises(kind, what, run):

@@ -1,5 +1,6 @@
 """Compiles and links what is proved for a processor, by the kit's clang and linker alone: the archive and the shared object of the library, and
 the program. The same bytes come out on each machine. They need a C library, but no glibc newer than 2.17."""
+import re
 import subprocess
 import tempfile
 from pathlib import Path
@@ -68,10 +69,16 @@ def compiled(processor, folder, crate, source, made, *more):
     return made
 
 
+def version_of_header():
+    return re.search(r'VEZHNAKE_VERSION "(.*)"', (ROOT / "include" / f"{NAME}.h").read_text())[1]
+
+
 def add_functions(processor, archive):
-    """Adds the kit's C functions to the archive of the library."""
+    """Adds the kit's C functions, and the version, to the archive of the library."""
     with tempfile.TemporaryDirectory() as name:
-        tool("llvm-ar", "rcsD", archive, *functions_of_kit(processor, Path(name), False))
+        folder = Path(name)
+        version = of_c(processor, "version.c", folder / "version.pic.o", f'-DVERSION="{version_of_header()}"')
+        tool("llvm-ar", "rcsD", archive, *functions_of_kit(processor, folder, False), version)
 
 
 def link_shared(processor, archive, made):
@@ -81,7 +88,7 @@ def link_shared(processor, archive, made):
         exports = folder / "exports"
         exports.write_text(f"{{ global: {NAME}_*; local: *; }};\n")
         words = ["-shared", "-z", "defs", "-z", "relro", "-z", "now", "--hash-style=both", "--build-id=none", "--gc-sections", "--strip-all"]
-        words += [f"-soname=lib{NAME}.so", f"--version-script={exports}", "--whole-archive", archive, "--no-whole-archive"]
+        words += [f"-soname=lib{NAME}.so.1", f"--version-script={exports}", "--whole-archive", archive, "--no-whole-archive"]
         tool("ld.lld", *words, stub(processor, folder), "-o", made)
 
 

@@ -5,11 +5,19 @@ use std::{env, fs};
 
 /// Unpacks a file by `xz`, or by Python where there is no `xz`.
 fn unpack(packed: &Path, to: &Path) -> bool {
-    let python = "import lzma, shutil, sys; shutil.copyfileobj(lzma.open(sys.argv[1]), sys.stdout.buffer)";
+    let python =
+        "import lzma, shutil, sys; shutil.copyfileobj(lzma.open(sys.argv[1]), sys.stdout.buffer)";
     let commands: [(&str, &[&str]); 2] = [("xz", &["-dc"]), ("python3", &["-c", python])];
     commands.iter().any(|(program, words)| {
-        let Ok(file) = fs::File::create(to) else { return false };
-        let ran = Command::new(program).args(*words).arg(packed).stdout(file).stderr(Stdio::null()).status();
+        let Ok(file) = fs::File::create(to) else {
+            return false;
+        };
+        let ran = Command::new(program)
+            .args(*words)
+            .arg(packed)
+            .stdout(file)
+            .stderr(Stdio::null())
+            .status();
         ran.is_ok_and(|it| it.success())
     })
 }
@@ -34,7 +42,11 @@ fn main() {
         }
         None => panic!("there is no libvezhnake.a for {target}: set VEZHNAKE_LIB_DIR to the folder that has it"),
     };
-    assert!(folder.join("libvezhnake.a").exists(), "{} has no libvezhnake.a", folder.display());
+    assert!(
+        folder.join("libvezhnake.a").exists(),
+        "{} has no libvezhnake.a",
+        folder.display()
+    );
     println!("cargo:rustc-link-search=native={}", folder.display());
     println!("cargo:rustc-link-lib=static=vezhnake");
 }

@@ -40,7 +40,7 @@ static uint64_t number_at(const uint8_t *bytes) {
 }
 
 /* Carries out the device calls on the file, in order. */
-static void carry_out(int file, vezhnake *machine) {
+static void carry_out(int file, vezhnake_machine *machine) {
     size_t size;
     check(vezhnake_calls(machine, calls, sizeof calls, &size), "calls");
     for (size_t place = 0; place < size;) {
@@ -56,7 +56,7 @@ static void carry_out(int file, vezhnake *machine) {
 }
 
 /* Runs the lines of a text and carries out their device calls. Returns the answers, which end with a 0. */
-static const char *step(int file, vezhnake *machine, const char *text) {
+static const char *step(int file, vezhnake_machine *machine, const char *text) {
     size_t size;
     check(vezhnake_step(machine, (const uint8_t *)text, strlen(text), answer, sizeof answer - 1, &size), text);
     carry_out(file, machine);
@@ -65,7 +65,7 @@ static const char *step(int file, vezhnake *machine, const char *text) {
 }
 
 /* The count in the page. `show` leaves out a word that is 0. */
-static uint64_t read_count(int file, vezhnake *machine) {
+static uint64_t read_count(int file, vezhnake_machine *machine) {
     uint64_t count = 0;
     const char *word = strstr(step(file, machine, "show 16\n"), "\nword 0 ");
     if (word) sscanf(word, "\nword 0 %" SCNu64, &count);
@@ -82,7 +82,7 @@ static int open_image(const char *path) {
 }
 
 /* Opens the machine in the image. A block device has a size that lseek finds and fstat doesn't. */
-static void open_machine(int file, vezhnake *machine) {
+static void open_machine(int file, vezhnake_machine *machine) {
     off_t end = lseek(file, 0, SEEK_END);
     size_t size = (size_t)end;
     uint8_t *image = malloc(size);
@@ -100,7 +100,7 @@ static uint64_t times_of(int words, char **word) {
 }
 
 int main(int words, char **word) {
-    vezhnake machine = VEZHNAKE_CLOSED;
+    vezhnake_machine machine = VEZHNAKE_CLOSED;
     uint64_t times = times_of(words, word);
     int file = open_image(word[1]);
     open_machine(file, &machine);

@@ -7,7 +7,9 @@ use std::io::Write;
 
 fn main() -> Result<(), Box<dyn Error>> {
     let words: Vec<_> = std::env::args().collect();
-    let [_, image, times] = &words[..] else { return Err("usage: counter IMAGE TIMES".into()) };
+    let [_, image, times] = &words[..] else {
+        return Err("usage: counter IMAGE TIMES".into());
+    };
     let mut machine = vezhnake::Machine::open(image)?;
     let first = machine.page(16)?[0];
     for count in first + 1..=first + times.parse::<u64>()? {

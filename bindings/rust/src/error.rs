@@ -63,9 +63,22 @@ impl From<u64> for Code {
     fn from(number: u64) -> Self {
         use Code::*;
         const CODES: [Code; 11] = [
-            Success, NoOrder, NoAccess, BadIndex, BadCapability, Limit, NoFreeNumber, TooDeep, VoidCapability, NotFromThisBank, PrimeBank,
+            Success,
+            NoOrder,
+            NoAccess,
+            BadIndex,
+            BadCapability,
+            Limit,
+            NoFreeNumber,
+            TooDeep,
+            VoidCapability,
+            NotFromThisBank,
+            PrimeBank,
         ];
-        usize::try_from(number).ok().and_then(|it| CODES.get(it).copied()).unwrap_or(Unknown(number))
+        usize::try_from(number)
+            .ok()
+            .and_then(|it| CODES.get(it).copied())
+            .unwrap_or(Unknown(number))
     }
 }
 
@@ -109,7 +122,10 @@ pub enum Refusal {
 
 impl From<&str> for Refusal {
     fn from(answer: &str) -> Self {
-        let (words, number) = match answer.rsplit_once(' ').and_then(|(words, number)| Some((words, number.parse().ok()?))) {
+        let (words, number) = match answer
+            .rsplit_once(' ')
+            .and_then(|(words, number)| Some((words, number.parse().ok()?)))
+        {
             Some((words, number)) => (words, number),
             None => (answer, 0),
         };
@@ -162,8 +178,18 @@ impl Error {
     /// The error for a status other than 0.
     pub(crate) fn of(status: u32) -> Error {
         use BadImage::*;
-        const REASONS: [BadImage; 10] =
-            [Small, NotASuperblock, BadGeometry, NoHeader, BadHeader, BadDirectory, BadFrame, BadCapability, BadProcess, BadBank];
+        const REASONS: [BadImage; 10] = [
+            Small,
+            NotASuperblock,
+            BadGeometry,
+            NoHeader,
+            BadHeader,
+            BadDirectory,
+            BadFrame,
+            BadCapability,
+            BadProcess,
+            BadBank,
+        ];
         match status {
             1..=10 => Error::BadImage(REASONS[status as usize - 1]),
             11 | 18 => Error::NoMemory,
@@ -179,7 +205,9 @@ impl fmt::Display for Error {
     fn fmt(&self, f: &mut fmt::Formatter<'_>) -> fmt::Result {
         match self {
             Error::BadImage(reason) => write!(f, "bad image {}: {reason:?}", *reason as u32),
-            Error::BadSize => f.write_str("the image isn't a whole number of sectors, or is over 64 MiB"),
+            Error::BadSize => {
+                f.write_str("the image isn't a whole number of sectors, or is over 64 MiB")
+            }
             Error::BadCache => f.write_str("the cache is neither 0 nor 8 to 8192"),
             Error::NoMemory => f.write_str("memory ran out"),
             Error::Storage(_) => f.write_str("the storage failed"),

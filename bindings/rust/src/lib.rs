@@ -41,6 +41,6 @@ mod sys;
 
 pub use error::{BadImage, Code, Error, Refusal, Result};
 pub use example::example_image;
-pub use machine::{Machine, Kind, Reply, ALL};
+pub use machine::{Kind, Machine, Reply, ALL};
 pub use message::{Message, NewMessage};
 pub use storage::{FileStorage, Storage};

@@ -63,13 +63,20 @@ impl Reply {
     fn of(answer: &str) -> Result<Reply> {
         let mut words = answer.split(' ');
         match words.next().and_then(Kind::of) {
-            Some(kind) => Ok(Reply { kind, code: None, values: words.filter_map(|it| it.parse().ok()).collect() }),
+            Some(kind) => Ok(Reply {
+                kind,
+                code: None,
+                values: words.filter_map(|it| it.parse().ok()).collect(),
+            }),
             None => Err(Error::Refused(Refusal::from(answer))),
         }
     }
 
     fn number(&self) -> Result<u64> {
-        self.values.first().copied().ok_or_else(|| Error::Refused(Refusal::Other(format!("{:?}", self.kind))))
+        self.values
+            .first()
+            .copied()
+            .ok_or_else(|| Error::Refused(Refusal::Other(format!("{:?}", self.kind))))
     }
 }
 
@@ -106,7 +113,9 @@ unsafe impl<S: Storage + Send> Send for Machine<S> {}
 
 impl<S: Storage> fmt::Debug for Machine<S> {
     fn fmt(&self, f: &mut fmt::Formatter<'_>) -> fmt::Result {
-        f.debug_struct("Machine").field("is_open", &self.is_open()).finish_non_exhaustive()
+        f.debug_struct("Machine")
+            .field("is_open", &self.is_open())
+            .finish_non_exhaustive()
     }
 }
 
@@ -121,13 +130,21 @@ impl<S: Storage> Machine<S> {
     /// Opens the image in storage. `cache` is the most objects in memory, 8 to 8192, or 0 for all.
     pub fn over(mut storage: S, cache: u64) -> Result<Self> {
         let image = storage.read().map_err(Error::Storage)?;
-        let mut handle = Handle(sys::Handle { session: ptr::null_mut(), is_open: false });
+        let mut handle = Handle(sys::Handle {
+            session: ptr::null_mut(),
+            is_open: false,
+        });
         // Safety: the pointer and the size are those of the image, and the handle is closed and our own.
-        let status = unsafe { sys::vezhnake_open(image.as_ptr(), image.len(), cache, &mut handle.0) };
+        let status =
+            unsafe { sys::vezhnake_open(image.as_ptr(), image.len(), cache, &mut handle.0) };
         if status != 0 {
             return Err(Error::of(status));
         }
-        Ok(Machine { handle, storage, buffer: vec![0; 1 << 16] })
+        Ok(Machine {
+            handle,
+            storage,
+            buffer: vec![0; 1 << 16],
+        })
     }
 
     /// Whether the machine is open. It is closed after its storage failed or memory ran out.
@@ -142,7 +159,9 @@ impl<S: Storage> Machine<S> {
 
     /// Runs the lines of a text, carries out their device calls, and returns the answers as `eros run` writes them. No answer is an error.
     pub fn run(&mut self, text: &[u8]) -> Result<Vec<u8>> {
-        let done = self.step_text(text).and_then(|answers| self.carry_out().map(|()| answers));
+        let done = self
+            .step_text(text)
+            .and_then(|answers| self.carry_out().map(|()| answers));
         if done.is_err() {
             self.handle.close();
         }
@@ -165,13 +184,21 @@ impl<S: Storage> Machine<S> {
 
     /// The process invokes the capability in its register, and gets the reply. A result code other than success is an error. After a call of
     /// another process the code is `None`.
-    pub fn call(&mut self, process: u64, register: u8, message: impl Into<Message>) -> Result<Reply> {
+    pub fn call(
+        &mut self,
+        process: u64,
+        register: u8,
+        message: impl Into<Message>,
+    ) -> Result<Reply> {
         let line = invocation("call", process, register, message.into());
         let answers = self.step(&format!("{line}\nshow {process}"))?;
         let mut lines = answers.lines();
         let mut reply = Reply::of(lines.next().unwrap_or_default())?;
         let shown: Vec<&str> = lines.next().unwrap_or_default().split(' ').collect();
-        let words = shown.iter().position(|it| *it == "words").map_or(&[][..], |it| &shown[it + 1..]);
+        let words = shown
+            .iter()
+            .position(|it| *it == "words")
+            .map_or(&[][..], |it| &shown[it + 1..]);
         if !shown.contains(&"running") || words.len() < 4 {
             return Ok(reply);
         }
@@ -186,12 +213,22 @@ impl<S: Storage> Machine<S> {
     }
 
     /// The process invokes the capability in its register, and gets no reply: the code is `None`.
-    pub fn send(&mut self, process: u64, register: u8, message: impl Into<Message>) -> Result<Reply> {
+    pub fn send(
+        &mut self,
+        process: u64,
+        register: u8,
+        message: impl Into<Message>,
+    ) -> Result<Reply> {
         self.command(&invocation("send", process, register, message.into()))
     }
 
     /// The process invokes the capability in its register, and becomes available: the code is `None`.
-    pub fn return_(&mut self, process: u64, register: u8, message: impl Into<Message>) -> Result<Reply> {
+    pub fn return_(
+        &mut self,
+        process: u64,
+        register: u8,
+        message: impl Into<Message>,
+    ) -> Result<Reply> {
         self.command(&invocation("return", process, register, message.into()))
     }
 
@@ -202,7 +239,8 @@ impl<S: Storage> Machine<S> {
 
     /// Writes the word at an address of the process.
     pub fn store(&mut self, process: u64, address: u64, value: u64) -> Result<()> {
-        self.command(&format!("store {process} {address} {value}")).map(drop)
+        self.command(&format!("store {process} {address} {value}"))
+            .map(drop)
     }
 
     /// The lines of an object, the last of which is `end`.
@@ -219,10 +257,15 @@ impl<S: Storage> Machine<S> {
     pub fn page(&mut self, object: u64) -> Result<[u64; WORDS]> {
         let shown = self.show(object)?;
         if !shown.starts_with("page ") {
-            return Err(Error::Refused(Refusal::Other(shown.lines().next().unwrap_or_default().to_owned())));
+            return Err(Error::Refused(Refusal::Other(
+                shown.lines().next().unwrap_or_default().to_owned(),
+            )));
         }
         let mut words = [0; WORDS];
-        for (place, word) in shown.lines().filter_map(|it| it.strip_prefix("word ")?.split_once(' ')) {
+        for (place, word) in shown
+            .lines()
+            .filter_map(|it| it.strip_prefix("word ")?.split_once(' '))
+        {
             if let (Ok(place), Ok(word)) = (place.parse::<usize>(), word.parse()) {
                 words[place] = word;
             }
@@ -280,11 +323,13 @@ impl<S: Storage> Machine<S> {
         let (mut size, room) = (0, self.buffer.len());
         let (handle, to) = (&mut self.handle.0, self.buffer.as_mut_ptr());
         // Safety: text and buffer have these sizes, and don't overlap.
-        let mut status = unsafe { sys::vezhnake_step(handle, text.as_ptr(), text.len(), to, room, &mut size) };
+        let mut status =
+            unsafe { sys::vezhnake_step(handle, text.as_ptr(), text.len(), to, room, &mut size) };
         if status == sys::SMALL_BUFFER {
             self.buffer.resize(size, 0);
             // Safety: the buffer has this size.
-            status = unsafe { sys::vezhnake_answer(handle, self.buffer.as_mut_ptr(), size, &mut size) };
+            status =
+                unsafe { sys::vezhnake_answer(handle, self.buffer.as_mut_ptr(), size, &mut size) };
         }
         if status == 0 {
             Ok(self.buffer[..size].to_vec())
@@ -323,7 +368,12 @@ impl<S: Storage> Machine<S> {
 
 /// Where a call of the device writes, and how many bytes.
 fn header_of(calls: &[u8]) -> io::Result<(u64, usize)> {
-    let number = |place: usize| calls.get(place..place + 8).and_then(|it| it.try_into().ok()).map(u64::from_le_bytes);
+    let number = |place: usize| {
+        calls
+            .get(place..place + 8)
+            .and_then(|it| it.try_into().ok())
+            .map(u64::from_le_bytes)
+    };
     match (number(0), number(8)) {
         (Some(byte), Some(length)) => Ok((byte, length as usize)),
         _ => Err(io::ErrorKind::UnexpectedEof.into()),

@@ -23,7 +23,10 @@ impl<const N: usize> From<[u64; N]> for Message {
         const { assert!(N <= 4, "a message has at most four words") };
         let mut all = [0; 4];
         all[..N].copy_from_slice(&words);
-        Message { words: all, sent: [0; 4] }
+        Message {
+            words: all,
+            sent: [0; 4],
+        }
     }
 }
 

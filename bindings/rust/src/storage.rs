@@ -60,7 +60,10 @@ impl Storage for FileStorage {
         // The end, because the length in the metadata is 0 for a block device.
         let size = self.0.seek(SeekFrom::End(0))? / SECTOR * SECTOR;
         if size > MOST {
-            return Err(io::Error::new(io::ErrorKind::InvalidData, "the image is over 64 MiB"));
+            return Err(io::Error::new(
+                io::ErrorKind::InvalidData,
+                "the image is over 64 MiB",
+            ));
         }
         self.0.rewind()?;
         let mut image = vec![0; size as usize];
@@ -87,7 +90,12 @@ impl Storage for Vec<u8> {
         let place = byte as usize;
         match self.get_mut(place..place + data.len()) {
             Some(to) => to.copy_from_slice(data),
-            None => return Err(io::Error::new(io::ErrorKind::UnexpectedEof, "a write beyond the end of the image")),
+            None => {
+                return Err(io::Error::new(
+                    io::ErrorKind::UnexpectedEof,
+                    "a write beyond the end of the image",
+                ))
+            }
         }
         Ok(())
     }

@@ -21,7 +21,17 @@ extern "C" {
         buffer_size: usize,
         size: *mut usize,
     ) -> u32;
-    pub fn vezhnake_answer(handle: *mut Handle, buffer: *mut u8, buffer_size: usize, size: *mut usize) -> u32;
-    pub fn vezhnake_calls(handle: *mut Handle, buffer: *mut u8, buffer_size: usize, size: *mut usize) -> u32;
+    pub fn vezhnake_answer(
+        handle: *mut Handle,
+        buffer: *mut u8,
+        buffer_size: usize,
+        size: *mut usize,
+    ) -> u32;
+    pub fn vezhnake_calls(
+        handle: *mut Handle,
+        buffer: *mut u8,
+        buffer_size: usize,
+        size: *mut usize,
+    ) -> u32;
     pub fn vezhnake_close(handle: *mut Handle) -> u32;
 }
