@@ -19,12 +19,12 @@ static const char *text = "send 1 6 2 0 5 0 0 0 0 0\ncheckpoint\nstabilize 9\nco
 static uint8_t image[1 << 20], buffer[1 << 20], calls[1 << 20];
 static size_t image_size;
 
-static uint32_t step(vezhnake *machine, uint8_t *into, size_t into_size, size_t *size) {
+static uint32_t step(vezhnake_machine *machine, uint8_t *into, size_t into_size, size_t *size) {
     return vezhnake_step(machine, (const uint8_t *)text, strlen(text), into, into_size, size);
 }
 
 /* The answers and calls of one step, each first without enough room and then into exactly as many bytes as there are. */
-static void try_step(vezhnake *machine) {
+static void try_step(vezhnake_machine *machine) {
     static const char *first = "done\nfrozen ", *last = "left 0\ncommitted 1\nbad line\n";
     size_t wanted, size;
     NEED(step(machine, buffer, 3, &wanted) == VEZHNAKE_SMALL_BUFFER && wanted > 3);
@@ -40,7 +40,7 @@ static void try_step(vezhnake *machine) {
     NEED(vezhnake_calls(machine, calls, sizeof calls, &size) == VEZHNAKE_OK && size == 0);
 }
 
-static void try_closed(vezhnake *machine) {
+static void try_closed(vezhnake_machine *machine) {
     size_t size;
     NEED(vezhnake_close(machine) == VEZHNAKE_NOT_OPEN);
     NEED(step(machine, buffer, sizeof buffer, &size) == VEZHNAKE_NOT_OPEN);
@@ -48,7 +48,7 @@ static void try_closed(vezhnake *machine) {
     NEED(vezhnake_calls(machine, calls, sizeof calls, &size) == VEZHNAKE_NOT_OPEN);
 }
 
-static void try_refusals(vezhnake *machine) {
+static void try_refusals(vezhnake_machine *machine) {
     NEED(vezhnake_open(image, image_size - 1, 0, machine) == VEZHNAKE_BAD_SIZE && !machine->is_open);
     NEED(vezhnake_open(image, image_size, 7, machine) == VEZHNAKE_BAD_CACHE);
     NEED(vezhnake_open(image, image_size, 8193, machine) == VEZHNAKE_BAD_CACHE);
@@ -67,7 +67,7 @@ int main(int words, char **word) {
     image_size = fread(image, 1, sizeof image, file);
     fclose(file);
     for (int i = 0; i < atoi(word[2]); i++) {
-        vezhnake machine = VEZHNAKE_CLOSED;
+        vezhnake_machine machine = VEZHNAKE_CLOSED;
         vezhnake_batch batch;
         NEED(vezhnake_open(image, image_size, i % 2 ? 8 : 0, &machine) == VEZHNAKE_OK && machine.is_open);
         NEED(vezhnake_open(image, image_size, 0, &machine) == VEZHNAKE_ALREADY_OPEN);

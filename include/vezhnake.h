@@ -19,6 +19,9 @@
 #include <stddef.h>
 #include <stdint.h>
 
+/* The version of this header. vezhnake_version returns that of the library. */
+#define VEZHNAKE_VERSION "1.0.0"
+
 #ifdef __cplusplus
 extern "C" {
 #endif
@@ -46,34 +49,34 @@ enum vezhnake_status {
     VEZHNAKE_FAILED = 18            /* memory ran out in opening, or the text could not be read: close the handle */
 };
 
-/* A handle. The library owns what `session` points to. */
-typedef struct vezhnake {
+/* A handle. Its fields are the library's. */
+typedef struct vezhnake_machine {
     void *session;
     bool is_open;
-} vezhnake;
+} vezhnake_machine;
 
 #define VEZHNAKE_CLOSED {NULL, false}
 
 /* Opens the image in these bytes, which it copies. If `cache` is 0, all objects are in memory. Otherwise it is the
  * most objects in memory, 8 to 8192. The handle is open after VEZHNAKE_OK, and unchanged after any other status. */
-uint32_t vezhnake_open(const uint8_t *image, size_t image_size, uint64_t cache, vezhnake *handle);
+uint32_t vezhnake_open(const uint8_t *image, size_t image_size, uint64_t cache, vezhnake_machine *handle);
 
 /* Runs the lines of a text, as `eros run` runs a script. The last line needs no newline. Copies the answers to the
  * buffer, and sets *size to their length. After VEZHNAKE_SMALL_BUFFER the lines were run: vezhnake_answer returns the
  * answers. After VEZHNAKE_NO_MEMORY only the first lines were run: close the handle. */
-uint32_t vezhnake_step(vezhnake *handle, const uint8_t *text, size_t text_size, uint8_t *buffer, size_t buffer_size,
-                       size_t *size);
+uint32_t vezhnake_step(vezhnake_machine *handle, const uint8_t *text, size_t text_size, uint8_t *buffer,
+                       size_t buffer_size, size_t *size);
 
 /* Copies the answers of the last vezhnake_step to the buffer again. */
-uint32_t vezhnake_answer(vezhnake *handle, uint8_t *buffer, size_t buffer_size, size_t *size);
+uint32_t vezhnake_answer(vezhnake_machine *handle, uint8_t *buffer, size_t buffer_size, size_t *size);
 
 /* Copies the device calls that it has not returned yet to the buffer, in order. A call is a header and bytes. The
  * header is two numbers of 8 bytes, the lowest byte first: where a write begins, as a byte, and its length. Then come
  * the bytes to write. A sync has the header UINT64_MAX, 0. After VEZHNAKE_SMALL_BUFFER no call was returned. */
-uint32_t vezhnake_calls(vezhnake *handle, uint8_t *buffer, size_t buffer_size, size_t *size);
+uint32_t vezhnake_calls(vezhnake_machine *handle, uint8_t *buffer, size_t buffer_size, size_t *size);
 
 /* Closes the handle and frees its memory. */
-uint32_t vezhnake_close(vezhnake *handle);
+uint32_t vezhnake_close(vezhnake_machine *handle);
 
 /* How many bytes the answers and the calls of a batch have. */
 typedef struct vezhnake_batch {
@@ -85,6 +88,9 @@ typedef struct vezhnake_batch {
  * nothing. After VEZHNAKE_SMALL_BUFFER call it again with buffers of the sizes in the batch. */
 uint32_t vezhnake_run(const uint8_t *image, size_t image_size, uint64_t cache, const uint8_t *script, size_t script_size,
                       uint8_t *answers, size_t answers_size, uint8_t *calls, size_t calls_size, vezhnake_batch *batch);
+
+/* The version of the library, as in VEZHNAKE_VERSION. The text is never freed. */
+const char *vezhnake_version(void);
 
 #ifdef __cplusplus
 }

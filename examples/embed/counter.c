@@ -5,14 +5,17 @@
  *     gcc -Iinclude examples/embed/counter.c out/libvezhnake.a -o counter
  *     ./counter counter.image 1000
  */
+#define _DEFAULT_SOURCE
+
 #include "vezhnake.h"
 
+#include <errno.h>
 #include <fcntl.h>
 #include <inttypes.h>
 #include <stdio.h>
 #include <stdlib.h>
 #include <string.h>
-#include <sys/stat.h>
+#include <sys/file.h>
 #include <unistd.h>
 
 static uint8_t answer[1 << 16], calls[1 << 20];
@@ -37,7 +40,7 @@ static uint64_t number_at(const uint8_t *bytes) {
 }
 
 /* Carries out the device calls on the file, in order. */
-static void carry_out(int file, vezhnake *machine) {
+static void carry_out(int file, vezhnake_machine *machine) {
     size_t size;
     check(vezhnake_calls(machine, calls, sizeof calls, &size), "calls");
     for (size_t place = 0; place < size;) {
@@ -53,7 +56,7 @@ static void carry_out(int file, vezhnake *machine) {
 }
 
 /* Runs the lines of a text and carries out their device calls. Returns the answers, which end with a 0. */
-static const char *step(int file, vezhnake *machine, const char *text) {
+static const char *step(int file, vezhnake_machine *machine, const char *text) {
     size_t size;
     check(vezhnake_step(machine, (const uint8_t *)text, strlen(text), answer, sizeof answer - 1, &size), text);
     carry_out(file, machine);
@@ -62,30 +65,46 @@ static const char *step(int file, vezhnake *machine, const char *text) {
 }
 
 /* The count in the page. `show` leaves out a word that is 0. */
-static uint64_t read_count(int file, vezhnake *machine) {
+static uint64_t read_count(int file, vezhnake_machine *machine) {
     uint64_t count = 0;
     const char *word = strstr(step(file, machine, "show 16\n"), "\nword 0 ");
     if (word) sscanf(word, "\nword 0 %" SCNu64, &count);
     return count;
 }
 
-/* Opens the machine in the file. */
-static void open_machine(int file, vezhnake *machine) {
-    struct stat about;
-    if (file < 0 || fsync(file) || fstat(file, &about)) fail("the image can't be opened");
-    size_t size = (size_t)about.st_size;
+/* Opens the image and locks it, so that no two programs write it. The lock lasts until the file is closed. */
+static int open_image(const char *path) {
+    int file = open(path, O_RDWR);
+    if (file < 0) fail("the image can't be opened");
+    if (flock(file, LOCK_EX | LOCK_NB)) fail(errno == EWOULDBLOCK ? "another program uses the image" : "the image can't be locked");
+    if (fsync(file)) fail("the image can't be synced");
+    return file;
+}
+
+/* Opens the machine in the image. A block device has a size that lseek finds and fstat doesn't. */
+static void open_machine(int file, vezhnake_machine *machine) {
+    off_t end = lseek(file, 0, SEEK_END);
+    size_t size = (size_t)end;
     uint8_t *image = malloc(size);
-    if (!image || read(file, image, size) != (ssize_t)size) fail("the image can't be read");
+    if (end < 0 || !image || pread(file, image, size, 0) != (ssize_t)size) fail("the image can't be read");
     check(vezhnake_open(image, size, 0, machine), "open");
     free(image);
 }
 
+/* How many times to count, from the command line. */
+static uint64_t times_of(int words, char **word) {
+    char *end = NULL;
+    uint64_t times = words == 3 ? strtoull(word[2], &end, 10) : 0;
+    if (!end || end == word[2] || *end) fail("usage: counter IMAGE TIMES");
+    return times;
+}
+
 int main(int words, char **word) {
-    if (words != 3) fail("usage: counter IMAGE TIMES");
-    vezhnake machine = VEZHNAKE_CLOSED;
-    int file = open(word[1], O_RDWR);
+    vezhnake_machine machine = VEZHNAKE_CLOSED;
+    uint64_t times = times_of(words, word);
+    int file = open_image(word[1]);
     open_machine(file, &machine);
-    uint64_t count = read_count(file, &machine), last = count + strtoull(word[2], NULL, 10);
+    uint64_t count = read_count(file, &machine), last = count + times;
     step(file, &machine, "migrate 9\n");
     while (count < last) {
         char text[128];

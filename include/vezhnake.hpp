@@ -1,0 +1,267 @@
+// Vezhnake in a C++17 program: a persistent machine of objects over your storage. The machine is proved. This header is not: it carries
+// out the device calls of vezhnake.h.
+//
+//     auto machine = vezhnake::machine::open("first.image");
+//     machine.call(1, 6, {2, 3, 99});
+//     machine.save();
+#ifndef VEZHNAKE_HPP
+#define VEZHNAKE_HPP
+
+#include "vezhnake.h"
+
+#include <array>
+#include <cerrno>
+#include <cstring>
+#include <initializer_list>
+#include <memory>
+#include <optional>
+#include <sstream>
+#include <stdexcept>
+#include <string>
+#include <string_view>
+#include <system_error>
+#include <utility>
+#include <vector>
+
+#include <fcntl.h>
+#include <sys/file.h>
+#include <unistd.h>
+
+namespace vezhnake {
+
+// The base of the other exceptions, but for std::system_error: that is what file_storage throws.
+class error : public std::runtime_error {
+    using std::runtime_error::runtime_error;
+};
+
+// The library returned a status other than VEZHNAKE_OK.
+class status_error : public error {
+public:
+    explicit status_error(uint32_t number) : error("vezhnake: status " + std::to_string(number)), status(number) {}
+    uint32_t status;
+};
+
+// The machine refused a command, and nothing changed.
+class refused : public error {
+public:
+    explicit refused(const std::string &words) : error("the machine answered: " + words), answer(words) {}
+    std::string answer;
+};
+
+// A kernel object replied with a result code other than 0.
+class order_refused : public error {
+public:
+    explicit order_refused(uint64_t number) : error("result code " + std::to_string(number)), code(number) {}
+    uint64_t code;
+};
+
+// What holds an image. A crash may tear or drop the writes since the last sync. Any exception closes the machine.
+class storage {
+public:
+    virtual ~storage() = default;
+    // The whole image.
+    virtual std::vector<uint8_t> read() = 0;
+    // Writes all these bytes from `byte` on.
+    virtual void write(uint64_t byte, const uint8_t *data, size_t size) = 0;
+    // Makes all earlier writes durable.
+    virtual void sync() = 0;
+};
+
+// An image in a file or on a block device, which is locked while it is open.
+class file_storage : public storage {
+public:
+    explicit file_storage(std::string path) : path_(std::move(path)), file_(::open(path_.c_str(), O_RDWR | O_CLOEXEC)) {
+        if (file_ < 0) fail();
+        if (flock(file_, LOCK_EX | LOCK_NB) || fsync(file_)) {
+            const int number = errno;
+            ::close(file_);
+            errno = number;
+            fail();
+        }
+    }
+    file_storage(const file_storage &) = delete;
+    file_storage &operator=(const file_storage &) = delete;
+    ~file_storage() override { ::close(file_); }
+
+    std::vector<uint8_t> read() override {
+        // The end, because the size that fstat reports is 0 for a block device.
+        const off_t end = lseek(file_, 0, SEEK_END);
+        if (end < 0 || end > (64 << 20)) fail(end < 0 ? errno : EFBIG);
+        std::vector<uint8_t> image(static_cast<size_t>(end) / 512 * 512);
+        for (size_t place = 0; place < image.size();) {
+            const ssize_t done = pread(file_, &image[place], image.size() - place, static_cast<off_t>(place));
+            if (done <= 0) fail(done ? errno : EIO);
+            place += static_cast<size_t>(done);
+        }
+        return image;
+    }
+    void write(uint64_t byte, const uint8_t *data, size_t size) override {
+        while (size) {
+            const ssize_t done = pwrite(file_, data, size, static_cast<off_t>(byte));
+            if (done < 0) fail();
+            byte += static_cast<uint64_t>(done), data += done, size -= static_cast<size_t>(done);
+        }
+    }
+    void sync() override {
+        if (fdatasync(file_)) fail();
+    }
+
+private:
+    [[noreturn]] void fail(int number = errno) const {
+        throw std::system_error(number, std::generic_category(), number == EWOULDBLOCK ? path_ + ": another program uses the image" : path_);
+    }
+    std::string path_;
+    int file_;
+};
+
+// What an invocation gave. `code` is the result code, if a kernel object replied, and `values` are the other words of its reply.
+struct reply {
+    std::optional<uint64_t> code;
+    std::array<uint64_t, 3> values{};
+};
+
+// A machine over storage, which is closed when it goes out of scope. What was not saved is lost then. A method returns once the storage has
+// carried out the device calls.
+class machine {
+public:
+    // `cache` is the most objects in memory, 8 to 8192, or 0 for all.
+    explicit machine(std::unique_ptr<storage> over, uint64_t cache = 0) : storage_(std::move(over)), buffer_(1 << 16) {
+        const auto image = storage_->read();
+        check(vezhnake_open(image.data(), image.size(), cache, &handle_));
+    }
+    static machine open(std::string path, uint64_t cache = 0) { return machine(std::make_unique<file_storage>(std::move(path)), cache); }
+    machine(machine &&other) noexcept
+        : storage_(std::move(other.storage_)), handle_(std::exchange(other.handle_, vezhnake_machine VEZHNAKE_CLOSED)),
+          buffer_(std::move(other.buffer_)) {}
+    machine &operator=(machine &&) = delete;
+    ~machine() { close(); }
+
+    // Closes the machine and its storage.
+    void close() noexcept {
+        if (handle_.is_open) vezhnake_close(&handle_);
+        storage_.reset();
+    }
+
+    // Runs the lines of a text, and returns the answers as `eros run` writes them. No answer is an exception.
+    std::string run(std::string_view text) {
+        size_t size = 0;
+        const auto *from = reinterpret_cast<const uint8_t *>(text.data());
+        uint32_t status = vezhnake_step(&handle_, from, text.size(), buffer_.data(), buffer_.size(), &size);
+        if (status == VEZHNAKE_SMALL_BUFFER) {
+            buffer_.resize(size);
+            status = vezhnake_answer(&handle_, buffer_.data(), buffer_.size(), &size);
+        }
+        check(status);
+        std::string answers(reinterpret_cast<char *>(buffer_.data()), size);
+        try {
+            carry_out();
+        } catch (...) {
+            close();
+            throw;
+        }
+        return answers;
+    }
+
+    // Runs one line whose answer begins with `kind`, and returns the number in it, or 0.
+    uint64_t command(std::string_view line, std::string_view kind) { return number_in(run(line), kind); }
+
+    // The process invokes the capability in its register, and gets the reply. After a call of another process there is no code.
+    reply call(uint64_t process, unsigned reg, std::initializer_list<uint64_t> words, std::initializer_list<unsigned> sent = {}) {
+        const std::string answers = run(invocation("call", process, reg, words, sent) + "\nshow " + std::to_string(process));
+        const size_t end = answers.find('\n');
+        number_in(answers.substr(0, end), "done");
+        std::istringstream shown(answers.substr(end + 1, answers.find('\n', end + 1) - end - 1));
+        reply got;
+        bool is_running = false;
+        for (std::string word; shown >> word && word != "words";) is_running |= word == "running";
+        uint64_t code = 0;
+        if (!is_running || !(shown >> code >> got.values[0] >> got.values[1] >> got.values[2])) return got;
+        if (code) throw order_refused(code);
+        got.code = code;
+        return got;
+    }
+
+    // The process invokes the capability in its register, and gets no reply.
+    void send(uint64_t process, unsigned reg, std::initializer_list<uint64_t> words, std::initializer_list<unsigned> sent = {}) {
+        command(invocation("send", process, reg, words, sent), "done");
+    }
+
+    // The words of a page.
+    std::array<uint64_t, 512> page(uint64_t object) {
+        const std::string shown = run("show " + std::to_string(object));
+        if (shown.rfind("page ", 0)) throw refused(shown.substr(0, shown.find('\n')));
+        std::array<uint64_t, 512> words{};
+        std::istringstream lines(shown);
+        std::string line;
+        while (std::getline(lines, line)) {
+            size_t place = 0;
+            uint64_t word = 0;
+            std::string kind;
+            if (std::istringstream(line) >> kind >> place >> word && kind == "word") words.at(place) = word;
+        }
+        return words;
+    }
+
+    // Saves the state in one step, and returns the generation: migrates what an earlier run left, freezes, stabilizes, commits and
+    // migrates. The first of these that is refused is the exception.
+    uint64_t save() {
+        const std::string all = std::to_string(UINT64_MAX);
+        command("migrate " + all, "left");
+        command("checkpoint", "frozen");
+        command("stabilize " + all, "left");
+        const uint64_t generation = command("commit", "committed");
+        command("migrate " + all, "left");
+        return generation;
+    }
+
+private:
+    void check(uint32_t status) {
+        if (status == VEZHNAKE_OK) return;
+        close();
+        throw status_error(status);
+    }
+    static uint64_t number_in(const std::string &answer, std::string_view kind) {
+        std::istringstream words(answer);
+        std::string first;
+        uint64_t number = 0;
+        if (!(words >> first) || first != kind) throw refused(answer.substr(0, answer.find('\n')));
+        words >> number;
+        return number;
+    }
+    static std::string invocation(const char *how, uint64_t process, unsigned reg, std::initializer_list<uint64_t> words,
+                                  std::initializer_list<unsigned> sent) {
+        if (words.size() > 4 || sent.size() > 4) throw std::invalid_argument("an invocation sends at most four words and four capabilities");
+        std::ostringstream line;
+        line << how << ' ' << process << ' ' << reg;
+        for (size_t i = 0; i < 4; i++) line << ' ' << (i < words.size() ? words.begin()[i] : 0);
+        for (size_t i = 0; i < 4; i++) line << ' ' << (i < sent.size() ? sent.begin()[i] : 0);
+        return line.str();
+    }
+    // Carries out the device calls.
+    void carry_out() {
+        size_t size = 0;
+        uint32_t status = 0;
+        while ((status = vezhnake_calls(&handle_, buffer_.data(), buffer_.size(), &size)) == VEZHNAKE_SMALL_BUFFER) buffer_.resize(size);
+        check(status);
+        for (size_t place = 0; place < size;) {
+            const uint64_t byte = number_at(place), length = number_at(place + 8);
+            place += 16;
+            if (byte == UINT64_MAX) storage_->sync();
+            else storage_->write(byte, &buffer_[place], length);
+            place += length;
+        }
+    }
+    // A number of 8 bytes, the lowest first.
+    uint64_t number_at(size_t place) const {
+        uint64_t number = 0;
+        for (size_t i = 8; i-- > 0;) number = number << 8 | buffer_[place + i];
+        return number;
+    }
+    std::unique_ptr<storage> storage_;
+    vezhnake_machine handle_ = VEZHNAKE_CLOSED;
+    std::vector<uint8_t> buffer_;
+};
+
+} // namespace vezhnake
+
+#endif

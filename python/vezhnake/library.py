@@ -1,0 +1,63 @@
+"""The functions of libvezhnake.so, as vezhnake.h declares them."""
+from __future__ import annotations
+
+import ctypes
+import errno
+import os
+import struct
+from functools import cache
+from pathlib import Path
+
+OK, NO_MEMORY, ALREADY_OPEN, NOT_OPEN, SMALL_BUFFER = 0, 11, 14, 15, 16
+SYNC = 2**64 - 1
+HEADER = struct.Struct("<QQ")
+
+
+class Handle(ctypes.Structure):
+    _fields_ = [("session", ctypes.c_void_p), ("is_open", ctypes.c_bool)]
+
+
+class Batch(ctypes.Structure):
+    _fields_ = [("answers", ctypes.c_size_t), ("calls", ctypes.c_size_t)]
+
+
+def find() -> str:
+    """The path of the shared object: VEZHNAKE_LIBRARY, the file beside this module, or the repository's."""
+    here = Path(__file__).resolve().parent
+    named = os.environ.get("VEZHNAKE_LIBRARY")
+    for path in [named] if named else [here / "libvezhnake.so", here.parent.parent / "out" / "libvezhnake.so"]:
+        if os.path.exists(path):
+            return str(path)
+    raise OSError(errno.ENOENT, "libvezhnake.so is missing: install this package by pip, run tools/library, or set VEZHNAKE_LIBRARY", named)
+
+
+@cache
+def library() -> ctypes.CDLL:
+    """The library, with the types of its functions. It is loaded once."""
+    loaded = ctypes.CDLL(find())
+    data, size, buffer = ctypes.c_char_p, ctypes.c_size_t, ctypes.c_void_p
+    handle, result, batch = ctypes.POINTER(Handle), ctypes.POINTER(ctypes.c_size_t), ctypes.POINTER(Batch)
+    types = {
+        "open": (data, size, ctypes.c_uint64, handle),
+        "step": (handle, data, size, buffer, size, result),
+        "answer": (handle, buffer, size, result),
+        "calls": (handle, buffer, size, result),
+        "close": (handle,),
+        "run": (data, size, ctypes.c_uint64, data, size, buffer, size, buffer, size, batch),
+    }
+    for name, arguments in types.items():
+        call = getattr(loaded, f"vezhnake_{name}")
+        call.argtypes, call.restype = arguments, ctypes.c_uint32
+    return loaded
+
+
+def decode_calls(data: bytes) -> list[tuple[int, bytes] | None]:
+    """The device calls in these bytes: None for a sync, and otherwise the byte where a write begins and what it writes."""
+    place = 0
+    calls: list[tuple[int, bytes] | None] = []
+    while place < len(data):
+        byte, length = HEADER.unpack_from(data, place)
+        place += HEADER.size
+        calls.append(None if byte == SYNC else (byte, data[place : place + length]))
+        place += length
+    return calls
