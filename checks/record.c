@@ -1,7 +1,7 @@
 // Records what the program that it is loaded into asks of the system for one file, the one that RECORD_FILE names, and what
 // it writes on standard output, in order, into the file that RECORD_INTO names. With FORGET at n each n-th sync isn't made.
 // A record is a letter, a place and a length in 8 bytes each, and that many bytes: W for a write, T for a new length of the
-// file (its place), S for a sync, A for standard output.
+// file (its place), S for a sync, F for a sync of its folder, A for standard output.
 #define _GNU_SOURCE
 #include <fcntl.h>
 #include <stdarg.h>
@@ -13,6 +13,7 @@
 
 static int into = -1;
 static int file = -1;
+static int folder = -1;
 static long syncs = 0;
 
 static void record(char letter, uint64_t place, const void *bytes, uint64_t length) {
@@ -24,11 +25,20 @@ static void record(char letter, uint64_t place, const void *bytes, uint64_t leng
     syscall(SYS_write, into, bytes, length);
 }
 
+static int is_folder(const char *path) {
+    const char *name = getenv("RECORD_FILE"), *end = strrchr(name, '/');
+    return end && strlen(path) == (size_t)(end - name) && strncmp(path, name, end - name) == 0;
+}
+
 int open(const char *path, int flags, ...) {
     va_list rest;
     va_start(rest, flags);
     int opened = syscall(SYS_openat, AT_FDCWD, path, flags, flags & O_CREAT ? va_arg(rest, int) : 0);
     va_end(rest);
+    if (opened == folder)
+        folder = -1;
+    if (opened >= 0 && is_folder(path))
+        folder = opened;
     if (opened >= 0 && strcmp(path, getenv("RECORD_FILE")) == 0) {
         file = opened;
         if (flags & O_TRUNC)
@@ -69,11 +79,12 @@ int ftruncate(int of, off_t length) {
 
 static int synced(int call, int of) {
     const char *forget = getenv("FORGET");
-    if (of == file && forget && ++syncs % atol(forget) == 0)
+    int is_recorded = of >= 0 && (of == file || of == folder);
+    if (is_recorded && forget && ++syncs % atol(forget) == 0)
         return 0;
     int status = syscall(call, of);
-    if (status == 0 && of == file)
-        record('S', 0, "", 0);
+    if (status == 0 && is_recorded)
+        record(of == file ? 'S' : 'F', 0, "", 0);
     return status;
 }
 

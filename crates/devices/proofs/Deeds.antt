@@ -1,6 +1,6 @@
 -- The calls of a file, one deed after another.
 use Rattle.devices.proofs.Names.{nat_tests, ℕ, List, [], Option, None, Some, Result, OnOk, is_ok, true, length, take, drop, sym, ap, subst, append_assoc}
-use Rattle.devices.proofs.Names.{append-nil, arith, length-append, length-take, ∥∥₁_map, take-add, take_rest, flat_map-append, concat-append, concat}
+use Rattle.devices.proofs.Names.{append-nil, arith, length-append, length-take, length-take-le, ∥∥₁_map, take-add, take_rest, flat_map-append, concat-append, concat}
 use Rattle.devices.proofs.Names.{sectors_of, Event, writes_of, Adds, Call, took, Deed, writes, calls_of, events_by, taken, Takes, Tells, Bor, History, OnErr}
 use Rattle.devices.proofs.Names.{false, refl, stepped, TakesFront, failures_by, fails_sync, fails_write, Failed, take-append-drop, sum_by-append}
 use Rattle.devices.specs.declared.history.Step.TheVariants.{Wrote}
@@ -46,14 +46,37 @@ takes_on byte a b c bytes i n within t adds =
 pub takes_front : (byte : ℕ) (a b : Option (List Call)) (bytes : List ℕ) (i : ℕ) → Takes byte a b (take i bytes) → TakesFront byte a b bytes
 takes_front byte a b bytes i t = (t.0, drop i bytes, ap (λ (l : List ℕ). l ++ drop i bytes) t.1 ∙ take-append-drop i bytes, t.2)
 
--- a call took n bytes more, and is the last
-pub takes_last : (byte : ℕ) (a b c : Option (List Call)) (bytes : List ℕ) (i n : ℕ) → i ≤ length bytes → Takes byte a b (take i bytes)
-    → Adds b c (took (byte + i) (take n (take (length bytes - i) (drop i bytes))) ∷ []) → TakesFront byte a c bytes
-takes_last byte a b c bytes i n within t adds = takes_front byte a c bytes (i + n) (takes_on byte a b c bytes i n within t adds)
+-- more pieces
+taken_append : (byte : ℕ) (ps qs : List (List ℕ)) → taken byte (ps ++ qs) ≡ taken byte ps ++ taken (byte + length (concat ps)) qs
+taken_append byte [] qs = ap (λ (n : ℕ). taken n qs) (omega arith)
+taken_append byte (p ∷ ps) qs =
+    ap (λ (l : List Call). took byte p ∷ l) (taken_append (byte + length p) ps qs
+    ∙ ap (λ (n : ℕ). taken (byte + length p) ps ++ taken n qs) (omega (arith, length-append p (concat ps))))
+
+-- some of the rest of the bytes was taken
+pub takes_then : (byte : ℕ) (a b c : Option (List Call)) (bytes : List ℕ) (i : ℕ) → i ≤ length bytes → Takes byte a b (take i bytes)
+    → TakesFront (byte + i) b c (take (length bytes - i) (drop i bytes)) → TakesFront byte a c bytes
+takes_then byte a b c bytes i within t f =
+    let place : byte + i ≡ byte + length (concat t.0) = ap (λ (n : ℕ). byte + n) (sym (ap length t.1 ∙ length-take-le i bytes within)) in (
+      t.0 ++ f.0,
+      f.1,
+      ap (λ (l : List ℕ). l ++ f.1) (concat-append t.0 f.0) ∙ append_assoc (concat t.0) (concat f.0) f.1
+          ∙ ap (λ (l : List ℕ). concat t.0 ++ l) (f.2 ∙ take_rest bytes i) ∙ ap (λ (l : List ℕ). l ++ drop i bytes) t.1 ∙ take-append-drop i bytes,
+      subst (Adds a c) (ap (λ (n : ℕ). taken byte t.0 ++ taken n f.0) place ∙ sym (taken_append byte t.0 f.0))
+          (adds_more a b c (taken byte t.0) (taken (byte + i) f.0) t.2 f.3),
+    )
+
+-- a call took none
+pub takes_zero : (byte : ℕ) (a b : Option (List Call)) (bytes : List ℕ) → Adds a b (took byte (take 0 bytes) ∷ []) → TakesFront byte a b bytes
+takes_zero byte a b bytes adds = ([] ∷ [], bytes, refl, adds)
 
 -- no call was made
 pub takes_nothing : (byte : ℕ) (a : Option (List Call)) (bytes : List ℕ) → TakesFront byte a a bytes
 takes_nothing byte a bytes = ([], bytes, refl, adds_none a)
+
+-- no call went well
+pub takes_still : (byte : ℕ) (a b : Option (List Call)) (bytes : List ℕ) → b ≡ a → TakesFront byte a b bytes
+takes_still byte a b bytes same = subst (λ (o : Option (List Call)). TakesFront byte a o bytes) (sym same) (takes_nothing byte a bytes)
 
 -- one more deed
 tells_known : (events : List Event) (failures : ℕ) (old new : Option (List Call)) (d : Deed) → Tells events failures old → Adds old new (calls_of d)

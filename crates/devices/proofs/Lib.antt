@@ -5,6 +5,7 @@ mod Keeps
 mod Mirrors
 pub mod Past
 mod Patches
+mod CallErrors
 mod Copies
 mod Deeds
 mod Mirrored

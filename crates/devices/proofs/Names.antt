@@ -24,8 +24,11 @@ pub use Rattle.std.proofs.lemmas.Nat.{le_or_l, le_or_r}
 pub use Rattle.std.proofs.lemmas.Result.{err_from_is_err_and}
 pub use Rattle.std.proofs.lemmas.Slice.{take-put_mid_below}
 pub use Rattle.std.specs.Int.{w8}
+pub use Rattle.std.specs.IoError.{error_kind}
+pub use Rattle.std.specs.declared.io.ErrorKind.TheVariants.{Interrupted}
 pub use Rattle.std.specs.List.{concat}
 pub use Rattle.std.specs.Prelude.{IsTrue, bit_or}
+pub use Rattle.devices.specs.CallErrors.{CallErrors, HasCause, HasFailed, NoneFailed, OneFailed, more_errors}
 pub use Rattle.devices.specs.FileDevice.{file_disk}
 pub use Rattle.devices.specs.Mirror.{disk_of_mirror, past_of, state_of}
 pub use Rattle.devices.specs.MirrorSound.{IsSoundMirror, now_of, state_with}

@@ -1,4 +1,5 @@
 pub mod Names
+pub mod CallErrors
 pub mod Fuse
 pub mod Memory
 pub mod Mirror

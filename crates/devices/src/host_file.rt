@@ -1,6 +1,7 @@
 // A file of the operating system, as a file of sectors.
-ghost use Rattle.std.specs.Prelude.{◌≡◌, ◌*◌, ◌≤◌, [], nat_lt, IfSome, OnErr, OnOk};
-ghost use Rattle.devices.specs.RawCalls.{Adds, Takes, TakesFront, Tells, calls_of, syncs};
+ghost use Rattle.std.specs.Prelude.{◌≡◌, ◌*◌, ◌<◌, ◌≤◌, ◌∷◌, [], nat_lt, true, length, take, IfOk, IfSome, OnErr, OnOk};
+ghost use Rattle.devices.specs.CallErrors.{HasCause, HasFailed};
+ghost use Rattle.devices.specs.RawCalls.{Adds, Takes, TakesFront, Tells, calls_of, syncs, took};
 ghost use Rattle.devices.specs.Steps.{fresh};
 
 use crate::history::{History, Step};
@@ -21,25 +22,23 @@ pub struct HostFile<F: RawFile> {
     is_broken: bool,
     history: History,
     ghost broken: { is_broken ≡ nat_lt 0 history.failures },
+    // A call of the device failed only if one of the file did.
+    ghost caused: { is_broken ≡ true → HasFailed (F.errors file) },
     ghost reported: { ∥ Tells history.events history.failures (F.calls file) ∥₁ },
 }
 
-// Writes all of the bytes at the byte `at`. A call that was interrupted is made again. `Failed` may
-// leave a beginning of the bytes written.
-#[tactic(auto, using(crate::proofs::Deeds::takes_none))]
-fn put_fully<F: RawFile>(file: &mut F, at: u64, from: &[u8]) -> Result<(), Failed>
-    requires { at ≤ 512 * 131072 }
-    ensures ok { OnOk result (Takes at (F.calls file.old) (F.calls file.new) from.now) }
+// Writes a beginning of the bytes at the byte `at`, at least one. An interrupted call is made again.
+fn put_some<F: RawFile>(file: &mut F, at: u64, from: &[u8]) -> Result<usize, Failed>
+    requires { 0 < length from.now }
+    ensures bound { IfOk result (λ n. (0 < n) × (n ≤ length from.now)) }
+    ensures ok { IfOk result (λ n. Adds (F.calls file.old) (F.calls file.new) (took at (take n from.now) ∷ [])) }
     ensures err { OnErr result (TakesFront at (F.calls file.old) (F.calls file.new) from.now) }
+    ensures cause { HasCause (F.errors file.old) (F.errors file.new) result }
 {
-    let mut done = 0;
-    for _ in 0..u64::MAX {
-        if done == from.len() {
-            return Ok(());
-        }
-        match file.put(at + done as u64, &from[done..]) {
+    for tries in 0..u64::MAX {
+        match file.put(at, from) {
             Ok(0) => return Err(Failed),
-            Ok(count) => done += count,
+            Ok(count) => return Ok(count),
             Err(error) => {
                 if error.kind() != ErrorKind::Interrupted {
                     return Err(Failed);
@@ -50,11 +49,27 @@ fn put_fully<F: RawFile>(file: &mut F, at: u64, from: &[u8]) -> Result<(), Faile
     Err(Failed)
 }
 
+// Writes all of the bytes at the byte `at`. `Failed` may leave a beginning of the bytes written.
+#[tactic(auto, using(crate::proofs::Deeds::takes_none))]
+fn put_fully<F: RawFile>(file: &mut F, at: u64, from: &[u8]) -> Result<(), Failed>
+    requires { at ≤ 512 * 131072 }
+    ensures ok { OnOk result (Takes at (F.calls file.old) (F.calls file.new) from.now) }
+    ensures err { OnErr result (TakesFront at (F.calls file.old) (F.calls file.new) from.now) }
+    ensures cause { HasCause (F.errors file.old) (F.errors file.new) result }
+{
+    let mut done = 0;
+    while done < from.len() {
+        done += put_some(file, at + done as u64, &from[done..])?;
+    }
+    Ok(())
+}
+
 // Writes these sectors from `at` on. `Failed` may leave a beginning of the bytes written.
 fn put_sectors<F: RawFile>(file: &mut F, at: u64, from: &[u8]) -> Result<(), Failed>
     requires { at ≤ 131072 }
     ensures ok { OnOk result (Takes (512 * at) (F.calls file.old) (F.calls file.new) from.now) }
     ensures err { OnErr result (TakesFront (512 * at) (F.calls file.old) (F.calls file.new) from.now) }
+    ensures cause { HasCause (F.errors file.old) (F.errors file.new) result }
 {
     put_fully(file, at * SECTOR_SIZE as u64, from)
 }
@@ -63,6 +78,7 @@ fn put_sectors<F: RawFile>(file: &mut F, at: u64, from: &[u8]) -> Result<(), Fai
 fn sync_all<F: RawFile>(file: &mut F) -> Result<(), Failed>
     ensures ok { OnOk result (Adds (F.calls file.old) (F.calls file.new) (calls_of syncs)) }
     ensures err { OnErr result (F.calls file.new ≡ F.calls file.old) }
+    ensures cause { HasCause (F.errors file.old) (F.errors file.new) result }
 {
     file.keep().map_err(|_| Failed)
 }

@@ -1,12 +1,13 @@
 // Opening and making a device in a file.
-ghost use Rattle.std.specs.Prelude.{◌≡◌, ◌≢◌, ◌⊎◌, ◌<◌, ◌≤◌, ◌*◌, ◌/◌, ℕ, [], ◌∷◌, length, replicate};
+ghost use Rattle.std.specs.Prelude.{◌≡◌, ◌≢◌, ◌⊎◌, ◌<◌, ◌≤◌, ◌*◌, ◌/◌, ℕ, [], ◌∷◌, length, replicate, take};
 ghost use Rattle.std.specs.Prelude.{nat_lt};
 ghost use Rattle.std.specs.Prelude.{if◌then◌else◌, IfErr, IfOk, IfSome, IsErrOf, OnOk, OnErr, Ok, Err};
 ghost use Rattle.device.specs.Calls.{Agrees, Only, sectors_of, image_of};
 ghost use Rattle.devices.specs.FileDevice.{file_disk, raw_file};
 ghost use Rattle.devices.specs.OpeningCalls.{listed, locked, measured, resized, synced, Gets, GetsFrom, Loads};
 ghost use Rattle.devices.specs.OpeningCalls.{LoadsLocked, TakesLock, MakesZeros, KeepsLength, IsOpened, IsMade};
-ghost use Rattle.devices.specs.OpeningCalls.{Mirrors};
+ghost use Rattle.devices.specs.OpeningCalls.{Mirrors, got};
+ghost use Rattle.devices.specs.CallErrors.{HasCause};
 ghost use Rattle.devices.specs.RawCalls.{Adds};
 
 use crate::fault::FileFault;
@@ -31,24 +32,21 @@ fn whole_sectors(bytes: u64) -> Result<u64, FileFault>
 // How many sectors are read at once.
 const READ_SECTORS: usize = 128;
 
-// Fills `into` with the bytes of the file from `at` on. An interrupted call is made again.
-#[tactic(auto, using(crate::proofs::Openings::gets_none, crate::proofs::Openings::keeps_length))]
-fn get_fully<F: Openable>(file: &mut F, at: usize, into: &mut [u8]) -> Result<(), FileFault>
-    requires { at ≤ 512 * 131072 }
-    ensures bytes { OnOk result (GetsFrom at (F.opening file.old) (F.opening file.new) into.new) }
-    ensures held { IfErr result (λ fault. fault ≢ FileFault.Held) }
-    ensures long { IfErr result (λ fault. fault ≢ FileFault.Long) }
+// Reads bytes of the file from `at` on, at least one, and returns how many. An interrupted call is made again.
+#[tactic(auto, using(crate::proofs::Openings::keeps_length))]
+fn get_some<F: Openable>(file: &mut F, at: u64, into: &mut [u8]) -> Result<usize, FileFault>
+    requires { 0 < length into.old }
+    ensures bound { IfOk result (λ n. (0 < n) × (n ≤ length into.new)) }
+    ensures ok { IfOk result (λ n. Adds (F.opening file.old) (F.opening file.new) (got at (take n into.new) ∷ [])) }
     ensures length { KeepsLength (F.opening file.old) (F.opening file.new) }
+    ensures fault { IfErr result (λ fault. fault ≡ FileFault.Io) }
+    ensures cause { HasCause (F.errors file.old) (F.errors file.new) result }
     ensures calls { F.calls file.new ≡ F.calls file.old }
 {
-    let mut done = 0;
-    for _ in 0..u64::MAX {
-        if done == into.len() {
-            return Ok(());
-        }
-        match file.get((at + done) as u64, &mut into[done..]) {
+    for tries in 0..u64::MAX {
+        match file.get(at, into) {
             Ok(0) => return Err(FileFault::Io),
-            Ok(count) => done += count,
+            Ok(count) => return Ok(count),
             Err(error) => {
                 if error.kind() != ErrorKind::Interrupted {
                     return Err(FileFault::Io);
@@ -57,6 +55,24 @@ fn get_fully<F: Openable>(file: &mut F, at: usize, into: &mut [u8]) -> Result<()
         }
     }
     Err(FileFault::Io)
+}
+
+// Fills `into` with the bytes of the file from `at` on.
+#[tactic(auto, using(crate::proofs::Openings::gets_none, crate::proofs::Openings::keeps_length))]
+fn get_fully<F: Openable>(file: &mut F, at: usize, into: &mut [u8]) -> Result<(), FileFault>
+    requires { at ≤ 512 * 131072 }
+    ensures bytes { OnOk result (GetsFrom at (F.opening file.old) (F.opening file.new) into.new) }
+    ensures held { IfErr result (λ fault. fault ≢ FileFault.Held) }
+    ensures long { IfErr result (λ fault. fault ≢ FileFault.Long) }
+    ensures length { KeepsLength (F.opening file.old) (F.opening file.new) }
+    ensures cause { HasCause (F.errors file.old) (F.errors file.new) result }
+    ensures calls { F.calls file.new ≡ F.calls file.old }
+{
+    let mut done = 0;
+    while done < into.len() {
+        done += get_some(file, (at + done) as u64, &mut into[done..])?;
+    }
+    Ok(())
 }
 
 // Reads the first bytes of the file into all sectors of `copy`, through `buffer`.

@@ -1,13 +1,15 @@
 // A file in which a device can be opened or made, call by call.
-ghost use Rattle.std.specs.Prelude.{◌≡◌, ◌↔◌, ℕ, List, [], ◌∷◌, Option, None, take, length, IfOk, IfSome, IsOk};
-ghost use Rattle.std.specs.Prelude.{IsErrOf, OnOk, OnErr};
+ghost use Rattle.std.specs.Prelude.{◌≡◌, ◌≢◌, ◌<◌, ◌↔◌, ℕ, List, [], ◌∷◌, Option, None, take, length, option_map};
+ghost use Rattle.std.specs.Prelude.{IfErr, IfOk, IfSome, IsOk, IsErrOf, OnOk, OnErr};
 ghost use Rattle.std.specs.Io.{ReadsAtMost};
+ghost use Rattle.std.specs.IoError.{error_kind};
+ghost use Rattle.devices.specs.CallErrors.{more_errors};
 ghost use Rattle.devices.specs.OpeningCalls.{OpeningCall, opened, locked, synced, measured, got, resized, listed};
 ghost use Rattle.devices.specs.RawCalls.{Adds};
 
 use crate::raw_file::RawFile;
 use std::fs::{File, OpenOptions, TryLockError};
-use std::io::{self, Seek, SeekFrom};
+use std::io::{self, ErrorKind, Seek, SeekFrom};
 use std::os::unix::fs::FileExt;
 use std::path::Path;
 
@@ -59,19 +61,25 @@ pub trait Openable: RawFile {
     fn lock(&mut self, lock: Lock) -> io::Result<LockAnswer>
         ensures ok { IfOk result (λ answer. Adds (opening self.old) (opening self.new) (locked lock answer ∷ [])) }
         ensures err { OnErr result (opening self.new ≡ opening self.old) }
-        ensures calls { Self.calls self.new ≡ Self.calls self.old };
+        ensures calls { Self.calls self.new ≡ Self.calls self.old }
+        ensures went { OnOk result (Self.errors self.new ≡ Self.errors self.old) }
+        ensures failed { OnErr result (Self.errors self.new ≡ option_map (more_errors 1 0) (Self.errors self.old)) };
 
     /// Makes durable all that was done to the file.
     fn sync(&mut self) -> io::Result<()>
         ensures ok { OnOk result (Adds (opening self.old) (opening self.new) (synced ∷ [])) }
         ensures err { OnErr result (opening self.new ≡ opening self.old) }
-        ensures calls { Self.calls self.new ≡ Self.calls self.old };
+        ensures calls { Self.calls self.new ≡ Self.calls self.old }
+        ensures went { OnOk result (Self.errors self.new ≡ Self.errors self.old) }
+        ensures failed { OnErr result (Self.errors self.new ≡ option_map (more_errors 1 0) (Self.errors self.old)) };
 
     /// The number of bytes in the file.
     fn length(&mut self) -> io::Result<u64>
         ensures ok { IfOk result (λ n. Adds (opening self.old) (opening self.new) (measured n ∷ [])) }
         ensures err { OnErr result (opening self.new ≡ opening self.old) }
-        ensures calls { Self.calls self.new ≡ Self.calls self.old };
+        ensures calls { Self.calls self.new ≡ Self.calls self.old }
+        ensures went { OnOk result (Self.errors self.new ≡ Self.errors self.old) }
+        ensures failed { OnErr result (Self.errors self.new ≡ option_map (more_errors 1 0) (Self.errors self.old)) };
 
     /// Reads bytes of the file from the byte `at` on into the front of `into`, as many as the
     /// system gives.
@@ -79,20 +87,31 @@ pub trait Openable: RawFile {
         ensures bound { ReadsAtMost result into.new }
         ensures ok { IfOk result (λ n. Adds (opening self.old) (opening self.new) (got at (take n into.new) ∷ [])) }
         ensures err { OnErr result (opening self.new ≡ opening self.old) }
-        ensures calls { Self.calls self.new ≡ Self.calls self.old };
+        ensures calls { Self.calls self.new ≡ Self.calls self.old }
+        ensures gave { IfOk result (λ n. 0 < n → Self.errors self.new ≡ Self.errors self.old) }
+        ensures nothing { IfOk result (λ n. n ≡ 0 → 0 < length into.old
+            → Self.errors self.new ≡ option_map (more_errors 1 0) (Self.errors self.old)) }
+        ensures interrupted { IfErr result (λ e. error_kind e ≡ ErrorKind.Interrupted
+            → Self.errors self.new ≡ option_map (more_errors 0 1) (Self.errors self.old)) }
+        ensures failed { IfErr result (λ e. error_kind e ≢ ErrorKind.Interrupted
+            → Self.errors self.new ≡ option_map (more_errors 1 0) (Self.errors self.old)) };
 
     /// Cuts the file to this number of bytes, or adds zeros up to it.
     fn resize(&mut self, bytes: u64) -> io::Result<()>
         ensures ok { OnOk result (Adds (opening self.old) (opening self.new) (resized bytes ∷ [])) }
         ensures err { OnErr result (opening self.new ≡ opening self.old) }
-        ensures calls { Self.calls self.new ≡ Self.calls self.old };
+        ensures calls { Self.calls self.new ≡ Self.calls self.old }
+        ensures went { OnOk result (Self.errors self.new ≡ Self.errors self.old) }
+        ensures failed { OnErr result (Self.errors self.new ≡ option_map (more_errors 1 0) (Self.errors self.old)) };
 
     /// Makes durable that the file stands in the folder of `path`, where the system lets that
     /// folder be opened.
     fn sync_folder(&mut self, rt: &HostRuntime, path: &str) -> io::Result<()>
         ensures ok { OnOk result (Adds (opening self.old) (opening self.new) (listed path.now ∷ [])) }
         ensures err { OnErr result (opening self.new ≡ opening self.old) }
-        ensures calls { Self.calls self.new ≡ Self.calls self.old };
+        ensures calls { Self.calls self.new ≡ Self.calls self.old }
+        ensures went { OnOk result (Self.errors self.new ≡ Self.errors self.old) }
+        ensures failed { OnErr result (Self.errors self.new ≡ option_map (more_errors 1 0) (Self.errors self.old)) };
 }
 
 // The answer to a try for a lock.

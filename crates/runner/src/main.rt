@@ -37,7 +37,7 @@ struct Streams<W, V> {
 type StandardError = CountedWriter<Stderr>;
 
 // Standard output, behind a buffer, and standard error.
-type Stdio = Streams<BufferedOutput<Stdout, Global>, StandardError>;
+type Stdio = Streams<BufferedOutput<BufWriter<Stdout, Global>>, StandardError>;
 
 // The fault where the system refused something: that memory ran out, or something else.
 fn of_io(error: &io::Error, otherwise: Fault) -> Fault {

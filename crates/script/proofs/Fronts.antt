@@ -1,7 +1,7 @@
 -- What a writer is left with, put together.
 use Rattle.script.proofs.Names.{nat_tests, ℕ, List, [], Option, Result, Ok, Err, length, take, drop, sym, ap, subst, append_assoc, append-nil, arith}
 use Rattle.script.proofs.Names.{take-append-drop, take_all, length-drop, take-add, Appends-trans, Appends, Keeps, line_of, RunFault, AppendsFront, Writes}
-use Rattle.script.proofs.Names.{Written, Wrote, WroteFront}
+use Rattle.script.proofs.Names.{Appends-kept, Written, Wrote, WroteFront, CountedWriter, written_by}
 use Rattle.std.proofs.Common.{◌≡◌, ◌+◌, ◌-◌, ◌++◌, ◌∙◌}
 
 -- the first n bytes are a beginning
@@ -73,3 +73,11 @@ pub rest_written : (a b c : Written) (r : Result (Unit {0}) RunFault) (bytes : L
 rest_written a b c r bytes n h w =
     let whole : take (length bytes - n) (drop n bytes) ≡ drop n bytes = take_all (length bytes - n) (drop n bytes) (omega (arith, length-drop n bytes)) in
     subst (Writes a c r) (take-append-drop n bytes) (writes_after a b c r (take n bytes) (drop n bytes) h (subst (Writes b c r) whole w))
+
+-- some was written, and no call failed
+pub wrote_some : {W : Type 0} (contents : W → Option (List ℕ)) (a b c : CountedWriter W) (bytes : List ℕ) (n : ℕ)
+    → Appends (contents a.inner) (contents b.inner) (take n bytes) → b.failures.number ≡ a.failures.number
+    → Keeps (contents b.inner) (contents c.inner) → c.failures.number ≡ b.failures.number + 1
+    → WroteFront (written_by contents a) (written_by contents c) bytes
+wrote_some {W} contents a b c bytes n h same kept failed =
+    broke_off (written_by contents a) (written_by contents c) bytes n b.failures.number (Appends-kept _ _ _ _ h kept) same failed

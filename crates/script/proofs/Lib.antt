@@ -1,4 +1,5 @@
 mod Names
+pub mod CallErrors
 pub mod CapabilityTexts
 pub mod CapabilityWords
 mod Commands

@@ -19,7 +19,7 @@ pub use Rattle.model.specs.declared.object.State.TheVariants.{Available, Running
 pub use Rattle.model_laws.proofs.Spelling.{IsSpaceless, decimal_is_word, length-spelling, skip_is_no_command, spelling_from_words, spells_one, split_spaced}
 pub use Rattle.model_laws.proofs.Spelling.{split_spelling}
 pub use Rattle.std.proofs.Common.{Bool, Err, List, None, Ok, Option, Result, Some, [], add-one, ap, append-nil, append_assoc, arith, codes, cond, decimal, drop}
-pub use Rattle.std.proofs.Common.{false, get_or, inl, inr, length, map, not, option_map, refl, rules, subst, suc, sym, take, true, zero, ℕ}
+pub use Rattle.std.proofs.Common.{false, get_or, inl, inr, length, length-take, map, not, option_map, refl, rules, subst, suc, sym, take, true, zero, ℕ}
 pub use Rattle.std.proofs.KnownBytes.{Appends-kept, Appends-trans}
 pub use Rattle.std.proofs.Math.Seq.{take-add, take-suc}
 pub use Rattle.std.proofs.lemmas.Bool.{cases_lt, le-leb, lt-ltb}
@@ -53,6 +53,9 @@ pub use Rattle.script.specs.Named.{access_words, kind_name, object_of}
 unfoldable pub use Rattle.script.specs.Named.{access_at, access_in, capability_at, capability_words, height_at, key_at}
 pub use Rattle.script.specs.Reading.{Gives, Words, first_end, first_word, words_left, words_of}
 unfoldable pub use Rattle.script.specs.Reading.{arguments_at, invocation_at, number_at, number_in, numbers_at, register_at, registers_at}
+pub use Rattle.script.specs.Counted.{written_by}
+pub use Rattle.script.specs.declared.counted.CountedWriter.{CountedWriter}
+pub use Rattle.script.specs.CallErrors.{CallErrors, HasCause, NoneFailed, OneFailed, more_errors}
 pub use Rattle.script.specs.Writing.{AppendsFront, Writes, Written, Wrote, WroteFront}
 pub use Rattle.script.specs.declared.fault.RunFault.{RunFault}
 pub use Rattle.script.specs.declared.keyword.Keyword.{Keyword}
@@ -60,3 +63,5 @@ pub use Rattle.script.specs.declared.keyword.Keyword.TheVariants.{Invoke}
 pub use Rattle.script.specs.declared.line_fault.LineFault.{LineFault}
 pub use Rattle.script.specs.declared.named.Kind.{Kind}
 pub use Rattle.script.specs.declared.named.Kind.TheVariants.{Bank, Discrim, Node, Number, Page, Process, Resume, Space, Start}
+pub use Rattle.std.specs.IoError.{error_kind}
+pub use Rattle.std.specs.declared.io.ErrorKind.TheVariants.{Interrupted}

@@ -1,5 +1,5 @@
 -- A writer whose failures are counted.
-use Rattle.script.specs.Names.{ℕ, List, Option, writer_contents, BufWriter}
+use Rattle.script.specs.Names.{ℕ, List, Option}
 use Rattle.script.specs.Writing.{Written}
 use Rattle.script.specs.declared.counted.CountedWriter.{CountedWriter}
 use Rattle.script.specs.declared.counted.BufferedOutput.{BufferedOutput}
@@ -17,5 +17,5 @@ abbrev pub written_by : {W : Type 0} → (W → Option (List ℕ)) → CountedWr
 written_by contents w = record { contents = contents w.inner; failures = w.failures.number }
 
 -- the buffer beneath, and what it counts
-abbrev pub counted_buffer : {W A : Type 0} → BufferedOutput W A → CountedWriter (BufWriter W A)
+abbrev pub counted_buffer : {B : Type 0} → BufferedOutput B → CountedWriter B
 counted_buffer b = b.counted

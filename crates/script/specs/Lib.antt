@@ -1,5 +1,6 @@
 pub mod Names
 pub mod Answers
+pub mod CallErrors
 pub mod Keywords
 pub mod LineFaults
 pub mod Lines

@@ -1,11 +1,14 @@
 // Writers whose failures are counted.
-ghost use Rattle.std.specs.Prelude.{◌≡◌, ◌+◌, []};
-ghost use Rattle.std.specs.Io.Buffered.{writer_buffer, writer_contents, writer_inner};
+ghost use Rattle.std.specs.Prelude.{◌≡◌, ◌<◌, ◌≤◌, ◌+◌, [], length, take, IfOk, IfErr, OnErr, OnOk};
+ghost use Rattle.std.specs.Io.Buffered.{writer_inner};
+ghost use Rattle.std.specs.Io.KnownBytes.{Appends, Keeps};
+ghost use Rattle.script.specs.CallErrors.{HasCause};
 ghost use Rattle.script.specs.Counted.{counted_buffer, failed_writes, inner_writer, written_by};
 ghost use Rattle.script.specs.Writing.{Writes};
 
 use crate::fault::RunFault;
 use crate::output::Output;
+use crate::raw_writer::{RawBuffer, RawWriter};
 use collections::Tally;
 use std::alloc::Allocator;
 use std::io::{BufWriter, ErrorKind, Write};
@@ -17,7 +20,7 @@ pub struct CountedWriter<W> {
     failures: Tally,
 }
 
-impl<W: Write> CountedWriter<W> {
+impl<W: RawWriter> CountedWriter<W> {
     /// Writes to `inner`. No call has failed yet.
     pub fn new(inner: W) -> CountedWriter<W>
         ensures inner { inner_writer result ≡ inner }
@@ -53,20 +56,21 @@ impl<W: Write> CountedWriter<W> {
         RunFault::Write
     }
 
-    // Writes all of the text, with as many calls as the writer needs.
-    #[tactic(auto, using(crate::proofs::Fronts::taken_all, crate::proofs::Fronts::took_more))]
-    #[inline(never)]
-    fn write_rest(&mut self, text: &[u8]) -> Result<(), RunFault>
-        ensures { Writes (written_by W.contents self.old) (written_by W.contents self.new) result text.now }
+    // Writes a beginning of the text, at least a byte. An interrupted call is made again.
+    fn write_some(&mut self, text: &[u8]) -> Result<usize, RunFault>
+        requires { 0 < length text.now }
+        ensures count { IfOk result (λ n. (0 < n) × (n ≤ length text.now)) }
+        ensures taken { IfOk result (λ n. Appends (W.held self.old.inner) (W.held self.new.inner) (take n text.now)) }
+        ensures none_taken { OnErr result (Keeps (W.held self.old.inner) (W.held self.new.inner)) }
+        ensures fault { IfErr result (λ e. e ≡ RunFault.Write) }
+        ensures ok { OnOk result (self.new.failures.number ≡ self.old.failures.number) }
+        ensures err { OnErr result (self.new.failures.number ≡ self.old.failures.number + 1) }
+        ensures cause { HasCause (W.errors self.old.inner) (W.errors self.new.inner) result }
     {
-        let mut done = 0;
-        for _ in 0..u64::MAX {
-            if done == text.len() {
-                return Ok(());
-            }
-            match self.inner.write(&text[done..]) {
+        for tries in 0..u64::MAX {
+            match self.inner.put(text) {
                 Ok(0) => return Err(self.fail()),
-                Ok(count) => done += count,
+                Ok(count) => return Ok(count),
                 Err(error) => {
                     if error.kind() != ErrorKind::Interrupted {
                         return Err(self.fail());
@@ -76,17 +80,34 @@ impl<W: Write> CountedWriter<W> {
         }
         Err(self.fail())
     }
+
+    // Writes all of the text, with as many calls as the writer needs.
+    #[tactic(auto, using(crate::proofs::Fronts::taken_all, crate::proofs::Fronts::took_more))]
+    #[inline(never)]
+    fn write_rest(&mut self, text: &[u8]) -> Result<(), RunFault>
+        ensures written { Writes (written_by W.held self.old) (written_by W.held self.new) result text.now }
+        ensures cause { HasCause (W.errors self.old.inner) (W.errors self.new.inner) result }
+    {
+        let mut done = 0;
+        while done < text.len() {
+            done += self.write_some(&text[done..])?;
+        }
+        Ok(())
+    }
 }
 
-impl<W: Write> Output for CountedWriter<W> {
-    ghost written = { written_by W.contents };
+impl<W: RawWriter> Output for CountedWriter<W> {
+    ghost written = { written_by W.held };
 
     ghost waiting = { λ _. [] };
 
     // Mostly it makes one call.
     #[inline(always)]
-    fn write_fully(&mut self, text: &[u8]) -> Result<(), RunFault> {
-        match self.inner.write(text) {
+    fn write_fully(&mut self, text: &[u8]) -> Result<(), RunFault>
+        ensures written { Writes (written_by W.held self.old) (written_by W.held self.new) result text.now }
+        ensures cause { HasCause (W.errors self.old.inner) (W.errors self.new.inner) result }
+    {
+        match self.inner.put(text) {
             Ok(count) => {
                 if count == text.len() {
                     return Ok(());
@@ -112,13 +133,13 @@ impl<W: Write> Output for CountedWriter<W> {
 
 /// A writer behind a buffer, with a count of the calls that failed.
 #[derive(Drop)]
-pub struct BufferedOutput<W: Write + Drop, A: Allocator> {
-    counted: CountedWriter<BufWriter<W, A>>,
+pub struct BufferedOutput<B: RawBuffer> {
+    counted: CountedWriter<B>,
 }
 
-impl<W: Write + Drop, A: Allocator> BufferedOutput<W, A> {
+impl<W: Write + Drop, A: Allocator> BufferedOutput<BufWriter<W, A>> {
     /// Writes to the buffer. No call has failed yet.
-    pub fn new(buffer: BufWriter<W, A>) -> BufferedOutput<W, A>
+    pub fn new(buffer: BufWriter<W, A>) -> BufferedOutput<BufWriter<W, A>>
         ensures inner { inner_writer (counted_buffer result) ≡ buffer }
         ensures failures { failed_writes (counted_buffer result) ≡ 0 }
     {
@@ -135,18 +156,25 @@ impl<W: Write + Drop, A: Allocator> BufferedOutput<W, A> {
     }
 }
 
-impl<W: Write + Drop, A: Allocator> Output for BufferedOutput<W, A> {
-    ghost written = { λ b. written_by (writer_contents W.contents) b.counted };
+impl<B: RawBuffer> Output for BufferedOutput<B> {
+    ghost written = { λ b. written_by B.held b.counted };
 
-    ghost waiting = { λ b. writer_buffer b.counted.inner };
+    ghost waiting = { λ b. B.buffered b.counted.inner };
 
     #[inline(always)]
-    fn write_fully(&mut self, text: &[u8]) -> Result<(), RunFault> {
+    fn write_fully(&mut self, text: &[u8]) -> Result<(), RunFault>
+        ensures written { Writes (written_by B.held self.old.counted) (written_by B.held self.new.counted) result text.now }
+        ensures cause { HasCause (B.errors self.old.counted.inner) (B.errors self.new.counted.inner) result }
+    {
         self.counted.write_fully(text)
     }
 
-    fn pass_on(&mut self) -> Result<(), RunFault> {
-        match self.counted.inner.flush() {
+    fn pass_on(&mut self) -> Result<(), RunFault>
+        ensures bytes { Writes (written_by B.held self.old.counted) (written_by B.held self.new.counted) result [] }
+        ensures none_waits { OnOk result (B.buffered self.new.counted.inner ≡ []) }
+        ensures cause { HasCause (B.errors self.old.counted.inner) (B.errors self.new.counted.inner) result }
+    {
+        match self.counted.inner.pass() {
             Ok(()) => Ok(()),
             Err(_) => Err(self.counted.fail()),
         }

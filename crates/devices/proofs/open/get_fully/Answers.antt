@@ -1,27 +1,29 @@
-use Rattle.devices.proofs.Names.{nat_tests, arith, option_map, refl, ap, resizes}
+use Rattle.devices.proofs.Names.{nat_tests, arith, err_from_is_err_and}
 use Rattle.std.proofs.Common.{◌∙◌}
-use Rattle.devices.proofs.Openings.{fits_within, still_within, gets_on, gets_still, keeps_length}
+use Rattle.devices.proofs.CallErrors.{none_trans, one_after}
+use Rattle.devices.proofs.Openings.{fits_within, gets_on}
 use Rattle.devices.proofs.open.get_fully.Goals as goal
-use Rattle.devices.proofs.open.get_fully.Goals.{in-Ok, in-Err+else-ne}
 
-pub loop-preserved : goal.loop-preserved
-loop-preserved g c =
-    let old = c.loop.into in
-    let got = c.get.new.into in
-    elim c.match-get.branch [
-      | in-Ok w ↦ record {
-        within = grind (arith, nat_tests, fits_within);
-        bytes = rw w.done-is
-            (gets_on c.args.at _ _ old got c.loop.done _ c.loop.invariant.within c.loop.invariant.bytes _ w.in-Ok.count w.in-Ok.ensures.bound.0
-            w.in-Ok.ensures.ok);
-        length_kept = keeps_length _ _ _ w.in-Ok.ensures.ok refl ∙ c.loop.invariant.length_kept;
-        calls = w.in-Ok.ensures.calls ∙ c.loop.invariant.calls;
-      }
-      | in-Err+else-ne w ↦ record {
-        within = rw w.done-is (still_within c.args.at _ _ old got c.loop.done _ c.loop.invariant.within c.loop.invariant.bytes);
-        bytes = rw (w.done-is, w.in-Err.ensures.err)
-            (gets_still c.args.at _ _ old got c.loop.done _ c.loop.invariant.within c.loop.invariant.bytes);
-        length_kept = ap (option_map resizes) w.in-Err.ensures.err ∙ c.loop.invariant.length_kept;
-        calls = w.in-Err.ensures.calls ∙ c.loop.invariant.calls;
-      }
-    ]
+pub loop-done-preserved : goal.loop-done-preserved
+loop-done-preserved g c =
+    let old = c.loop-done.into in
+    let got = c.get_some.new.into in
+    record {
+      within = grind (arith, nat_tests, fits_within);
+      bytes =
+          gets_on c.args.at _ _ old got c.loop-done.done _ c.loop-done.invariant.within c.loop-done.invariant.bytes _ c.in_ok-done.field-0
+          c.in_ok-done.ensures.bound.1 c.in_ok-done.ensures.ok;
+      length_kept = c.in_ok-done.ensures.length ∙ c.loop-done.invariant.length_kept;
+      none_failed =
+          none_trans (g.F.RawFile.errors c.args.file.now) (g.F.RawFile.errors c.loop-done.file) _ c.loop-done.invariant.none_failed
+          c.in_ok-done.ensures.cause;
+      calls = c.in_ok-done.ensures.calls ∙ c.loop-done.invariant.calls;
+    }
+
+pub returns-in_err-done-clause-length : goal.returns-in_err-done-clause-length
+returns-in_err-done-clause-length g c = c.in_err-done.ensures.length ∙ c.loop-done.invariant.length_kept
+
+pub returns-in_err-done-clause-cause : goal.returns-in_err-done-clause-cause
+returns-in_err-done-clause-cause g c =
+    let p = err_from_is_err_and c.from_residual.result c.from_residual.ensures.1 in
+    rw p.1 (one_after _ _ _ c.loop-done.invariant.none_failed c.in_err-done.ensures.cause)
