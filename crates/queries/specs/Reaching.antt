@@ -17,7 +17,7 @@ pub record IsSetText (os : List Object) (starts : List ℕ) (text : List ℕ) : 
   pub bounds : BoundsRuns os (is_marked marks)
   pub spelled : text ≡ reach_text os marks
 
--- the text of a shortest chain to an object that there is, or that it is out of reach: outside the least closed set
+-- the text of a shortest chain to an object that there is, or that there is none: it is outside the least closed set
 pub record IsChainText (os : List Object) (starts : List ℕ) (o : ℕ) (text : List ℕ) : Type 0 where
   pub there : is_free (content_at os o) ≡ false
   pub chain : Option (Vec Step Global)

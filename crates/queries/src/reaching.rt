@@ -86,7 +86,7 @@ fn tell_reach<W: Output>(
 
 /// Opens a device as a run does, and writes what some processes can ever change: the least closed set
 /// of numbers that contains them. With `shows` it instead writes a shortest chain of steps to that
-/// object, or `out of reach` if the set doesn't contain it. Then the status is 0.
+/// object, or `cannot change` with its kind and number if the set doesn't contain it. Then the status is 0.
 ///
 /// After a fault one line is written to `errors`, and the status is 1:
 /// - `bad image` with a number from 1 to 10, `device failed` or `no memory`;

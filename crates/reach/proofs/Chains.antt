@@ -1,14 +1,22 @@
--- Chains lead to what was found, and nowhere else; closed sets are those that no step leaves.
+-- Chains lead to what was found, and nowhere else. What was found is the least closed set: closed sets are those that no step leaves.
 use Rattle.reach.proofs.Names.{nat_tests, ℕ, Bool, true, false, is_some, Option, None, Some, List, [], length, reverse, option_and_then, inl, inr, ⊎_elim, refl}
 use Rattle.reach.proofs.Names.{sym, ap, subst, arith, IsTrue, All, cases_eq, length-reverse, length_push, reverse-append, same_Some, Capability, Void, Page}
 use Rattle.reach.proofs.Names.{Node, Space, Process, Start, Resume, Bank, Content, Object, IsClosed, StaysInside, slots_in, annex_at, content_at, root_at}
 use Rattle.reach.proofs.Names.{Found, Levels, Step, Way, Conveys, IsChain, IsPath, IsShortest, IsStep, IsWay, held_by, StepsAreAuthority, IsAfter, IsFoundIn}
-use Rattle.reach.proofs.Names.{IsFrom, IsSearched, found_at, IsReach, slice_index_or}
+use Rattle.reach.proofs.Names.{IsFrom, IsSearched, found_at, IsReach, slice_index_or, IsWeak, named, BoundsRuns, run_confined}
+use Rattle.std.specs.Prelude.{suc, zero}
 use Rattle.std.proofs.Common.{◌≡◌, ◌+◌, ◌<◌, ◌∷◌, ◌++◌, ◌∙◌}
 use Rattle.model.specs.declared.object.Content.TheVariants as content
 use Rattle.reach.specs.declared.step.Way.TheVariants as way
 use Rattle.reach.proofs.Finding.{some_of}
-use Rattle.reach.proofs.Growing.{named_inside}
+
+-- a number that is named is in a set
+abbrev IsIn : (ℕ → Bool) → Option ℕ → Type 0
+IsIn other o = elim o [ None ↦ Unit {0} | Some m ↦ IsTrue (other m) ]
+
+-- what a capability conveys is in each set that it stays inside
+named_inside : (other : ℕ → Bool) (c : Capability) (n : ℕ) → (IsWeak c → ⊥) → named c ≡ Some n → StaysInside other c → IsTrue (other n)
+named_inside other c n strong is stays = ⊎_elim (λ weak. absurd (strong weak)) (λ inside. subst (IsIn other) is inside) stays
 
 -- a capability stays inside a set where all that it conveys is in it
 stays_inside : (inside : ℕ → Bool) (c : Capability) → ((m : ℕ) → Conveys c m → IsTrue (inside m)) → StaysInside inside c
@@ -50,16 +58,16 @@ module _ (os : List Object) (inside : ℕ → Bool) (closed : IsClosed os inside
   pub step_inside : (s : Step) → IsStep os s → IsTrue (inside s.from) → IsTrue (inside s.to)
   step_inside s by member = search (arith, named_inside, held_inside)
 
-  path_inside : (ss : List Step) (n m : ℕ) → IsPath os n ss m → IsTrue (inside n) → IsTrue (inside m)
-  path_inside [] n m path member = subst (λ (k : ℕ). IsTrue (inside k)) path member
-  path_inside (s ∷ ss) n m path member = path_inside ss s.to m path.2 (step_inside s path.1 (subst (λ (k : ℕ). IsTrue (inside k)) (sym path.0) member))
-
-  -- so a chain stays in each closed set that contains its beginnings
-  pub chain_inside : (starts : List ℕ) (steps : List Step) (o : ℕ) → All (λ p. IsTrue (inside p)) starts → IsChain os starts steps o → IsTrue (inside o)
-  chain_inside starts steps o begins chain = grind (arith, nat_tests, path_inside)
-
 pub steps_are_authority : StepsAreAuthority
 steps_are_authority os inside = (λ closed. step_inside os inside closed, λ continues. closed_by_steps os inside continues)
+
+same_truth : (a b : Bool) → (IsTrue a → IsTrue b) → (IsTrue b → IsTrue a) → a ≡ b
+same_truth true b there back = sym (there refl)
+same_truth false true there back = back refl
+same_truth false false there back = refl
+
+pub bounds_runs : (os : List Object) (inside : ℕ → Bool) → IsClosed os inside → BoundsRuns os inside
+bounds_runs os inside closed = grind (arith, nat_tests, run_confined)
 
 -- the steps back from an object
 pub record IsBack (os : List Object) (l : Levels) (o at : ℕ) (steps : List Step) : Type 0 where
@@ -89,20 +97,36 @@ module _ (os : List Object) (starts : List ℕ) (level : ℕ) (l : Levels) (over
   some_found : (n : ℕ) → IsTrue (is_some (found_at l n)) → (f : Found) × (found_at l n ≡ Some f)
   some_found n is = some_of (found_at l n) is
 
-  -- what was found is a closed set with the first numbers
-  found_closed : IsClosed os (λ n. is_some (found_at l n))
-  found_closed = closed_by_steps os (λ n. is_some (found_at l n)) (grind (arith, nat_tests, some_found, continues_on, found_some))
+  -- it is in each closed set that contains the first numbers
+  found_inside : (other : ℕ → Bool) → IsClosed os other → All (λ p. IsTrue (other p)) starts → (k n : ℕ) (f : Found) → found_at l n ≡ Some f → f.level < k
+      → IsTrue (other n)
+  found_inside other closed begins zero n f is lt = absurd (omega (arith, lt))
+  found_inside other closed begins (suc k) n f is lt =
+      ⊎_elim (λ first. subst (λ (m : ℕ). IsTrue (other m)) first.1.2 (begins first.1.0 n first.1.1)) (λ after. subst (λ (m : ℕ). IsTrue (other m)) after.to
+      (step_inside os other closed after.step after.step_is
+      (found_inside other closed begins k after.step.from after.before after.from (omega (arith, lt, after.level))))) (searched.linked n f is)
 
-  pub reached_found : (inside : ℕ → Bool) (o : ℕ) → IsReach os starts inside → IsTrue (inside o) → IsTrue (is_some (found_at l o))
-  reached_found inside o reach member = reach.least (λ n. is_some (found_at l n)) found_closed
-      (λ k d lt. let found = searched.begins k d lt in found_some _ _ found.1) o member
+  -- so it is the least of them
+  pub is_reach : (inside : ℕ → Bool) → ((n : ℕ) → inside n ≡ is_some (found_at l n)) → IsReach os starts inside
+  is_reach inside same = record {
+    closed = closed_by_steps os inside (λ s step member.
+        let from = some_found s.from (sym (same s.from) ∙ member) in
+        let to = continues_on s.from from.0.level (from.0, from.1, omega arith) s (refl, step) in
+        same s.to ∙ found_some s.to to.0 to.1);
+    begins = λ k d lt. let found = searched.begins k d lt in same _ ∙ found_some _ found.0 found.1;
+    least = λ other closed begins n member.
+        let found = some_found n (sym (same n) ∙ member) in
+        found_inside other closed begins (found.0.level + 1) n found.0 found.1 (omega arith);
+  }
 
-  module _ (o : ℕ) (none : is_some (found_at l o) ≡ false) where
-    pub no_chain : (steps : List Step) → IsChain os starts steps o → ⊥
-    no_chain steps chain = let found = found_by_chain _ _ chain in let wrong : false ≡ true = sym none ∙ found_some _ _ found.1 in cc
+  -- as there is only one
+  pub only_reach : (inside : ℕ → Bool) → IsReach os starts inside → (o : ℕ) → inside o ≡ is_some (found_at l o)
+  only_reach inside reach o =
+      let found = is_reach (λ n. is_some (found_at l n)) (λ n. refl) in
+      same_truth _ _ (reach.least _ found.closed found.begins o) (found.least inside reach.closed reach.begins o)
 
-    pub not_reached : (inside : ℕ → Bool) → IsReach os starts inside → inside o ≡ false
-    not_reached inside reach = grind (arith, nat_tests, reached_found)
+  pub no_chain : (o : ℕ) → is_some (found_at l o) ≡ false → (steps : List Step) → IsChain os starts steps o → ⊥
+  no_chain o none steps chain = let found = found_by_chain _ _ chain in let wrong : false ≡ true = sym none ∙ found_some _ _ found.1 in cc
 
   pub back_first : (o : ℕ) → is_some (found_at l o) ≡ true → IsBack os l o o []
   back_first o some = grind (arith, nat_tests)

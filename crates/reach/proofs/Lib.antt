@@ -1,8 +1,6 @@
 mod Names
 mod Chains
-mod ClosedSets
 mod Finding
-mod Growing
 pub mod Members
 mod Searches
 mod TextLines

@@ -1,7 +1,7 @@
 -- What a member of a closed set holds, in a sound world.
 use Rattle.reach.proofs.Names.{nat_tests, ℕ, zero, suc, Bool, false, List, [], length, refl, sym, ap, subst, arith, IsTrue, All, get_or_default, Capability}
 use Rattle.reach.proofs.Names.{Void, Page, Node, Space, Process, Start, Resume, Bank, Content, Object, Root, StaysInside, free, is_bank, is_node, is_page}
-use Rattle.reach.proofs.Names.{is_root, root_in, slots_in, NamesItsKind, content_at, slot_at, NamesWithin, AreSoundObjects, IsClosedAt}
+use Rattle.reach.proofs.Names.{is_root, root_in, slots_in, NamesItsKind, content_at, slot_at, NamesWithin, AreSoundObjects}
 use Rattle.std.specs.Prelude.{slice_index_or}
 use Rattle.std.proofs.Common.{◌≡◌, ◌<◌, ◌∷◌, ◌∙◌}
 use Rattle.model.specs.declared.object.Content.TheVariants as content
@@ -29,20 +29,3 @@ pub slots_known : (os : List Object) (n count : ℕ) (slots : List Capability) �
     All (NamesWithin count) slots
 slots_known os n count slots sound same is k d lt =
     rw same (rw (← slot_is os n slots is k d lt) (search (arith, known, (slot_at os n k), (sound.2.slots n k).1)))
-
-pub slots_stay : (os : List Object) (n : ℕ) (slots : List Capability) (other : ℕ → Bool) → slots_in (content_at os n) ≡ slots → IsClosedAt os other n →
-    All (StaysInside other) slots
-slots_stay os n slots other is closed k d lt = subst (StaysInside other) (slot_is os n slots is k d lt) (closed.slots k)
-
--- of a root
-pub annex_inside : (os : List Object) (n : ℕ) (root : Root Capability) (other : ℕ → Bool) → content_at os n ≡ content.Root root → IsClosedAt os other n →
-    IsTrue (other root.annex)
-annex_inside os n root other is closed = grind (arith, nat_tests)
-
-pub space_inside : (os : List Object) (n : ℕ) (root : Root Capability) (other : ℕ → Bool) → content_at os n ≡ content.Root root → IsClosedAt os other n →
-    StaysInside other root.space
-space_inside os n root other is closed = subst (StaysInside other) (ap (λ (x : Content Capability). (root_in x).space) is) closed.space
-
--- and of a bank
-pub bank_is : (os : List Object) (n limit : ℕ) → content_at os n ≡ content.Bank limit → IsTrue (is_bank (content_at os n))
-bank_is os n limit is = subst (λ (x : Content Capability). IsTrue (is_bank x)) (sym is) refl

@@ -18,8 +18,8 @@ pub use Rattle.script.proofs.Fronts.{first_front, second_front, text_fails, writ
 pub use Rattle.script.proofs.NumberedLines.{lines_all, lines_more, lines_split}
 pub use Rattle.script.specs.Writing.{Writes, Wrote}
 pub use Rattle.std.proofs.Common.{Bool, Err, List, None, Option, Some, Vec, [], add-one, ap, append-nil, append_assoc, arith, codes, decimal, drop, false}
-pub use Rattle.std.proofs.Common.{get_or, inl, inr, is_some, length, length-set, max, nat_eq, not, option_and_then, refl, replicate, reverse, rules}
-pub use Rattle.std.proofs.Common.{slice_index_or, slice_set, subst, suc, sym, take, true, zero, ℕ, ⊎_elim}
+pub use Rattle.std.proofs.Common.{get_or, inl, inr, is_some, length, length-set, max, not, option_and_then, refl, replicate, reverse, rules, slice_index_or}
+pub use Rattle.std.proofs.Common.{slice_set, subst, suc, sym, take, true, zero, ℕ, ⊎_elim}
 pub use Rattle.std.proofs.Math.Seq.{take-suc}
 pub use Rattle.std.proofs.lemmas.Bool.{cases_eq, cases_lt}
 pub use Rattle.std.proofs.lemmas.Bool.Decides.{nat_tests}
@@ -34,15 +34,13 @@ pub use Rattle.std.specs.declared.alloc.Global.{Global}
 pub use Rattle.reach.specs.Chain.{Conveys, IsChain, IsPath, IsShortest, IsStep, IsWay, held_by}
 pub use Rattle.reach.specs.ChainLines.{step_line}
 unfoldable pub use Rattle.reach.specs.ChainLines.{chain_text}
-pub use Rattle.reach.specs.Frontier.{Grows, HasNoneLeft, IsDone, IsWithin, NamesWithin, Takes}
 pub use Rattle.reach.specs.Laws.{StepsAreAuthority}
 pub use Rattle.reach.specs.Levels.{Begins, FindsBy, IsAfter, IsAt, IsBy, IsFirst, IsFoundBy, IsFoundIn, IsFrom, IsFromLevel, IsHeldIn, IsOwnedBelow, IsSearched}
-pub use Rattle.reach.specs.Levels.{IsTheStep, found_at, has_level}
+pub use Rattle.reach.specs.Levels.{IsTheStep, NamesWithin, found_at, has_level}
 pub use Rattle.reach.specs.Lines.{member_line, member_pulls, pull_line, words_of}
 unfoldable pub use Rattle.reach.specs.Lines.{reach_text}
 pub use Rattle.reach.specs.Missing.{missing}
-pub use Rattle.reach.specs.Reached.{AreSoundObjects, BoundsRuns, IsClosedAt, IsReach}
-pub use Rattle.reach.specs.declared.frontier.Frontier.{Frontier}
+pub use Rattle.reach.specs.Reached.{AreSoundObjects, BoundsRuns, IsReach}
 pub use Rattle.reach.specs.declared.levels.Found.{Found}
 pub use Rattle.reach.specs.declared.levels.Levels.{Levels}
 pub use Rattle.reach.specs.declared.step.Step.{Step}

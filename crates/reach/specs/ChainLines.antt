@@ -36,6 +36,10 @@ step_line os s = line_of (step_text os s.from s.way s.to)
 abbrev pub steps_text : List Object → List Step → ℕ → List ℕ
 steps_text os steps o = flat_map (step_line os) steps ++ line_of (spaced (words_of o (object_at os o)))
 
+-- without a chain `cannot change page 48`
+abbrev pub unchanged_text : List Object → ℕ → List ℕ
+unchanged_text os o = spaced (codes "cannot change" ∷ kind_of (content_at os o) ∷ decimal o ∷ [])
+
 unfoldable pub chain_text : List Object → ℕ → Option (Vec Step Global) → List ℕ
-chain_text os o None = line_of (codes "out of reach")
+chain_text os o None = line_of (unchanged_text os o)
 chain_text os o (Some steps) = steps_text os steps.items o

@@ -1,6 +1,6 @@
 -- Numbers that were found, level by level. No public clause cites this.
 use Rattle.reach.specs.Names.{ℕ, Bool, false, Option, None, Some, List, length, slice_index_or, All, Contains}
-use Rattle.reach.specs.Names.{Capability, Void, Object, is_free, content_at, owner_at}
+use Rattle.reach.specs.Names.{Capability, Void, Object, is_free, named, content_at, owner_at}
 use Rattle.std.specs.Prelude.{◌≡◌, ◌⊎◌, ◌==◌, ◌+◌, ◌<◌, ◌≤◌}
 use Rattle.reach.specs.declared.levels.Found.{Found}
 use Rattle.reach.specs.declared.levels.Levels.{Levels}
@@ -57,6 +57,10 @@ pub record FindsBy (By : Step → Type 0) (level : ℕ) (old new : Levels) : Typ
   pub later : old.greatest ≤ new.greatest
   pub within : (n : ℕ) (f : Found) → found_at new n ≡ Some f → (found_at old n ≡ Some f) ⊎ (f.level ≤ new.greatest)
   pub work : missing new.found.items + new.greatest ≤ missing old.found.items + old.greatest
+
+-- a capability names one of the first `count` numbers, or nothing
+abbrev pub NamesWithin : ℕ → Capability → Type 0
+NamesWithin count c = elim (named c) [ None ↦ Unit {0} | Some n ↦ n < count ]
 
 -- a step, those by a capability, by those of a list, and from a bank to what it owns
 abbrev pub IsTheStep : Step → Step → Type 0

@@ -1,7 +1,6 @@
 pub mod Names
 pub mod Chain
 pub mod ChainLines
-pub mod Frontier
 pub mod Laws
 pub mod Levels
 pub mod Lines

@@ -1,7 +1,6 @@
 -- What is in reach of processes.
-use Rattle.reach.specs.Names.{ℕ, Bool, false, List, IsTrue, All, Geometry, Object, IsClosed, StaysInside, Running, Up}
-use Rattle.reach.specs.Names.{is_bank, is_free, IsRun, Turn, IsSound, annex_at, content_at, is_process, object_at}
-use Rattle.reach.specs.Names.{owner_at, root_at, slot_at, AreBy, IsKept, with_free}
+use Rattle.reach.specs.Names.{ℕ, Bool, false, List, IsTrue, All, Geometry, Object, IsClosed, Running, Up, IsRun, Turn}
+use Rattle.reach.specs.Names.{IsSound, object_at, AreBy, IsKept, with_free}
 use Rattle.std.specs.Prelude.{◌≡◌}
 
 -- objects of a sound world
@@ -22,11 +21,3 @@ BoundsRuns os inside = (g : Geometry) (s t : Running) (turns : List Turn) → s.
     IsRun g (Up s) turns (Up t) →
     AreBy (with_free os inside) turns → (n : ℕ) → with_free os inside n ≡ false →
     IsKept inside (object_at os n) (object_at t.now.objects n)
-
--- what a closed set has to contain for one of its members. No public clause cites this.
-pub record IsClosedAt (os : List Object) (inside : ℕ → Bool) (n : ℕ) : Type 0 where
-  pub annexes : IsTrue (is_process os n) → IsTrue (inside (annex_at os n))
-  pub owned : IsTrue (is_bank (content_at os n)) → (m : ℕ) → is_free (content_at os m) ≡ false → owner_at os m ≡ n →
-      IsTrue (inside m)
-  pub slots : (i : ℕ) → StaysInside inside (slot_at os n i)
-  pub space : StaysInside inside (root_at os n).space

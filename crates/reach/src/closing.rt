@@ -4,8 +4,7 @@ ghost use Rattle.std.specs.List.{All};
 ghost use Rattle.collections.specs.Marks.{is_marked};
 ghost use Rattle.reach.specs.Reached.{AreSoundObjects, BoundsRuns, IsReach};
 
-use crate::following::follow_member;
-use crate::frontier::Frontier;
+use crate::searching::search;
 use collections::NumberSet;
 use model::Object;
 use std::alloc::{AllocError, Global};
@@ -26,12 +25,7 @@ pub fn reach(alloc: Global, objects: &[Object], starts: &[u64]) -> Result<Number
     ensures count { IfOk result (λ inside. length inside ≡ length objects.now) }
     ensures bounds { IfOk result (λ inside. BoundsRuns objects.now (is_marked inside)) }
 {
-    let mut frontier = Frontier::new(alloc, objects.len())?;
-    for start in starts {
-        frontier.add(*start);
-    }
-    while let Some(number) = frontier.take() {
-        follow_member(&mut frontier, objects, number);
-    }
-    Ok(frontier.into_found())
+    let levels = search(alloc, objects, starts)?;
+    let inside = levels.numbers(alloc)?;
+    Ok(inside)
 }

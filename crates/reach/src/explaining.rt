@@ -5,6 +5,7 @@ ghost use Rattle.model.specs.Text.{line_of, spaced};
 ghost use Rattle.model.specs.World.{content_at, object_at};
 ghost use Rattle.script.specs.Writing.{Writes};
 ghost use Rattle.reach.specs.ChainLines.{chain_text, kind_of, place_of, step_line, step_text, steps_text};
+ghost use Rattle.reach.specs.ChainLines.{unchanged_text};
 ghost use Rattle.reach.specs.Lines.{words_of};
 ghost use Rattle.reach.specs.declared.step.Way.TheVariants.{Owner};
 
@@ -123,8 +124,18 @@ fn print_to<W: Output>(
     print_object(objects, object, writer)
 }
 
+// The line of an object to which no chain leads.
+fn line_of_unchanged(objects: &[Object], number: u64) -> LineText
+    ensures text { result ≡ unchanged_text objects.now number }
+    ensures short { length result < 320 }
+{
+    let mut line = LineText::new(b"cannot change");
+    line.named(kind_at(objects, number), number);
+    line
+}
+
 /// Writes a chain to an object: a line for each step, first step first, and the line of the object as
-/// `show` begins it. Without a chain it writes the line `out of reach`.
+/// `show` begins it. Without a chain it writes `cannot change` with the object's kind and number.
 ///
 /// `RunFault::Write` if the writer fails or takes nothing: then a beginning of that text was written.
 /// It takes no memory.
@@ -139,6 +150,6 @@ pub fn print_chain<W: Output>(
 {
     match chain {
         Some(steps) => print_to(objects, object, steps, writer),
-        None => LineText::new(b"out of reach").write_to(writer),
+        None => line_of_unchanged(objects, object).write_to(writer),
     }
 }

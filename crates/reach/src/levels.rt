@@ -1,6 +1,7 @@
 // The numbers that were found, and in how many steps each.
 
 use crate::step::Step;
+use collections::NumberSet;
 use std::alloc::{AllocError, Global};
 
 /// How a number was found: in `level` steps, and by which one at last.
@@ -20,6 +21,7 @@ pub(crate) struct Levels {
 
 impl Levels {
     ghost use Rattle.std.specs.Prelude.{◌≡◌, ℕ, ◌+◌, ◌<◌, ◌≤◌, None, length, replicate, is_some, option_and_then, IfOk};
+    ghost use Rattle.collections.specs.Marks.{is_marked};
     ghost use Rattle.reach.specs.Levels.{Begins, FindsBy, IsTheStep, found_at, has_level};
 
     /// None of `count` numbers. Fails only if memory runs out.
@@ -78,6 +80,20 @@ impl Levels {
             Some(found) => found.is_some(),
             None => false,
         }
+    }
+
+    /// The numbers that were found. Fails only if memory runs out.
+    pub(crate) fn numbers(&self, alloc: Global) -> Result<NumberSet, AllocError>
+        ensures count { IfOk result (λ inside. length inside ≡ length self.now.found.items) }
+        ensures each { IfOk result (λ inside. (n : ℕ) → is_marked inside n ≡ is_some (found_at self.now n)) }
+    {
+        let mut inside = NumberSet::new(alloc, self.found.len())?;
+        for (number, found) in self.found.iter().enumerate() {
+            if found.is_some() {
+                inside.set(number, true);
+            }
+        }
+        Ok(inside)
     }
 
     /// Whether a number was found at a level.

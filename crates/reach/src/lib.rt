@@ -6,8 +6,6 @@ mod authority;
 mod chaining;
 mod closing;
 mod explaining;
-mod following;
-mod frontier;
 pub mod laws;
 mod levels;
 mod printing;

@@ -1,14 +1,14 @@
 // The search, level by level.
-ghost use Rattle.std.specs.Prelude.{◌≡◌, ℕ, ◌+◌, ◌<◌, ◌≤◌, length, IfOk};
+ghost use Rattle.std.specs.Prelude.{◌≡◌, ◌↔◌, ℕ, ◌+◌, ◌<◌, ◌≤◌, false, length, IfOk, IsTrue};
 ghost use Rattle.std.specs.List.{All};
 ghost use Rattle.model.specs.declared.object.Content.TheVariants as content;
+ghost use Rattle.model.specs.Object.{is_free};
 ghost use Rattle.model.specs.World.{content_at};
-ghost use Rattle.reach.specs.Frontier.{NamesWithin};
 ghost use Rattle.reach.specs.Levels.{FindsBy, IsBy, IsFrom, IsFromLevel, IsHeldIn, IsOwnedBelow, IsSearched};
+ghost use Rattle.reach.specs.Levels.{NamesWithin};
 ghost use Rattle.reach.specs.Reached.{AreSoundObjects};
 
 use crate::authority::authority;
-use crate::following::is_owned;
 use crate::levels::Levels;
 use crate::printing::slots_of;
 use crate::step::{Step, Way};
@@ -39,6 +39,16 @@ fn find_held(levels: &mut Levels, from: u64, slots: &[Capability], level: u64)
             capability: *capability,
         };
         find(levels, from, way, *capability, level);
+    }
+}
+
+// Whether an object is owned by a bank.
+fn is_owned(object: &Object, bank: u64) -> bool
+    ensures { IsTrue result ↔ ((is_free object.now.content ≡ false) × (object.now.owner ≡ bank)) }
+{
+    match object.content {
+        Content::Free => false,
+        _ => object.owner == bank,
     }
 }
 

@@ -1,6 +1,6 @@
 use Rattle.reach.proofs.Names.{reverse, refl, rules, sym}
-use Rattle.std.proofs.Common.{◌≡◌}
-use Rattle.reach.proofs.Chains.{back_level, back_next, back_shortest, chain_inside, no_chain, not_reached}
+use Rattle.std.proofs.Common.{◌≡◌, ◌∙◌}
+use Rattle.reach.proofs.Chains.{back_level, back_next, back_shortest, no_chain, only_reach}
 use Rattle.reach.proofs.chaining.shortest_chain.Invariants.{level_of}
 use Rattle.reach.proofs.chaining.shortest_chain.Goals as goal
 
@@ -10,9 +10,10 @@ returns-then-not-contains-clause-shortest c =
     no_chain c.args.objects.now c.args.starts.now searched.0 c.in_ok-levels.levels searched.1 searched.2 c.args.object (sym c.if-not-contains.ensures)
 
 pub returns-then-not-contains-clause-reach : goal.returns-then-not-contains-clause-reach
-returns-then-not-contains-clause-reach c =
+returns-then-not-contains-clause-reach c inside reach =
     let searched = c.in_ok-levels.ensures in
-    not_reached c.args.objects.now c.args.starts.now searched.0 c.in_ok-levels.levels searched.1 searched.2 c.args.object (sym c.if-not-contains.ensures)
+    only_reach c.args.objects.now c.args.starts.now searched.0 c.in_ok-levels.levels searched.1 searched.2 inside reach c.args.object
+    ∙ sym c.if-not-contains.ensures
 
 pub loop-step-smaller : goal.loop-step-smaller
 loop-step-smaller c =
@@ -31,4 +32,7 @@ returns-clause-shortest c =
     rw reversed (back_shortest _ _ _ _ searched.1 searched.2 _ _ _ c.loop-step.invariant (sym c.in_default.ensures) (sym c.if-not-contains.ensures))
 
 pub returns-clause-reach : goal.returns-clause-reach
-returns-clause-reach c inside reach = chain_inside _ inside reach.closed _ _ _ reach.begins (returns-clause-shortest c).chain
+returns-clause-reach c inside reach =
+    let searched = c.in_ok-levels.ensures in
+    only_reach c.args.objects.now c.args.starts.now searched.0 c.in_ok-levels.levels searched.1 searched.2 inside reach c.args.object
+    ∙ sym c.if-not-contains.ensures

@@ -7,4 +7,4 @@ returns-in-Some g c = grind (arith, common_steps)
 
 pub returns-in-None : goal.returns-in-None
 unfolding chain_text
-returns-in-None g c = rw c.in-None.is (rw c.new.ensures at c.write_to.ensures)
+returns-in-None g c = rw c.in-None.is (rw c.line_of_unchanged.ensures.text at c.write_to.ensures)
