@@ -71,7 +71,7 @@ export class PowerView {
     showSectors() {
         const sectors = [...this.storage.synced.keys()].sort((a, b) => a - b), {name} = this.app.disk;
         this.find("loose").textContent = sectors.length
-            ? `${sectors.length} sectors were written and not synced. Choose what becomes of each: a click goes on from kept to lost, half and noise.`
+            ? `Not synced: ${sectors.length === 1 ? "1 sector" : `${sectors.length} sectors`}. Choose what becomes of each: a click goes on from kept to lost, half and noise.`
             : "All writes were synced, so a cut loses none.";
         this.find("outcomes").hidden = !sectors.length;
         this.find("sectors").innerHTML = sectors.map((it) => {
