@@ -64,6 +64,13 @@ def overlap(a, b):
     return a["x"] < b["x"] + b["width"] and b["x"] < a["x"] + a["width"] and a["y"] < b["y"] + b["height"] and b["y"] < a["y"] + a["height"]
 
 
+def share(a, b):
+    """Whether two lines of one direction share more than a point. Those that leave one row of a box may."""
+    thin = "width" if a["width"] == 0 else "height"
+    is_one_row = thin == "height" and (a["x"] == b["x"] or a["x"] + a["width"] == b["x"] + b["width"])
+    return b[thin] == 0 and not is_one_row and overlap(a | {thin: 0.01}, b | {thin: 0.01})
+
+
 def crossings(layout):
     """What is wrong with a layout: a line through a box, lines of two nets or boxes that overlap, or a box in the frames of other banks than
     its own; or None."""
@@ -73,11 +80,9 @@ def crossings(layout):
         through = [it["number"] for it in boxes if overlap(line | {it: line[it] or 0.01 for it in ("width", "height")}, it)]
         if through:
             return f"a line crosses box {through[0]}"
-    # Two lines of one direction share more than a point.
     for at, (net, a) in enumerate(lines):
         for other, b in lines[:at]:
-            thin = "width" if a["width"] == 0 else "height"
-            if net != other and b[thin] == 0 and overlap(a | {thin: 0.01}, b | {thin: 0.01}):
+            if net != other and share(a, b):
                 return f"lines of nets {net} and {other} overlap"
     for at, a in enumerate(boxes):
         over = [b["number"] for b in boxes[:at] if overlap(a, b)]

@@ -84,7 +84,7 @@ def retargeted(module, layout):
     if OPERATION in module:
         module = re.sub(rf"^declare .*{re.escape(OPERATION)}.*$", "", module, flags=re.M)
         module = module.replace(OPERATION, "@rattle_addp") + SAME_OPERATION
-    others = sorted(set(re.findall(r"@llvm\.(?:aarch64|x86)[\w.]*|\basm \w*", module)))
+    others = sorted(set(re.findall(r'@llvm\.(?:aarch64|x86)[\w.]*|\basm (?:\w+ )*"[^"]+"', module)))
     if others:
         sys.exit(f"page: the module has operations of a processor: {', '.join(others)}")
     return module

@@ -3,7 +3,7 @@
 // Arrows run on three kinds of tracks, so that none crosses a box: up and down in the channels between columns, across a column on a
 // track of its own, and from a row of a box into the channel beside it. All arrows to one object with one access are a net: they join.
 
-export const WIDTH = 156, TITLE = 22, ROW = 14, MOST_ROWS = 9;
+export const WIDTH = 156, TITLE = 22, ROW = 14, MOST_ROWS = 12;
 const GAP = 10, TRACK = 7, MARGIN = 8, PAD = 8, LAST_COLUMN = 6, PASSES = 10;
 // Where a net enters the box, below its top, and where a track runs. All differ modulo ROW from those of the next columns and of rows.
 const ENTRIES = {full: 6, ro: 11, weak: 16}, TRACK_AT = 5;

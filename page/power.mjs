@@ -1,7 +1,7 @@
 // What a loss of power leaves of a storage, and what opens then.
 
 import {SECTOR} from "./machine.mjs";
-import {changedNumbers, readObjects, showAll} from "./objects.mjs";
+import {readObjects, showAll} from "./objects.mjs";
 
 /** What may become of a sector that was written since the last sync. */
 export const OUTCOMES = [
@@ -67,10 +67,8 @@ export function placeOf(saved) {
     return `generation ${generation}, age ${age}`;
 }
 
-/** Which of the two states opens: {opened, old, now, is} with `is` one of "old", "new", "both" and "neither". */
-export function judged(kernel, image, before, after) {
-    const opened = savedIn(kernel, image), old = savedIn(kernel, before), now = savedIn(kernel, after);
-    const [isOld, isNew] = [old, now].map((it) => !opened.refused && it.text === opened.text);
-    const is = isOld && isNew ? "both" : isOld ? "old" : isNew ? "new" : "neither";
-    return {opened, old, now, is, differing: [...changedNumbers(old.objects ?? new Map(), now.objects ?? new Map())]};
+/** Which of two saved states opens in an image: {opened, old, now, is} with `is` one of "old", "new", "both" and "neither". */
+export function judged(kernel, image, old, now) {
+    const opened = savedIn(kernel, image), [isOld, isNew] = [old, now].map((it) => !opened.refused && it.text === opened.text);
+    return {opened, old, now, is: isOld && isNew ? "both" : isOld ? "old" : isNew ? "new" : "neither"};
 }

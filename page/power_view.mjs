@@ -2,7 +2,7 @@
 
 import {callInWords} from "./disk_view.mjs";
 import {classes, escaped, tag} from "./markup.mjs";
-import {OUTCOMES, afterCalls, chanceOf, judged, leftBy, placeOf} from "./power.mjs";
+import {OUTCOMES, afterCalls, chanceOf, judged, leftBy, placeOf, savedIn} from "./power.mjs";
 
 const MOST_OBJECTS = 12, MOST_LINES = 8;
 
@@ -43,7 +43,9 @@ export class PowerView {
     }
 
     refresh() {
-        const {last} = this.app.session, count = last?.calls.length ?? 0, slider = this.find("after");
+        const {kernel, session} = this.app, {last} = session, count = last?.calls.length ?? 0, slider = this.find("after");
+        this.old = savedIn(kernel, session.before.image);
+        this.now = count ? savedIn(kernel, session.storage.image) : this.old;
         slider.max = slider.value = count;
         slider.disabled = !count;
         this.outcomes.clear();
@@ -57,7 +59,7 @@ export class PowerView {
         const {session, kernel} = this.app, calls = session.last?.calls ?? [], first = Number(this.find("after").value);
         this.storage = afterCalls(session.before, calls, first);
         this.left = leftBy(this.storage, this.outcomes);
-        this.judgement = judged(kernel, this.left, session.before.image, session.storage.image);
+        this.judgement = judged(kernel, this.left, this.old, this.now);
         this.find("count").textContent = `${first} of ${calls.length}`;
         const {name} = this.app.disk, item = (it, at) => tag("li", {class: classes({lost: at >= first, here: at === first})}, escaped(callInWords(it, name)));
         this.find("calls").innerHTML = calls.map(item).join("");
@@ -69,7 +71,7 @@ export class PowerView {
     showSectors() {
         const sectors = [...this.storage.synced.keys()].sort((a, b) => a - b), {name} = this.app.disk;
         this.find("loose").textContent = sectors.length
-            ? `${sectors.length} sectors were written and not synced. Choose what becomes of each: a click goes on from kept to lost, half and noise.`
+            ? `Not synced: ${sectors.length === 1 ? "1 sector" : `${sectors.length} sectors`}. Choose what becomes of each: a click goes on from kept to lost, half and noise.`
             : "All writes were synced, so a cut loses none.";
         this.find("outcomes").hidden = !sectors.length;
         this.find("sectors").innerHTML = sectors.map((it) => {

@@ -1,8 +1,10 @@
 // The whole program `eros` over files in memory. Not proved; the module that it loads is compiled from proved code.
 
-const ENOENT = 2, EBADF = 9, EINVAL = 22;
-const MESSAGES = {[ENOENT]: "No such file or directory", [EBADF]: "Bad file descriptor", [EINVAL]: "Invalid argument"};
-const CREATE = 0o100, EMPTY = 0o1000, END = 2, CURRENT = 1;
+const ENOENT = 2, EBADF = 9, EEXIST = 17, EINVAL = 22;
+const MESSAGES = {
+    [ENOENT]: "No such file or directory", [EBADF]: "Bad file descriptor", [EEXIST]: "File exists", [EINVAL]: "Invalid argument",
+};
+const CREATE = 0o100, EXCLUSIVE = 0o200, EMPTY = 0o1000, END = 2, CURRENT = 1;
 const FILE = 0o100644, CHARACTERS = 0o020666;
 
 class Exit extends Error {
@@ -48,6 +50,8 @@ class System {
         if (!special && !this.files.has(name)) {
             if (!(flags & CREATE)) return this.fail(ENOENT);
             this.files.set(name, new Uint8Array());
+        } else if (!special && flags & CREATE && flags & EXCLUSIVE) {
+            return this.fail(EEXIST);
         }
         if (!special && flags & EMPTY) this.files.set(name, new Uint8Array());
         const descriptor = Math.max(...this.open.keys()) + 1;
@@ -132,8 +136,27 @@ class System {
         throw new Exit(status);
     }
 
-    /** The calls by the names that the program imports. */
+    rename(from, to) {
+        const [old, name] = [from, to].map((it) => this.text(it).replace(/^\.\//, ""));
+        if (!this.files.has(old)) return this.fail(ENOENT);
+        this.files.set(name, this.files.get(old));
+        this.files.delete(old);
+        return 0;
+    }
+
+    unlink(path) {
+        return this.files.delete(this.text(path).replace(/^\.\//, "")) ? 0 : this.fail(ENOENT);
+    }
+
+    /** The calls by the names that the program imports. Any other throws once it is made. */
     imports() {
+        const missing = (name) => () => {
+            throw new Error(`the page has no ${name}`);
+        };
+        return new Proxy(this.calls(), {get: (calls, name) => calls[name] ?? missing(name)});
+    }
+
+    calls() {
         const write = (...words) => this.write(...words), exit = (status) => this.exit(status), done = () => 0, none = () => 0n;
         return {
             open: (path, flags) => this.opened(path, flags),
@@ -144,6 +167,8 @@ class System {
             write, __write: write, exit, _exit: exit,
             lseek: (...words) => this.seek(...words),
             ftruncate: (...words) => this.resize(...words),
+            rename: (from, to) => this.rename(from, to),
+            unlink: (path) => this.unlink(path),
             statx: (folder, path, flags, mask, to) => this.facts(folder, path, to),
             flock: done, fsync: done, fdatasync: done, fchmod: done, isatty: done, signal: none, __sysv_signal: none,
             __xpg_strerror_r: (error, to) => this.message(error, to),

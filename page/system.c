@@ -1,4 +1,4 @@
-// The words of the command line, and errno: what `eros` needs of the kit's C functions in WebAssembly. Not proved.
+// The words of the command line, no environment, and errno: what `eros` needs of the kit's C functions in WebAssembly. Not proved.
 
 typedef __SIZE_TYPE__ size_t;
 
@@ -22,6 +22,17 @@ long rattle_arg(size_t at, char *to, size_t room) {
         to[size] = word[at][size];
     }
     return (long)size;
+}
+
+// There are no variables of the environment.
+long rattle_env(const char *name, char *to, size_t room) {
+    (void)name, (void)to, (void)room;
+    return -1;
+}
+
+long rattle_env_at(size_t at, char *to, size_t room) {
+    (void)at, (void)to, (void)room;
+    return -1;
 }
 
 int rattle_errno(void) { return error; }
