@@ -3,7 +3,7 @@ use Rattle.command_line.proofs.Names.{nat_tests, is_some, not, suc, arith, lengt
 use Rattle.command_line.proofs.Names.{Some, None, true≢false, codes, list_any, option_map_or, bytes_eq, eqb-true, bytes_eq-Decides, answers_to, is_empty}
 use Rattle.command_line.proofs.Names.{nothing_held, stop_after, Command, ArgMatches, HasMatchesOf, Shape, app_of, built, entered, is_simple, label_of, names_of}
 use Rattle.command_line.proofs.Names.{rows_at, subcommand_of, entered_passes, level_passes, takes, both, has_all, is_whole, subcommand_named, eros_app}
-use Rattle.command_line.proofs.Names.{NamesJob, NamesNone, Job, AsksForSame}
+use Rattle.command_line.proofs.Names.{NamesLine, NamesNone, CommandLine, AsksForSame}
 use Rattle.std.proofs.Common.{◌≡◌, ◌∙◌, ◌&&◌, ◌||◌, ◌∷◌}
 use Rattle.clap.specs.Walk.{Text}
 use Rattle.clap.specs.Simple.{App, subcommand_rows_of}
@@ -83,9 +83,9 @@ unnamed words command m is has none taken =
     let same = (has (ap is_simple is)).1 ∙ ap (λ a. subcommand_of a words) is in
     takes_named words taken (subst NamesNone same none)
 
--- the job that matches name is the one that the words name
+-- what matches request is what the words request
 pub named_by : (words : List Text) (command : Command) (m : ArgMatches) → app_of command ≡ eros_app → HasMatchesOf (app_of command) words m
-    → (x : Job) → NamesJob (subcommand_rows_of m) x → NamesJob (subcommand_of eros_app words) x
+    → (x : CommandLine) → NamesLine (subcommand_rows_of m) x → NamesLine (subcommand_of eros_app words) x
 named_by words command m is has x named =
     let same = (has (ap is_simple is)).1 ∙ ap (λ a. subcommand_of a words) is in
-    subst (λ s. NamesJob s x) same named
+    subst (λ s. NamesLine s x) same named

@@ -47,10 +47,11 @@ pub use Rattle.command_line.specs.Arguments.{GivesNoNumber, IsFlag, IsGiven, IsN
 pub use Rattle.command_line.specs.Arguments.{subcommand_named, texts_of}
 pub use Rattle.command_line.specs.Commands.{IsCommand, argument_rule, bare_app, eros_app, greatest_number, subcommand_app, subcommand_name, subcommands}
 pub use Rattle.command_line.specs.Commands.{with_rules, with_subcommands}
-pub use Rattle.command_line.specs.Jobs.{AreSizes, IsCache, IsNoJob, IsSameTwice, NamesJob, NamesNone}
+pub use Rattle.command_line.specs.Jobs.{AreSizes, IsCache, IsNoJob, IsSameTwice, IsLine, NamesLine, NamesNone}
 pub use Rattle.command_line.specs.Refusals.{AsksForSame, IsFaultOf, IsRefused}
 unfoldable pub use Rattle.command_line.specs.Refusals.{Explains}
 pub use Rattle.command_line.specs.declared.fault.JobFault.{JobFault}
+pub use Rattle.command_line.specs.declared.requested.CommandLine.{CommandLine}
 pub use Rattle.command_line.specs.declared.requested.Job.{Job}
 pub use Rattle.command_line.specs.declared.subcommands.Argument.{Argument}
 pub use Rattle.command_line.specs.declared.subcommands.Subcommand.{Subcommand}

@@ -1,5 +1,5 @@
 -- What the error of a parse becomes.
-use Rattle.command_line.proofs.Names.{nat_tests, arith, inl, inr, refl, subst, Bool, true, false, List, App, HasKind, Text, fault_of, is_simple_and_free}
+use Rattle.command_line.proofs.Names.{nat_tests, arith, inl, inr, refl, subst, Bool, true, false, List, [], App, HasKind, Text, fault_of, is_simple_and_free}
 use Rattle.command_line.proofs.Names.{kind_of, Command, Error, OutOfMemory, ValueValidation, eros_app, Explains, IsFaultOf, IsRefused, AsksForSame, JobFault}
 use Rattle.std.proofs.Common.{◌≡◌, ◌⊎◌}
 use Rattle.clap.specs.Words.{app_of, subcommand_of, takes}
@@ -16,7 +16,7 @@ parse_explains words e passes kinds = go (takes eros_app words) refl
   where
     go : (b : Bool) → takes eros_app words ≡ b → (kind_of e ≡ OutOfMemory) ⊎ Explains words e
     go true taken = inl (passes taken)
-    go false not_taken = elim kinds [ inl memory ↦ inl memory | inr among ↦ inr (inl (not_taken, inr among)) ]
+    go false not_taken = elim kinds [ inl memory ↦ inl memory | inr among ↦ inr (inl (not_taken, among)) ]
 
 -- and so it does where the parse is of a command that is read as that of `eros`
 pub parse_refused : (words : List Text) (command : Command) (e : Error) → app_of command ≡ eros_app →
@@ -26,12 +26,13 @@ parse_refused words command e is passes kinds =
     parse_explains words e (subst (λ (a : App). takes a words ≡ true → kind_of e ≡ OutOfMemory) is passes)
     (subst (λ (a : App). is_simple_and_free a ≡ true → HasKind (fault_of a words) e) is kinds refl)
 
--- a bad value explains why words name no job that the command takes, where these are an upgrade of one word to itself
-pub value_refused : (words : List Text) (e : Error) → kind_of e ≡ ValueValidation → (takes eros_app words ≡ true → AsksForSame (subcommand_of eros_app words))
-    → (kind_of e ≡ OutOfMemory) ⊎ Explains words e
+-- clap has nothing against words whose matches it gave
+pub nothing_against : (words : List Text) (command : Command) → app_of command ≡ eros_app
+    → (is_simple_and_free (app_of command) ≡ true → fault_of (app_of command) words ≡ []) → fault_of eros_app words ≡ []
+nothing_against words command is none = subst (λ (a : App). is_simple_and_free a ≡ true → fault_of a words ≡ []) is none refl
+
+-- a bad value explains why words name no job that clap has nothing against, where these are an upgrade of one word to itself
+pub value_refused : (words : List Text) (e : Error) → kind_of e ≡ ValueValidation → fault_of eros_app words ≡ []
+    → (takes eros_app words ≡ true → AsksForSame (subcommand_of eros_app words)) → (kind_of e ≡ OutOfMemory) ⊎ Explains words e
 unfolding Explains
-value_refused words e kind same = inr (go (takes eros_app words) refl)
-  where
-    go : (b : Bool) → takes eros_app words ≡ b → Explains words e
-    go true taken = inr (same taken, kind)
-    go false not_taken = inl (not_taken, inl kind)
+value_refused words e kind none same = inr (inr (none, same, kind))

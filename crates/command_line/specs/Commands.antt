@@ -43,6 +43,10 @@ processes_rule = record (new_rule (codes "P")) {
 abbrev pub flag_rule : Text → Rule
 flag_rule name = record (new_rule name) { long = Some name; action = Some SetTrue }
 
+-- --verbose, which every subcommand takes
+abbrev pub cause_rule : Rule
+cause_rule = flag_rule (codes "verbose")
+
 -- the rule of an argument
 abbrev pub argument_rule : Argument → Rule
 argument_rule (argument.File name help) = file_rule name.now
@@ -66,18 +70,19 @@ subcommand_name sub.Draw = codes "draw"
 
 -- the arguments and options of each subcommand, in order
 abbrev pub rules_of : Subcommand → List Rule
-rules_of sub.Build = file_rule (codes "DESCRIPTION") ∷ file_rule (codes "IMAGE") ∷ []
+rules_of sub.Build = file_rule (codes "DESCRIPTION") ∷ file_rule (codes "IMAGE") ∷ flag_rule (codes "new")
+    ∷ cause_rule ∷ []
 rules_of sub.Run = file_rule (codes "IMAGE") ∷ file_rule (codes "SCRIPT") ∷ cache_rule ∷ flag_rule (codes "trace")
-    ∷ flag_rule (codes "strict") ∷ number_rule (codes "stop-after") ∷ []
-rules_of sub.Shell = file_rule (codes "IMAGE") ∷ cache_rule ∷ []
-rules_of sub.Check = file_rule (codes "IMAGE") ∷ []
-rules_of sub.Explain = file_rule (codes "FILE") ∷ []
-rules_of sub.Info = file_rule (codes "IMAGE") ∷ []
-rules_of sub.Reach = file_rule (codes "IMAGE") ∷ processes_rule ∷ number_rule (codes "shows") ∷ []
-rules_of sub.Upgrade = file_rule (codes "OLD") ∷ file_rule (codes "NEW") ∷ []
+    ∷ flag_rule (codes "strict") ∷ number_rule (codes "stop-after") ∷ cause_rule ∷ []
+rules_of sub.Shell = file_rule (codes "IMAGE") ∷ cache_rule ∷ cause_rule ∷ []
+rules_of sub.Check = file_rule (codes "IMAGE") ∷ cause_rule ∷ []
+rules_of sub.Explain = file_rule (codes "FILE") ∷ cause_rule ∷ []
+rules_of sub.Info = file_rule (codes "IMAGE") ∷ cause_rule ∷ []
+rules_of sub.Reach = file_rule (codes "IMAGE") ∷ processes_rule ∷ number_rule (codes "shows") ∷ cause_rule ∷ []
+rules_of sub.Upgrade = file_rule (codes "OLD") ∷ file_rule (codes "NEW") ∷ cause_rule ∷ []
 rules_of sub.Describe = file_rule (codes "IMAGE") ∷ number_rule (codes "nodes") ∷ number_rule (codes "pages")
-    ∷ number_rule (codes "log") ∷ []
-rules_of sub.Draw = file_rule (codes "IMAGE") ∷ number_rule (codes "from") ∷ number_rule (codes "to") ∷ []
+    ∷ number_rule (codes "log") ∷ cause_rule ∷ []
+rules_of sub.Draw = file_rule (codes "IMAGE") ∷ number_rule (codes "from") ∷ number_rule (codes "to") ∷ cause_rule ∷ []
 
 -- a command with arguments more
 abbrev pub with_rules : App → List Rule → App

@@ -2,6 +2,7 @@
 use Rattle.std.specs.Prelude.{◌≡◌, ◌≢◌, ◌⊎◌, ℕ, ⊤, List, Option, Some, None, codes, true}
 use Rattle.clap.specs.Words.{Row, Text}
 use Rattle.command_line.specs.Arguments.{AreNumbers, IsFlag, IsGiven, IsNumberOption, IsOption, has_all}
+use Rattle.command_line.specs.declared.requested.CommandLine.{CommandLine}
 use Rattle.command_line.specs.declared.requested.Job.{Job}
 use Rattle.command_line.specs.declared.requested.Job.TheVariants as job
 use Rattle.command_line.specs.declared.requested.Script.{Script}
@@ -24,7 +25,7 @@ AreSizes rows sizes = IsNumberOption rows (codes "nodes") sizes.nodes
 
 -- the subcommand of this name, with these arguments, is the job
 abbrev pub IsJob : Text → List Row → Job → Type 0
-IsJob name rows (job.Build description image) = (name ≡ codes "build")
+IsJob name rows (job.Build description image is_new) = (name ≡ codes "build") × IsFlag rows (codes "new") is_new
     × IsGiven rows (codes "DESCRIPTION") description.now × IsGiven rows (codes "IMAGE") image.now
 IsJob name rows (job.Run image script cache trace strict stop_after) = (name ≡ codes "run") × IsCache rows cache
     × IsFlag rows (codes "trace") trace × IsFlag rows (codes "strict") strict
@@ -44,10 +45,14 @@ IsJob name rows (job.Describe image sizes) = (name ≡ codes "describe") × IsGi
 IsJob name rows (job.Draw image from to) = (name ≡ codes "draw") × IsGiven rows (codes "IMAGE") image.now
     × IsNumberOption rows (codes "from") from × IsNumberOption rows (codes "to") to
 
--- the subcommand that was met, if any, is the job
-abbrev pub NamesJob : Option (Text × List Row) → Job → Type 0
-NamesJob None job = ⊥
-NamesJob (Some met) job = IsJob met.0 met.1 job
+-- the subcommand of this name, with these arguments, is the job, and says whether causes are written
+abbrev pub IsLine : Text → List Row → CommandLine → Type 0
+IsLine name rows line = IsJob name rows line.job × IsFlag rows (codes "verbose") line.is_verbose
+
+-- the subcommand that was met, if any, is what the line requests
+abbrev pub NamesLine : Option (Text × List Row) → CommandLine → Type 0
+NamesLine None line = ⊥
+NamesLine (Some met) line = IsLine met.0 met.1 line
 
 -- it is an upgrade whose two words are equal
 abbrev pub IsSameTwice : Text → List Row → Type 0

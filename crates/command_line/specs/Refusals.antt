@@ -1,5 +1,5 @@
 -- Why words name no job.
-use Rattle.std.specs.Prelude.{◌≡◌, ◌≢◌, ◌⊎◌, List, ◌∷◌, Option, Some, None, false}
+use Rattle.std.specs.Prelude.{◌≡◌, ◌≢◌, ◌⊎◌, List, [], Option, Some, None, true, false}
 use Rattle.clap.specs.Words.{IsAmong, Row, Text, fault_of, kind_of, subcommand_of, takes}
 use Rattle.clap.specs.declared.error.Error.{Error}
 use Rattle.clap.specs.declared.error.kind.ErrorKind.{ErrorKind}
@@ -19,12 +19,13 @@ abbrev pub AsksForSame : Option (Text × List Row) → Type 0
 AsksForSame None = ⊥
 AsksForSame (Some met) = IsSameTwice met.0 met.1
 
--- The kind of an error that refuses words. Where the command doesn't take them, it is one that clap gives for them, or
--- that of a bad value. Where they request an upgrade of one word to itself, it is that of a bad value.
+-- The kind of an error that refuses words. It is one that clap gives for them; or clap has nothing against them, they
+-- request an upgrade of one word to itself, and it is that of a bad value.
 unfoldable pub Explains : List Text → Error → Type 0
 Explains words e =
-    ((takes eros_app words ≡ false) × IsAmong (kind_of e) (ValueValidation ∷ fault_of eros_app words))
-    ⊎ (AsksForSame (subcommand_of eros_app words) × (kind_of e ≡ ValueValidation))
+    ((takes eros_app words ≡ false) × IsAmong (kind_of e) (fault_of eros_app words))
+    ⊎ ((fault_of eros_app words ≡ []) × (takes eros_app words ≡ true → AsksForSame (subcommand_of eros_app words))
+    × (kind_of e ≡ ValueValidation))
 
 -- words are refused as bad ones by an error that explains it, and never for want of memory
 abbrev pub IsRefused : List Text → JobFault → Type 0

@@ -8,5 +8,5 @@ mod subcommands;
 mod words;
 
 pub use fault::JobFault;
-pub use requested::{Job, Script, Sizes};
-pub use words::job;
+pub use requested::{CommandLine, Job, Script, Sizes};
+pub use words::command_line;

@@ -4,13 +4,13 @@ ghost use Rattle.clap.specs.Words.{found_of, kind_of, rows_of, subcommand_of, su
 ghost use Rattle.clap.specs.declared.error.kind.ErrorKind.TheVariants.{OutOfMemory};
 ghost use Rattle.command_line.specs.Arguments.{AreNumbers, GivesNoNumber, IsNumberOption};
 ghost use Rattle.command_line.specs.Commands.{IsCommand, eros_app, greatest_number, subcommand_name};
-ghost use Rattle.command_line.specs.Jobs.{AreSizes, IsCache, IsJob, IsNoJob, IsScript, NamesJob, NamesNone};
+ghost use Rattle.command_line.specs.Jobs.{AreSizes, IsCache, IsJob, IsLine, IsNoJob, IsScript, NamesLine, NamesNone};
 ghost use Rattle.command_line.specs.Refusals.{Explains};
 
 use crate::arguments::{flag_of, numbers_in, option_of};
 use crate::subcommands::{
-    CACHE, DESCRIPTION, FILE, FROM, IMAGE, LOG, NEW, NODES, OLD, PAGES, PROCESS, SCRIPT, SHOWS,
-    STOP_AFTER, STRICT, Subcommand, TO, TRACE,
+    CACHE, DESCRIPTION, FILE, FROM, IMAGE, LOG, NEW, NEW_ONLY, NODES, OLD, PAGES, PROCESS, SCRIPT,
+    SHOWS, STOP_AFTER, STRICT, Subcommand, TO, TRACE, VERBOSE,
 };
 use clap::error::ErrorKind;
 use clap::{ArgMatches, Command, Error};
@@ -45,6 +45,8 @@ pub enum Job<'a> {
     Build {
         description: &'a str,
         image: &'a str,
+        /// Whether the build is refused if there is a file, and leaves none after a fault.
+        is_new: bool,
     },
     /// Runs a script over an image.
     Run {
@@ -106,6 +108,15 @@ pub enum Job<'a> {
     },
 }
 
+/// What a command line requests.
+#[derive(Drop)]
+pub struct CommandLine<'a> {
+    /// The job.
+    pub job: Job<'a>,
+    /// Whether the cause of a fault is written to standard error in any case.
+    pub is_verbose: bool,
+}
+
 // The script that a word names: a hyphen alone is standard input.
 fn script_of<'a>(word: &'a str) -> Script<'a>
     ensures { IsScript word.entry.now result }
@@ -145,9 +156,13 @@ fn build_of<'a>(inner: &ArgMatches<'a>) -> Option<Job<'a>>
     ensures named { IfSome result (IsJob (codes "build") (rows_of (found_of inner.now))) }
     ensures none { IsNone result → IsNoJob (codes "build") (rows_of (found_of inner.now)) }
 {
+    let description = inner.get_str(DESCRIPTION)?;
+    let image = inner.get_str(IMAGE)?;
+    let is_new = flag_of(inner, NEW_ONLY);
     Some(Job::Build {
-        description: inner.get_str(DESCRIPTION)?,
-        image: inner.get_str(IMAGE)?,
+        description,
+        image,
+        is_new,
     })
 }
 
@@ -325,33 +340,54 @@ fn job_named<'a>(
     }
 }
 
-// The job that the matches name, or `None`. Fails where memory runs out.
-fn requested<'a>(alloc: Global, matches: ArgMatches<'a>) -> Result<Option<Job<'a>>, AllocError>
-    ensures named { IfOk result (λ o. IfSome o (NamesJob (subcommand_rows_of matches.entry))) }
-    ensures none { IfOk result (λ o. IsNone o → NamesNone (subcommand_rows_of matches.entry)) }
+// What a subcommand of this name requests, or `None`. Fails where memory runs out.
+fn line_named<'a>(
+    alloc: Global,
+    name: &str,
+    inner: &ArgMatches<'a>,
+) -> Result<Option<CommandLine<'a>>, AllocError>
+    ensures named { IfOk result (λ o. IfSome o (IsLine name.now (rows_of (found_of inner.now)))) }
+    ensures none { IfOk result (λ o. IsNone o → IsNoJob name.now (rows_of (found_of inner.now))) }
 {
-    match matches.subcommand() {
-        Some((name, inner)) => job_named(alloc, name, inner),
+    match job_named(alloc, name, inner)? {
+        Some(job) => {
+            let is_verbose = flag_of(inner, VERBOSE);
+            Ok(Some(CommandLine { job, is_verbose }))
+        }
         None => Ok(None),
     }
 }
 
-// The job that the words name. Fails with what clap says of words that the command doesn't take, also where
+// What the matches request, or `None`. Fails where memory runs out.
+fn requested<'a>(
+    alloc: Global,
+    matches: ArgMatches<'a>,
+) -> Result<Option<CommandLine<'a>>, AllocError>
+    ensures named { IfOk result (λ o. IfSome o (NamesLine (subcommand_rows_of matches.entry))) }
+    ensures none { IfOk result (λ o. IsNone o → NamesNone (subcommand_rows_of matches.entry)) }
+{
+    match matches.subcommand() {
+        Some((name, inner)) => line_named(alloc, name, inner),
+        None => Ok(None),
+    }
+}
+
+// What the words request. Fails with what clap says of words that the command doesn't take, also where
 // they ask for help, with a `ValueValidation` where an upgrade has one word twice, and with `OutOfMemory`
 // where memory runs out.
-pub(crate) fn read_job<'a, S: AsStr>(
+pub(crate) fn read_line<'a, S: AsStr>(
     alloc: Global,
     command: &mut Command<'a>,
     words: &'a [S],
-) -> Result<Job<'a>, Error>
+) -> Result<CommandLine<'a>, Error>
     requires { IsCommand eros_app command.old }
-    ensures named { IfOk result (NamesJob (subcommand_of eros_app (map S.text words.entry.now))) }
+    ensures named { IfOk result (NamesLine (subcommand_of eros_app (map S.text words.entry.now))) }
     ensures refused { IfErr result (λ e. (kind_of e ≡ OutOfMemory)
         ⊎ Explains (map S.text words.entry.now) e) }
 {
     let matches = command.try_get_matches_from_mut(words)?;
     match requested(alloc, matches)? {
-        Some(job) => Ok(job),
+        Some(line) => Ok(line),
         // The command takes such words only where an upgrade has one word twice.
         None => Err(command.error(ErrorKind::ValueValidation, "OLD and NEW are the same file")?),
     }

@@ -21,6 +21,10 @@ pub(crate) const OLD: &str = "OLD";
 
 pub(crate) const NEW: &str = "NEW";
 
+pub(crate) const NEW_ONLY: &str = "new";
+
+pub(crate) const VERBOSE: &str = "verbose";
+
 pub(crate) const CACHE: &str = "cache";
 
 pub(crate) const PROCESS: &str = "P";
@@ -122,12 +126,23 @@ impl<'a> Argument<'a> {
 // An image that is only read.
 const READ: Argument<'static> = Argument::File(IMAGE, "The image, which isn't changed");
 
+// The cause of a fault.
+const CAUSE: Argument<'static> = Argument::Flag(
+    VERBOSE,
+    "Also writes the file and the cause of a fault, as is done on a terminal",
+);
+
 const BUILD: &[Argument<'static>] = &[
     Argument::File(DESCRIPTION, "What the image is to hold, in TOML"),
     Argument::File(
         IMAGE,
-        "The image file; an old one is lost, also if the description is bad: run eros explain first",
+        "The image file; without --new an old one is lost, also if the description is bad",
     ),
+    Argument::Flag(
+        NEW_ONLY,
+        "Refuses to build if there is a file, and leaves none after a fault",
+    ),
+    CAUSE,
 ];
 
 const RUN: &[Argument<'static>] = &[
@@ -147,17 +162,22 @@ const RUN: &[Argument<'static>] = &[
         "K",
         "Lets the image's device fail after K reads, writes and syncs, as --stop-after 40",
     ),
+    CAUSE,
 ];
 
 const SHELL: &[Argument<'static>] = &[
     Argument::File(IMAGE, "The image, which is changed by what is committed"),
     Argument::Cache,
+    CAUSE,
 ];
 
-const EXPLAIN: &[Argument<'static>] = &[Argument::File(
-    FILE,
-    "The description or the image, which isn't changed",
-)];
+// An image that is only read, with no option of the command's own.
+const READ_ONLY: &[Argument<'static>] = &[READ, CAUSE];
+
+const EXPLAIN: &[Argument<'static>] = &[
+    Argument::File(FILE, "The description or the image, which isn't changed"),
+    CAUSE,
+];
 
 const REACH: &[Argument<'static>] = &[
     READ,
@@ -167,11 +187,13 @@ const REACH: &[Argument<'static>] = &[
         "O",
         "Prints a shortest chain of capabilities from the processes to object O, as --shows 7",
     ),
+    CAUSE,
 ];
 
 const UPGRADE: &[Argument<'static>] = &[
     Argument::File(OLD, "The image, which isn't changed"),
     Argument::File(NEW, "The new image file; an old one is replaced"),
+    CAUSE,
 ];
 
 const DESCRIBE: &[Argument<'static>] = &[
@@ -191,6 +213,7 @@ const DESCRIBE: &[Argument<'static>] = &[
         "R",
         "Describes an image with R slots in each half of the log",
     ),
+    CAUSE,
 ];
 
 const DRAW: &[Argument<'static>] = &[
@@ -205,6 +228,7 @@ const DRAW: &[Argument<'static>] = &[
         "O",
         "Draws only object O and what holds a capability to it, as --to 7",
     ),
+    CAUSE,
 ];
 
 /// A subcommand of `eros`.
@@ -292,7 +316,7 @@ impl Subcommand {
             Subcommand::Build => BUILD,
             Subcommand::Run => RUN,
             Subcommand::Shell => SHELL,
-            Subcommand::Check | Subcommand::Info => &[READ],
+            Subcommand::Check | Subcommand::Info => READ_ONLY,
             Subcommand::Explain => EXPLAIN,
             Subcommand::Reach => REACH,
             Subcommand::Upgrade => UPGRADE,
@@ -335,7 +359,7 @@ fn bare<'a>(alloc: Global) -> Result<Command<'a>, AllocError>
         .version(VERSION)
         .about("The core of a persistent capability system")
         .after_help(
-            "Example:\n  eros build examples/first-steps.toml first.image    prints: built 399 sectors\n  \
+            "Example:\n  eros build --new examples/first-steps.toml first.image   prints: built 399 sectors\n  \
              eros run first.image examples/first-steps.eros      prints the answers, a line or more each\n  \
              eros check first.image                              prints: ok generation 1 age 3 entries 0\n  \
              eros reach first.image 1                            prints what process 1 can ever change\n  \
@@ -348,8 +372,9 @@ fn bare<'a>(alloc: Global) -> Result<Command<'a>, AllocError>
              eros describe --nodes 64 first.image                prints it for an image of 64 nodes\n  \
              eros draw first.image                               prints a graph of what it saves\n  \
              eros draw --from 1 first.image                      prints a graph of what process 1 reaches\n\n\
-             Status 0: success, whatever the answers are. Status 1: a fault, with one line on standard error, or a\n\
-             file that explain found bad. Status 2: the command line isn't understood.",
+             Status 0: success, whatever the answers are. Status 1: a fault, with a line on standard error, or a\n\
+             file that explain found bad. Status 2: the command line isn't understood. On a terminal, or with\n\
+             --verbose, a second line says the file and the cause of a fault.",
         )
         .subcommand_required(true)
         .bin_name("eros")

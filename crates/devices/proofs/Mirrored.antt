@@ -40,9 +40,9 @@ module _ (disk : Disk) where
   abbrev AreZeros : ℕ → Type 0
   AreZeros sectors = (i : ℕ) → i < sectors → disk.seen i ≡ replicate 512 0
 
-  made_calls : (path : List ℕ) (sectors : ℕ) (calls : List OpeningCall) → disk.sectors ≡ sectors → AreZeros sectors
-      → IsMade path sectors calls → Mirrors calls disk
-  made_calls path sectors calls size zeros is first now answers =
+  made_calls : (path : List ℕ) (access : Access) (sectors : ℕ) (calls : List OpeningCall) → disk.sectors ≡ sectors → AreZeros sectors
+      → IsMade path access sectors calls → Mirrors calls disk
+  made_calls path access sectors calls size zeros is first now answers =
       let all = subst (λ (l : List OpeningCall). Answers first l now) is.made answers in
       let now_is : now ≡ replicate (512 * sectors) 0 = all.1.1.1.1.1.1 ∙ take-replicate (512 * sectors) (512 * sectors) 0 (omega arith) in (
         size ∙ omega (arith, ap length now_is, length-replicate {A = ℕ} (512 * sectors) 0),
@@ -55,7 +55,7 @@ module _ (disk : Disk) where
   opened_mirrors path access lock None is = tt
   opened_mirrors path access lock (Some calls) is = opened_calls path access lock calls is
 
-  pub made_mirrors : (path : List ℕ) (sectors : ℕ) (calls : Option (List OpeningCall)) → disk.sectors ≡ sectors → AreZeros sectors
-      → IfSome calls (λ calls. IsMade path sectors calls) → IfSome calls (λ calls. Mirrors calls disk)
-  made_mirrors path sectors None size zeros is = tt
-  made_mirrors path sectors (Some calls) size zeros is = made_calls path sectors calls size zeros is
+  pub made_mirrors : (path : List ℕ) (access : Access) (sectors : ℕ) (calls : Option (List OpeningCall)) → disk.sectors ≡ sectors → AreZeros sectors
+      → IfSome calls (λ calls. IsMade path access sectors calls) → IfSome calls (λ calls. Mirrors calls disk)
+  made_mirrors path access sectors None size zeros is = tt
+  made_mirrors path access sectors (Some calls) size zeros is = made_calls path access sectors calls size zeros is

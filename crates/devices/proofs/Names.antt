@@ -49,7 +49,7 @@ pub use Rattle.devices.specs.declared.history.History.{History}
 pub use Rattle.devices.specs.declared.history.Step.TheVariants.{Failed, Held}
 pub use Rattle.devices.specs.declared.mirror.Mirror.{Mirror}
 pub use Rattle.devices.specs.declared.openable.Access.{Access}
-pub use Rattle.devices.specs.declared.openable.Access.TheVariants.{Create}
+pub use Rattle.devices.specs.declared.openable.Access.TheVariants.{Create, New}
 pub use Rattle.devices.specs.declared.openable.Lock.{Lock}
 pub use Rattle.devices.specs.declared.openable.Lock.TheVariants.{Exclusive}
 pub use Rattle.devices.specs.declared.record.Action.{Action}

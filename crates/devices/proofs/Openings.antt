@@ -1,6 +1,6 @@
 -- The calls that open or make a device, one after another.
 use Rattle.devices.proofs.Names.{nat_tests, ℕ, List, [], Option, option_map, IfSome, length, take, refl, sym, ap, subst, append-nil, arith, drop, length-append}
-use Rattle.devices.proofs.Names.{length-take-le, take-append-le, concat-append, concat, Disk, Agrees, image_of, sectors_of, Access, Create, Lock, OpeningCall}
+use Rattle.devices.proofs.Names.{length-take-le, take-append-le, concat-append, concat, Disk, Agrees, image_of, sectors_of, Access, Lock, OpeningCall}
 use Rattle.devices.proofs.Names.{opened, locked, measured, got, resized, listed, resizes, KeepsLength, reads, Gets, LoadsLocked, MakesZeros, IsOpened, IsMade}
 use Rattle.devices.proofs.Names.{GetsFrom, Adds, AreSectors, Elsewhere, min, take-append-add, take_all, take-put_mid_below, TakesLock, Exclusive, FileFault}
 use Rattle.devices.proofs.Names.{Loads, Result, Ok, Err, OnOk, IfOk, IfErr, inl, inr, nat_lt}
@@ -122,9 +122,9 @@ pub opens : (path : List ℕ) (access : Access) (lock : Lock) (a b : Calls) (cop
 opens path access lock a b copy disk is loads size seen = grind (arith, nat_tests)
 
 -- a file that was just opened, and then filled with zeros
-pub makes : (path : List ℕ) (sectors n : ℕ) (a b : Calls) → IfSome a (λ calls. calls ≡ opened path Create ∷ []) → n ≡ 512 * sectors → MakesZeros path n a b
-    → IfSome b (λ calls. IsMade path sectors calls)
-makes path sectors n a b is size zeros = grind (arith, nat_tests)
+pub makes : (path : List ℕ) (access : Access) (sectors n : ℕ) (a b : Calls) → IfSome a (λ calls. calls ≡ opened path access ∷ []) → n ≡ 512 * sectors
+    → MakesZeros path n a b → IfSome b (λ calls. IsMade path access sectors calls)
+makes path access sectors n a b is size zeros = grind (arith, nat_tests)
 
 -- a fault that is passed on
 pub same_fault : {T : Type 0} (r : Result T FileFault) (y e f : FileFault) → r ≡ Err y → y ≡ e → r ≡ Err f → e ≡ f

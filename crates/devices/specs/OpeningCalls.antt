@@ -3,7 +3,6 @@ use Rattle.devices.specs.Names.{ℕ, List, [], length, take, drop, replicate, Op
 use Rattle.devices.specs.Names.{image_of}
 use Rattle.std.specs.Prelude.{◌≡◌, ◌≢◌, ◌+◌, ◌*◌, ◌/◌, ◌<◌, ◌∷◌, ◌++◌}
 use Rattle.devices.specs.declared.openable.Access.{Access}
-use Rattle.devices.specs.declared.openable.Access.TheVariants.{Create}
 use Rattle.devices.specs.declared.openable.Lock.{Lock}
 use Rattle.devices.specs.declared.openable.Lock.TheVariants.{Exclusive}
 use Rattle.devices.specs.declared.openable.LockAnswer.{LockAnswer}
@@ -84,9 +83,9 @@ pub record IsOpened (path : List ℕ) (access : Access) (lock : Lock) (calls : L
   pub seen : Agrees disk.seen (image_of (concat pieces))
 
 -- These calls and no others made the file of a device of `sectors` sectors.
-pub record IsMade (path : List ℕ) (sectors : ℕ) (calls : List OpeningCall) : Type 0 where
+pub record IsMade (path : List ℕ) (access : Access) (sectors : ℕ) (calls : List OpeningCall) : Type 0 where
   pub answer : LockAnswer
-  pub made : calls ≡ opened path Create ∷ locked Exclusive answer
+  pub made : calls ≡ opened path access ∷ locked Exclusive answer
       ∷ resized 0 ∷ resized (512 * sectors) ∷ synced ∷ listed path ∷ []
   pub free : answer ≢ Held
 

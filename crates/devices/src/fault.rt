@@ -16,7 +16,7 @@ pub enum FileFault {
     #[error("the file is longer than 64 MiB")]
     Long,
     /// Another device is open in the file.
-    #[error("another device is open in the file")]
+    #[error("another program uses the image")]
     Held,
     /// Memory ran out.
     #[error("memory ran out")]

@@ -184,9 +184,9 @@ fn fill_zeros<F: Openable>(rt: &HostRuntime, file: &mut F, path: &str, bytes: u6
     file.sync_folder(rt, path)
 }
 
-// Locks the file, fills it with zeros and makes it durable. At `Held` the only call was for the
-// lock.
-fn make_zeros<F: Openable>(
+/// Locks the file, fills it with zeros and makes it durable. At `Held` the only call was for the
+/// lock.
+pub(crate) fn make_zeros<F: Openable>(
     rt: &HostRuntime,
     file: &mut F,
     path: &str,
@@ -266,7 +266,7 @@ impl<F: Openable> CopiedFile<HostFile<F>> {
     ) -> Result<CopiedFile<HostFile<F>>, FileFault>
         requires { sectors ≤ MAX_SECTORS }
         ensures opening { IfOk result (λ d. IfSome (F.opening (raw_file d))
-            (λ calls. IsMade path.now sectors calls)) }
+            (λ calls. IsMade path.now Access.Create sectors calls)) }
         ensures fault { IfErr result (λ fault. fault ≢ FileFault.Long) }
         ensures mirror { IfOk result (λ d. IfSome (F.opening (raw_file d)) (λ calls. Mirrors calls (file_disk d))) }
         ensures size { IfOk result (λ d. (file_disk d).sectors ≡ sectors) }

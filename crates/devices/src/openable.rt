@@ -22,6 +22,8 @@ pub enum Access {
     Write,
     /// To be read and written. A file that isn't there is made.
     Create,
+    /// To be read and written. Nothing stands at the path, no link either, and the file is made.
+    New,
 }
 
 /// A lock on a whole file.
@@ -135,6 +137,7 @@ impl Openable for File {
             .read(true)
             .write(access != Access::Read)
             .create(access == Access::Create)
+            .create_new(access == Access::New)
             .open(rt, path)
     }
 

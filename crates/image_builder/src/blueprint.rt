@@ -1,13 +1,15 @@
 // Descriptions that were read, and where the parts of their images lie.
-ghost use Rattle.std.specs.Prelude.{◌≡◌, ◌≢◌, ◌<◌, ◌≤◌, ◌↔◌, IfOk, IfErr, IsErrOf, OnOk};
+ghost use Rattle.std.specs.Prelude.{◌≡◌, ◌≢◌, ◌<◌, ◌≤◌, ◌↔◌, ℕ, IfOk, IfErr, IsErrOf, OnOk};
 ghost use Rattle.toml.specs.Data.{Members};
 ghost use Rattle.toml.specs.View.{table_view};
 ghost use Rattle.device.specs.Moments.{LeavesOnly};
 ghost use Rattle.description.specs.Reading.{IsDescription};
 ghost use Rattle.image_builder.specs.Built.{BuildsFrom, IsLeftOf};
-ghost use Rattle.description.specs.Rules.{IsWithinLimits, Refuses, TellsNoSize, plan_for};
+ghost use Rattle.description.specs.Rules.{IsAccepted, IsWithinLimits, Refuses, TellsNoSize, plan_for};
+ghost use Rattle.image_builder.specs.Checked.{IsRefusedEarly};
 
 use crate::planning::plan;
+use crate::worlds::lay_sound;
 use crate::writing::build_described;
 use description::{BuildFault, Description};
 use device::Device;
@@ -56,6 +58,17 @@ impl Blueprint {
         ensures within { IsWithinLimits self.now }
     {
         self.superblock.total()
+    }
+
+    /// Whether `build` accepts the description on a device with `sectors` sectors or more. It answers the least fault of
+    /// the description, as `build` does on any device, or `NoMemory` where memory ran out.
+    pub fn check(&self, alloc: Global) -> Result<(), BuildFault>
+        ensures accepted { OnOk result ((sectors : ℕ) → (plan_for self.now).total ≤ sectors
+            → IsAccepted self.now sectors) }
+        ensures refused { IfErr result (IsRefusedEarly self.now) }
+    {
+        let _world = lay_sound(alloc, &self.description)?;
+        Ok(())
     }
 
     /// Builds the image over whatever a device holds, as `build` does, with the same faults but

@@ -78,6 +78,15 @@ abbrev pub status_of : Result (Unit {0}) Fault → ℕ
 status_of (Ok a) = 0
 status_of (Err why) = 1
 
+-- the fault of a command, if it has one
+abbrev pub fault_in : Result (Unit {0}) Fault → Option Fault
+fault_in (Ok a) = None
+fault_in (Err why) = Some why
+
+-- the status and the fault of a command with this outcome
+abbrev pub IsEnd : Result (Unit {0}) Fault → ℕ → Option Fault → Type 0
+IsEnd outcome status fault = (status ≡ status_of outcome) × (fault ≡ fault_in outcome)
+
 -- a fault was written on a line of its own, as far as it could be written
 abbrev pub IsReported : Result (Unit {0}) Fault → Written → Written → Type 0
 IsReported (Ok a) old new = new ≡ old

@@ -1,10 +1,9 @@
 // The command that builds an image.
-ghost use Rattle.std.specs.Prelude.{◌≡◌, Result};
 ghost use Rattle.toml.specs.Data.{Members};
 ghost use Rattle.device.specs.Moments.{LeavesOnly};
 ghost use Rattle.description.specs.Reading.{IsDescription};
 ghost use Rattle.image_builder.specs.Built.{IsLeftOf};
-ghost use Rattle.jobs.specs.Faults.{IsReported, status_of};
+ghost use Rattle.jobs.specs.Faults.{IsReported};
 ghost use Rattle.jobs.specs.Images.{BuildsImage};
 
 use crate::fault::{Fault, of_write, status};
@@ -37,8 +36,7 @@ fn build_and_tell<D: Device, W: Output>(
 }
 
 /// Builds the image of a description that was read, whichever its table is, on a device, and writes
-/// `built T sectors`; then the status is 0. After a fault one line is written to `errors`, and the
-/// status is 1: `bad description` with a number from 1 to 6, `cannot write image` where the device
+/// `built T sectors`. A fault is returned after one line was written to `errors`: `bad description` with a number from 1 to 6, `cannot write image` where the device
 /// is too small, `device failed`, `no memory`, or, with the image built, `cannot write output`
 /// where the writer fails.
 ///
@@ -50,16 +48,16 @@ pub fn build_image<D: Device, W: Output, V: Output>(
     device: &mut D,
     writer: &mut W,
     errors: &mut V,
-) -> u8
-    ensures built { (outcome : Result (Unit {0}) Fault) × (result ≡ status_of outcome)
-        × IsReported outcome (V.written errors.old) (V.written errors.new)
-        × ((table : Members) → IsDescription table blueprint.now
+) -> Result<(), Fault>
+    ensures reported { IsReported result (V.written errors.old) (V.written errors.new) }
+    ensures built { (table : Members) → IsDescription table blueprint.now
         → BuildsImage D.disk table device.old device.new
-        (W.written writer.old) (W.written writer.new) outcome) }
+        (W.written writer.old) (W.written writer.new) result }
     ensures any_moment { (table : Members) → IsDescription table blueprint.now
         → LeavesOnly (D.disk device.old) (D.disk device.new)
         (λ c. IsLeftOf table (D.disk device.old) c) }
 {
     let outcome = build_and_tell(alloc, blueprint, device, writer);
-    status(outcome, errors)
+    let _status = status(outcome, errors);
+    outcome
 }

@@ -1,6 +1,6 @@
 // The command that checks an image.
 ghost use Rattle.std.specs.Prelude.{◌≡◌, ◌≤◌, Result, length};
-ghost use Rattle.jobs.specs.Faults.{IsReported, status_of};
+ghost use Rattle.jobs.specs.Faults.{IsEnd, IsReported};
 ghost use Rattle.jobs.specs.Images.{ChecksImage, checked_text};
 
 use crate::done::Done;
@@ -35,7 +35,7 @@ pub fn check_image<D: Device, S: ObjectStore<D>, W: Output, V: Output>(
     writer: &mut W,
     errors: &mut V,
 ) -> Done<D>
-    ensures { (outcome : Result (Unit {0}) Fault) × (result.status ≡ status_of outcome)
+    ensures { (outcome : Result (Unit {0}) Fault) × IsEnd outcome result.status result.fault
         × IsReported outcome (V.written errors.old) (V.written errors.new)
         × ChecksImage D.disk device result.device (W.written writer.old) (W.written writer.new) outcome }
 {

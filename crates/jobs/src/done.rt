@@ -1,6 +1,6 @@
 // What a command leaves.
 ghost use Rattle.std.specs.Prelude.{◌≡◌, Err};
-ghost use Rattle.jobs.specs.Faults.{IsReported, status_of};
+ghost use Rattle.jobs.specs.Faults.{IsReported, fault_in, status_of};
 
 use crate::fault::{Fault, status};
 use checkpoint::OpenRefused;
@@ -11,6 +11,8 @@ use script::Output;
 pub struct Done<D> {
     /// 0 for success, and 1 for a fault.
     pub status: u8,
+    /// The fault. Its message was written.
+    pub fault: Option<Fault>,
     /// The device, as the command left it.
     pub device: D,
 }
@@ -19,11 +21,13 @@ impl<D> Done<D> {
     /// What a command with this outcome leaves. The message of a fault is written first.
     pub fn report<V: Output>(outcome: Result<(), Fault>, device: D, errors: &mut V) -> Done<D>
         ensures status { result.status ≡ status_of outcome }
+        ensures fault { result.fault ≡ fault_in outcome }
         ensures reported { IsReported outcome (V.written errors.old) (V.written errors.new) }
         ensures device { result.device ≡ device }
     {
         Done {
             status: status(outcome, errors),
+            fault: outcome.err(),
             device,
         }
     }
@@ -31,6 +35,7 @@ impl<D> Done<D> {
     /// What a command leaves if its device isn't opened. The message is written first.
     pub fn unopened<V: Output>(refused: OpenRefused<D>, errors: &mut V) -> Done<D>
         ensures status { result.status ≡ status_of (Err (Fault.Open refused.fault)) }
+        ensures fault { result.fault ≡ fault_in (Err (Fault.Open refused.fault)) }
         ensures reported { IsReported (Err (Fault.Open refused.fault)) (V.written errors.old) (V.written errors.new) }
         ensures device { result.device ≡ refused.device }
     {

@@ -1,6 +1,6 @@
 // The commands that run a script over an image.
 ghost use Rattle.std.specs.Prelude.{◌≡◌, Result, None};
-ghost use Rattle.jobs.specs.Faults.{IsReported, status_of};
+ghost use Rattle.jobs.specs.Faults.{IsEnd, IsReported};
 ghost use Rattle.jobs.specs.Images.{EndsAs, RunsImage, SeesImage};
 ghost use Rattle.jobs.specs.Shell.{TellsUnsaved};
 ghost use Rattle.runs.specs.Tracing.{Sees, stop_of};
@@ -53,7 +53,7 @@ pub fn run_image<D: Device, S: ObjectStore<D>, R: Script, W: Output, V: Output>(
     writer: &mut W,
     errors: &mut V,
 ) -> Done<D>
-    ensures { (outcome : Result (Unit {0}) Fault) × (result.status ≡ status_of outcome)
+    ensures { (outcome : Result (Unit {0}) Fault) × IsEnd outcome result.status result.fault
         × IsReported outcome (V.written errors.old) (V.written errors.new)
         × RunsImage D.disk S.view S.parts device result.device (R.unread reader.old)
         (R.unread reader.new) (W.written writer.old) (W.written writer.new) outcome }
@@ -86,7 +86,7 @@ pub fn run_traced<D: Device, S: ObjectStore<D>, R: Script, W: Output, T: Output,
     tracer: &mut Tracer<T>,
     errors: &mut V,
 ) -> Done<D>
-    ensures { (outcome : Result (Unit {0}) Fault) × (result.status ≡ status_of outcome)
+    ensures { (outcome : Result (Unit {0}) Fault) × IsEnd outcome result.status result.fault
         × IsReported outcome (V.written errors.old) (V.written errors.new)
         × EndsAs D.disk S.view S.parts (Sees T.written) stop_of device result.device tracer.old tracer.new
         (R.unread reader.old) (R.unread reader.new) (W.written writer.old) (W.written writer.new) outcome }
@@ -109,7 +109,7 @@ pub fn run_shell<D: Device, S: ObjectStore<D>, R: Script, W: Output, V: Output>(
 ) -> Done<D>
     ensures { (outcome : Result (Unit {0}) Fault) × (reported : Written) × (before : Unsaved)
         × (after : Unsaved)
-        × (result.status ≡ status_of outcome) × (before ≡ nothing_unsaved)
+        × IsEnd outcome result.status result.fault × (before ≡ nothing_unsaved)
         × TellsUnsaved after (V.written errors.old) reported × IsReported outcome reported (V.written errors.new)
         × EndsAs D.disk S.view S.parts Notes (λ _. None) device result.device before after
         (R.unread reader.old) (R.unread reader.new) (W.written writer.old) (W.written writer.new) outcome }

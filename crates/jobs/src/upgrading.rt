@@ -1,10 +1,10 @@
 // The command that upgrades an image.
-ghost use Rattle.std.specs.Prelude.{◌≡◌, IfErr, IsErrOf, OnErr, OnOk, Result};
+ghost use Rattle.std.specs.Prelude.{◌≡◌, IfErr, IsErrOf, OnErr, OnOk};
 ghost use Rattle.model.specs.Text.{line_of};
 ghost use Rattle.device.specs.Moments.{LeavesOnly};
 ghost use Rattle.image_builder.specs.Upgraded.{IsLeftUpgrading, IsOpenedFrom, ReadsAndCloses};
 ghost use Rattle.script.specs.Writing.{Wrote, WroteFront};
-ghost use Rattle.jobs.specs.Faults.{IsReported, status_of};
+ghost use Rattle.jobs.specs.Faults.{IsReported};
 ghost use Rattle.jobs.specs.Images.{UpgradesImage, old_failed, upgraded_text};
 
 use crate::fault::{Fault, of_write, status};
@@ -50,9 +50,9 @@ fn write_and_tell<D: ClosableDevice, S: WholeStore<D>, E: Device, W: Output>(
 }
 
 /// Writes what an opened old image saves over a new device, by version 2 of the layout. Then it closes the
-/// old device, writes `upgraded T sectors`, of the new image, and the status is 0.
+/// old device, and writes `upgraded T sectors`, of the new image.
 ///
-/// After a fault one line is written to `errors`, and the status is 1:
+/// A fault is returned after one line was written to `errors`:
 /// - `cannot write image` if the new device is too small;
 /// - `device failed` or `no memory`;
 /// - `cannot write output` if the writer fails; the new image is written.
@@ -65,17 +65,18 @@ pub fn upgrade_opened<D: ClosableDevice, S: WholeStore<D>, E: Device, W: Output,
     new: &mut E,
     writer: &mut W,
     errors: &mut V,
-) -> u8
-    ensures upgraded { (outcome : Result (Unit {0}) Fault) × (result ≡ status_of outcome)
-        × IsReported outcome (V.written errors.old) (V.written errors.new)
-        × ((old : D) → IsOpenedFrom D.disk old image
+) -> Result<(), Fault>
+    ensures reported { IsReported result (V.written errors.old) (V.written errors.new) }
+    ensures upgraded { (old : D) → IsOpenedFrom D.disk old image
         → UpgradesImage D.disk E.disk old new.old new.new
-        (W.written writer.old) (W.written writer.new) outcome
-        × ReadsAndCloses D.disk D.was_closed old (IsErrOf outcome old_failed)) }
+        (W.written writer.old) (W.written writer.new) result }
+    ensures reads { (old : D) → IsOpenedFrom D.disk old image
+        → ReadsAndCloses D.disk D.was_closed old (IsErrOf result old_failed) }
     ensures any_moment { (old : D) → IsOpenedFrom D.disk old image
         → LeavesOnly (E.disk new.old) (E.disk new.new)
         (λ c. IsLeftUpgrading (D.disk old) (E.disk new.old) c) }
 {
     let outcome = write_and_tell(alloc, image, new, writer);
-    status(outcome, errors)
+    let _status = status(outcome, errors);
+    outcome
 }

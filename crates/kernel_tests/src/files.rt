@@ -249,7 +249,7 @@ fn a_fault_is_reported(rt: HostRuntime) -> Result<(), Fail> {
     let reported = [
         (FileFault::Io, "the file can't be opened, read or written"),
         (FileFault::Long, "the file is longer than 64 MiB"),
-        (FileFault::Held, "another device is open in the file"),
+        (FileFault::Held, "another program uses the image"),
         (FileFault::NoMemory, "memory ran out"),
     ];
     for (fault, text) in reported {

@@ -43,6 +43,16 @@ const OPENINGS: &[(Access, &[&str])] = &[
     ),
 ];
 
+// The calls that make a device in a file that isn't there.
+const MAKING: &[&str] = &[
+    "made",
+    "Exclusive Granted",
+    "resized 0",
+    "resized 512",
+    "synced",
+    "listed",
+];
+
 // A call in short.
 impl Display for Made {
     fn fmt<W: Write>(&self, f: &mut Formatter<W>) -> fmt::Result {
@@ -50,6 +60,7 @@ impl Display for Made {
             Made::Opened(_, Access::Read) => write!(f, "opened to read"),
             Made::Opened(_, Access::Write) => write!(f, "opened"),
             Made::Opened(_, Access::Create) => write!(f, "opened or made"),
+            Made::Opened(_, Access::New) => write!(f, "made"),
             Made::Locked(lock, answer) => write!(f, "{lock:?} {answer:?}"),
             Made::Synced => write!(f, "synced"),
             Made::Measured(bytes) => write!(f, "measured {bytes}"),
@@ -80,6 +91,10 @@ fn device_by(rt: &HostRuntime, path: &str, access: Access) -> Result<Device, Fil
         Access::Read => Device::open_to_read(rt, path),
         Access::Write => Device::open(rt, path),
         Access::Create => Device::create(rt, path, 1),
+        Access::New => match Device::create_new(rt, path, 1) {
+            Ok(device) => Ok(device),
+            Err(_) => Err(FileFault::Io),
+        },
     }
 }
 
@@ -91,6 +106,9 @@ fn a_file_is_locked_synced_and_read(rt: HostRuntime) -> Result<(), Fail> {
     for (access, expected) in OPENINGS {
         are_made(&rt, &device_by(&rt, path, *access)?, expected)?;
     }
+    assert!(rt; device_by(&rt, path, Access::New).is_err());
+    fs::remove_file(&rt, path)?;
+    are_made(&rt, &device_by(&rt, path, Access::New)?, MAKING)?;
     fs::remove_file(&rt, path)?;
     Ok(())
 }

@@ -65,5 +65,10 @@ pub fn explain_image<D: Device, S: WholeStore<D>, W: Output, V: Output>(
         Ok(Some(_)) => 1,
         Err(fault) => status(Err(fault), errors),
     };
-    Done { status, device }
+    let fault = outcome.err();
+    Done {
+        status,
+        fault,
+        device,
+    }
 }

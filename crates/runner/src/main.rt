@@ -1,19 +1,19 @@
 //! `eros`: the core of a persistent capability system, over images in files.
 #![tactic(auto)]
 
-ghost use Rattle.std.specs.Prelude.{◌≡◌, IfOk};
-ghost use Rattle.devices.specs.FileDevice.{file_disk};
-
+mod cause;
+mod making;
 mod query;
 
+use crate::cause::{Cause, NO_FILE, Refusal, tell_cause, tell_line};
+use crate::making::build;
 use crate::query::Query;
 use checkpoint::ObjectStore;
-use command_line::{Job, JobFault, Script, job};
+use command_line::{CommandLine, Job, JobFault, Script, command_line};
 use description::Sizes;
-use device::{Device, MAX_SECTORS};
+use device::Device;
 use devices::{FileDevice, FileFault, Fuse};
-use image_builder::Blueprint;
-use jobs::{Fault, ShellInput, build_image, check_image, finish, run_image, run_shell, run_traced};
+use jobs::{Done, Fault, ShellInput, check_image, finish, run_image, run_shell, run_traced};
 use object_cache::{Capacity, KeepAll, KeepRecent, PlainStore, Policy, Store};
 use queries::{Focus, explain_description};
 use runs::{ScriptReader, TraceOptions, Tracer};
@@ -22,13 +22,12 @@ use std::alloc::Global;
 use std::fmt::Display;
 use std::fs::{self, File};
 use std::io::{self, BufWriter, ErrorKind, IsTerminal, Read, Stderr, Stdout};
-use std::os::unix::fs::{FileTypeExt, MetadataExt};
+use std::os::unix::fs::FileTypeExt;
 use std::process::ExitCode;
-use toml::Table;
 
-// What a command writes to: its output, and its errors.
+/// What a command writes to: its output, and its errors.
 #[derive(Drop)]
-struct Streams<W, V> {
+pub(crate) struct Streams<W, V> {
     output: W,
     errors: V,
 }
@@ -36,81 +35,44 @@ struct Streams<W, V> {
 // Standard error.
 type StandardError = CountedWriter<Stderr>;
 
-// Standard output, behind a buffer, and standard error.
-type Stdio = Streams<BufferedOutput<BufWriter<Stdout, Global>>, StandardError>;
+/// Standard output, behind a buffer, and standard error.
+pub(crate) type Stdio = Streams<BufferedOutput<BufWriter<Stdout, Global>>, StandardError>;
 
-// The fault where the system refused something: that memory ran out, or something else.
-fn of_io(error: &io::Error, otherwise: Fault) -> Fault {
-    if error.kind() == ErrorKind::OutOfMemory {
-        Fault::NoMemory
-    } else {
-        otherwise
-    }
+/// How a command ended. What is wrong was written.
+#[derive(Clone, Copy)]
+pub(crate) struct End {
+    /// The status.
+    pub(crate) status: u8,
+    /// The fault, if there was one.
+    pub(crate) fault: Option<Fault>,
 }
 
-// The fault where a file is no device: that memory ran out, or something else.
-fn of_file(fault: FileFault, otherwise: Fault) -> Fault {
-    match fault {
-        FileFault::NoMemory => Fault::NoMemory,
-        FileFault::Io | FileFault::Long | FileFault::Held => otherwise,
+impl End {
+    /// The end of a command with no fault.
+    pub(crate) fn of_status(status: u8) -> End {
+        End {
+            status,
+            fault: None,
+        }
     }
-}
 
-// The table of a text.
-fn table_of(alloc: Global, text: &[u8]) -> Result<Table, Fault> {
-    let Ok(text) = str::from_utf8(text) else {
-        return Err(Fault::NotToml);
-    };
-    match toml::table_from_str(alloc, text) {
-        Ok(table) => Ok(table),
-        Err(error) if error.is_memory() => Err(Fault::NoMemory),
-        Err(_) => Err(Fault::NotToml),
+    /// The end of a command with this outcome.
+    pub(crate) fn of_outcome(outcome: Result<(), Fault>) -> End {
+        match outcome {
+            Ok(()) => End::of_status(0),
+            Err(fault) => End {
+                status: 1,
+                fault: Some(fault),
+            },
+        }
     }
-}
 
-// Reads the table of a description.
-fn read_table(rt: &HostRuntime, path: &str) -> Result<Table, Fault> {
-    match fs::read(rt, path) {
-        Ok(bytes) => table_of(rt.alloc(), &bytes),
-        Err(error) => Err(of_io(&error, Fault::CannotReadDescription)),
-    }
-}
-
-// Whether two paths lead to one file.
-fn is_one_file(rt: &HostRuntime, one: &str, other: &str) -> bool {
-    match (fs::metadata(rt, one), fs::metadata(rt, other)) {
-        (Ok(one), Ok(other)) => one.dev() == other.dev() && one.ino() == other.ino(),
-        _ => false,
-    }
-}
-
-// The description of an image, from a file.
-fn read_blueprint(rt: &HostRuntime, description: &str) -> Result<Blueprint, Fault> {
-    match read_table(rt, description) {
-        Ok(table) => match Blueprint::read(rt.alloc(), &table) {
-            Ok(blueprint) => Ok(blueprint),
-            Err(fault) => Err(Fault::Build(fault)),
-        },
-        Err(fault) => Err(fault),
-    }
-}
-
-// A device in a new file, with `sectors` sectors, all zeros. A file that is there is
-// replaced, unless what the image is made of is read from it.
-pub(crate) fn create(
-    rt: &HostRuntime,
-    sectors: u64,
-    source: &str,
-    path: &str,
-) -> Result<FileDevice, Fault>
-    ensures { IfOk result (λ device. (file_disk device).sectors ≡ sectors) }
-{
-    if sectors > MAX_SECTORS || is_one_file(rt, source, path) {
-        return Err(Fault::CannotWriteImage);
-    }
-    match FileDevice::create(rt, path, sectors) {
-        Ok(device) => Ok(device),
-        Err(fault) => Err(of_file(fault, Fault::CannotWriteImage)),
+    /// The end of a command that returned its device.
+    pub(crate) fn of_done<D: Device>(done: Done<D>) -> End {
+        End {
+            status: done.status,
+            fault: done.fault,
+        }
     }
 }
 
@@ -131,59 +93,34 @@ fn stdio_of(rt: &HostRuntime) -> Result<Stdio, Fault> {
 }
 
 // The device of an image that is there.
-fn open(rt: &HostRuntime, image: &str) -> Result<FileDevice, Fault> {
+fn open(rt: &HostRuntime, image: &str) -> Result<FileDevice, Refusal> {
     match FileDevice::open(rt, image) {
         Ok(device) => Ok(device),
-        Err(fault) => Err(of_file(fault, Fault::CannotOpenImage)),
+        Err(fault) => Err(Refusal::of_file(fault, Fault::CannotOpenImage)),
     }
 }
 
 // Refuses a file that is neither a regular file nor a block device, such as a FIFO: opening one to read
 // waits until somebody writes to it. If the file is replaced before it is opened, the command may still
 // wait, but what it then opens is checked like any other image.
-fn refuse_pipe(rt: &HostRuntime, image: &str) -> Result<(), Fault> {
+fn refuse_pipe(rt: &HostRuntime, image: &str) -> Result<(), Refusal> {
     let kind = match fs::metadata(rt, image) {
         Ok(found) => found.file_type(),
-        Err(error) => return Err(of_io(&error, Fault::CannotOpenImage)),
+        Err(error) => return Err(Refusal::of_io(error, Fault::CannotOpenImage)),
     };
     if kind.is_file() || kind.is_block_device() {
         Ok(())
     } else {
-        Err(Fault::CannotOpenImage)
+        Err(Refusal::new(Fault::CannotOpenImage, Cause::NoImageFile))
     }
 }
 
 // The same, which nothing is written to.
-fn open_to_read(rt: &HostRuntime, image: &str) -> Result<FileDevice, Fault> {
+fn open_to_read(rt: &HostRuntime, image: &str) -> Result<FileDevice, Refusal> {
     refuse_pipe(rt, image)?;
     match FileDevice::open_to_read(rt, image) {
         Ok(device) => Ok(device),
-        Err(fault) => Err(of_file(fault, Fault::CannotOpenImage)),
-    }
-}
-
-// Builds an image from its description, which was read from a file, and gives the status.
-fn build_from(
-    rt: &HostRuntime,
-    blueprint: &Blueprint,
-    description: &str,
-    image: &str,
-    stdio: &mut Stdio,
-) -> Result<u8, Fault> {
-    match create(rt, blueprint.sectors(), description, image) {
-        Ok(mut device) => {
-            let Stdio { output, errors } = stdio;
-            Ok(build_image(rt.alloc(), blueprint, &mut device, output, errors))
-        }
-        Err(fault) => Err(fault),
-    }
-}
-
-// Builds an image, and gives the status.
-fn build(rt: &HostRuntime, description: &str, image: &str, stdio: &mut Stdio) -> Result<u8, Fault> {
-    match read_blueprint(rt, description) {
-        Ok(blueprint) => build_from(rt, &blueprint, description, image, stdio),
-        Err(fault) => Err(fault),
+        Err(fault) => Err(Refusal::of_file(fault, Fault::CannotOpenImage)),
     }
 }
 
@@ -197,7 +134,7 @@ enum Mode {
     Check,
 }
 
-// Runs a script over the image on a device, by a store of this kind, traces it in `notes`, and gives the status.
+// Runs a script over the image on a device, by a store of this kind, traces it in `notes`, and returns its end.
 fn trace_by<D: Device, S: ObjectStore<D>, R: Read, W: Output, V: Output + Drop>(
     alloc: Global,
     device: D,
@@ -205,12 +142,15 @@ fn trace_by<D: Device, S: ObjectStore<D>, R: Read, W: Output, V: Output + Drop>(
     script: &mut ScriptReader<R>,
     tracer: &mut Tracer<V>,
     streams: &mut Streams<W, V>,
-) -> u8 {
+) -> End {
     let Streams { output, errors } = streams;
-    run_traced::<_, S, _, _, _, _>(alloc, device, setting, script, output, tracer, errors).status
+    let done = run_traced::<_, S, _, _, _, _>(
+        alloc, device, setting, script, output, tracer, errors,
+    );
+    End::of_done(done)
 }
 
-// Runs the lines that a shell is given over the image on a device, and gives the status. It prompts in `notes`
+// Runs the lines that a shell is given over the image on a device, and returns its end. It prompts in `notes`
 // if standard input and standard error are a terminal.
 fn shell_by<D: Device, S: ObjectStore<D>, R: Read + Drop, W: Output, V: Output + Drop>(
     rt: &HostRuntime,
@@ -219,14 +159,15 @@ fn shell_by<D: Device, S: ObjectStore<D>, R: Read + Drop, W: Output, V: Output +
     lines: R,
     notes: V,
     streams: &mut Streams<W, V>,
-) -> u8 {
+) -> End {
     let is_prompting = rt.stdin().is_terminal() && rt.stderr().is_terminal();
     let mut input = ShellInput::new(lines, notes, is_prompting);
     let Streams { output, errors } = streams;
-    run_shell::<_, S, _, _, _>(rt.alloc(), device, setting, &mut input, output, errors).status
+    let done = run_shell::<_, S, _, _, _>(rt.alloc(), device, setting, &mut input, output, errors);
+    End::of_done(done)
 }
 
-// Runs a script in a mode over the image on a device, by a store of this kind, and gives the status.
+// Runs a script in a mode over the image on a device, by a store of this kind, and returns its end.
 fn run_in_mode<D: Device, S: ObjectStore<D>, R: Read + Drop, W: Output, V: Output + Drop>(
     rt: &HostRuntime,
     device: D,
@@ -235,12 +176,20 @@ fn run_in_mode<D: Device, S: ObjectStore<D>, R: Read + Drop, W: Output, V: Outpu
     mode: Mode,
     notes: V,
     streams: &mut Streams<W, V>,
-) -> u8 {
+) -> End {
     match mode {
         Mode::Plain => {
             let (alloc, mut script) = (rt.alloc(), ScriptReader::new(script));
             let Streams { output, errors } = streams;
-            run_image::<_, S, _, _, _>(alloc, device, setting, &mut script, output, errors).status
+            let done = run_image::<_, S, _, _, _>(
+                alloc,
+                device,
+                setting,
+                &mut script,
+                output,
+                errors,
+            );
+            End::of_done(done)
         }
         Mode::Traced(options) => {
             let (mut script, mut tracer) = (ScriptReader::new(script), Tracer::new(notes, options));
@@ -256,7 +205,8 @@ fn run_in_mode<D: Device, S: ObjectStore<D>, R: Read + Drop, W: Output, V: Outpu
         Mode::Shell => shell_by::<_, S, _, _, _>(rt, device, setting, script, notes, streams),
         Mode::Check => {
             let Streams { output, errors } = streams;
-            check_image::<_, S, _, _>(rt.alloc(), device, setting, output, errors).status
+            let done = check_image::<_, S, _, _>(rt.alloc(), device, setting, output, errors);
+            End::of_done(done)
         }
     }
 }
@@ -270,7 +220,7 @@ fn run_by_policy<D: Device, P: Policy, R: Read + Drop, W: Output, V: Output + Dr
     mode: Mode,
     notes: V,
     streams: &mut Streams<W, V>,
-) -> u8 {
+) -> End {
     run_in_mode::<_, Store<_, P>, _, _, _>(rt, device, setting, script, mode, notes, streams)
 }
 
@@ -283,7 +233,7 @@ fn run_with_cache<D: Device, R: Read + Drop, W: Output, V: Output + Drop>(
     mode: Mode,
     notes: V,
     streams: &mut Streams<W, V>,
-) -> u8 {
+) -> End {
     match cache {
         Some(most) => run_by_policy::<_, KeepRecent, _, _, _>(
             rt, device, most, script, mode, notes, streams,
@@ -292,7 +242,7 @@ fn run_with_cache<D: Device, R: Read + Drop, W: Output, V: Output + Drop>(
     }
 }
 
-// Opens a script, runs it over the image on a device, and gives the status.
+// Opens a script, runs it over the image on a device, and returns its end.
 fn open_script_and_run<D: Device>(
     rt: &HostRuntime,
     device: D,
@@ -300,18 +250,18 @@ fn open_script_and_run<D: Device>(
     cache: Option<Capacity>,
     mode: Mode,
     stdio: &mut Stdio,
-) -> Result<u8, Fault> {
+) -> Result<End, Refusal> {
     let notes = errors_of(rt);
     match script {
         Script::Input => Ok(run_with_cache(rt, device, cache, rt.stdin(), mode, notes, stdio)),
         Script::File(path) => match File::open(rt, *path) {
             Ok(file) => Ok(run_with_cache(rt, device, cache, file, mode, notes, stdio)),
-            Err(error) => Err(of_io(&error, Fault::CannotReadScript)),
+            Err(error) => Err(Refusal::of_io(error, Fault::CannotReadScript)),
         },
     }
 }
 
-// Opens an image, runs a script over it, and gives the status. After `stop_after` calls the image's device fails.
+// Opens an image, runs a script over it, and returns its end. After `stop_after` calls the image's device fails.
 fn open_image_and_run(
     rt: &HostRuntime,
     image: &str,
@@ -320,7 +270,7 @@ fn open_image_and_run(
     mode: Mode,
     stop_after: Option<u64>,
     stdio: &mut Stdio,
-) -> Result<u8, Fault> {
+) -> Result<End, Refusal> {
     let device = open(rt, image)?;
     let device = match stop_after {
         Some(calls) => Fuse::new(device, calls),
@@ -329,8 +279,8 @@ fn open_image_and_run(
     open_script_and_run(rt, device, script, cache, mode, stdio)
 }
 
-// Checks whether an image can be opened, and gives the status. A check fetches one object at a time.
-fn check(rt: &HostRuntime, image: &str, stdio: &mut Stdio) -> Result<u8, Fault> {
+// Checks whether an image can be opened, and returns its end. A check fetches one object at a time.
+fn check(rt: &HostRuntime, image: &str, stdio: &mut Stdio) -> Result<End, Refusal> {
     let device = open_to_read(rt, image)?;
     let Some(least) = Capacity::new(8) else {
         unreachable!()
@@ -339,24 +289,24 @@ fn check(rt: &HostRuntime, image: &str, stdio: &mut Stdio) -> Result<u8, Fault> 
     Ok(run_with_cache(rt, device, cache, io::empty(), Mode::Check, notes, stdio))
 }
 
-// Answers a query about the image on a device, and gives the status. Only here is a store of objects named for
+/// Answers a query about the image on a device, and returns the end of the command. Only here is a store of objects named for
 // `WholeStore`.
-fn answer<D: Device, W: Output, V: Output>(
+pub(crate) fn answer<D: Device, W: Output, V: Output>(
     rt: &HostRuntime,
     device: D,
     query: Query<'_>,
     streams: &mut Streams<W, V>,
-) -> Result<u8, Fault> {
+) -> Result<End, Refusal> {
     query.answer::<_, PlainStore<_>, _, _>(rt, device, (), streams)
 }
 
-// Answers a query about an image, and gives the status.
+// Answers a query about an image, and returns its end.
 fn inspect(
     rt: &HostRuntime,
     image: &str,
     query: Query<'_>,
     stdio: &mut Stdio,
-) -> Result<u8, Fault> {
+) -> Result<End, Refusal> {
     let device = open_to_read(rt, image)?;
     answer(rt, device, query, stdio)
 }
@@ -370,58 +320,59 @@ fn mode_of(trace: bool, strict: bool) -> Mode {
     }
 }
 
-// Writes why a file can't be explained, and gives the status.
-fn refuse_file<C: Display + Drop>(rt: &HostRuntime, file: &str, cause: C) -> u8 {
-    let _reported = eprintln!(rt; "eros: {file}: {cause}");
-    1
+// Writes why a file can't be explained, and returns the end of the command.
+fn refuse_file<C: Display + Drop>(rt: &HostRuntime, file: &str, cause: C) -> End {
+    tell_line(rt, file, cause);
+    End::of_status(1)
 }
 
 // The same where the system refused a file. If memory ran out, it is a fault.
-fn refuse_for(rt: &HostRuntime, file: &str, error: &io::Error) -> Result<u8, Fault> {
+fn refuse_for(rt: &HostRuntime, file: &str, error: &io::Error) -> Result<End, Refusal> {
     if error.kind() == ErrorKind::OutOfMemory {
-        Err(Fault::NoMemory)
+        Err(Refusal::from(Fault::NoMemory))
     } else {
         Ok(refuse_file(rt, file, error))
     }
 }
 
-// Says why the image in a file is refused, and gives the status.
-fn explain_file(rt: &HostRuntime, image: &str, stdio: &mut Stdio) -> Result<u8, Fault> {
+// Says why the image in a file is refused, and returns its end.
+fn explain_file(rt: &HostRuntime, image: &str, stdio: &mut Stdio) -> Result<End, Refusal> {
     match FileDevice::open_to_read(rt, image) {
         Ok(device) => answer(rt, device, Query::Explain, stdio),
-        Err(FileFault::NoMemory) => Err(Fault::NoMemory),
+        Err(FileFault::NoMemory) => Err(Refusal::from(Fault::NoMemory)),
         Err(fault) => Ok(refuse_file(rt, image, fault)),
     }
 }
 
-// Says why the bytes of a file are refused as a description or an image, and gives the status. They are an image if
+// Says why the bytes of a file are refused as a description or an image, and returns its end. They are an image if
 // they are no text, or one of them is zero.
 fn explain_bytes(
     rt: &HostRuntime,
     file: &str,
     bytes: &[u8],
     stdio: &mut Stdio,
-) -> Result<u8, Fault> {
+) -> Result<End, Refusal> {
     match str::from_utf8(bytes) {
         Ok(text) if !bytes.contains(&0) => {
             let Stdio { output, errors } = stdio;
-            Ok(explain_description(rt.alloc(), text, output, errors))
+            let status = explain_description(rt.alloc(), text, output, errors);
+            Ok(End::of_status(status))
         }
         _ => explain_file(rt, file, stdio),
     }
 }
 
-// Says why a regular file is refused as a description or an image, and gives the status.
-fn explain_regular(rt: &HostRuntime, file: &str, stdio: &mut Stdio) -> Result<u8, Fault> {
+// Says why a regular file is refused as a description or an image, and returns its end.
+fn explain_regular(rt: &HostRuntime, file: &str, stdio: &mut Stdio) -> Result<End, Refusal> {
     match fs::read(rt, file) {
         Ok(bytes) => explain_bytes(rt, file, &bytes, stdio),
         Err(error) => refuse_for(rt, file, &error),
     }
 }
 
-// Says why a file is refused as a description or an image, and gives the status. A block device may have an image. Any
+// Says why a file is refused as a description or an image, and returns its end. A block device may have an image. Any
 // other file that isn't regular, such as a FIFO, isn't opened: reading one waits until somebody writes to it.
-fn explain(rt: &HostRuntime, file: &str, stdio: &mut Stdio) -> Result<u8, Fault> {
+fn explain(rt: &HostRuntime, file: &str, stdio: &mut Stdio) -> Result<End, Refusal> {
     let kind = match fs::metadata(rt, file) {
         Ok(found) => found.file_type(),
         Err(error) => return refuse_for(rt, file, &error),
@@ -431,7 +382,7 @@ fn explain(rt: &HostRuntime, file: &str, stdio: &mut Stdio) -> Result<u8, Fault>
     } else if kind.is_file() {
         explain_regular(rt, file, stdio)
     } else {
-        Ok(refuse_file(rt, file, "not a regular file"))
+        Ok(refuse_file(rt, file, NO_FILE))
     }
 }
 
@@ -444,10 +395,14 @@ fn sizes_of(sizes: &command_line::Sizes) -> Sizes {
     }
 }
 
-// Does a job, and gives the status.
-fn serve(rt: &HostRuntime, job: &Job<'_>, stdio: &mut Stdio) -> Result<u8, Fault> {
+// Does a job, and returns its end.
+fn serve(rt: &HostRuntime, job: &Job<'_>, stdio: &mut Stdio) -> Result<End, Refusal> {
     let (image, query) = match job {
-        Job::Build { description, image } => return build(rt, description, image, stdio),
+        Job::Build {
+            description,
+            image,
+            is_new,
+        } => return build(rt, description, image, *is_new, stdio),
         Job::Run {
             image,
             script,
@@ -484,13 +439,35 @@ fn serve(rt: &HostRuntime, job: &Job<'_>, stdio: &mut Stdio) -> Result<u8, Fault
     inspect(rt, image, query, stdio)
 }
 
-// Does a job, passes on what it wrote, and gives the status.
-fn serve_whole(rt: &HostRuntime, job: &Job<'_>) -> Result<u8, Fault> {
+// Does a job, passes on what it wrote, and returns its end.
+fn serve_whole(rt: &HostRuntime, job: &Job<'_>) -> Result<End, Refusal> {
     let mut stdio = stdio_of(rt)?;
     match serve(rt, job, &mut stdio) {
-        Ok(status) => Ok(finish(&mut stdio.output, status, &mut stdio.errors)),
-        Err(fault) => Err(fault),
+        Ok(end) => {
+            let Stdio { output, errors } = &mut stdio;
+            let status = finish(output, end.status, errors);
+            Ok(End { status, ..end })
+        }
+        Err(refusal) => Err(refusal),
     }
+}
+
+// Does a job, writes why it fails, and gives the status. The cause follows if it `is_verbose`, or standard error is a
+// terminal.
+fn serve_line(rt: &HostRuntime, job: &Job<'_>, is_verbose: bool) -> u8 {
+    let (end, cause) = match serve_whole(rt, job) {
+        Ok(end) => (end, Cause::Unknown),
+        Err(Refusal { fault, cause }) => {
+            let _reported = fault.tell(&mut errors_of(rt));
+            (End::of_outcome(Err(fault)), cause)
+        }
+    };
+    if let Some(fault) = end.fault
+        && (is_verbose || rt.stderr().is_terminal())
+    {
+        tell_cause(rt, job, fault, cause);
+    }
+    end.status
 }
 
 // The words of the command line.
@@ -515,8 +492,8 @@ fn refuse(rt: &HostRuntime, fault: &JobFault) -> Result<u8, Fault> {
 
 // Does what words request, and gives the status.
 fn work_by(rt: &HostRuntime, words: &[String]) -> Result<u8, Fault> {
-    match job(rt.alloc(), words) {
-        Ok(job) => serve_whole(rt, &job),
+    match command_line(rt.alloc(), words) {
+        Ok(CommandLine { job, is_verbose }) => Ok(serve_line(rt, &job, is_verbose)),
         Err(fault) => refuse(rt, &fault),
     }
 }

@@ -1,5 +1,7 @@
 // The commands that only read an image, as queries about it.
-use crate::{Streams, create};
+use crate::cause::Refusal;
+use crate::making::create;
+use crate::{End, Streams};
 use description::Sizes;
 use device::Device;
 use image_builder::OldImage;
@@ -31,7 +33,7 @@ pub(crate) enum Query<'w> {
     },
 }
 
-// Writes what the image on a device saves to a new one, and gives the status. The new file is made only once the old
+// Writes what the image on a device saves to a new one, and returns its end. The new file is made only once the old
 // image was opened and read whole.
 fn upgrade<D: Device, S: WholeStore<D>, W: Output, V: Output>(
     rt: &HostRuntime,
@@ -41,24 +43,25 @@ fn upgrade<D: Device, S: WholeStore<D>, W: Output, V: Output>(
     new: &str,
     output: &mut W,
     errors: &mut V,
-) -> Result<u8, Fault> {
+) -> Result<End, Refusal> {
     let image = match OldImage::<_, S>::open(rt.alloc(), device, setting) {
         Ok(image) => image,
-        Err(fault) => return Err(Fault::Upgrade(fault)),
+        Err(fault) => return Err(Refusal::from(Fault::Upgrade(fault))),
     };
     let mut upgraded = create(rt, image.sectors(), old, new)?;
-    Ok(upgrade_opened(rt.alloc(), image, &mut upgraded, output, errors))
+    let outcome = upgrade_opened(rt.alloc(), image, &mut upgraded, output, errors);
+    Ok(End::of_outcome(outcome))
 }
 
 impl<'w> Query<'w> {
-    /// Answers it about the image on a device, opened by a store of this kind, and gives the status.
+    /// Answers it about the image on a device, opened by a store of this kind, and returns its end.
     pub(crate) fn answer<D: Device, S: WholeStore<D>, W: Output, V: Output>(
         self,
         rt: &HostRuntime,
         device: D,
         setting: S::Setting,
         streams: &mut Streams<W, V>,
-    ) -> Result<u8, Fault> {
+    ) -> Result<End, Refusal> {
         let alloc = rt.alloc();
         let Streams { output, errors } = streams;
         let done = match self {
@@ -77,6 +80,6 @@ impl<'w> Query<'w> {
                 return upgrade::<_, S, _, _>(rt, device, setting, old, new, output, errors);
             }
         };
-        Ok(done.status)
+        Ok(End::of_done(done))
     }
 }

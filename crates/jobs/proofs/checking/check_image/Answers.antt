@@ -12,7 +12,7 @@ returns g c =
     let new = g.W.Output.written c.write_to.new.writer in
     let checks = checked c.in-Ok.ensures.opened _ c.into_device-device.ensures _ (is.generation, is.age, is.entries) in (
       c.of_write-outcome.result,
-      r.status,
+      (r.status, r.fault),
       r.reported,
       rw r.device (rw c.of_write-outcome.ensures (text_written old new _ (λ o. ChecksImage g.D.Device.disk c.args.device c.into_device-device.result old new o)
           (λ a wrote. checks (Wrote old new) wrote) (λ front. checks (WroteFront old new) front) c.write_to.result
@@ -22,4 +22,4 @@ returns g c =
 pub returns-in-Err : goal.returns-in-Err
 returns-in-Err g c =
     let r = c.unopened.ensures in
-    (Err (fault.Open c.in-Err.refused.fault), r.status, r.reported, rw r.device (c.in-Err.ensures.refused, refl {a = g.W.Output.written c.args.writer.now}))
+    (Err (fault.Open c.in-Err.refused.fault), (r.status, r.fault), r.reported, rw r.device (c.in-Err.ensures.refused, refl {a = g.W.Output.written c.args.writer.now}))

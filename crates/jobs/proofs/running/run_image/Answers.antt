@@ -12,7 +12,7 @@ of_run-requires g c =
 pub returns : goal.returns
 returns g c = (
   c.of_run.result,
-  c.report.ensures.status,
+  (c.report.ensures.status, c.report.ensures.fault),
   c.report.ensures.reported,
   rw c.report.ensures.device (runs_unseen g.D.Device.disk g.S.ObjectStore.view g.S.Frames.parts c.args.device c.open_and_run-outcome.result.1
       (λ g t old new on. on ≡ true) c.open_and_run-outcome.new.observer c.open_and_run-outcome.new.observer

@@ -15,7 +15,7 @@ returns g c = (
   g.V.Output.written c.tell_unsaved.new.errors,
   c.new-observer.result,
   c.open_and_run-outcome.new.observer,
-  c.report.ensures.status,
+  (c.report.ensures.status, c.report.ensures.fault),
   c.new-observer.ensures,
   c.tell_unsaved.ensures,
   c.report.ensures.reported,

@@ -13,7 +13,7 @@ of_run-requires g c =
 pub returns : goal.returns
 returns g c = (
   c.of_run.result,
-  c.report.ensures.status,
+  (c.report.ensures.status, c.report.ensures.fault),
   c.report.ensures.reported,
   rw c.report.ensures.device (
     c.open_and_run-outcome.result.0,

@@ -1,4 +1,4 @@
-use Rattle.devices.proofs.Names.{ap, arith, refl, length, length-replicate, zeros_are, file_disk, err_from_is_err_and}
+use Rattle.devices.proofs.Names.{Create, ap, arith, refl, length, length-replicate, zeros_are, file_disk, err_from_is_err_and}
 use Rattle.std.proofs.Common.{◌≡◌, ◌*◌, ◌∙◌}
 use Rattle.devices.proofs.Mirrored.{made_mirrors}
 use Rattle.devices.proofs.Openings.{makes, neither_long}
@@ -9,7 +9,7 @@ returns-clause-opening g c =
     let before = g.F.Openable.opening c.in_ok-file.file in
     let after = g.F.Openable.opening c.make_zeros.new.file in
     rw c.over.ensures.file
-    (makes c.args.path.now c.args.sectors _ before after c.in_ok-file.ensures.opened (omega arith) c.in_ok-make_zeros.ensures.made)
+    (makes c.args.path.now Create c.args.sectors _ before after c.in_ok-file.ensures.opened (omega arith) c.in_ok-make_zeros.ensures.made)
 
 pub returns-clause-zeros : goal.returns-clause-zeros
 returns-clause-zeros g c i lt =
@@ -22,7 +22,7 @@ returns-clause-size g c =
 
 pub returns-clause-mirror : goal.returns-clause-mirror
 returns-clause-mirror g c =
-    made_mirrors (file_disk c.over.result) c.args.path.now c.args.sectors _ (returns-clause-size g c) (returns-clause-zeros g c) (returns-clause-opening g c)
+    made_mirrors (file_disk c.over.result) c.args.path.now Create c.args.sectors _ (returns-clause-size g c) (returns-clause-zeros g c) (returns-clause-opening g c)
 
 pub returns-clause-durable : goal.returns-clause-durable
 returns-clause-durable g c = c.over.ensures.durable

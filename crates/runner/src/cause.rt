@@ -1,0 +1,280 @@
+// Why a command fails, for a person: the file, and the cause.
+use crate::query::Query;
+use crate::{Streams, answer};
+use checkpoint::OpenFault;
+use command_line::{Job, Script};
+use devices::{FileDevice, FileFault};
+use image_builder::{BuildFault, UpgradeFault};
+use jobs::Fault;
+use queries::explain_description;
+use script::CountedWriter;
+use std::fmt::Display;
+use std::fs::{self, OpenOptions};
+use std::io::{self, ErrorKind, Sink};
+use std::os::unix::fs::FileTypeExt;
+
+/// What is said of a file that is neither regular nor, for an image, a block device.
+pub(crate) const NO_FILE: &str = "not a regular file";
+
+/// The cause of a fault, where the program met it.
+#[derive(Drop)]
+pub(crate) enum Cause {
+    /// It isn't kept.
+    Unknown,
+    /// What the system answered.
+    System(io::Error),
+    /// The file is no device.
+    File(FileFault),
+    /// The new file was made, and the system refused a later call.
+    Unfinished,
+    /// It is neither a regular file nor a block device.
+    NoImageFile,
+    /// The image is made of this very file.
+    Source,
+}
+
+/// A fault that isn't written yet, and its cause.
+#[derive(Drop)]
+pub(crate) struct Refusal {
+    pub(crate) fault: Fault,
+    pub(crate) cause: Cause,
+}
+
+impl From<Fault> for Refusal {
+    fn from(fault: Fault) -> Refusal {
+        Refusal::new(fault, Cause::Unknown)
+    }
+}
+
+impl Refusal {
+    /// A fault with this cause.
+    pub(crate) fn new(fault: Fault, cause: Cause) -> Refusal {
+        Refusal { fault, cause }
+    }
+
+    /// The fault where the system refused something: that memory ran out, or something else.
+    pub(crate) fn of_io(error: io::Error, otherwise: Fault) -> Refusal {
+        if error.kind() == ErrorKind::OutOfMemory {
+            Refusal::from(Fault::NoMemory)
+        } else {
+            Refusal::new(otherwise, Cause::System(error))
+        }
+    }
+
+    /// The fault where a file is no device: that memory ran out, or something else.
+    pub(crate) fn of_file(fault: FileFault, otherwise: Fault) -> Refusal {
+        match fault {
+            FileFault::NoMemory => Refusal::from(Fault::NoMemory),
+            FileFault::Io | FileFault::Long | FileFault::Held => {
+                Refusal::new(otherwise, Cause::File(fault))
+            }
+        }
+    }
+}
+
+// The description of a job.
+fn description_of<'j>(job: &Job<'j>) -> Option<&'j str> {
+    match job {
+        Job::Build { description, .. } => Some(*description),
+        _ => None,
+    }
+}
+
+// The file of the image that a job makes.
+fn made_by<'j>(job: &Job<'j>) -> Option<&'j str> {
+    match job {
+        Job::Build { image, .. } => Some(*image),
+        Job::Upgrade { new, .. } => Some(*new),
+        _ => None,
+    }
+}
+
+// The file of the image that a job opens.
+fn opened_by<'j>(job: &Job<'j>) -> Option<&'j str> {
+    match job {
+        Job::Run { image, .. }
+        | Job::Shell { image, .. }
+        | Job::Check { image }
+        | Job::Info { image }
+        | Job::Reach { image, .. }
+        | Job::Describe { image, .. }
+        | Job::Draw { image, .. } => Some(*image),
+        Job::Upgrade { old, .. } => Some(*old),
+        Job::Build { .. } | Job::Explain { .. } => None,
+    }
+}
+
+// The script of a job, if it is a file.
+fn script_of<'j>(job: &Job<'j>) -> Option<&'j str> {
+    match job {
+        Job::Run {
+            script: Script::File(script),
+            ..
+        } => Some(*script),
+        _ => None,
+    }
+}
+
+/// Writes a line about a file: its name, and what is wrong with it.
+pub(crate) fn tell_line<C: Display + Drop>(rt: &HostRuntime, file: &str, cause: C) {
+    let _reported = eprintln!(rt; "eros: {file}: {cause}");
+}
+
+// A line in memory, and errors that nobody reads.
+fn line_in(rt: &HostRuntime) -> Streams<CountedWriter<Vec<u8>>, CountedWriter<Sink>> {
+    Streams {
+        output: CountedWriter::new(Vec::new(rt.alloc())),
+        errors: CountedWriter::new(io::sink()),
+    }
+}
+
+// Writes a line that `explain` gave.
+fn tell_explained(rt: &HostRuntime, file: &str, line: &[u8]) {
+    if let Ok(line) = str::from_utf8(line)
+        && !line.is_empty()
+    {
+        tell_line(rt, file, line.trim_end());
+    }
+}
+
+// Writes why a description is bad, as `explain` does.
+fn tell_description(rt: &HostRuntime, file: &str) {
+    let Ok(bytes) = fs::read(rt, file) else {
+        return;
+    };
+    let Ok(text) = str::from_utf8(&bytes) else {
+        tell_line(rt, file, "not a text in UTF-8");
+        return;
+    };
+    let Streams {
+        mut output,
+        mut errors,
+    } = line_in(rt);
+    if explain_description(rt.alloc(), text, &mut output, &mut errors) != 0 {
+        tell_explained(rt, file, output.get_ref());
+    }
+}
+
+// Writes why an image is bad, as `explain` does.
+fn tell_image(rt: &HostRuntime, file: &str) {
+    let Ok(device) = FileDevice::open_to_read(rt, file) else {
+        return;
+    };
+    let mut line = line_in(rt);
+    match answer(rt, device, Query::Explain, &mut line) {
+        Ok(end) if end.status != 0 => tell_explained(rt, file, line.output.get_ref()),
+        _ => {}
+    }
+}
+
+// Whether a file is one in which an image can be.
+fn may_have_image(rt: &HostRuntime, file: &str) -> bool {
+    match fs::metadata(rt, file) {
+        Ok(found) => {
+            let kind = found.file_type();
+            kind.is_file() || kind.is_block_device()
+        }
+        Err(_) => true,
+    }
+}
+
+// Writes why a file is no device. The system's own words come from a second try to open it.
+fn tell_file(rt: &HostRuntime, file: &str, how: &OpenOptions, fault: FileFault) {
+    match fault {
+        FileFault::Io => match how.open(rt, file) {
+            Err(error) => tell_line(rt, file, error),
+            Ok(_) if !may_have_image(rt, file) => tell_line(rt, file, NO_FILE),
+            Ok(_) => tell_line(rt, file, fault),
+        },
+        FileFault::Long | FileFault::Held | FileFault::NoMemory => tell_line(rt, file, fault),
+    }
+}
+
+// Writes why a script can't be read: a folder, for instance. A pipe isn't opened again.
+fn tell_script(rt: &HostRuntime, file: &str) {
+    let is_pipe = match fs::metadata(rt, file) {
+        Ok(found) => !found.is_file() && !found.is_dir(),
+        Err(_) => false,
+    };
+    if is_pipe {
+        return;
+    }
+    if let Err(error) = fs::read(rt, file) {
+        tell_line(rt, file, error);
+    }
+}
+
+// Writes why a file isn't opened, which the program opens in this way.
+fn tell_refused(rt: &HostRuntime, file: &str, how: &OpenOptions, cause: Cause) {
+    match cause {
+        Cause::Unknown => {}
+        Cause::System(error) => tell_line(rt, file, error),
+        Cause::File(fault) => tell_file(rt, file, how, fault),
+        Cause::Unfinished => tell_line(rt, file, "it can't have the length of the image"),
+        Cause::NoImageFile => tell_line(rt, file, NO_FILE),
+        Cause::Source => tell_line(rt, file, "the image is made of this file"),
+    }
+}
+
+// How an image is opened, also if it is written to or made.
+fn options(is_written: bool, is_made: bool) -> OpenOptions {
+    let mut how = OpenOptions::new();
+    how.read(true).write(is_written).create(is_made);
+    how
+}
+
+// Writes why a job doesn't open its image.
+fn tell_unopened(rt: &HostRuntime, job: &Job<'_>, cause: Cause) {
+    let is_written = match job {
+        Job::Run { .. } | Job::Shell { .. } => true,
+        _ => false,
+    };
+    if let Some(file) = opened_by(job) {
+        tell_refused(rt, file, &options(is_written, false), cause);
+    }
+}
+
+// Writes why a description is bad or isn't read.
+fn tell_undescribed(rt: &HostRuntime, job: &Job<'_>, cause: Cause) {
+    let Some(file) = description_of(job) else {
+        return;
+    };
+    match cause {
+        Cause::System(error) => tell_line(rt, file, error),
+        _ => tell_description(rt, file),
+    }
+}
+
+/// Writes a line with the file and the cause of a fault of a job, after the line of the fault. No line follows a fault
+/// that is about no file, or whose cause isn't known.
+pub(crate) fn tell_cause(rt: &HostRuntime, job: &Job<'_>, fault: Fault, cause: Cause) {
+    match fault {
+        Fault::CannotReadDescription
+        | Fault::NotToml
+        | Fault::Build(
+            BuildFault::Shape
+            | BuildFault::Limits
+            | BuildFault::Number
+            | BuildFault::Field
+            | BuildFault::Target
+            | BuildFault::Owner,
+        ) => tell_undescribed(rt, job, cause),
+        Fault::CannotWriteImage => {
+            if let Some(file) = made_by(job) {
+                tell_refused(rt, file, &options(true, true), cause);
+            }
+        }
+        Fault::CannotOpenImage => tell_unopened(rt, job, cause),
+        Fault::Open(OpenFault::Bad(_)) | Fault::Upgrade(UpgradeFault::Old(OpenFault::Bad(_))) => {
+            if let Some(file) = opened_by(job) {
+                tell_image(rt, file);
+            }
+        }
+        Fault::CannotReadScript => match (script_of(job), cause) {
+            (Some(file), Cause::System(error)) => tell_line(rt, file, error),
+            (Some(file), _) => tell_script(rt, file),
+            (None, _) => {}
+        },
+        _ => {}
+    }
+}
