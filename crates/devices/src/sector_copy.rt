@@ -1,5 +1,5 @@
 // A copy of a device's sectors in memory, without those of zeros.
-ghost use Rattle.std.specs.Prelude.{◌≡◌, ◌≢◌, ◌<◌, ◌≤◌, ◌+◌, ◌*◌, ◌%◌, ◌↔◌, ℕ, All, IfOk, IsTrue, length, replicate};
+ghost use Rattle.std.specs.Prelude.{◌≡◌, ◌≢◌, ◌<◌, ◌≤◌, ◌+◌, ◌*◌, ◌%◌, ◌↔◌, ℕ, None, All, IfOk, IsTrue, length, replicate};
 ghost use Rattle.device.specs.Calls.{AreSectors, Elsewhere, image_of, sectors_of};
 ghost use Rattle.collections.specs.SparseVec.{item_at};
 ghost use Rattle.devices.specs.SectorCopy.{bytes_of};
@@ -58,6 +58,7 @@ fn store(stored: &mut SparseVec<[u8; SECTOR_SIZE]>, at: usize, sector: &[u8])
     requires inside { at < length stored.old }
     ensures here { bytes_of (item_at stored.new at) ≡ sector.now }
     ensures others { (i : ℕ) → i ≢ at → item_at stored.new i ≡ item_at stored.old i }
+    ensures zeros { item_at stored.old at ≡ None → sector.now ≡ replicate 512 0 → item_at stored.new at ≡ None }
     ensures length { length stored.new ≡ length stored.old }
 {
     if stored.has(at) {

@@ -3,6 +3,7 @@ use Rattle.image_builder.proofs.Names.{List, ap, inl, inr, subst, ⊎_elim, Memb
 use Rattle.image_builder.proofs.Names.{Elsewhere, LeavesOnly, OnlyNow, leaves_weaker, started, Encodes, Plan, Holds, IsLeftWriting, first_saved, first_state}
 use Rattle.image_builder.proofs.Names.{kept_holds_the_same, none_is_held, IsDescription, Description, Builds, IsLeftOf, IsLeftBuilding, IsSoundDescription}
 use Rattle.image_builder.proofs.Names.{described_once, IsWithinLimits, plan_for, AreLaid, holds_one}
+use Rattle.image_builder.specs.Names.{EndInZeros, []}
 use Rattle.std.proofs.Common.{◌≡◌, ◌≤◌, ◌∙◌}
 use Rattle.image_builder.proofs.Refusals.{accepted}
 
@@ -11,14 +12,16 @@ module _ (d : Description) (hs : List ObjectHeader) (cs : List (Content Cap)) (l
     pub builds : (p : Plan) → p ≡ plan_for d → p.total ≤ old.sectors →
         Encodes new.seen new.sectors (first_state p d.age (frames_in hs cs)) →
         ((c : Image) → new.may_leave c → Holds new.sectors c (first_saved p.geometry d.age (frames_in hs cs))) →
+        ((c : Image) → new.may_leave c → EndInZeros p 0 [] c) →
         Elsewhere 0 p.total old.seen new.seen → Builds d old new
-    builds p is inside denotes crash elsewhere = record {
+    builds p is inside denotes crash zeros elsewhere = record {
       accepted = accepted d limits s old.sectors (subst (λ (q : Plan). q.total ≤ old.sectors) is inside);
       frames = frames_in hs cs;
       described = laid.described;
       sound = subst (λ (fs : List Frame). IsSoundFrames d.geometry d.age fs) (described_once d s.frames (frames_in hs cs) s.described laid.described) s.sound;
       denotes = subst (λ (q : Plan). Encodes new.seen new.sectors (first_state q d.age (frames_in hs cs))) is denotes;
       crash = λ c left. subst (λ (q : Plan). Holds new.sectors c (first_saved q.geometry d.age (frames_in hs cs))) is (crash c left);
+      zeros = λ c left. subst (λ (q : Plan). EndInZeros q 0 [] c) is (zeros c left);
       elsewhere = subst (λ (q : Plan). Elsewhere 0 q.total old.seen new.seen) is elsewhere;
     }
 

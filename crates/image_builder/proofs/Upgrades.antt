@@ -3,6 +3,7 @@ use Rattle.image_builder.proofs.Names.{ℕ, List, length, ap, inl, inr, refl, su
 use Rattle.image_builder.proofs.Names.{Agrees, Elsewhere, LeavesOnly, agrees_is, OnlyNow, leaves_weaker, started, Entry, Two, IsDirectory, Encodes, SavedState}
 use Rattle.image_builder.proofs.Names.{Plan, OpenFault, OnlyReads, kept_of, laid_again, IsLeftWriting, state_of, kept_holds_the_same, none_is_held}
 use Rattle.image_builder.proofs.Names.{IsSoundSaved, UpgradeFault, IsLeftUpgrading, IsNotUpgraded, IsOnlyRead, Upgrades, numbered, upgraded, IfOk, holds_one}
+use Rattle.image_builder.specs.Names.{EndInZeros}
 use Rattle.std.proofs.Common.{◌≡◌, ◌<◌, ◌≤◌, ◌∙◌}
 use Rattle.std.specs.Prelude.{◌≢◌}
 use Rattle.layout.specs.declared.open_fault.OpenFault.TheVariants as opening
@@ -40,11 +41,12 @@ same_state s p generation entries age es fs plan_is generation_is entries_is age
 pub counted : (result : Result ℕ UpgradeFault) (old before new : Disk) (s : SavedState) → Encodes old.seen old.sectors s →
     IsSoundSaved s.plan.geometry (kept_of s) → IfOk result (λ total. total ≡ (laid_again Two s.plan).total)
     → OnOk result (Encodes new.seen new.sectors (upgraded s)) → OnOk result ((c : Image) → new.may_leave c → Encodes c new.sectors (upgraded s)) →
+    OnOk result ((c : Image) → new.may_leave c → EndInZeros (laid_again Two s.plan) s.header.generation (numbered 0 s.directory) c) →
     OnOk result (Elsewhere 0 (laid_again Two s.plan).total before.seen new.seen)
     → IfOk result (λ total. (done : Upgrades old before new) × (total ≡ (laid_again Two done.state.plan).total))
-counted (Ok total) old before new s was sound reported encodes crash elsewhere =
-    (record { state = s; was = was; sound = sound; encodes = encodes; crash = crash; elsewhere = elsewhere }, reported)
-counted (Err fault) old before new s was sound reported encodes crash elsewhere = tt
+counted (Ok total) old before new s was sound reported encodes crash zeros elsewhere =
+    (record { state = s; was = was; sound = sound; encodes = encodes; crash = crash; zeros = zeros; elsewhere = elsewhere }, reported)
+counted (Err fault) old before new s was sound reported encodes crash zeros elsewhere = tt
 
 -- and of why it isn't written
 pub not_upgraded : {D : Type 0} (result : Result ℕ UpgradeFault) (disk : D → Disk) (old : D) (sectors : ℕ) (s : SavedState) →

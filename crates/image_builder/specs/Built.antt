@@ -1,11 +1,12 @@
 -- What `build` answers, and what the device then holds.
 use Rattle.image_builder.specs.Names.{List, Members, Frame, IsSoundFrames, Disk, Image, Elsewhere, Encodes, Holds}
 use Rattle.image_builder.specs.Names.{SavedFrames, first_saved, first_state, Description, IsDescription, IsDescribed}
-use Rattle.image_builder.specs.Names.{IsAccepted, plan_for}
+use Rattle.image_builder.specs.Names.{EndInZeros, IsAccepted, [], plan_for}
 use Rattle.std.specs.Prelude.{◌≡◌, ◌⊎◌, if◌then◌else◌}
 
 -- an image of a description is built over what a device held: it has the described frames, which stand for a sound
--- world, at the described age, and one checkpoint of generation 0 with nothing in the log; a crash leaves the same
+-- world, at the described age, and one checkpoint of generation 0 with nothing in the log, and zeros behind the frames
+-- of each cluster; a crash leaves the same
 pub record Builds (d : Description) (old new : Disk) : Type 0 where
   pub accepted : IsAccepted d old.sectors
   pub frames : List Frame
@@ -13,6 +14,7 @@ pub record Builds (d : Description) (old new : Disk) : Type 0 where
   pub sound : IsSoundFrames d.geometry d.age frames
   pub denotes : Encodes new.seen new.sectors (first_state (plan_for d) d.age frames)
   pub crash : (c : Image) → new.may_leave c → Holds new.sectors c (first_saved d.geometry d.age frames)
+  pub zeros : (c : Image) → new.may_leave c → EndInZeros (plan_for d) 0 [] c
   pub elsewhere : Elsewhere 0 (plan_for d).total old.seen new.seen
 
 -- frames are those described, which stand for a sound world, saved as `build` does

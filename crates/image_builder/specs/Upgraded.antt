@@ -2,7 +2,7 @@
 use Rattle.image_builder.specs.Names.{ℕ, List, [], Disk, Image, Elsewhere, LeavesOnly, Entry, Two, Encodes, SavedState}
 use Rattle.image_builder.specs.Names.{OnlyReads, Holds, SavedFrames, kept_of, frames_of, Parts, DurableState, saved_by}
 use Rattle.image_builder.specs.Names.{laid_again, IsLeftWriting, IsSoundSaved, OpenFault, RefusesToOpen, Result, IfErr}
-use Rattle.image_builder.specs.Names.{IfOk, IsErrOf, OnOk}
+use Rattle.image_builder.specs.Names.{IfOk, IsErrOf, OnOk, EndInZeros}
 use Rattle.std.specs.Prelude.{◌≡◌, ◌≢◌, ◌⊎◌, ◌↔◌, ◌+◌, ◌<◌, ◌≤◌, ◌∷◌}
 use Rattle.layout.specs.declared.open_fault.OpenFault.TheVariants as opening
 use Rattle.image_builder.specs.declared.upgrade_fault.UpgradeFault.{UpgradeFault}
@@ -22,14 +22,16 @@ upgraded s = record {
   frames = s.frames;
 }
 
--- what an old device saves, which stands for a sound world, is written over what a new one held; a crash leaves the
--- same
+-- what an old device saves, which stands for a sound world, is written over what a new one held, and zeros behind the
+-- frames of each cluster; a crash leaves the same
 pub record Upgrades (old before new : Disk) : Type 0 where
   pub state : SavedState
   pub was : Encodes old.seen old.sectors state
   pub sound : IsSoundSaved state.plan.geometry (kept_of state)
   pub encodes : Encodes new.seen new.sectors (upgraded state)
   pub crash : (c : Image) → new.may_leave c → Encodes c new.sectors (upgraded state)
+  pub zeros : (c : Image) → new.may_leave c →
+      EndInZeros (laid_again Two state.plan) state.header.generation (numbered 0 state.directory) c
   pub elsewhere : Elsewhere 0 (laid_again Two state.plan).total before.seen new.seen
 
 -- a saved state was written over what a new device held, by version 2 of the layout; or why not
@@ -38,6 +40,8 @@ pub record WritesUpgraded {E : Type 0} (disk : E → Disk) (s : SavedState) (old
   pub total : IfOk result (λ total. total ≡ (laid_again Two s.plan).total)
   pub encodes : OnOk result (Encodes (disk new).seen (disk new).sectors (upgraded s))
   pub crash : OnOk result ((c : Image) → (disk new).may_leave c → Encodes c (disk new).sectors (upgraded s))
+  pub zeros : OnOk result ((c : Image) → (disk new).may_leave c →
+      EndInZeros (laid_again Two s.plan) s.header.generation (numbered 0 s.directory) c)
   pub elsewhere : OnOk result (Elsewhere 0 (laid_again Two s.plan).total (disk old).seen (disk new).seen)
   pub small : IsErrOf result fault.Small → (disk old).sectors < (laid_again Two s.plan).total
   pub opened : IfErr result (λ why. (of_old : OpenFault) → why ≢ fault.Old of_old)

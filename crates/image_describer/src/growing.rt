@@ -1,8 +1,10 @@
 // A description, renumbered for an image of other sizes.
-ghost use Rattle.std.specs.Prelude.{◌≡◌, ℕ, ◌+◌, ◌≤◌, ◌<◌, ◌↔◌, map, IfErr, IfOk, IsTrue, OnErr, OnOk};
+ghost use Rattle.std.specs.Prelude.{◌≡◌, ◌≢◌, ℕ, ◌+◌, ◌≤◌, ◌<◌, ◌↔◌, ◌==◌, ◌&&◌, map, vec_capacity, IfErr, IsErrOf};
+ghost use Rattle.std.specs.Prelude.{IsTrue, OnErr, OnOk};
 ghost use Rattle.std.specs.List.{All, AllZip};
 ghost use Rattle.layout.specs.Superblock.{IsGeometry};
 ghost use Rattle.model.specs.Sound.{object_count};
+ghost use Rattle.description.specs.Reading.{whole_ranges};
 ghost use Rattle.home_ranges.specs.Laid.{MayBeLaid};
 ghost use Rattle.image_describer.specs.Grown.{IsMovedNode, IsMovedPage, IsMovedProcess, IsNotRenumbered, IsRenumbered};
 ghost use Rattle.image_describer.specs.Grown.{NamesNodes, NamesPages, grown_ranges, moved, moved_capability};
@@ -168,45 +170,96 @@ fn names_pages(new: Geometry, description: &Description) -> bool
         .all(|page| moved(old, new, page.number) < end)
 }
 
-// The home ranges of an image of other sizes.
-fn grown_ranges(
+// Two home ranges: all nodes, and all pages.
+fn whole_ranges(geometry: Geometry) -> [NumberRange; 2]
+    ensures { result ≡ whole_ranges geometry }
+{
+    [
+        NumberRange {
+            first: 0,
+            count: geometry.nodes,
+        },
+        NumberRange {
+            first: geometry.nodes,
+            count: geometry.pages,
+        },
+    ]
+}
+
+// Whether an image of other sizes has as many nodes and as many pages.
+fn has_as_many(old: Geometry, new: Geometry) -> bool
+    ensures { result ≡ (old.nodes == new.nodes && old.pages == new.pages) }
+{
+    old.nodes == new.nodes && old.pages == new.pages
+}
+
+// The home ranges of an image of other sizes: the old ones, or `whole`.
+fn ranges_for<'a>(
+    old: Geometry,
+    new: Geometry,
+    ranges: &'a [NumberRange],
+    whole: &'a [NumberRange],
+) -> &'a [NumberRange]
+    requires { whole.now ≡ whole_ranges new }
+    ensures { result.now ≡ grown_ranges old new ranges.now }
+{
+    if has_as_many(old, new) { ranges } else { whole }
+}
+
+// Puts the two whole ranges in the place of others. There is memory for two.
+fn put_whole(geometry: Geometry, ranges: &mut Vec<NumberRange>)
+    requires { 2 ≤ vec_capacity ranges.old }
+    ensures { ranges.new.items ≡ whole_ranges geometry }
+{
+    ranges.clear();
+    let _ = ranges.extend_from_slice(&whole_ranges(geometry));
+}
+
+// Makes memory for two ranges, if there isn't enough. What the ranges were may be lost.
+fn make_room(alloc: Global, ranges: &mut Vec<NumberRange>) -> Result<(), AllocError>
+    ensures ok { OnOk result (2 ≤ vec_capacity ranges.new) }
+    ensures same { OnErr result (ranges.new ≡ ranges.old) }
+    ensures full { OnErr result (vec_capacity ranges.old < 2) }
+{
+    if ranges.capacity() >= 2 {
+        return Ok(());
+    }
+    *ranges = Vec::with_capacity(alloc, 2)?;
+    Ok(())
+}
+
+// Puts the home ranges of an image of other sizes in the place of the old ones. It needs more memory only if that of
+// the old ones isn't enough for two.
+fn set_ranges(
     alloc: Global,
     old: Geometry,
     new: Geometry,
-    ranges: &[NumberRange],
-) -> Result<Vec<NumberRange>, AllocError>
-    requires { object_count old ≤ 8192 }
-    ensures { IfOk result (λ grown. grown.items ≡ grown_ranges old new ranges.now) }
+    ranges: &mut Vec<NumberRange>,
+) -> Result<(), AllocError>
+    ensures ok { OnOk result (ranges.new.items ≡ grown_ranges old new ranges.old.items) }
+    ensures same { OnErr result (ranges.new ≡ ranges.old) }
+    ensures full { OnErr result (vec_capacity ranges.old < 2) }
 {
-    if old.nodes == new.nodes && old.pages == new.pages {
-        return Ok(ranges.to_vec(alloc)?);
+    if has_as_many(old, new) {
+        return Ok(());
     }
-    let mut grown = Vec::new(alloc);
-    grown.push(NumberRange {
-        first: 0,
-        count: new.nodes,
-    })?;
-    grown.push(NumberRange {
-        first: new.nodes,
-        count: new.pages,
-    })?;
-    Ok(grown)
+    make_room(alloc, ranges)?;
+    put_whole(new, ranges);
+    Ok(())
 }
 
-// Refuses sizes for which a description can't be renumbered, with these home ranges.
+// Refuses sizes for which a description can't be renumbered.
 #[tactic(auto, using(crate::proofs::GrownRanges::ranges_suit))]
-fn check_sizes(
-    description: &Description,
-    new: Geometry,
-    ranges: &[NumberRange],
-) -> Result<(), GrowthFault>
+fn check_sizes(description: &Description, new: Geometry) -> Result<(), GrowthFault>
     requires laid { MayBeLaid description.now.geometry description.now.ranges.items }
-    requires ranges { ranges.now ≡ grown_ranges description.now.geometry new description.now.ranges.items }
     ensures limits { OnOk result (IsGeometry new) }
     ensures nodes { OnOk result (NamesNodes new.nodes description.now) }
     ensures pages { OnOk result (NamesPages description.now.geometry new description.now) }
     ensures refused { IfErr result (λ fault. IsNotRenumbered description.now new fault) }
+    ensures memory { IfErr result (λ fault. fault ≢ GrowthFault.NoMemory) }
 {
+    let whole = whole_ranges(new);
+    let ranges = ranges_for(description.geometry, new, &description.ranges, &whole);
     if let None = lay_out(Version::One, new, ranges) {
         return Err(GrowthFault::Limits);
     }
@@ -227,7 +280,7 @@ fn check_sizes(
 /// - `Limits` if no image has these sizes;
 /// - `Nodes` if a bank, a process or a node has no number there;
 /// - `Pages` if a page has none;
-/// - `NoMemory` if memory ran out.
+/// - `NoMemory` if memory ran out. It needs memory only if that of the old home ranges isn't enough for two.
 pub fn grow(
     alloc: Global,
     description: &mut Description,
@@ -241,13 +294,13 @@ pub fn grow(
     ensures pages { OnOk result (NamesPages description.old.geometry geometry description.old) }
     ensures refused { IfErr result (λ fault. IsNotRenumbered description.old geometry fault) }
     ensures same { OnErr result (description.new ≡ description.old) }
+    ensures memory { IsErrOf result GrowthFault.NoMemory → vec_capacity description.old.ranges < 2 }
 {
     let old = description.geometry;
-    let Ok(ranges) = grown_ranges(alloc, old, geometry, &description.ranges) else {
+    check_sizes(description, geometry)?;
+    if set_ranges(alloc, old, geometry, &mut description.ranges).is_err() {
         return Err(GrowthFault::NoMemory);
-    };
-    check_sizes(description, geometry, &ranges)?;
-    description.ranges = ranges;
+    }
     description.geometry = geometry;
     renumber_all(old, geometry, description.processes.as_mut_slice());
     renumber_all(old, geometry, description.nodes.as_mut_slice());

@@ -13,7 +13,7 @@ pub use Rattle.device.specs.Moments.{LeavesOnly}
 pub use Rattle.home_ranges.proofs.FrameSlots.{frame_slot_entry}
 pub use Rattle.home_ranges.proofs.Places.{IsOwn, alone, one_before, one_length, places_apart, places_spare_log, places_within, ranked}
 pub use Rattle.home_ranges.proofs.Shared.{begins}
-pub use Rattle.home_ranges.specs.Home.{HaveHome}
+pub use Rattle.home_ranges.specs.Home.{EndsInZeros, HaveHome}
 pub use Rattle.layout.proofs.Halves.{half_within}
 pub use Rattle.layout.proofs.Sectors.{same_sectors}
 pub use Rattle.layout.proofs.Shapes.{few_sectors, same_shaped}
@@ -53,5 +53,5 @@ pub use Rattle.std.proofs.lemmas.Result.{on_ok_weaker}
 pub use Rattle.std.specs.Prelude.{OnOk}
 pub use Rattle.image_writer.specs.Homes.{AreFramesOf, LieAt, frames_before}
 pub use Rattle.image_writer.specs.Laws.{KeptHoldsTheSame, NoneIsHeld}
-pub use Rattle.image_writer.specs.Written.{AreHome, AreInSlots, HasOpeningSectors, IsBeforeOrNone, IsLeftWriting, IsWritten, LeavesClosed, first_header}
+pub use Rattle.image_writer.specs.Written.{AreHome, AreInSlots, EndAtHome, EndInZeros, HasOpeningSectors, IsBeforeOrNone, IsLeftWriting, IsWritten, LeavesClosed, first_header}
 pub use Rattle.image_writer.specs.Written.{first_state, state_of}

@@ -4,6 +4,7 @@ use Rattle.image_writer.proofs.Names.{ObjectHeader, Content, frame_at, frames_in
 use Rattle.image_writer.proofs.Names.{entry_at, frame_bytes, home_place, place_length, shape_of, bytes_at, directory_sector, frame_in, half_sector}
 use Rattle.image_writer.proofs.Names.{frame_slot_in, sectors_from, slot_sector, shape_length, Plan, IsPlan, half_extent, half_within, few_sectors, same_shaped}
 use Rattle.image_writer.proofs.Names.{IsObject, IsOwn, one_length, places_spare_log, frame_slot_entry, begins, AreFramesOf, LieAt, AreHome, AreInSlots}
+use Rattle.image_writer.proofs.Names.{inl, inr, same_sectors, on_ok_weaker, EndsInZeros, EndAtHome, EndInZeros}
 use Rattle.std.specs.Prelude.{slice_index_or}
 use Rattle.std.proofs.Common.{◌≡◌, ◌+◌, ◌-◌, ◌*◌, ◌<◌, ◌≤◌, ◌∙◌}
 use Rattle.image_writer.proofs.HomeFrames.{own_at}
@@ -11,16 +12,30 @@ use Rattle.image_writer.proofs.HomeFrames.{own_at}
 -- ---- the slot of one entry
 
 -- a cluster that was filled from its first node on has the frames of all that share a home with a node of it
-packed_at : (p : Plan) (frames : List Frame) (n rank at : ℕ) (cluster : List ℕ) (image : Image) → IsPlan p → IsObject p.geometry n →
+packed_frames : (p : Plan) (frames : List Frame) (n rank at : ℕ) (cluster : List ℕ) (image : Image) → IsPlan p → IsObject p.geometry n →
     shape_of p n ≡ Packed rank → sectors_from image at 8 ≡ cluster → AreFramesOf p frames (n - rank) cluster
-    → LieAt p frames n at image
-packed_at p frames n rank at cluster image fits is shape held filled a is_a same =
+    → (a : ℕ) → IsObject p.geometry a → home_place p a ≡ home_place p n → bytes_at image at p a ≡ frame_bytes p.geometry a (frame_at frames a)
+packed_frames p frames n rank at cluster image fits is shape held filled a is_a same =
     grind (arith, nat_tests, one_length p a n fits is_a is same ∙ ap shape_length shape, fits, begins)
+
+same_rank : {a b : ℕ} → Packed a ≡ Packed b → a ≡ b
+same_rank same = cc
+
+packed_at : (p : Plan) (frames : List Frame) (n rank at : ℕ) (cluster : List ℕ) (image : Image) → IsPlan p → IsObject p.geometry n →
+    shape_of p n ≡ Packed rank → sectors_from image at 8 ≡ cluster → AreFramesOf p frames (n - rank) cluster → EndsInZeros p (n - rank) cluster
+    → LieAt p frames n at image
+packed_at p frames n rank at cluster image fits is shape held filled ends = record {
+  frame = packed_frames p frames n rank at cluster image fits is shape held filled;
+  zeros = λ r packed. subst (λ (k : ℕ). EndsInZeros p (n - k) (sectors_from image at 8)) (same_rank (sym shape ∙ packed))
+      (subst (EndsInZeros p (n - rank)) (sym held) ends);
+}
 
 pub packed_written : {T E : Type 0} (result : Result T E) (p : Plan) (frames : List Frame) (n rank at : ℕ) (cluster : List ℕ) (image : Image) → IsPlan p →
     IsObject p.geometry n → shape_of p n ≡ Packed rank
-    → OnOk result (sectors_from image at 8 ≡ cluster) → AreFramesOf p frames (n - rank) cluster → OnOk result (LieAt p frames n at image)
-packed_written {T} {E} result p frames n rank at cluster image fits is shape held filled = search (arith, packed_at, fits)
+    → OnOk result (sectors_from image at 8 ≡ cluster) → AreFramesOf p frames (n - rank) cluster → EndsInZeros p (n - rank) cluster
+    → OnOk result (LieAt p frames n at image)
+packed_written {T} {E} result p frames n rank at cluster image fits is shape held filled ends =
+    on_ok_weaker result (λ there. packed_at p frames n rank at cluster image fits is shape there filled ends) held
 
 -- and so has a slot that is written with a frame that has sectors of its own
 pub own_written_at : {T E : Type 0} (result : Result T E) (p : Plan) (hs : List ObjectHeader) (cs : List (Content Cap)) (n at : ℕ) (c : Content Cap)
@@ -29,6 +44,9 @@ pub own_written_at : {T E : Type 0} (result : Result T E) (p : Plan) (hs : List 
     OnOk result (bytes_at image at p n ≡ frame_bytes p.geometry n (record { header = header_at hs n; content = c }))
     → OnOk result (LieAt p (frames_in hs cs) n at image)
 own_written_at {T} {E} result p hs cs n at c image fits is size same_size held own written = search (arith, own_at, fits)
+
+less_by : (a b : ℕ) → a ≤ b → (b ≡ a → ⊥) → a < b
+less_by a b most differ = search arith
 
 -- ---- one slot after the other
 
@@ -46,9 +64,29 @@ module _ (p : Plan) (generation : ℕ) (es : List Entry) (i : ℕ) (mid new : Im
       (slot_sector p generation (entry_at es j).slot) p a
   other_slot j a before = search (arith, same_shaped, slot_length, cases_lt)
 
+  other_sectors : (j : ℕ) → j < i → sectors_from new (slot_sector p generation (entry_at es j).slot) 8 ≡ sectors_from mid
+      (slot_sector p generation (entry_at es j).slot) 8
+  other_sectors j before =
+      let at_slot = slot_sector p generation (entry_at es j).slot in
+      let few : place_length p (entry_at es i).object ≤ 9 = slot_length p (entry_at es i).object in
+      same_sectors at_slot 8 mid new
+      (λ k inside. ⊎_elim (λ less. change.before (at_slot + k) (omega (arith, less, inside)))
+      (λ more. change.after (at_slot + k) (omega (arith, less_by (entry_at es i).slot (entry_at es j).slot more (is.apart j i before lt), few)))
+      (cases_lt (entry_at es j).slot (entry_at es i).slot))
+
   pub one_more_slot : (frames : List Frame) → AreInSlots p generation es frames i mid →
       LieAt p frames (entry_at es i).object (slot_sector p generation (entry_at es i).slot) new → AreInSlots p generation es frames (i + 1) new
-  one_more_slot frames so_far here j below a is_a same = search (arith, cases_lt, other_slot)
+  one_more_slot frames so_far here j below = elim (cases_lt j i) [
+    | inl before ↦
+        let was = so_far j before in
+        record {
+          frame = λ a is_a home. other_slot j a before ∙ was.frame a is_a home;
+          zeros = λ rank packed. subst (EndsInZeros p ((entry_at es j).object - rank)) (sym (other_sectors j before)) (was.zeros rank packed);
+        }
+    | inr not_before ↦
+        let same : i ≡ j = omega (arith, below, not_before) in
+        subst (λ (k : ℕ). LieAt p frames (entry_at es k).object (slot_sector p generation (entry_at es k).slot) new) same here
+  ]
 
   -- and stays in the half
   pub stays_in_half : (old : Image) → Elsewhere (half_sector p generation) (9 * p.geometry.log) old mid →
@@ -61,10 +99,27 @@ slot_behind p generation slot fits = let within = half_within p generation fits 
 
 -- ---- the directory behind them
 
+frame_stays : (p : Plan) (generation at long : ℕ) (es : List Entry) (mid new : Image) → IsDirectory p.geometry es →
+    at ≡ directory_sector p generation → Elsewhere at long mid new → (j a : ℕ) → j < length es →
+    bytes_at new (slot_sector p generation (entry_at es j).slot) p a ≡ bytes_at mid (slot_sector p generation (entry_at es j).slot) p a
+frame_stays p generation at long es mid new is place change j a lt = search (arith, slot_length, same_shaped)
+
+slot_stays : (p : Plan) (generation at long : ℕ) (es : List Entry) (mid new : Image) → IsDirectory p.geometry es →
+    at ≡ directory_sector p generation → Elsewhere at long mid new → (j : ℕ) → j < length es →
+    sectors_from new (slot_sector p generation (entry_at es j).slot) 8 ≡ sectors_from mid (slot_sector p generation (entry_at es j).slot) 8
+slot_stays p generation at long es mid new is place change j lt =
+    let at_slot = slot_sector p generation (entry_at es j).slot in
+    let few : (entry_at es j).slot < p.geometry.log = (is.each j (record { object = 0; slot = 0 }) lt).slot in
+    same_sectors at_slot 8 mid new (λ k inside. change.before (at_slot + k) (omega (arith, place, few, inside)))
+
 pub slots_stay : (p : Plan) (generation at long : ℕ) (es : List Entry) (frames : List Frame) (mid new : Image) → IsDirectory p.geometry es →
     at ≡ directory_sector p generation → Elsewhere at long mid new
     → AreInSlots p generation es frames (length es) mid → AreInSlots p generation es frames (length es) new
-slots_stay p generation at long es frames mid new is place change so_far j lt a is_a same = search (arith, slot_length, same_shaped)
+slots_stay p generation at long es frames mid new is place change so_far j lt = record {
+  frame = λ a is_a home. frame_stays p generation at long es mid new is place change j a lt ∙ (so_far j lt).frame a is_a home;
+  zeros = λ rank packed. subst (EndsInZeros p ((entry_at es j).object - rank)) (sym (slot_stays p generation at long es mid new is place change j lt))
+      ((so_far j lt).zeros rank packed);
+}
 
 -- ---- what an image has of a frame
 
@@ -84,7 +139,23 @@ all_slotted p generation es frames homes new fits change home slots a lt = by (f
   by (Some slot) some = rw some (
       let entry = frame_slot_entry p es a slot some in
       subst (λ (s : ℕ). bytes_at new (slot_sector p generation s) p a ≡ frame_bytes p.geometry a (frame_at frames a)) entry.slot_is
-      (slots entry.index entry.within a lt (sym entry.home_is)))
+      ((slots entry.index entry.within).frame a lt (sym entry.home_is)))
+
+-- and each cluster has zeros behind its frames
+pub all_end : (p : Plan) (generation : ℕ) (es : List Entry) (frames : List Frame) (homes new : Image) → IsPlan p →
+    Elsewhere (half_sector p generation) (half_extent p.geometry 0).length homes new → EndAtHome p (object_count p.geometry) homes
+    → AreInSlots p generation es frames (length es) new → EndInZeros p generation es new
+all_end p generation es frames homes new fits change home slots = record {
+  home = λ a lt begins.
+      let long : place_length p a ≡ 8 = ap shape_length begins in
+      subst (EndsInZeros p a)
+      (sym (same_sectors (home_place p a) 8 homes new
+      (λ k inside. ⊎_elim (λ before. change.before (home_place p a + k) (omega (arith, before, inside, long)))
+      (λ after. change.after (home_place p a + k) (omega (arith, after)))
+      (places_spare_log p a generation fits lt))))
+      (home a lt begins);
+  slots = λ j lt. (slots j lt).zeros;
+}
 
 -- the log lies between the headers and the end
 pub log_between : (p : Plan) (generation : ℕ) (old mid new : Image) → IsPlan p → Elsewhere 5 (p.total - 5) old mid →

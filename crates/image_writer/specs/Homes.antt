@@ -1,7 +1,8 @@
 -- What is written of a home.
 use Rattle.image_writer.specs.Names.{ℕ, List, Frame, frame_at, Image, Shape, Node, Packed, Page, frame_bytes}
-use Rattle.image_writer.specs.Names.{home_place, shape_of, bytes_at, shape_bytes, Plan, IsObject}
-use Rattle.std.specs.Prelude.{◌≡◌}
+use Rattle.image_writer.specs.Names.{home_place, shape_of, bytes_at, shape_bytes, Plan, IsObject, EndsInZeros}
+use Rattle.image_writer.specs.Names.{sectors_from}
+use Rattle.std.specs.Prelude.{◌≡◌, ◌-◌}
 
 -- how many frames lie before one in its home
 abbrev pub frames_before : Shape → ℕ
@@ -14,7 +15,13 @@ abbrev pub AreFramesOf : Plan → List Frame → ℕ → List ℕ → Type 0
 AreFramesOf p frames number bytes = (a : ℕ) → IsObject p.geometry a → home_place p a ≡ home_place p number →
     shape_bytes (shape_of p a) bytes ≡ frame_bytes p.geometry a (frame_at frames a)
 
--- the frames of all that have it lie in the sectors from one on
-abbrev pub LieAt : Plan → List Frame → ℕ → ℕ → Image → Type 0
-LieAt p frames number at image = (a : ℕ) → IsObject p.geometry a → home_place p a ≡ home_place p number →
-    bytes_at image at p a ≡ frame_bytes p.geometry a (frame_at frames a)
+-- where a number is of a cluster, the cluster in the sectors from one on has zeros behind the frames of its nodes
+abbrev pub HasZeros : Plan → ℕ → ℕ → Image → Type 0
+HasZeros p number at image = (rank : ℕ) → shape_of p number ≡ Packed rank →
+    EndsInZeros p (number - rank) (sectors_from image at 8)
+
+-- the frames of all that have its home lie in the sectors from one on, and zeros behind them
+pub record LieAt (p : Plan) (frames : List Frame) (number at : ℕ) (image : Image) : Type 0 where
+  pub frame : (a : ℕ) → IsObject p.geometry a → home_place p a ≡ home_place p number →
+      bytes_at image at p a ≡ frame_bytes p.geometry a (frame_at frames a)
+  pub zeros : HasZeros p number at image

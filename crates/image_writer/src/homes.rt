@@ -8,7 +8,7 @@ ghost use Rattle.model.specs.Frame.{frames_in};
 ghost use Rattle.model.specs.Sound.{object_count};
 ghost use Rattle.ckpt_log.specs.Closing.{AreClosed};
 ghost use Rattle.image_writer.specs.Homes.{frames_before};
-ghost use Rattle.image_writer.specs.Written.{AreHome, LeavesClosed};
+ghost use Rattle.image_writer.specs.Written.{AreHome, EndAtHome, LeavesClosed};
 
 use crate::clusters::write_shared;
 use device::{Device, Failed};
@@ -27,7 +27,7 @@ fn is_first(home: &Home, number: u64) -> bool
 }
 
 /// Writes the homes of all `count` objects, each home once. Each frame has the header and the content
-/// of its number. The gates of both headers are closed, and a crash at any moment leaves them so.
+/// of its number, and clusters end in zeros. The gates of both headers are closed, and a crash at any moment leaves them so.
 /// Returns `Failed` exactly if the device failed.
 #[tactic(auto, using(crate::proofs::HomeFrames::stays_between))]
 pub(crate) fn write_homes<D: Device>(
@@ -45,6 +45,7 @@ pub(crate) fn write_homes<D: Device>(
     requires closed { LeavesClosed (D.disk device.old) }
     ensures home { OnOk result (AreHome home.now (frames_in headers.now contents.now) count
         (D.disk device.new).seen) }
+    ensures zeros { OnOk result (EndAtHome home.now count (D.disk device.new).seen) }
     ensures closed { LeavesClosed (D.disk device.new) }
     ensures elsewhere { Elsewhere 5 (home.now.total - 5)
         (D.disk device.old).seen (D.disk device.new).seen }

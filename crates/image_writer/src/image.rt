@@ -1,5 +1,5 @@
 // Writing an image over the content of a device.
-ghost use Rattle.std.specs.Prelude.{◌≡◌, ◌-◌, ◌^◌, ◌<◌, ◌≤◌, ℕ, length, OnOk};
+ghost use Rattle.std.specs.Prelude.{◌≡◌, ◌-◌, ◌^◌, ◌<◌, ◌≤◌, ℕ, [], length, OnOk};
 ghost use Rattle.device.specs.Disk.{Image};
 ghost use Rattle.device.specs.Calls.{Counts, Elsewhere, Only};
 ghost use Rattle.device.specs.Moments.{LeavesOnly};
@@ -13,8 +13,8 @@ ghost use Rattle.ckpt_log.specs.Closing.{AreClosed};
 ghost use Rattle.model.specs.Frame.{frame_at, frames_in};
 ghost use Rattle.model.specs.Keepable.{AreKeepable};
 ghost use Rattle.model.specs.Sound.{object_count};
-ghost use Rattle.image_writer.specs.Written.{IsBeforeOrNone, IsLeftWriting, IsWritten, LeavesClosed, first_state};
-ghost use Rattle.image_writer.specs.Written.{first_saved, state_of};
+ghost use Rattle.image_writer.specs.Written.{EndInZeros, IsBeforeOrNone, IsLeftWriting, IsWritten, LeavesClosed};
+ghost use Rattle.image_writer.specs.Written.{first_saved, first_state, state_of};
 
 use crate::homes::write_homes;
 use crate::opening_sectors::{open_gate, write_opening_sectors};
@@ -49,6 +49,7 @@ fn write_frames<D: Device>(
         → frame_in (D.disk device.new).seen superblock.now generation entries.now a
         ≡ frame_bytes superblock.now.geometry a
         (frame_at (frames_in headers.now contents.now) a)) }
+    ensures zeros { OnOk result (EndInZeros superblock.now generation entries.now (D.disk device.new).seen) }
     ensures directory { OnOk result
         (directory_in (D.disk device.new).seen superblock.now generation (length entries.now)
         ≡ directory_bytes entries.now) }
@@ -112,6 +113,7 @@ fn write_parts<D: Device>(
 /// - one committed checkpoint with this header, of sequence number 0, and this directory
 /// - at home, the frames of all objects
 /// - in the slot of each entry, the frames of all objects with the home of the entry's object
+/// - in each cluster that has frames, zeros behind them
 ///
 /// After `Ok` a read gives that state, also after a crash. There are three steps, each durable before
 /// the next begins:
@@ -149,6 +151,8 @@ pub fn write_saved<D: Device>(
     ensures crash { OnOk result ((c : Image) → (D.disk device.new).may_leave c →
         Encodes c (D.disk device.new).sectors
         (state_of superblock.now header entries.now (frames_in headers.now contents.now))) }
+    ensures zeros { OnOk result ((c : Image) → (D.disk device.new).may_leave c →
+        EndInZeros superblock.now header.generation entries.now c) }
     ensures elsewhere { Elsewhere 0 superblock.now.total
         (D.disk device.old).seen (D.disk device.new).seen }
     ensures size { (D.disk device.new).sectors ≡ (D.disk device.old).sectors }
@@ -196,6 +200,8 @@ pub fn write_image<D: Device>(
     ensures crash { OnOk result ((c : Image) → (D.disk device.new).may_leave c →
         Holds (D.disk device.new).sectors c
         (first_saved superblock.now.geometry age (frames_in headers.now contents.now))) }
+    ensures zeros { OnOk result ((c : Image) → (D.disk device.new).may_leave c →
+        EndInZeros superblock.now 0 [] c) }
     ensures elsewhere { Elsewhere 0 superblock.now.total
         (D.disk device.old).seen (D.disk device.new).seen }
     ensures size { (D.disk device.new).sectors ≡ (D.disk device.old).sectors }

@@ -4,6 +4,7 @@
 mod cause;
 pub mod laws;
 mod observer;
+mod raw_reader;
 mod running;
 mod script_pieces;
 mod script_reader;
@@ -12,6 +13,7 @@ mod unsaved;
 
 pub use cause::{Cause, Stop};
 pub use observer::{Observer, Silent};
+pub use raw_reader::RawReader;
 pub use running::{run, run_observed};
 pub use script_pieces::{Piece, Script};
 pub use script_reader::ScriptReader;

@@ -1,5 +1,6 @@
 use Rattle.image_builder.proofs.Names.{rules, List, length, ap, subst, sym, Geometry, frames_in, LeavesOnly, Entry, Two, IsDirectory, Encodes, Plan}
 use Rattle.image_builder.proofs.Names.{SavedFrames, kept_of, laid_again, IsLeftWriting, saved_by, numbered}
+use Rattle.image_builder.specs.Names.{EndInZeros, SavedState}
 use Rattle.std.proofs.Common.{◌≡◌, ◌∙◌}
 use Rattle.image_builder.proofs.Upgrades.{directory_count, directory_fits, same_state}
 use Rattle.image_builder.proofs.upgrading.write_over.Goals as goal
@@ -34,6 +35,7 @@ returns-in-Ok g c =
       total = search rules;
       encodes = subst (Encodes (g.E.Device.disk c.write_saved.new.device).seen (g.E.Device.disk c.write_saved.new.device).sectors) same c.in-Ok.ensures.denotes;
       crash = λ x left. subst (Encodes x (g.E.Device.disk c.write_saved.new.device).sectors) same (c.in-Ok.ensures.crash x left);
+      zeros = λ x left. subst (λ (state : SavedState). EndInZeros state.plan state.header.generation state.directory x) same (c.in-Ok.ensures.zeros x left);
       elsewhere = search rules;
       small = search rules;
       opened = search rules;
@@ -58,6 +60,7 @@ returns-in-Err g c =
       total = search rules;
       encodes = search rules;
       crash = search rules;
+      zeros = search rules;
       elsewhere = search rules;
       small = search rules;
       opened = search rules;

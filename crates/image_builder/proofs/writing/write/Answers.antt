@@ -10,7 +10,7 @@ returns-clause-built g c =
     let laid : AreLaid d hs cs = rw (c.deref.ensures.value, c.deref-2.ensures.value) c.requires.laid in
     let written = c.in_ok-write_image.ensures in
     builds d hs cs laid c.requires.limits c.requires.sound (g.D.Device.disk c.args.device.now) (g.D.Device.disk c.write_image.new.device)
-    c.args.superblock.now c.requires.plan c.requires.inside written.denotes written.crash written.elsewhere
+    c.args.superblock.now c.requires.plan c.requires.inside written.denotes written.crash written.zeros written.elsewhere
 
 pub returns-clause-any_moment : goal.returns-clause-any_moment
 returns-clause-any_moment g c =

@@ -1,7 +1,7 @@
 use Rattle.image_writer.proofs.Names.{arith, rules, inr, nat_tests, home_place, place_length, shape_of, frames_in, places_within, frames_before}
 use Rattle.std.proofs.Common.{◌≡◌, ◌<◌, ◌∙◌}
 use Rattle.image_writer.proofs.ClosedGates.{closed_on, leaves_closed}
-use Rattle.image_writer.proofs.HomeFrames.{is_there, later, one_more, stays_between}
+use Rattle.image_writer.proofs.HomeFrames.{is_there, later, one_more, one_more_ends, stays_between, still_ends}
 use Rattle.image_writer.proofs.homes.write_homes.Goals as goal
 use Rattle.image_writer.proofs.homes.write_homes.Goals.{then-is_first+in_ok-write_shared, else-is_first}
 
@@ -14,6 +14,7 @@ loop-number-preserved g c =
     let frames = frames_in c.args.headers.now c.args.contents.now in
     elim c.if-is_first.branch [
       | then-is_first+in_ok-write_shared w ↦
+          let first : frames_before (shape_of c.args.home.now c.loop-number.number) ≡ 0 = search rules in
           let writes = rw w.place-at.ensures.value at w.write_shared.ensures.writes in
           let same : (g.D.Device.disk w.write_shared.new.device).failures ≡ (g.D.Device.disk c.loop-number.device).failures = search rules in
           rw w.device-is (
@@ -29,6 +30,9 @@ loop-number-preserved g c =
                 (place_length p n) {old = g.D.Device.disk c.args.device.now} {mid = g.D.Device.disk c.loop-number.device} {new = g.D.Device.disk
                 w.write_shared.new.device}
                 c.loop-number.invariant.5 (inr (places_within p n c.requires.plan lt).0) c.loop-number.invariant.4 writes,
+            one_more_ends (g.D.Device.disk c.args.device.now).seen (g.D.Device.disk c.loop-number.device).seen (g.D.Device.disk w.write_shared.new.device).seen
+                p n c.requires.plan lt writes.elsewhere frames first c.loop-number.invariant.6
+                (rw w.place-at.ensures.value at w.in_ok-write_shared.ensures.written),
           )
       | else-is_first w ↦
           let not_first : frames_before (shape_of c.args.home.now c.loop-number.number) ≡ 0 → ⊥ = search rules in
@@ -40,6 +44,7 @@ loop-number-preserved g c =
             c.loop-number.invariant.3,
             c.loop-number.invariant.4,
             c.loop-number.invariant.5,
+            still_ends p n (g.D.Device.disk c.loop-number.device).seen not_first c.loop-number.invariant.6,
           )
     ]
 

@@ -1,4 +1,4 @@
-use Rattle.image_writer.proofs.Names.{Elsewhere, frames_in, LeavesOnly, AreClosed, LeavesClosed}
+use Rattle.image_writer.proofs.Names.{Elsewhere, EndAtHome, frames_in, LeavesOnly, AreClosed, LeavesClosed}
 use Rattle.std.proofs.Common.{◌≡◌, ◌-◌}
 use Rattle.image_writer.proofs.HomeFrames.{AreHomeTo}
 use Rattle.image_writer.proofs.homes.write_homes.Given as goal
@@ -11,3 +11,4 @@ invariant-loop-number g l =
     × ((g.D.Device.disk l.device).failures ≡ (g.D.Device.disk l.fn.device).failures)
     × LeavesClosed (g.D.Device.disk l.device)
     × LeavesOnly (g.D.Device.disk l.fn.device) (g.D.Device.disk l.device) (λ c. AreClosed c)
+    × EndAtHome l.home l.number (g.D.Device.disk l.device).seen

@@ -94,5 +94,6 @@ returns-clause-written g c =
     (g.D.Device.disk c.write_opening_sectors.new.device).seen (g.D.Device.disk c.write_frames.new.device).seen (g.D.Device.disk c.sync.new.self).seen
     c.geometry-nodes.ensures.fits
     c.in_ok-write_opening_sectors.ensures.written c.write_frames.ensures.elsewhere c.in_ok-write_frames.ensures.directory c.in_ok-write_frames.ensures.frames
+    c.in_ok-write_frames.ensures.zeros
     (c.write_frames.ensures.closed (g.D.Device.disk c.write_frames.new.device).seen (g.met.D.Device.seen_left c.write_frames.new.device)) c.sync.ensures.seen)
     c.sync.ensures.durable

@@ -1,6 +1,6 @@
-use Rattle.image_writer.proofs.Names.{nat_tests, ap, arith, Image, elsewhere_on, is_open, Encodes, frames_in, state_of, on_ok_weaker}
+use Rattle.image_writer.proofs.Names.{nat_tests, ap, arith, Image, elsewhere_on, is_open, EndInZeros, Encodes, frames_in, state_of, on_ok_weaker}
 use Rattle.std.proofs.Common.{◌∙◌}
-use Rattle.image_writer.proofs.FreshImages.{denotes, durable_is, five, opening_run, widened}
+use Rattle.image_writer.proofs.FreshImages.{denotes, durable_is, five, opening_run, still_zeros, widened}
 use Rattle.image_writer.proofs.image.write_saved.Goals as goal
 
 pub returns-clause-crash : goal.returns-clause-crash
@@ -16,6 +16,18 @@ returns-clause-crash g c =
     c.in_ok-write_parts.ensures.written c.requires.first c.open_gate.ensures.elsewhere (ap is_open gate) (g.D.Device.disk c.open_gate.new.device).sectors
     c.requires.header c.requires.directory c.requires.count
     (omega (arith, size, c.requires.inside)) c.requires.keepable)
+    c.open_gate.ensures.written)
+    c.open_gate.ensures.durable
+
+pub returns-clause-zeros : goal.returns-clause-zeros
+returns-clause-zeros g c =
+    let p = c.args.superblock.now in
+    let parts = c.in_ok-write_parts.ensures.written in
+    durable_is c.open_gate.result (g.D.Device.disk c.open_gate.new.device).may_leave
+    (λ (i : Image). EndInZeros p c.args.header.generation c.args.entries.now i) (g.D.Device.disk c.open_gate.new.device).seen
+    (on_ok_weaker c.open_gate.result
+    (λ gate. still_zeros p c.args.header.generation c.args.entries.now (g.D.Device.disk c.write_parts.new.device).seen
+    (g.D.Device.disk c.open_gate.new.device).seen parts.plan c.open_gate.ensures.elsewhere parts.zeros)
     c.open_gate.ensures.written)
     c.open_gate.ensures.durable
 

@@ -11,7 +11,7 @@ returns-clause-upgraded g c = λ old opened.
     counted c.write_store-written.result.0 (disk old) (g.E.Device.disk c.args.new.now) (g.E.Device.disk c.write_store-written.new.new)
     (saved_by disk (g.S.WholeStore.durable c.self.inside.store))
     o.saves c.self.invariant.sound c.write_store-written.ensures.writes.total c.write_store-written.ensures.writes.encodes
-    c.write_store-written.ensures.writes.crash
+    c.write_store-written.ensures.writes.crash c.write_store-written.ensures.writes.zeros
     c.write_store-written.ensures.writes.elsewhere
 
 pub returns-clause-refused : goal.returns-clause-refused
