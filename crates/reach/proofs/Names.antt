@@ -17,30 +17,32 @@ pub use Rattle.model_laws.proofs.ConfinedRuns.{run_confined}
 pub use Rattle.script.proofs.Fronts.{first_front, second_front, text_fails, writes_after, writes_fail, wrote_trans}
 pub use Rattle.script.proofs.NumberedLines.{lines_all, lines_more, lines_split}
 pub use Rattle.script.specs.Writing.{Writes, Wrote}
-pub use Rattle.std.proofs.Common.{Bool, Err, List, None, Option, Some, Vec, [], add-one, ap, append-nil, append_assoc, arith, codes, decimal, drop, false}
-pub use Rattle.std.proofs.Common.{get_or, inl, inr, is_some, length, length-set, max, not, option_and_then, refl, replicate, reverse, rules, slice_index_or}
-pub use Rattle.std.proofs.Common.{slice_set, subst, suc, sym, take, true, zero, ℕ, ⊎_elim}
+pub use Rattle.std.proofs.Common.{Bool, List, None, Option, Some, Vec, [], add-one, ap, append-nil, arith, codes, decimal, drop, false, get_or, inl, inr}
+pub use Rattle.std.proofs.Common.{is_some, length, length-set, max, not, option_and_then, refl, replicate, reverse, rules, slice_index_or, slice_set, subst}
+pub use Rattle.std.proofs.Common.{suc, sym, take, true, zero, ℕ, ⊎_elim}
 pub use Rattle.std.proofs.Math.Seq.{take-suc}
 pub use Rattle.std.proofs.lemmas.Bool.{cases_eq, cases_lt}
 pub use Rattle.std.proofs.lemmas.Bool.Decides.{nat_tests}
 pub use Rattle.std.proofs.lemmas.Grind.{common_steps, flat_map-append}
 pub use Rattle.std.proofs.lemmas.List.{get_or-set_other, get_or-set_same, get_or_default, length-replicate, length-reverse, length_push, reverse-append}
 pub use Rattle.std.proofs.lemmas.List.{take-append-drop, take_all, take_more}
+pub use Rattle.std.proofs.lemmas.List.Elements.{Contains-append_left, Contains-push, Contains-push_cases}
 pub use Rattle.std.proofs.lemmas.Option.{same_Some}
 pub use Rattle.std.proofs.lemmas.Result.{err_from_is_err_and}
 pub use Rattle.std.specs.List.{All, Contains, count_by, enumerate_from, find, flat_map}
 pub use Rattle.std.specs.Prelude.{IsTrue}
 pub use Rattle.std.specs.declared.alloc.Global.{Global}
+pub use Rattle.reach.specs.Backward.{AddsOwners, AllChange, ConveysInto, HasOwners, IsClosedAt, LeadsInto, Widens, others, unmarked}
 pub use Rattle.reach.specs.Chain.{Conveys, IsChain, IsPath, IsShortest, IsStep, IsWay, held_by}
 pub use Rattle.reach.specs.ChainLines.{step_line}
 unfoldable pub use Rattle.reach.specs.ChainLines.{chain_text}
-pub use Rattle.reach.specs.Laws.{StepsAreAuthority}
+pub use Rattle.reach.specs.Laws.{ReachIsChange, StepsAreAuthority}
 pub use Rattle.reach.specs.Levels.{Begins, FindsBy, IsAfter, IsAt, IsBy, IsFirst, IsFoundBy, IsFoundIn, IsFrom, IsFromLevel, IsHeldIn, IsOwnedBelow, IsSearched}
 pub use Rattle.reach.specs.Levels.{IsTheStep, NamesWithin, found_at, has_level}
-pub use Rattle.reach.specs.Lines.{member_line, member_pulls, pull_line, words_of}
+pub use Rattle.reach.specs.Lines.{counted_text, member_line, member_pulls, pull_line, words_of}
 unfoldable pub use Rattle.reach.specs.Lines.{reach_text}
 pub use Rattle.reach.specs.Missing.{missing}
-pub use Rattle.reach.specs.Reached.{AreSoundObjects, BoundsRuns, IsReach}
+pub use Rattle.reach.specs.Reached.{AreChangers, AreSoundObjects, BoundsRuns, CanChange, IsReach}
 pub use Rattle.reach.specs.declared.levels.Found.{Found}
 pub use Rattle.reach.specs.declared.levels.Levels.{Levels}
 pub use Rattle.reach.specs.declared.step.Step.{Step}

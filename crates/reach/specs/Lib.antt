@@ -1,4 +1,5 @@
 pub mod Names
+pub mod Backward
 pub mod Chain
 pub mod ChainLines
 pub mod Laws

@@ -51,9 +51,15 @@ object_pulls os n o = elim o.content [
 abbrev pub member_pulls : List Object → List Bool → ℕ × Object → List ℕ
 member_pulls os marks p = if is_marked marks p.0 then object_pulls os p.0 p.1 else []
 
--- the members in rising order, their count, and what pulls in processes and banks
+-- the members in rising order, and their count after a word
+abbrev pub counted_text : List ℕ → List Object → List Bool → List ℕ
+counted_text word os marks = flat_map (member_line marks) (enumerate_from 0 os)
+    ++ line_of (spaced (word ∷ decimal (count_by (λ b. b) marks) ∷ []))
+
+-- processes, and their count
+abbrev pub changers_text : List Object → List Bool → List ℕ
+changers_text os marks = counted_text (codes "processes") os marks
+
+-- the members, their count, and what pulls in processes and banks
 unfoldable pub reach_text : List Object → List Bool → List ℕ
-reach_text os marks =
-    flat_map (member_line marks) (enumerate_from 0 os)
-    ++ line_of (spaced (codes "closed" ∷ decimal (count_by (λ b. b) marks) ∷ []))
-    ++ flat_map (member_pulls os marks) (enumerate_from 0 os)
+reach_text os marks = counted_text (codes "closed") os marks ++ flat_map (member_pulls os marks) (enumerate_from 0 os)

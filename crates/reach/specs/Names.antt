@@ -1,14 +1,14 @@
 -- The names of other crates that the definitions here cite.
 pub use Rattle.collections.specs.Marks.{is_marked}
 pub use Rattle.model.specs.Capability.{IsWeak, named}
-pub use Rattle.model.specs.Closed.{IsClosed}
+pub use Rattle.model.specs.Closed.{IsClosed, StaysInside}
 pub use Rattle.model.specs.Machine.{Running, Up}
 pub use Rattle.model.specs.Object.{is_bank, is_free, is_root, root_in, slots_in}
 pub use Rattle.model.specs.Run.{IsRun, Turn}
 pub use Rattle.model.specs.Sound.{IsSound}
 pub use Rattle.model.specs.Text.{line_of, spaced}
 unfoldable pub use Rattle.model.specs.Text.{capability_text}
-pub use Rattle.model.specs.World.{content_at, object_at, owner_at}
+pub use Rattle.model.specs.World.{annex_at, content_at, is_process, object_at, owner_at, root_at, slot_at}
 pub use Rattle.model.specs.declared.capability.Capability.{Capability}
 pub use Rattle.model.specs.declared.capability.Capability.TheVariants.{Bank, Process, Resume, Start, Void}
 pub use Rattle.model.specs.declared.geometry.Geometry.{Geometry}
@@ -17,5 +17,5 @@ pub use Rattle.model.specs.declared.object.Object.{Object}
 pub use Rattle.model_laws.specs.Confinement.{AreBy, IsKept, with_free}
 pub use Rattle.std.specs.List.{All, Contains, count_by, enumerate_from, flat_map}
 pub use Rattle.std.specs.Prelude.{Bool, IsTrue, List, None, Option, Some, Vec, [], codes, decimal, false, length, not}
-pub use Rattle.std.specs.Prelude.{slice_index_or, ℕ}
+pub use Rattle.std.specs.Prelude.{slice_index_or, suc, true, ℕ}
 pub use Rattle.std.specs.declared.alloc.Global.{Global}

@@ -1,7 +1,7 @@
 -- What is in reach of processes.
-use Rattle.reach.specs.Names.{ℕ, Bool, false, List, IsTrue, All, Geometry, Object, IsClosed, Running, Up, IsRun, Turn}
-use Rattle.reach.specs.Names.{IsSound, object_at, AreBy, IsKept, with_free}
-use Rattle.std.specs.Prelude.{◌≡◌}
+use Rattle.reach.specs.Names.{ℕ, Bool, false, List, IsTrue, All, Contains, Geometry, Object, IsClosed, Running, Up}
+use Rattle.reach.specs.Names.{IsRun, Turn, IsSound, object_at, AreBy, IsKept, with_free}
+use Rattle.std.specs.Prelude.{◌≡◌, ◌↔◌}
 
 -- objects of a sound world
 abbrev pub AreSoundObjects : List Object → Type 0
@@ -13,6 +13,14 @@ pub record IsReach (os : List Object) (starts : List ℕ) (inside : ℕ → Bool
   pub begins : All (λ p. IsTrue (inside p)) starts
   pub least : (other : ℕ → Bool) → IsClosed os other → All (λ p. IsTrue (other p)) starts → (n : ℕ) →
       IsTrue (inside n) → IsTrue (other n)
+
+-- an object can change another: each closed set that contains the one contains the other
+abbrev pub CanChange : List Object → ℕ → ℕ → Type 0
+CanChange os n o = (inside : ℕ → Bool) → IsClosed os inside → IsTrue (inside n) → IsTrue (inside o)
+
+-- those of some numbers that can change an object
+abbrev pub AreChangers : List Object → List ℕ → ℕ → (ℕ → Bool) → Type 0
+AreChangers os starts o set = (n : ℕ) → IsTrue (set n) ↔ (Contains starts n × CanChange os n o)
 
 -- the authority bound for a set: over any run of invocations and memory references by its processes, and by those that
 -- they make of what was free, each object outside that wasn't free is kept

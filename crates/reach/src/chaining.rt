@@ -13,7 +13,7 @@ use std::alloc::{AllocError, Global};
 /// sound world. It has no steps if the object is one of `starts`. `None` if there is no chain, which
 /// is if the object isn't in the least closed set that contains `starts`.
 ///
-/// It follows each number once. Fails only if memory runs out.
+/// It follows each number once. `AllocError` means that memory ran out, which is tested, not proved.
 #[tactic(auto, using(crate::proofs::Chains::back_first))]
 pub fn shortest_chain(
     alloc: Global,

@@ -17,7 +17,7 @@ use std::alloc::{AllocError, Global};
 /// numbers that were free, objects outside the set that weren't free keep their content and their
 /// owner (EROS: confinement). Exception: capabilities to members may become void.
 ///
-/// It follows each number once. Fails only if memory runs out.
+/// It follows each number once. `AllocError` means that memory ran out, which is tested, not proved.
 pub fn reach(alloc: Global, objects: &[Object], starts: &[u64]) -> Result<NumberSet, AllocError>
     requires sound { AreSoundObjects objects.now }
     requires known { All (λ n. n < length objects.now) starts.now }

@@ -4,6 +4,7 @@
 
 mod authority;
 mod chaining;
+mod changing;
 mod closing;
 mod explaining;
 pub mod laws;
@@ -15,9 +16,10 @@ mod step;
 mod world;
 
 pub use chaining::shortest_chain;
+pub use changing::changers;
 pub use closing::reach;
 pub use explaining::print_chain;
-pub use printing::print_reach;
-pub use process::missing_process;
+pub use printing::{print_changers, print_reach};
+pub use process::{all_processes, missing_process};
 pub use step::{Step, Way};
 pub use world::read_objects;

@@ -6,7 +6,7 @@ ghost use Rattle.model.specs.Text.{spaced};
 ghost use Rattle.model.specs.World.{content_at};
 ghost use Rattle.script.specs.Writing.{Writes};
 ghost use Rattle.reach.specs.Lines.{held_text, member_line, member_pulls, object_pulls, pull_line, pull_lines, pulls};
-ghost use Rattle.reach.specs.Lines.{reach_text, words_of};
+ghost use Rattle.reach.specs.Lines.{changers_text, counted_text, reach_text, words_of};
 
 use collections::NumberSet;
 use model::{Capability, Content, Object};
@@ -236,6 +236,23 @@ fn count_members(inside: &NumberSet, total: usize) -> u64
     count
 }
 
+// Writes a set of numbers: the line of each member as `show` begins it, by rising numbers, and a word with
+// their count.
+fn print_counted<W: Output>(
+    word: &[u8],
+    objects: &[Object],
+    inside: &NumberSet,
+    writer: &mut W,
+) -> Result<(), RunFault>
+    requires word { length word.now ≤ 9 }
+    requires count { length inside.now ≡ length objects.now }
+    ensures { Writes (W.written writer.old) (W.written writer.new) result
+        (counted_text word.now objects.now inside.now) }
+{
+    print_members(objects, inside, writer)?;
+    LineText::numbered(word, count_members(inside, objects.len())).write_to(writer)
+}
+
 /// Writes a set of numbers: the line of each member as `show` begins it, by rising numbers; `closed`
 /// with their count; and each capability of a member that names another process or another bank.
 ///
@@ -250,7 +267,23 @@ pub fn print_reach<W: Output>(
     ensures { Writes (W.written writer.old) (W.written writer.new) result
         (reach_text objects.now inside.now) }
 {
-    print_members(objects, inside, writer)?;
-    LineText::numbered(b"closed", count_members(inside, objects.len())).write_to(writer)?;
+    print_counted(b"closed", objects, inside, writer)?;
     print_all_pulls(objects, inside, writer)
+}
+
+/// Writes a set of processes: the line of each as `show` begins it, by rising numbers, and `processes`
+/// with their count.
+///
+/// `RunFault::Write` if the writer fails or takes nothing: then a beginning of that text was written.
+/// It takes no memory.
+pub fn print_changers<W: Output>(
+    objects: &[Object],
+    inside: &NumberSet,
+    writer: &mut W,
+) -> Result<(), RunFault>
+    requires { length inside.now ≡ length objects.now }
+    ensures { Writes (W.written writer.old) (W.written writer.new) result
+        (changers_text objects.now inside.now) }
+{
+    print_counted(b"processes", objects, inside, writer)
 }

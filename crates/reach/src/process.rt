@@ -1,9 +1,10 @@
 // Which numbers are processes.
-ghost use Rattle.std.specs.Prelude.{◌≡◌, IsNone, IsTrue, not};
-ghost use Rattle.std.specs.List.{All, find};
+ghost use Rattle.std.specs.Prelude.{◌≡◌, ◌↔◌, ℕ, IfOk, IsNone, IsTrue, not};
+ghost use Rattle.std.specs.List.{All, Contains, find};
 ghost use Rattle.model.specs.World.{is_process};
 
 use model::{Content, Object};
+use std::alloc::{AllocError, Global};
 
 // Whether a number is that of a process.
 fn is_process(objects: &[Object], number: u64) -> bool
@@ -26,4 +27,17 @@ pub fn missing_process(objects: &[Object], numbers: &[u64]) -> Option<u64>
         }
     }
     None
+}
+
+/// The numbers of all processes. Fails only if memory runs out.
+pub fn all_processes(alloc: Global, objects: &[Object]) -> Result<Vec<u64>, AllocError>
+    ensures { IfOk result (λ all. (n : ℕ) → Contains all.items n ↔ IsTrue (is_process objects.now n)) }
+{
+    let mut all = Vec::new(alloc);
+    for number in 0..objects.len() as u64 {
+        if is_process(objects, number) {
+            all.push(number)?;
+        }
+    }
+    Ok(all)
 }

@@ -1,0 +1,323 @@
+-- What can change an object.
+use Rattle.reach.proofs.Names.{nat_tests, ℕ, zero, suc, Bool, true, false, not, List, [], length, slice_set, slice_index_or, inl, inr, ⊎_elim, refl, sym, ap}
+use Rattle.reach.proofs.Names.{subst, arith, IsTrue, All, get_or_default, Contains, is_marked, Object, IsClosed, StaysInside, is_free, is_bank, content_at}
+use Rattle.reach.proofs.Names.{owner_at, is_process, AreSoundObjects, AddsOwners, AllChange, HasOwners, IsClosedAt, LeadsInto, Widens, others, unmarked}
+use Rattle.reach.proofs.Names.{AreChangers, ConveysInto, slots_in, is_root, root_in, Void, CanChange, IsReach, ReachIsChange, Capability, Content, cases_lt}
+use Rattle.reach.proofs.Names.{length-set, replicate}
+use Rattle.std.proofs.Common.{◌≡◌, ◌⊎◌, ◌↔◌, ◌+◌, ◌<◌, ◌≤◌, ◌∷◌, ◌∙◌}
+use Rattle.model.specs.declared.object.Content.TheVariants as content
+
+pub reach_is_change : ReachIsChange
+reach_is_change os n o inside reach = (
+  λ member other closed begins. reach.least other closed (λ k d lt. grind (arith, nat_tests)) o member,
+  λ change. change inside reach.closed (reach.begins 0 0 (omega arith)),
+)
+
+-- fewer numbers aren't marked
+pub marked_more : (marks : List Bool) (n : ℕ) → n < length marks → is_marked marks n ≡ false → unmarked (slice_set marks n true) + 1 ≡ unmarked marks
+marked_more [] n lt none = absurd (omega (arith, lt))
+marked_more (false ∷ marks) zero lt none = omega arith
+marked_more (true ∷ marks) zero lt none = absurd (cc)
+marked_more (true ∷ marks) (suc n) lt none = marked_more marks n (omega (arith, lt)) none
+marked_more (false ∷ marks) (suc n) lt none = let rest = marked_more marks n (omega (arith, lt)) none in omega (arith, rest)
+
+-- a marked number stays marked as another is
+marked_kept : (marks : List Bool) (n m : ℕ) → IsTrue (is_marked marks m) → IsTrue (is_marked (slice_set marks n true) m)
+marked_kept [] n m is = is
+marked_kept (b ∷ marks) zero zero is = refl
+marked_kept (b ∷ marks) zero (suc m) is = is
+marked_kept (b ∷ marks) (suc n) zero is = is
+marked_kept (b ∷ marks) (suc n) (suc m) is = marked_kept marks n m is
+
+marked_here : (marks : List Bool) (n : ℕ) → n < length marks → IsTrue (is_marked (slice_set marks n true) n)
+marked_here [] n lt = absurd (omega (arith, lt))
+marked_here (b ∷ marks) zero lt = refl
+marked_here (b ∷ marks) (suc n) lt = marked_here marks n (omega (arith, lt))
+
+marked_each : (marks : List Bool) (n m : ℕ) → IsTrue (is_marked (slice_set marks n true) m) → (m ≡ n) ⊎ IsTrue (is_marked marks m)
+marked_each [] n m is = inr is
+marked_each (b ∷ marks) zero zero is = inl refl
+marked_each (b ∷ marks) zero (suc m) is = inr is
+marked_each (b ∷ marks) (suc n) zero is = inr is
+marked_each (b ∷ marks) (suc n) (suc m) is = ⊎_elim (λ same. inl (ap suc same)) (λ other. inr other) (marked_each marks n m is)
+
+bank_there : (x : Content Capability) → IsTrue (is_bank x) → is_free x ≡ false
+bank_there (content.Bank limit) is = refl
+bank_there content.Free is = absurd (cc)
+bank_there (content.Page words) is = refl
+bank_there (content.Node slots) is = refl
+bank_there (content.Root root) is = refl
+bank_there (content.Annex registers) is = refl
+
+-- a capability in a slot that leads into a set
+pub slots_lead : (os : List Object) (n : ℕ) (slots : List Capability) (inside : ℕ → Bool) → slots_in (content_at os n) ≡ slots
+    → (i : ℕ) × ConveysInto inside (slice_index_or slots i Void) → LeadsInto os inside n
+slots_lead os n slots inside is at other closed member = at.1 other
+    (subst (λ (l : List Capability). StaysInside other (slice_index_or l at.0 Void)) is (closed.slots n at.0 member))
+
+stays_at : (other : ℕ → Bool) (slots : List Capability) (i : ℕ) → All (StaysInside other) slots → StaysInside other (slice_index_or slots i Void)
+stays_at other [] i all = inl tt
+stays_at other (c ∷ cs) zero all = all 0 Void (omega arith)
+stays_at other (c ∷ cs) (suc i) all = stays_at other cs i (λ k d lt. all (suc k) d (omega (arith, lt)))
+
+-- none does, and the object holds nothing else
+pub slots_settle : (os : List Object) (n : ℕ) (slots : List Capability) (other : ℕ → Bool) → is_process os n ≡ false → slots_in (content_at os n) ≡ slots
+    → All (StaysInside other) slots → IsClosedAt os other n
+slots_settle os n slots other no_root is all = record {
+  annexes = λ root. let both : false ≡ true = sym no_root ∙ root in absurd (cc);
+  slots = λ i. subst (λ (l : List Capability). StaysInside other (slice_index_or l i Void)) (sym is) (stays_at other slots i all);
+  space = no_space (content_at os n) no_root;
+}
+  where
+    no_space : (x : Content Capability) → is_root x ≡ false → StaysInside other (root_in x).space
+    no_space (content.Root root) not_root = absurd (cc)
+    no_space content.Free not_root = inl tt
+    no_space (content.Page words) not_root = inl tt
+    no_space (content.Node held) not_root = inl tt
+    no_space (content.Annex held) not_root = inl tt
+    no_space (content.Bank limit) not_root = inl tt
+
+-- while a number and its owners are added up to one
+pub record Adds (os : List Object) (number at : ℕ) (old new : List Bool) : Type 0 where
+  pub count : length new ≡ length old
+  pub there : is_free (content_at os at) ≡ false
+  pub change : CanChange os at number
+  pub kept : (n : ℕ) → IsTrue (is_marked old n) → IsTrue (is_marked new n)
+  pub each : (n : ℕ) → IsTrue (is_marked new n) → IsTrue (is_marked old n) ⊎ CanChange os n number
+  pub owners : HasOwners os (is_marked old) → (n : ℕ) → IsTrue (is_marked new n) → is_free (content_at os n) ≡ false →
+      IsTrue (is_marked new (owner_at os n)) ⊎ (owner_at os n ≡ at)
+  pub begun : ((at ≡ number) × (new ≡ old)) ⊎ (IsTrue (is_marked new number) × (unmarked new < unmarked old))
+
+pub adds_first : (os : List Object) (number : ℕ) (old : List Bool) → is_free (content_at os number) ≡ false → Adds os number number old old
+adds_first os number old there = record {
+  count = refl;
+  there = there;
+  change = λ inside closed member. member;
+  kept = λ n is. is;
+  each = λ n is. inl is;
+  owners = λ has n is free. inl (has n is free);
+  begun = inl (refl, refl);
+}
+
+module _ (os : List Object) (number at : ℕ) (old mid : List Bool) (adds : Adds os number at old mid) where
+  pub adds_next : AreSoundObjects os → at < length mid → is_marked mid at ≡ false → Adds os number (owner_at os at) old (slice_set mid at true)
+  adds_next sound lt none = record {
+    count = length-set mid at true ∙ adds.count;
+    there = bank_there (content_at os (owner_at os at)) bank;
+    change = λ inside closed member. adds.change inside closed (closed.owned (owner_at os at) at member bank adds.there refl);
+    kept = λ n is. marked_kept mid at n (adds.kept n is);
+    each = λ n is. ⊎_elim (λ here. inr (subst (λ (m : ℕ). CanChange os m number) (sym here) adds.change)) (λ before. adds.each n before)
+        (marked_each mid at n is);
+    owners = λ has n is free. ⊎_elim (λ here. inr (ap (owner_at os) here))
+        (λ before. ⊎_elim (λ marked. inl (marked_kept mid at (owner_at os n) marked))
+        (λ here. inl (subst (λ (m : ℕ). IsTrue (is_marked (slice_set mid at true) m)) (sym here) (marked_here mid at lt))) (adds.owners has n before free))
+        (marked_each mid at n is);
+    begun = inr (⊎_elim (λ start. (
+      subst (λ (m : ℕ). IsTrue (is_marked (slice_set mid at true) m)) start.0 (marked_here mid at lt),
+      omega (arith, marked_more mid at lt none, ap unmarked start.1),
+    )) (λ later. (marked_kept mid at number later.0, omega (arith, marked_more mid at lt none, later.1))) adds.begun);
+  }
+    where
+      bank : IsTrue (is_bank (content_at os (owner_at os at)))
+      bank = sound.2.owners at (λ free. let both : false ≡ true = sym adds.there ∙ free in absurd (cc))
+
+  pub adds_fewer : at < length mid → is_marked mid at ≡ false → unmarked (slice_set mid at true) < unmarked mid
+  adds_fewer lt none = omega (arith, marked_more mid at lt none)
+
+  pub adds_whole : IsTrue (is_marked mid at) → AddsOwners os number old mid
+  adds_whole member = record {
+    count = adds.count;
+    inside = ⊎_elim (λ start. subst (λ (m : ℕ). IsTrue (is_marked mid m)) start.0 member) (λ later. later.0) adds.begun;
+    kept = adds.kept;
+    each = adds.each;
+    owners = λ has n is free. ⊎_elim (λ marked. marked) (λ here. subst (λ (m : ℕ). IsTrue (is_marked mid m)) (sym here) member) (adds.owners has n is free);
+    fewer = λ none. ⊎_elim (λ start.
+        let marked : is_marked old number ≡ true = ap (λ (l : List Bool). is_marked l number) (sym start.1)
+        ∙ subst (λ (m : ℕ). IsTrue (is_marked mid m)) start.0 member in
+        let both : false ≡ true = sym none ∙ marked in absurd (cc)) (λ later. later.1) adds.begun;
+  }
+
+-- the objects below a number were tried
+pub widens_first : (os : List Object) (old : List Bool) → Widens os 0 false old old
+widens_first os old = record {
+  count = refl;
+  kept = λ n is. is;
+  each = λ o all. all;
+  owners = λ has. has;
+  fewer = λ grew. absurd (cc);
+  same = λ none. refl;
+  settled = λ none n lt. absurd (omega (arith, lt));
+}
+
+module _ (os : List Object) (i : ℕ) (grew : Bool) (old mid : List Bool) (widens : Widens os i grew old mid) where
+  pub widens_skip : (is_marked mid i ≡ false → IsClosedAt os (others (is_marked mid)) i) → Widens os (i + 1) grew old mid
+  widens_skip here = record {
+    count = widens.count;
+    kept = widens.kept;
+    each = widens.each;
+    owners = widens.owners;
+    fewer = widens.fewer;
+    same = widens.same;
+    settled = λ none n lt out. elim (cases_lt n i) [
+      | inl below ↦ widens.settled none n below out
+      | inr past ↦
+          let is : i ≡ n = omega (arith, past, lt) in
+          subst (λ (m : ℕ). IsClosedAt os (others (is_marked mid)) m) is (here (subst (λ (m : ℕ). is_marked mid m ≡ false) (sym is) out))
+    ];
+  }
+
+  no_more : (b : Bool) → grew ≡ b → unmarked mid ≤ unmarked old
+  no_more true is = omega (arith, widens.fewer is)
+  no_more false is = omega (arith, ap unmarked (widens.same is))
+
+  pub widens_more : (new : List Bool) → is_marked mid i ≡ false → LeadsInto os (is_marked mid) i → AddsOwners os i mid new → Widens os (i + 1) true old new
+  widens_more new none leads adds = record {
+    count = adds.count ∙ widens.count;
+    kept = λ n is. adds.kept n (widens.kept n is);
+    each = λ o all n is. ⊎_elim (λ before. widens.each o all n before) (λ change. λ inside closed member.
+        let into = leads inside closed (change inside closed member) in widens.each o all into.0 into.1 inside closed into.2) (adds.each n is);
+    owners = λ has. adds.owners (widens.owners has);
+    fewer = λ yes_. omega (arith, adds.fewer none, no_more grew refl);
+    same = λ other. absurd (cc);
+    settled = λ other. absurd (cc);
+  }
+
+-- the members so far, each of which can change the object
+pub record Sources (os : List Object) (o : ℕ) (grew : Bool) (marks : List Bool) : Type 0 where
+  pub count : length marks ≡ length os
+  pub object : IsTrue (is_marked marks o)
+  pub each : AllChange os (is_marked marks) o
+  pub owners : HasOwners os (is_marked marks)
+  pub settled : grew ≡ false → (n : ℕ) → n < length os → is_marked marks n ≡ false → IsClosedAt os (others (is_marked marks)) n
+
+none_marked : (count n : ℕ) → IsTrue (is_marked (replicate count false) n) → ⊥
+none_marked zero n is = absurd (cc)
+none_marked (suc c) zero is = absurd (cc)
+none_marked (suc c) (suc n) is = none_marked c n is
+
+pub sources_first : (os : List Object) (o : ℕ) (old new : List Bool) (count : ℕ) → old ≡ replicate count false → length old ≡ length os
+    → AddsOwners os o old new → Sources os o true new
+sources_first os o old new count is long adds = record {
+  count = adds.count ∙ long;
+  object = adds.inside;
+  each = λ n member. ⊎_elim (λ before. absurd (none n before)) (λ change. change) (adds.each n member);
+  owners = adds.owners (λ n member free. absurd (none n member));
+  settled = λ other. absurd (cc);
+}
+  where
+    none : (n : ℕ) → IsTrue (is_marked old n) → ⊥
+    none n member = none_marked count n (subst (λ (l : List Bool). IsTrue (is_marked l n)) is member)
+
+pub sources_next : (os : List Object) (o : ℕ) (grew : Bool) (old new : List Bool) → Sources os o true old → Widens os (length os) grew old new →
+    Sources os o grew new
+sources_next os o grew old new sources widens = record {
+  count = widens.count ∙ sources.count;
+  object = widens.kept o sources.object;
+  each = widens.each o sources.each;
+  owners = widens.owners sources.owners;
+  settled = widens.settled;
+}
+
+-- how much is left to do
+abbrev pub work : Bool → List Bool → ℕ
+work true marks = unmarked marks + 1
+work false marks = unmarked marks
+
+pub work_less : (os : List Object) (count : ℕ) (grew : Bool) (old new : List Bool) → Widens os count grew old new → work grew new < work true old
+work_less os count true old new widens = omega (arith, widens.fewer refl)
+work_less os count false old new widens = omega (arith, ap unmarked (widens.same refl))
+
+-- an object that isn't there has nothing
+past_closed : (os : List Object) (inside : ℕ → Bool) (n : ℕ) → length os ≤ n → IsClosedAt os inside n
+past_closed [] inside n past = record { annexes = λ is. absurd (cc); slots = λ i. inl tt; space = inl tt }
+past_closed (o ∷ os) inside zero past = absurd (omega (arith, past))
+past_closed (o ∷ os) inside (suc n) past = grind (arith, nat_tests, past_closed os inside n (omega (arith, past)))
+
+module _ (os : List Object) (o : ℕ) (marks : List Bool) (sources : Sources os o false marks) where
+  settled_at : (n : ℕ) → IsTrue (others (is_marked marks) n) → IsClosedAt os (others (is_marked marks)) n
+  settled_at n out = elim (cases_lt n (length os)) [
+    | inl below ↦ sources.settled refl n below (is_other (is_marked marks n) out)
+    | inr past ↦ past_closed os (others (is_marked marks)) n past
+  ]
+    where
+      is_other : (b : Bool) → IsTrue (not b) → b ≡ false
+      is_other true is = absurd (cc)
+      is_other false is = refl
+
+  -- no other number has authority over one of them
+  pub others_closed : IsClosed os (others (is_marked marks))
+  others_closed = record {
+    annexes = λ p out is. (settled_at p out).annexes is;
+    owned = λ b n out bank there owned. unowned b n out there owned (is_marked marks n) refl;
+    slots = λ n i out. (settled_at n out).slots i;
+    spaces = λ p out. (settled_at p out).space;
+  }
+    where
+      unowned : (b n : ℕ) → IsTrue (others (is_marked marks) b) → is_free (content_at os n) ≡ false → owner_at os n ≡ b → (m : Bool) → is_marked marks n ≡ m
+          → IsTrue (others (is_marked marks) n)
+      unowned b n out there owned true is =
+          let owner : is_marked marks b ≡ true = subst (λ (k : ℕ). IsTrue (is_marked marks k)) owned (sources.owners n is there) in
+          let both : not true ≡ true = ap not (sym owner) ∙ out in absurd (cc)
+      unowned b n out there owned false is = ap not is
+
+  -- so they are all that can change the object
+  pub sources_are : (n : ℕ) → IsTrue (is_marked marks n) ↔ CanChange os n o
+  sources_are n = (sources.each n, λ can. member can (is_marked marks n) refl)
+    where
+      member : CanChange os n o → (m : Bool) → is_marked marks n ≡ m → IsTrue (is_marked marks n)
+      member can true is = is
+      member can false is =
+          let out : not (is_marked marks o) ≡ true = can (others (is_marked marks)) others_closed (ap not is) in
+          let both : not true ≡ true = ap not (sym sources.object) ∙ out in absurd (cc)
+
+-- the first of some numbers, as far as they are members
+pub record Picks (inside : List Bool) (numbers : List ℕ) (at : ℕ) (set : List Bool) : Type 0 where
+  pub count : length set ≡ length inside
+  pub some : (n : ℕ) → IsTrue (is_marked set n) → Contains numbers n × IsTrue (is_marked inside n)
+  pub all : (k d : ℕ) → k < at → IsTrue (is_marked inside (slice_index_or numbers k d)) → IsTrue (is_marked set (slice_index_or numbers k d))
+
+pub picks_first : (inside : List Bool) (numbers : List ℕ) (count : ℕ) (set : List Bool) → set ≡ replicate count false → length set ≡ length inside →
+    Picks inside numbers 0 set
+picks_first inside numbers count set is long = record {
+  count = long;
+  some = λ n member. absurd (none_marked count n (subst (λ (l : List Bool). IsTrue (is_marked l n)) is member));
+  all = λ k d lt. absurd (omega (arith, lt));
+}
+
+module _ (inside : List Bool) (numbers : List ℕ) (i : ℕ) (set : List Bool) (picks : Picks inside numbers i set) (lt : i < length numbers) where
+  pub picks_skip : is_marked inside (slice_index_or numbers i 0) ≡ false → Picks inside numbers (i + 1) set
+  picks_skip none = record { count = picks.count; some = picks.some; all = λ k d below. grind (arith, nat_tests, cases_lt, get_or_default, picks.all) }
+
+  pub picks_more : IsTrue (is_marked inside (slice_index_or numbers i 0)) → slice_index_or numbers i 0 < length set →
+      Picks inside numbers (i + 1) (slice_set set (slice_index_or numbers i 0) true)
+  picks_more member known = record {
+    count = length-set set (slice_index_or numbers i 0) true ∙ picks.count;
+    some = λ n is. ⊎_elim (λ here. ((i, lt, get_or_default numbers i n 0 lt ∙ sym here), subst (λ (m : ℕ). IsTrue (is_marked inside m)) (sym here) member))
+        (λ before. picks.some n before) (marked_each set (slice_index_or numbers i 0) n is);
+    all = λ k d below is. elim (cases_lt k i) [
+      | inl before ↦ marked_kept set (slice_index_or numbers i 0) (slice_index_or numbers k d) (picks.all k d before is)
+      | inr past ↦
+          let here : i ≡ k = omega (arith, past, below) in
+          let same : slice_index_or numbers i 0 ≡ slice_index_or numbers k d =
+          get_or_default numbers i 0 d lt ∙ ap (λ (j : ℕ). slice_index_or numbers j d) here in
+          subst (λ (m : ℕ). IsTrue (is_marked (slice_set set (slice_index_or numbers i 0) true) m)) same
+          (marked_here set (slice_index_or numbers i 0) known)
+    ];
+  }
+
+pub picks_whole : (inside : List Bool) (numbers : List ℕ) (i : ℕ) (set : List Bool) → Picks inside numbers i set → length numbers ≤ i → (n : ℕ) →
+    IsTrue (is_marked set n) ↔ (Contains numbers n × IsTrue (is_marked inside n))
+picks_whole inside numbers i set picks whole n = (
+  picks.some n,
+  λ both.
+      let marked = picks.all both.0.0 n (omega (arith, whole, both.0.1)) (subst (λ (m : ℕ). IsTrue (is_marked inside m)) (sym both.0.2) both.1) in
+      subst (λ (m : ℕ). IsTrue (is_marked set m)) both.0.2 marked,
+)
+
+-- and those of some numbers
+pub changers_are : (os : List Object) (starts : List ℕ) (o : ℕ) (inside set : List Bool) → ((n : ℕ) → IsTrue (is_marked inside n) ↔ CanChange os n o)
+    → ((n : ℕ) → IsTrue (is_marked set n) ↔ (Contains starts n × IsTrue (is_marked inside n))) → AreChangers os starts o (is_marked set)
+changers_are os starts o inside set can each n = (
+  λ member. let both = (each n).0 member in (both.0, (can n).0 both.1),
+  λ both. (each n).1 (both.0, (can n).1 both.1),
+)
