@@ -139,6 +139,10 @@ IsUnprepared refusal.LogFull = Unit {0}
 IsUnprepared refusal.Fault = Unit {0}
 IsUnprepared _ = ⊥
 
+-- the parts with more numbers touched
+abbrev pub touched_too : List ℕ → Parts → Parts
+touched_too written p = record p { touched = touching p.touched written }
+
 -- Frames were fetched, and numbers announced that are to be written; after a refusal none is. The parameters are
 -- ghost members of a store of present frames.
 pub record Prepares {S T : Type 0} (parts : S → Parts) (Continues : S → S → Type 0) (old new : S) (written : List ℕ)

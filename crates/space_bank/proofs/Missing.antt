@@ -92,29 +92,22 @@ pub limit_held : (p : Parts) (n : ℕ) (c : Content Cap) → n < length p.header
     limit_in c ≡ limit_in (content_at (objects_in p) n)
 limit_held p n c known is = grind (arith, nat_tests, mapped, content_there)
 
--- a read-only call leaves the objects
-pub objects_looked : (old now : Parts) → now.headers ≡ old.headers → now.contents ≡ old.contents → objects_in now ≡ objects_in old
-objects_looked old now headers contents = grind (arith, nat_tests)
-
 -- one number more, read after a read-only call
-pub numbers_more : (old now : Parts) (r : Role) (n one : ℕ) (kept new : List ℕ) → now.headers ≡ old.headers → now.contents ≡ old.contents →
-    one ≡ kept_number r (content_at (objects_in now) n) →
+pub numbers_more : (old now : Parts) (r : Role) (n one : ℕ) (kept new : List ℕ) → now ≡ old → one ≡ kept_number r (content_at (objects_in now) n) →
     kept ≡ map (λ m. kept_number r (content_at (objects_in old) m)) (range_with_len 0 n) → new ≡ kept ++ one ∷ [] →
     new ≡ map (λ m. kept_number r (content_at (objects_in old) m)) (range_with_len 0 (n + 1))
-numbers_more old now r n one kept new headers contents is so more =
+numbers_more old now r n one kept new same is so more =
     let f : ℕ → ℕ = λ m. kept_number r (content_at (objects_in old) m) in
-    let here : one ≡ f n = is ∙ ap (λ (os : List Object). kept_number r (content_at os n)) (objects_looked old now headers contents) in
+    let here : one ≡ f n = is ∙ ap (λ (p : Parts). kept_number r (content_at (objects_in p) n)) same in
     more ∙ ap (λ (xs : List ℕ). xs ++ one ∷ []) so ∙ ap (λ (m : ℕ). map f (range_with_len 0 n) ++ m ∷ []) here
     ∙ sym (map-range_with_len_more f 0 n n (zero-add n))
 
--- the limits, and the annexes read behind them, are those of the objects that are left
-pub kept_looked : (p q r : Parts) (nodes : ℕ) (limits annexes : List ℕ) → q.headers ≡ p.headers → q.contents ≡ p.contents → r.headers ≡ q.headers →
-    r.contents ≡ q.contents → nodes ≡ r.geometry.nodes
-    → limits ≡ map (λ n. kept_number role.Bank (content_at (objects_in p) n)) (range_with_len 0 nodes)
-    → annexes ≡ map (λ n. kept_number role.Root (content_at (objects_in q) n)) (range_with_len 0 nodes)
-    → AreKept (objects_in r) r.geometry.nodes limits annexes
-kept_looked p q r nodes limits annexes headers contents headers_too contents_too size limits_are annexes_are =
-    grind (arith, nat_tests, objects_looked p q headers contents, objects_looked q r headers_too contents_too)
+-- the limits, and the annexes read after them, are those of the same objects
+pub both_kept : {p q r : Parts} {nodes : ℕ} {limits annexes : List ℕ} → q ≡ p → r ≡ q → nodes ≡ p.geometry.nodes →
+    limits ≡ map (λ n. kept_number role.Bank (content_at (objects_in p) n)) (range_with_len 0 nodes) →
+    annexes ≡ map (λ n. kept_number role.Root (content_at (objects_in q) n)) (range_with_len 0 nodes) →
+    AreKept (objects_in r) r.geometry.nodes limits annexes
+both_kept {p} {q} {r} {nodes} {limits} {annexes} first second size limits_are annexes_are = grind (arith, nat_tests)
 
 -- numbers of nodes and pages fit, since there is a header for each
 pub numbers_fit : (p : Parts) (hs : List ObjectHeader) (h : Geometry) (count : ℕ) → hs ≡ p.headers → count ≡ length hs → count < 2 ^ 64 → h ≡ p.geometry →

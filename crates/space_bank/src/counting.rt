@@ -1,5 +1,5 @@
 // What there is, counted from the objects.
-ghost use Rattle.std.specs.Prelude.{◌≡◌, ◌↔◌, ℕ, ◌+◌, ◌<◌, ◌≤◌, ◌^◌, false, length, map, slice_index, IfOk, IsErr};
+ghost use Rattle.std.specs.Prelude.{◌≡◌, ◌↔◌, ℕ, ◌+◌, ◌<◌, ◌≤◌, ◌^◌, false, length, map, slice_index, IfOk};
 ghost use Rattle.std.specs.Prelude.{IsTrue};
 ghost use Rattle.std.specs.List.{range_with_len};
 ghost use Rattle.model.specs.Bank.{usage as usage_of};
@@ -7,7 +7,7 @@ ghost use Rattle.model.specs.Keepable.{AreKeepable};
 ghost use Rattle.model.specs.Object.{is_bank as counts_as_bank, limit_in};
 ghost use Rattle.model.specs.World.{content_at};
 ghost use Rattle.model_laws.proofs.BankTree.{IsTree};
-ghost use Rattle.capability.specs.Parts.{AreSound, HaveTheirRoles, OnlyReads, OnlyFetches, frames_of, objects_in};
+ghost use Rattle.capability.specs.Parts.{AreSound, FetchesOrFails, HaveTheirRoles, OnlyReads, frames_of, objects_in};
 ghost use Rattle.space_bank.specs.Banks.{AreCounted};
 ghost use Rattle.space_bank.specs.Counting.{AreKept, AreMarked, kept_number};
 
@@ -51,9 +51,7 @@ fn read_number<F: Frames>(store: &mut F, number: u64, role: Role) -> Result<u64,
         (frames_of (F.parts store.old)) }
     ensures kept { IfOk result (λ kept. kept
         ≡ kept_number role (content_at (objects_in (F.parts store.old)) number)) }
-    ensures cause { IsErr result ↔ ((F.parts store.old).failures < (F.parts store.new).failures) }
-    ensures later { (F.parts store.old).failures ≤ (F.parts store.new).failures }
-    ensures snapshots { OnlyFetches F.parts F.ContinuesTo store.old store.new }
+    ensures fetches { FetchesOrFails F.parts F.ContinuesTo store.old store.new result }
 {
     if store.table().header(number).role != role {
         return Ok(0);

@@ -1,7 +1,7 @@
-use Rattle.space_bank.proofs.Names.{arith, only_reads_twice}
+use Rattle.space_bank.proofs.Names.{arith}
+use Rattle.capability.proofs.SnapshotLaws.{fetched_same}
 use Rattle.std.proofs.Common.{◌∙◌}
 use Rattle.space_bank.proofs.Missing.{numbers_more}
-use Rattle.space_bank.proofs.Renewing.{unrisen}
 use Rattle.space_bank.proofs.counting.read_numbers.Goals as goal
 
 pub loop-number-preserved : goal.loop-number-preserved
@@ -11,12 +11,9 @@ loop-number-preserved g c =
     let ok = c.in_ok-read_number.ensures in
     record {
       kept = numbers_more (parts c.args.store.now) (parts c.loop-number.store) c.args.role c.loop-number.number c.in_ok-read_number.field-0
-          c.loop-number.kept.items c.push_reserved.new.self.items
-          inv.snapshots.headers inv.snapshots.contents ok.kept inv.kept c.push_reserved.ensures.items;
+          c.loop-number.kept.items c.push_reserved.new.self.items inv.same ok.kept inv.kept c.push_reserved.ensures.items;
       size = omega (arith, inv.size, c.push_reserved.ensures.len);
       room = omega (arith, inv.room, c.push_reserved.ensures.capacity);
-      failures = unrisen (parts c.loop-number.store).failures (parts c.read_number.new.store).failures ok.later (λ more. let wrong = ok.cause.1 more in cc)
-          ∙ inv.failures;
-      snapshots = only_reads_twice parts g.F.Frames.ContinuesTo g.met.F.Frames.continues_twice c.args.store.now c.loop-number.store c.read_number.new.store
-          inv.snapshots ok.snapshots;
+      same = fetched_same ok.fetches ∙ inv.same;
+      continues = g.met.F.Frames.continues_twice c.args.store.now c.loop-number.store c.read_number.new.store inv.continues ok.fetches.snapshots.continues;
     }
