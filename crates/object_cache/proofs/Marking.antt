@@ -1,8 +1,8 @@
 -- What marking a list of numbers does to the marks and to their count.
 use Rattle.object_cache.proofs.Names.{ℕ, Bool, true, false, List, [], length, set, take, refl, ap, sym, arith, set-get_or, touching, touched_count, eqb, get_or}
 use Rattle.object_cache.proofs.Names.{eqb-true, eqb-false, take_more, sum_by-set, list_any, length-set, cases_eq, cases_lt, count_by, get_or-replicate}
-use Rattle.object_cache.proofs.Names.{get_or_past, length-replicate, replicate}
-use Rattle.std.proofs.Common.{◌≡◌, ◌+◌, ◌<◌, ◌||◌, ◌∷◌, ◌++◌, ◌∙◌, get_or-set_same, get_or-set_other}
+use Rattle.object_cache.proofs.Names.{get_or_past, length-replicate, replicate, set_past, inl, inr}
+use Rattle.std.proofs.Common.{◌≡◌, ◌+◌, ◌<◌, ◌≤◌, ◌||◌, ◌∷◌, ◌++◌, ◌∙◌, get_or-set_same, get_or-set_other}
 
 pub length-touching : (t : List Bool) (ns : List ℕ) → length (touching t ns) ≡ length t
 length-touching t [] = refl
@@ -27,12 +27,30 @@ pub one_fewer : (t : List Bool) (n : ℕ) → get_or t n false ≡ true → coun
 one_fewer t n marked = search (arith, sum_by-set, marked_within)
 
 -- a mark that is set for the first time is one more
-touched_count-set : (t : List Bool) (n : ℕ) → n < length t → get_or t n false ≡ false → touched_count (set t n true) ≡ touched_count t + 1
+pub touched_count-set : (t : List Bool) (n : ℕ) → n < length t → get_or t n false ≡ false → touched_count (set t n true) ≡ touched_count t + 1
 touched_count-set t n inside unmarked = search (arith, sum_by-set)
 
 -- a mark that is there stays
 pub set-marked : (t : List Bool) (n : ℕ) → get_or t n false ≡ true → set t n true ≡ t
 set-marked t n marked = ap (λ b. set t n b) (sym marked) ∙ set-get_or t n false
+
+-- one number adds at most one mark, and a list at most its length
+one_more_by : (t : List Bool) (n : ℕ) (b : Bool) → get_or t n false ≡ b → n < length t → touched_count (set t n true) ≤ touched_count t + 1
+one_more_by t n true is inside = omega (arith, ap touched_count (set-marked t n is))
+one_more_by t n false is inside = omega (arith, touched_count-set t n inside is)
+
+one_more_past : (t : List Bool) (n : ℕ) → length t ≤ n → touched_count (set t n true) ≤ touched_count t + 1
+one_more_past t n past = omega (arith, ap touched_count (set_past t n true past))
+
+one_more_at_most : (t : List Bool) (n : ℕ) → touched_count (set t n true) ≤ touched_count t + 1
+one_more_at_most t n = elim (cases_lt n (length t)) [
+  | inl inside ↦ one_more_by t n (get_or t n false) refl inside
+  | inr past ↦ one_more_past t n past
+]
+
+pub at_most_the_length : (t : List Bool) (ns : List ℕ) → touched_count (touching t ns) ≤ touched_count t + length ns
+at_most_the_length t [] = omega arith
+at_most_the_length t (n ∷ ns) = let rest = at_most_the_length (set t n true) ns in let one = one_more_at_most t n in omega (arith, rest, one)
 
 -- what is marked stays marked
 pub still_set : (t : List Bool) (m n : ℕ) → get_or t n false ≡ true → get_or (set t m true) n false ≡ true

@@ -1,5 +1,5 @@
 // Which numbers of a list a set lacks, and how they are added.
-ghost use Rattle.std.specs.Prelude.{◌≡◌, ◌+◌, ◌<◌, IsTrue, length, slice_set, true};
+ghost use Rattle.std.specs.Prelude.{◌≡◌, ◌↔◌, ◌+◌, ◌<◌, ◌≤◌, IsTrue, length, not, slice_index_or, slice_set, true, false};
 ghost use Rattle.std.specs.List.{All};
 ghost use Rattle.model.specs.Machine.{touching, touched_count};
 
@@ -18,12 +18,12 @@ pub(crate) fn contains_all(marks: &NumberSet, numbers: &[u64]) -> bool
     true
 }
 
-/// How many numbers of a list the set lacks; one listed twice counts once. Compares each pair of the list, and takes no
-/// memory.
-pub(crate) fn count_missing(marks: &NumberSet, numbers: &[u64]) -> u64
+// How many numbers of a list the set lacks; one listed twice counts once. Compares each pair of the list, and takes no
+// memory.
+fn count_missing(marks: &NumberSet, numbers: &[u64]) -> u64
     requires { All (λ n. n < length marks.now) numbers.now }
-    ensures { touched_count marks.now + result
-        ≡ touched_count (touching marks.now numbers.now) }
+    ensures counted { touched_count marks.now + result ≡ touched_count (touching marks.now numbers.now) }
+    ensures few { result ≤ length numbers.now }
 {
     let mut missing = 0;
     for (i, number) in numbers.iter().enumerate() {
@@ -34,23 +34,40 @@ pub(crate) fn count_missing(marks: &NumberSet, numbers: &[u64]) -> u64
     missing
 }
 
-/// Adds the numbers of a list to the set.
-pub(crate) fn add_all(marks: &mut NumberSet, numbers: &[u64])
-    requires { All (λ n. n < length marks.old) numbers.now }
-    ensures marked { marks.new ≡ touching marks.old numbers.now }
-    ensures each { length marks.new ≡ length marks.old }
+/// Whether the set lacks more than `room` numbers of a list; one listed twice counts once. Only a list longer than `room`
+/// is compared with itself.
+pub(crate) fn lacks_more(marks: &NumberSet, numbers: &[u64], room: u64) -> bool
+    requires { All (λ n. n < length marks.now) numbers.now }
+    ensures { IsTrue result ↔ (touched_count marks.now + room < touched_count (touching marks.now numbers.now)) }
 {
-    for number in numbers {
-        add(marks, *number);
-    }
+    numbers.len() as u64 > room && count_missing(marks, numbers) > room
 }
 
-// Adds a number to the set, if the set lacks it.
-fn add(marks: &mut NumberSet, number: u64)
-    requires { number < length marks.old }
-    ensures { marks.new ≡ slice_set marks.old number true }
+/// Adds the numbers of a list to the set, and returns how many it lacked.
+pub(crate) fn add_all(marks: &mut NumberSet, numbers: &[u64]) -> u64
+    requires { All (λ n. n < length marks.old) numbers.now }
+    ensures marked { marks.new ≡ touching marks.old numbers.now }
+    ensures counted { touched_count marks.old + result ≡ touched_count marks.new }
+    ensures each { length marks.new ≡ length marks.old }
 {
-    if !marks.contains(number as usize) {
+    let mut fresh = 0;
+    for number in numbers {
+        if add(marks, *number) {
+            fresh += 1;
+        }
+    }
+    fresh
+}
+
+// Adds a number to the set, and returns whether the set lacked it.
+fn add(marks: &mut NumberSet, number: u64) -> bool
+    requires { number < length marks.old }
+    ensures marked { marks.new ≡ slice_set marks.old number true }
+    ensures fresh { result ≡ not (slice_index_or marks.old number false) }
+{
+    let is_fresh = !marks.contains(number as usize);
+    if is_fresh {
         marks.set(number as usize, true);
     }
+    is_fresh
 }

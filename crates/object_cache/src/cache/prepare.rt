@@ -12,7 +12,7 @@ ghost use Rattle.cache_entries.specs.Order.{used_in_turn};
 
 use crate::cache::Cache;
 use crate::frozen_state::FrozenState;
-use crate::number_sets::{add_all, contains_all, count_missing};
+use crate::number_sets::{add_all, contains_all, lacks_more};
 use capability::MAX_FETCHED;
 use device::Device;
 use model::Refusal;
@@ -50,13 +50,15 @@ impl<D: Device> Cache<D> {
         ensures cause { IsErrOf result Refusal.Fault → ⊥ }
         ensures refusals { IfErr result IsUnprepared }
     {
-        let fresh = count_missing(&self.touched, written);
-        if fresh > self.durable.geometry().log - self.touched_count {
+        if lacks_more(
+            &self.touched,
+            written,
+            self.durable.geometry().log - self.touched_count,
+        ) {
             return Err(Refusal::LogFull);
         }
-        add_all(&mut self.touched, written);
+        self.touched_count += add_all(&mut self.touched, written);
         add_all(&mut self.dirty, written);
-        self.touched_count += fresh;
         Ok(())
     }
 

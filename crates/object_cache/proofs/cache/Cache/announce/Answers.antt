@@ -7,12 +7,12 @@ use Rattle.object_cache.proofs.cache.Cache.announce.Goals as goal
 pub invariant_of-self : goal.invariant_of-self
 invariant_of-self g c =
     let i = c.self.inside in
-    let few : i.touched_count + c.count_missing-fresh.result ≤ (stored_of g.D.Device.disk i.durable).saved.geometry.log = search rules in
-    let counted : i.touched_count + c.count_missing-fresh.result ≡ touched_count (touching i.touched c.args.written.now) = omega
-    (arith, c.count_missing-fresh.ensures, c.self.invariant.counted) in
+    let few : i.touched_count + c.add_all.result ≤ (stored_of g.D.Device.disk i.durable).saved.geometry.log = search rules in
+    let counted : i.touched_count + c.add_all.result ≡ touched_count (touching i.touched c.args.written.now) =
+    omega (arith, c.add_all.ensures.counted, ap touched_count c.add_all.ensures.marked, c.self.invariant.counted) in
     rw (c.add_all.ensures.marked, c.add_all-2.ensures.marked) (mark_stands g.D.Device.disk c.self.view_is c.self.invariant c.args.written.now
     (λ n has. All-contains (λ k. k < length c.args.self.now.headers) c.args.written.now n c.requires.known has) c.requires.apart
-    (i.touched_count + c.count_missing-fresh.result) counted few)
+    (i.touched_count + c.add_all.result) counted few)
 
 pub returns : goal.returns
 returns g c =
@@ -23,7 +23,8 @@ returns g c =
     let grows : touched_count s.touched ≤ touched_count (touching s.touched ns) =
     omega (
       arith,
-      c.count_missing-fresh.ensures,
+      c.add_all.ensures.counted,
+      ap touched_count c.add_all.ensures.marked,
       ap (λ t. touched_count t.touched) c.self.view_is,
       ap (λ t. touched_count (touching t.touched ns)) c.self.view_is,
     ) in
