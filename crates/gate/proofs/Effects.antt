@@ -8,12 +8,11 @@ use Rattle.gate.proofs.Names.{Caller, OrderPlan, Reply, changed, writer_count, w
 use Rattle.gate.proofs.Names.{answered, arguments_of, finished, ordered_by, state_before, FitsCap, fetched_of, true, false, slice_set, All-map, All-set}
 use Rattle.gate.proofs.Names.{sent_by, NamesItsKind, AreSound, Parts, objects_in, Gate, entered, gate_capability, received, written_through, [], Result, Ok}
 use Rattle.gate.proofs.Names.{Err, OnOk, Contains, IfOk, IsErrOf, OnErr, IsUnchanged, IsUnprepared, Prepares, Renews, frames_of, Invoked, FetchesOrFails}
-use Rattle.gate.proofs.Names.{Failed, IsErr, IsOfGate, Refusal, unrisen}
-use Rattle.std.proofs.Common.{◌≡◌, ◌+◌, ◌++◌, ◌^◌, ◌<◌, ◌≤◌, ◌∙◌, if◌then◌else◌, ◌||◌, ◌∷◌, ◌⊎◌}
+use Rattle.gate.proofs.Names.{Failed, IsErr, IsOfGate, Refusal, touched_too, fetched_same, KeepsSoundFrames}
+use Rattle.std.proofs.Common.{◌≡◌, ◌↔◌, ◌+◌, ◌++◌, ◌^◌, ◌<◌, ◌≤◌, ◌∙◌, if◌then◌else◌, ◌||◌, ◌∷◌, ◌⊎◌}
 use Rattle.model.specs.declared.command.Command.TheVariants as command
 use Rattle.model.specs.declared.answer.Refusal.TheVariants as refusal
-use Rattle.gate.proofs.Standing.{held_fits, resume_fits, register_kind, in_geometry, renews_looked, ReadsAs, keeps_looked, looked_as, looked_keepable}
-use Rattle.gate.proofs.Standing.{looked_objects, only_reads_again, prepared_as}
+use Rattle.gate.proofs.Standing.{announced_same, held_fits, resume_fits, register_kind, in_geometry}
 use Rattle.gate.proofs.Plans.{arguments_held, change_fetched, invoked_held}
 
 -- an invocation by the capability that is invoked
@@ -224,22 +223,15 @@ ok_no_failure x is = cc
 pub ok_no_err : {T : Type 0} (x : T) → IsErr {T = T} {E = Failed} (Ok x) → ⊥
 ok_no_err x is = cc
 
-on_err : {T E : Type 0} (r : Result T E) {P Q : Type 0} → (P → Q) → OnErr r P → OnErr r Q
-on_err {T} {E} r {P} {Q} f p = grind (arith, nat_tests)
-
-if_ok : {T E : Type 0} (r : Result T E) {P Q : T → Type 0} → ((x : T) → P x → Q x) → IfOk r P → IfOk r Q
-if_ok {T} {E} r {P} {Q} f p = grind (arith, nat_tests)
-
 module _ {S : Type 0} {parts : S → Parts} {Continues : S → S → Type 0} (i : Invocation) where
   -- an invocation after a read-only call
   module _ (twice : (s t u : S) → Continues s t → Continues t u → Continues s u) {s t : S} (u : S) {T : Type 0} {x : T}
       (only_reads : FetchesOrFails {T = T} parts Continues s t (Ok x)) where
-    still : (parts t).failures ≡ (parts s).failures
-    still = unrisen (parts s).failures (parts t).failures only_reads.later (λ rose. ok_no_err x (only_reads.cause.1 rose))
+    same : parts t ≡ parts s
+    same = fetched_same only_reads
 
-    before : (P : Geometry → List Object → List Bool → Type 0) → P (parts t).geometry (objects_in (parts t)) (parts t).touched →
-        P (parts s).geometry (objects_in (parts s)) (parts s).touched
-    before P p = grind (arith, nat_tests, looked_objects, looked_as)
+    before : (P : Parts → Type 0) → P (parts t) → P (parts s)
+    before P p = subst P same p
 
     -- a refusal that only a read reported
     found : (k : Refusal) → IsOfGate k → (IsErrOf {T = Option ResultCode} (Err k) refusal.LogFull → ⊥) →
@@ -254,25 +246,18 @@ module _ {S : Type 0} {parts : S → Parts} {Continues : S → S → Type 0} (i 
 
     pub invoked_looked : (r : Result (Option ResultCode) Refusal) → Invoked parts Continues t u i r → Invoked parts Continues s u i r
     invoked_looked r is = record {
-      done = on_ok r (before (λ g os ts. Invokes g i os ts (objects_in (parts u)) (parts u).touched)) is.done;
-      code = if_ok r (λ code replying. before (λ g os ts. code ≡ result_code g os i) replying) is.code;
+      done = before (λ p. OnOk r (Invokes p.geometry i (objects_in p) p.touched (objects_in (parts u)) (parts u).touched)) is.done;
+      code = before (λ p. IfOk r (λ code. code ≡ result_code p.geometry (objects_in p) i)) is.code;
       refusals = is.refusals;
-      runs = λ e. before (λ g os ts. is_running_process os i.process ≡ false) (is.runs e);
-      stalled = λ e. before (λ g os ts. invoke g os i ≡ None) (is.stalled e);
-      full = λ e. before (λ g os ts. Overfills g i os ts) (is.full e);
-      sound = on_ok r (keeps_looked (parts u) (looked_as only_reads.snapshots)) is.sound;
-      renews = on_ok r (renews_looked (looked_as only_reads.snapshots)) is.renews;
-      unchanged = on_err r (λ (same : IsUnchanged (parts t) (parts u)). record {
-        headers = same.headers ∙ only_reads.snapshots.headers;
-        contents = same.contents ∙ only_reads.snapshots.contents;
-        touched = same.touched ∙ only_reads.snapshots.touched;
-      }) is.unchanged;
-      cause = (
-        λ e. subst (λ (n : ℕ). n < (parts u).failures) still (is.cause.0 e),
-        λ rose. is.cause.1 (subst (λ (n : ℕ). n < (parts u).failures) (sym still) rose),
-      );
-      later = subst (λ (n : ℕ). n ≤ (parts u).failures) still is.later;
-      geometry = is.geometry ∙ only_reads.snapshots.geometry;
+      runs = before (λ p. IsErrOf r refusal.NotRunning → is_running_process (objects_in p) i.process ≡ false) is.runs;
+      stalled = before (λ p. IsErrOf r refusal.Stalled → invoke p.geometry (objects_in p) i ≡ None) is.stalled;
+      full = before (λ p. IsErrOf r refusal.LogFull → Overfills p.geometry i (objects_in p) p.touched) is.full;
+      sound = before (λ p. OnOk r (KeepsSoundFrames p (parts u))) is.sound;
+      renews = before (λ p. OnOk r (Renews p (parts u))) is.renews;
+      unchanged = before (λ p. OnErr r (IsUnchanged p (parts u))) is.unchanged;
+      cause = before (λ p. IsErrOf r refusal.Fault ↔ (p.failures < (parts u).failures)) is.cause;
+      later = before (λ p. p.failures ≤ (parts u).failures) is.later;
+      geometry = before (λ p. (parts u).geometry ≡ p.geometry) is.geometry;
       continues = twice s t u only_reads.snapshots.continues is.continues;
     }
 
@@ -280,16 +265,16 @@ module _ {S : Type 0} {parts : S → Parts} {Continues : S → S → Type 0} (i 
     module _ (ns : List ℕ) (e : Effect) (invoked : invoke (parts s).geometry (objects_in (parts s)) i ≡ Some e) (written : ns ≡ e.written) where
       -- numbers that couldn't be announced
       pub unannounced : {U : Type 0} (f : Refusal) → Prepares {T = U} parts Continues t u ns (Err f) → Invoked parts Continues s u i (Err f)
-      unannounced {U} f replying = grind (arith, nat_tests, of_gate, of_process, before, still)
+      unannounced {U} f replying = grind (arith, nat_tests, of_gate, of_process, same)
 
       -- and numbers that were, and then written
       module _ {U : Type 0} (m : S) (y : U) (replying : Prepares {T = U} parts Continues t m ns (Ok y)) (failures : (parts u).failures ≡ (parts m).failures)
         where
-          all_still : (parts u).failures ≡ (parts s).failures
-          all_still = failures ∙ unrisen (parts t).failures (parts m).failures replying.later (λ rose. ok_no_failure y (replying.cause.1 rose)) ∙ still
+          there : parts m ≡ touched_too ns (parts s)
+          there = announced_same only_reads replying
 
-          there : ReadsAs (parts s) (parts m)
-          there = only_reads_again (looked_as only_reads.snapshots) (prepared_as replying)
+          all_still : (parts u).failures ≡ (parts s).failures
+          all_still = failures ∙ ap (λ (p : Parts). p.failures) there
 
           pub carried_out : (parts u).touched ≡ (parts m).touched → (parts u).geometry ≡ (parts m).geometry → Continues m u → objects_in (parts u) ≡ e.objects
               → Fits (command.Invoke i) → IsTrue (is_running_process (objects_in (parts s)) i.process) → AreCurrent (frames_of (parts u))
@@ -302,9 +287,9 @@ module _ {S : Type 0} {parts : S → Parts} {Continues : S → S → Type 0} (i 
               e,
               invoked,
               objects,
-              touched ∙ replying.touched ∙ ap (λ (ts : List Bool). touching ts ns) only_reads.snapshots.touched ∙ ap (touching (parts s).touched) written,
+              touched ∙ ap (λ (p : Parts). p.touched) there ∙ ap (touching (parts s).touched) written,
               subst (λ (ts : List Bool). touched_count ts ≤ (parts s).geometry.log) (sym touched)
-                  (subst (λ (g : Geometry). touched_count (parts m).touched ≤ g.log) there.geometry replying.within),
+                  (subst (λ (g : Geometry). touched_count (parts m).touched ≤ g.log) (ap (λ (p : Parts). p.geometry) there) replying.within),
             );
             code = is;
             refusals = tt;
@@ -312,12 +297,13 @@ module _ {S : Type 0} {parts : S → Parts} {Continues : S → S → Type 0} (i 
             stalled = λ is. cc;
             full = λ is. cc;
             sound = λ age young sound. sound_after (parts s).geometry age (frames_of (parts s)) (frames_of (parts u)) i e young fits running invoked objects
-                sound (in_geometry (sym there.geometry) (keepable age (omega (arith, young)) (looked_keepable there age sound.keepable)))
+                sound (in_geometry (ap (λ (p : Parts). p.geometry) (sym there)) (keepable age (omega (arith, young))
+                (subst (λ (p : Parts). AreKeepable p.geometry age (frames_of p)) (sym there) sound.keepable)))
                 current;
             renews = renews;
             unchanged = tt;
             cause = (λ is. cc, λ rose. absurd (omega (arith, rose, all_still)));
             later = omega (arith, all_still);
-            geometry = geometry ∙ there.geometry;
+            geometry = geometry ∙ ap (λ (p : Parts). p.geometry) there;
             continues = twice s t u only_reads.snapshots.continues (twice t m u replying.continues continues);
           }

@@ -3,10 +3,11 @@ pub use Rattle.capability.proofs.FrameLists.{annex_used, bank_used, content_ther
 pub use Rattle.capability.proofs.FrameLists.{root_used}
 pub use Rattle.capability.proofs.Keeping.{keepable_count, keepable_later, keepable_roles}
 pub use Rattle.capability.proofs.KindNumbers.{bank_number, node_number, page_number, root_number}
-pub use Rattle.capability.proofs.SnapshotLaws.{keeps_twice}
+pub use Rattle.capability.proofs.SnapshotLaws.{fetched_same, keeps_twice, prepared_same}
 pub use Rattle.capability.specs.Changes.{changed, message_of, outcome_by, target_of, written_of}
 pub use Rattle.capability.specs.Objects.{with_message}
 pub use Rattle.capability.specs.Parts.{AreSound, FetchesOrFails, IsUnchanged, IsUnprepared, OnlyFetches, Parts, Prepares, Renews, frames_of, objects_in}
+pub use Rattle.capability.specs.Parts.{touched_too}
 pub use Rattle.capability.specs.declared.order.BankChange.{BankChange}
 pub use Rattle.capability.specs.declared.order.Caller.{Caller}
 pub use Rattle.capability.specs.declared.order.Change.{Change}
@@ -61,7 +62,7 @@ pub use Rattle.model_laws.proofs.SoundOrders.{AreArguments, IsNow}
 pub use Rattle.model_laws.proofs.SoundParts.{IsHeld, Waits, held_to, held_void, nearly_from}
 pub use Rattle.model_laws.proofs.Usage.{SameFrame, frame_refl, tests_at, usage_same}
 pub use Rattle.space_bank.proofs.Missing.{counted_listed}
-pub use Rattle.space_bank.proofs.Renewing.{SameAllocations, SameFree, renews_after, renews_none, renews_then, snapshots_alone, unrisen}
+pub use Rattle.space_bank.proofs.Renewing.{SameAllocations, SameFree, renews_after, renews_none, renews_then, snapshots_alone}
 pub use Rattle.space_bank.specs.Allocating.{numbers_of}
 pub use Rattle.space_bank.specs.Banks.{AreCounted, BanksState, MayAsk}
 pub use Rattle.space_bank.specs.Carrying.{IsForBank, MayMake, PlansAs}

@@ -1,13 +1,14 @@
 -- What sound frames stand for, which numbers have objects, and which capabilities may be kept. Counts of allocations through an invocation.
 use Rattle.gate.proofs.Names.{nat_tests, ℕ, true, false, Some, List, [], length, refl, ap, subst, arith, IsTrue, All, Capability, Resume, ObjectHeader, Object}
-use Rattle.gate.proofs.Names.{named, frames_in, is_annex, is_free, NamesItsKind, content_at, is_process, is_running_process, Parts, frames_of, objects_in}
-use Rattle.gate.proofs.Names.{annex_used, bank_used, known_used, node_used, page_used, root_used, sym, get_or-map, Cap, Frame, Geometry, Content, blank_frame}
-use Rattle.gate.proofs.Names.{conveyed, current_count, frame_at, header_at, headers, held_at, AreKeepable, IsCount, IsKeptCap, IsNodeNumber, is_node, is_root}
+use Rattle.gate.proofs.Names.{named, is_annex, is_free, NamesItsKind, content_at, is_process, is_running_process, Parts, frames_of, objects_in, annex_used}
+use Rattle.gate.proofs.Names.{bank_used, known_used, node_used, page_used, root_used, sym, get_or-map, Cap, Frame, Geometry, Content, blank_frame, conveyed}
+use Rattle.gate.proofs.Names.{current_count, frame_at, header_at, headers, held_at, AreKeepable, IsCount, IsKeptCap, IsNodeNumber, is_node, is_root}
 use Rattle.gate.proofs.Names.{map_content, IsOfKind, MayBeHeld, object_count, content_there, headers_in, keepable_count, bank_number, node_number, page_number}
-use Rattle.gate.proofs.Names.{root_number, FitsCap, Result, objects_of, IsSoundFrames, world_at, annex_at, register_at, IsNow, nearly_from, Refusal, AreSound}
-use Rattle.gate.proofs.Names.{OnlyFetches, Prepares, length_objects, keepable_later, KeepsSoundFrames, Invocation, IsRequested, slot_at, slice_index, Effect}
-use Rattle.gate.proofs.Names.{invoke, IsNoBankOrder, Fits, invocation_frame, SameFrame, tests_at, Renews, SameAllocations, SameFree, renews_after, renews_none}
-use Rattle.gate.proofs.Names.{Gate, gate_capability}
+use Rattle.gate.proofs.Names.{root_number, FitsCap, objects_of, IsSoundFrames, world_at, annex_at, register_at, IsNow, nearly_from, AreSound, Prepares}
+use Rattle.gate.proofs.Names.{length_objects, keepable_later, Invocation, IsRequested, slot_at, slice_index, Effect, invoke, IsNoBankOrder, Fits}
+use Rattle.gate.proofs.Names.{invocation_frame, SameFrame, tests_at, Renews, SameAllocations, SameFree, renews_none, Gate, gate_capability, FetchesOrFails}
+use Rattle.gate.proofs.Names.{touched_too, fetched_same, prepared_same}
+use Rattle.std.specs.Prelude.{Ok}
 use Rattle.std.proofs.Common.{◌≡◌, ◌<◌, ◌∷◌, ◌∙◌, ◌^◌, ◌≤◌, ◌+◌, ◌-◌}
 use Rattle.model.specs.declared.command.Command.TheVariants as command
 
@@ -25,9 +26,6 @@ named_known p c kind n is = known_used p n (named_used (objects_in p) c kind n i
 -- a running process is a process
 pub running_process : (os : List Object) (p : ℕ) → IsTrue (is_running_process os p) → IsTrue (is_process os p)
 running_process os p running = grind (arith, nat_tests)
-
-pub same_frames : (before now : Parts) → now.headers ≡ before.headers → now.contents ≡ before.contents → frames_of now ≡ frames_of before
-same_frames before now hs cs = ap (λ (ks : List ObjectHeader). frames_in ks now.contents) hs ∙ ap (frames_in before.headers) cs
 
 -- two numbers that exist
 pub both_known : (P : ℕ → Type 0) (m n : ℕ) → P m → P n → All P (m ∷ n ∷ [])
@@ -109,45 +107,17 @@ module _ (p : Parts) (sound : AreSound p) where
   pub calls_below : (n : ℕ) → n < length p.headers → (header_at p.headers n).calls < 2 ^ 64 - 1
   calls_below n known = omega (arith, calls_kept p.geometry sound.0 p sound.1.keepable n known, sound.1.sound.age)
 
--- the same parts but for failures, and in what was touched
-pub record ReadsAs (old now : Parts) : Type 0 where
-  pub headers : now.headers ≡ old.headers
-  pub contents : now.contents ≡ old.contents
-  pub geometry : now.geometry ≡ old.geometry
+-- after a read-only call, and numbers announced, only what is touched differs
+module _ {S : Type 0} {parts : S → Parts} {Continues : S → S → Type 0} {s t u : S} where
+  pub announced_same : {T U : Type 0} {x : T} {y : U} {ws : List ℕ} → FetchesOrFails {T = T} parts Continues s t (Ok x) →
+      Prepares {T = U} parts Continues t u ws (Ok y) → parts u ≡ touched_too ws (parts s)
+  announced_same {T} {U} {x} {y} {ws} fetched prepared = prepared_same prepared ∙ ap (touched_too ws) (fetched_same fetched)
 
--- frames that were only read, or announced
-module _ {S : Type 0} {parts : S → Parts} {Continues : S → S → Type 0} {s t : S} where
-  pub looked_as : OnlyFetches parts Continues s t → ReadsAs (parts s) (parts t)
-  looked_as only_reads = record { headers = only_reads.headers; contents = only_reads.contents; geometry = only_reads.geometry }
-
-  pub prepared_as : {T : Type 0} {ns : List ℕ} {r : Result T Refusal} → Prepares parts Continues s t ns r → ReadsAs (parts s) (parts t)
-  prepared_as replying = record { headers = replying.headers; contents = replying.contents; geometry = replying.geometry }
-
-module _ {old now : Parts} (only_reads : ReadsAs old now) where
-  pub looked_frames : frames_of now ≡ frames_of old
-  looked_frames = same_frames old now only_reads.headers only_reads.contents
-
-  pub looked_objects : objects_in now ≡ objects_in old
-  looked_objects = ap (λ (fs : List Frame). objects_of fs) looked_frames
-
-  -- what a process invokes, read after its annex was fetched
-  pub requested_by : (i : Invocation) (annex : ℕ) (invoked : Capability) → annex ≡ annex_at (objects_in old) i.process →
-      invoked ≡ slot_at (objects_in now) annex i.register →
-      IsRequested (objects_in now) i (record { process = i.process; annex = annex; operation = i.operation; invoked = invoked })
-  requested_by i annex invoked annex_is is = grind (arith, nat_tests, looked_objects)
-
-  pub looked_sound : AreSound old → AreSound now
-  looked_sound sound = grind (arith, nat_tests, looked_frames)
-
-  pub looked_number : (n : ℕ) → n < length old.headers → n < length now.headers
-  looked_number n known = subst (λ (hs : List ObjectHeader). n < length hs) (sym only_reads.headers) known
-
-  pub looked_keepable : (age : ℕ) → AreKeepable old.geometry age (frames_of old) → AreKeepable now.geometry age (frames_of now)
-  looked_keepable age k = grind (arith, nat_tests, looked_frames)
-
--- one read-only call after another
-pub only_reads_again : {old mid now : Parts} → ReadsAs old mid → ReadsAs mid now → ReadsAs old now
-only_reads_again a b = record { headers = b.headers ∙ a.headers; contents = b.contents ∙ a.contents; geometry = b.geometry ∙ a.geometry }
+-- what a process invokes, read after its annex was fetched
+pub requested_by : {old now : Parts} → now ≡ old → (i : Invocation) (annex : ℕ) (invoked : Capability) → annex ≡ annex_at (objects_in old) i.process →
+    invoked ≡ slot_at (objects_in now) annex i.register →
+    IsRequested (objects_in now) i (record { process = i.process; annex = annex; operation = i.operation; invoked = invoked })
+requested_by {old} {now} same i annex invoked annex_is is = grind (arith, nat_tests)
 
 -- what is among the objects has a header
 pub inside_known : (p : Parts) (n : ℕ) → n < length (objects_in p) → n < length p.headers
@@ -155,12 +125,6 @@ inside_known p n inside = subst (λ (m : ℕ). n < m) (length_objects p.headers 
 
 pub requested_annex : (p : Parts) (sound : AreSound p) (q a : ℕ) → IsTrue (is_process (objects_in p) q) → a ≡ annex_at (objects_in p) q → a < length p.headers
 requested_annex p sound q a is same = subst (λ (n : ℕ). n < length p.headers) (sym same) (annex_known p (annex_at (objects_in p) q) (annex_there p sound q is))
-
--- what keeps frames sound after a read-only call keeps those before it
-pub keeps_looked : {old mid : Parts} (new : Parts) → ReadsAs old mid → KeepsSoundFrames mid new → KeepsSoundFrames old new
-keeps_looked {old} {mid} new only_reads keeps age young sound =
-    let there = subst (λ (X : Type 0). X) (λ i. IsSoundFrames (sym only_reads.geometry i) age (sym (looked_frames only_reads) i)) sound in
-    subst (λ (g : Geometry). IsSoundFrames g (age + 1) (frames_of new)) only_reads.geometry (keeps age young there)
 
 -- an invocation of a gate is no bank's order
 pub gate_no_bank : (gate : Gate) (w : ℕ) → IsNoBankOrder (gate_capability gate) w
@@ -170,14 +134,10 @@ gate_no_bank gate w = grind (arith, nat_tests)
 pub free_in_frame : (p q : Parts) (us : List Object) → objects_in q ≡ us → SameFrame (objects_in p) us → SameFree p q
 free_in_frame p q us objects frame n = grind (arith, nat_tests, tests_at)
 
--- the counts after a read-only call
-pub renews_looked : {old mid new : Parts} → ReadsAs old mid → Renews mid new → Renews old new
-renews_looked {old} {mid} {new} only_reads renews = grind (arith, nat_tests, renews_after, looked_objects)
-
 -- what isn't a bank's order frees nothing
-pub renews_invoked : (old mid new : Parts) (i : Invocation) (e : Effect) → AreSound old → ReadsAs old mid → Fits (command.Invoke i)
+pub renews_invoked : (old mid new : Parts) (i : Invocation) (e : Effect) → AreSound old → mid.headers ≡ old.headers → Fits (command.Invoke i)
     → IsTrue (is_running_process (objects_in old) i.process) → IsNoBankOrder (register_at (objects_in old) i.process i.register) (slice_index i.words 0)
     → invoke old.geometry (objects_in old) i ≡ Some e → objects_in new ≡ e.objects → SameAllocations mid new → Renews old new
-renews_invoked old mid new i e sound only_reads fits runs other is objects same =
-    renews_none old new (λ n. same n ∙ ap (λ (hs : List ObjectHeader). (header_at hs n).allocations) only_reads.headers)
+renews_invoked old mid new i e sound headers fits runs other is objects same =
+    renews_none old new (λ n. same n ∙ ap (λ (hs : List ObjectHeader). (header_at hs n).allocations) headers)
     (λ n used. free_in_frame old new e.objects objects (invocation_frame old.geometry (objects_in old) i e (now_sound old sound) fits runs other is) n ∙ used)

@@ -3,8 +3,8 @@ pub use Rattle.capability.proofs.FrameLists.{annex_used, known_used, object_past
 pub use Rattle.capability.proofs.Keeping.{keepable_later}
 pub use Rattle.capability.proofs.Mapped.{kind_map, mapped}
 pub use Rattle.capability.proofs.Roles.{role_read}
-pub use Rattle.capability.proofs.SnapshotLaws.{only_reads_twice}
-pub use Rattle.capability.specs.Parts.{AreSound, OnlyFetches, OnlyReads, Parts, frames_of, objects_in}
+pub use Rattle.capability.proofs.SnapshotLaws.{only_reads_twice, only_same, read_same}
+pub use Rattle.capability.specs.Parts.{AreSound, OnlyReads, Parts, frames_of, objects_in}
 pub use Rattle.capability.specs.Plain.{fresh_cap}
 pub use Rattle.description.proofs.DescribedOnce.{described_once}
 pub use Rattle.description.proofs.Entries.{IsFrameOf, IsOf, described_cases, described_of, in_range}
@@ -63,7 +63,6 @@ pub use Rattle.model.specs.declared.object.Root.{Root}
 pub use Rattle.model.specs.declared.object.State.{State}
 pub use Rattle.model.specs.declared.object.State.TheVariants.{Available, Running, Waiting}
 pub use Rattle.recovery.proofs.Looking.{HasLooked}
-pub use Rattle.recovery.proofs.Tables.{frames_looked}
 pub use Rattle.recovery.proofs.Unsound.{sound_named}
 pub use Rattle.std.proofs.Common.{Bool, Equal, Err, Greater, IfSome, IsErrAnd, IsSomeAnd, Less, List, MatchOption, None, Ok, Option, Ordering, Result, Some, []}
 pub use Rattle.std.proofs.Common.{ap, append-nil, append_assoc, arith, codes, decimal, false, get_or, inl, inr, is_eq, length, map, nat_cmp, nat_lt, not}

@@ -1,32 +1,21 @@
 -- Read-only calls, one after another.
-use Rattle.image_describer.proofs.Names.{HasLooked, List, Object, Parts, arith, ap, cases_lt, frames_looked, inl, inr, objects_in, objects_of, subst, sym, ℕ}
-use Rattle.image_describer.proofs.Names.{Capability, Content, IsTrue, content_at, is_annex, is_root, refl, root_in, is_process, annex_at, Root}
-use Rattle.image_describer.proofs.Names.{only_reads_twice, AreSound, OnlyFetches, OnlyReads, frames_of, IsSoundFrames, Frame, Geometry, Refusal, Err, IsErrAnd}
-use Rattle.image_describer.proofs.Names.{Ok, Result}
+use Rattle.image_describer.proofs.Names.{HasLooked, List, Object, Parts, arith, ap, subst, sym, ℕ, Capability, Content, IsTrue, content_at, is_annex, is_root}
+use Rattle.image_describer.proofs.Names.{refl, root_in, is_process, annex_at, Root, only_reads_twice, OnlyReads, Refusal, Err, IsErrAnd, Ok, Result, only_same}
+use Rattle.image_describer.proofs.Names.{read_same}
 use Rattle.std.proofs.Common.{◌≡◌, ◌∙◌}
 use Rattle.model.specs.declared.object.Content.TheVariants as content
 use Rattle.model.specs.declared.answer.Refusal.TheVariants as refusal
 
 module _ {S : Type 0} {parts : S → Parts} {Continues : S → S → Type 0} {s t : S} where
-  -- what was read is sound, and holds the same objects
-  pub read_objects : OnlyFetches parts Continues s t → objects_in (parts t) ≡ objects_in (parts s)
-  read_objects read = ap (λ (fs : List Frame). objects_of fs) (frames_looked (parts s) (parts t) read.headers read.contents)
-
-  pub read_sound : OnlyFetches parts Continues s t → AreSound (parts s) → AreSound (parts t)
-  read_sound read sound = (
-    sound.0,
-    subst (λ (g : Geometry). IsSoundFrames g sound.0 (frames_of (parts t))) (sym read.geometry)
-        (subst (λ (fs : List Frame). IsSoundFrames (parts s).geometry sound.0 fs) (sym (frames_looked (parts s) (parts t) read.headers read.contents)) sound.1),
-  )
+  -- where the device didn't fail the parts are the same
+  pub looked_same : HasLooked parts Continues s t → parts t ≡ parts s
+  looked_same looked = only_same looked.snapshots looked.failures
 
   -- a call that ended well looked, and one that failed is passed on
   pub looked_once : {T : Type 0} {x : T} → OnlyReads parts Continues s t (let r : Result T Refusal = Ok x in r) → HasLooked parts Continues s t
   looked_once reads = record {
     snapshots = reads.snapshots;
-    failures = elim (cases_lt (parts s).failures (parts t).failures) [
-      | inl failed ↦ absurd (let never = reads.cause.1 failed in cc)
-      | inr well ↦ omega (arith, well, reads.later)
-    ];
+    failures = ap (λ (p : Parts). p.failures) (read_same reads);
   }
 
   pub read_failed : {T U : Type 0} {e : Refusal} (r : Result U Refusal) → IsErrAnd r (λ y. y ≡ e) →

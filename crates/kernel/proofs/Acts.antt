@@ -12,7 +12,7 @@ use Rattle.model.specs.declared.answer.Refusal.TheVariants as refusal
 use Rattle.model.specs.declared.command.Command.TheVariants as command
 use Rattle.kernel.proofs.Performing.{AreSame, refused_step}
 use Rattle.kernel.proofs.Machines.{leaves_along, leaves_either, leaves_here, leaves_home, base_moved, renewed_on}
-use Rattle.kernel.proofs.Stages.{acts_sound, begun_sound, committed_sound, frames_again, frozen_none, frozen_some, moved_sound, next_sound, none_there}
+use Rattle.kernel.proofs.Stages.{acts_sound, begun_sound, committed_sound, frozen_none, frozen_some, moved_sound, next_sound, none_there}
 use Rattle.kernel.proofs.Stages.{same_running, saved_moved, some_left, some_there, stabilized_sound, stays_sound, checkpoint_step, commit_step, evict_refused}
 use Rattle.kernel.proofs.Stages.{evict_step, migrate_step, none_to_commit, none_to_stabilize, not_home, not_stable, running_already, second_of_commit}
 use Rattle.kernel.proofs.Stages.{stabilize_step}
@@ -355,11 +355,6 @@ may_commit disk view parts l up f frozen =
 pub caused : {p q : Parts} {old new : Disk} {c : Command} {age later : ℕ} {a : Answer} → p.failures ≡ old.failures → q.failures ≡ new.failures →
     Performs age p c a later q → IsCaused old new a
 caused {p} {q} {old} {new} {c} {age} {later} {a} before after serves = search (arith, nat_tests)
-
--- what is counted of banks stays, where the objects do
-pub still_counted : (p q : Parts) (banks : BanksState) → q.headers ≡ p.headers → q.contents ≡ p.contents → q.geometry ≡ p.geometry →
-    AreCounted p.geometry (objects_in p) banks → AreCounted q.geometry (objects_in q) banks
-still_counted p q banks headers contents geometry counted = search (arith, nat_tests, frames_again)
 
 -- the frames of a store that is up are sound
 pub up_sound : {D S : Type 0} (disk : D → Disk) (view : S → View D) (parts : S → Parts) (l : Live S) → ((g : Geometry) × IsUp disk view parts g l) →

@@ -1,16 +1,17 @@
 -- Loads and stores as steps of the machine. Their outcome over present frames, from what each part of them reported.
 use Rattle.kernel.proofs.Names.{ℕ, Bool, true, [], Option, None, Some, Result, Ok, Err, refl, sym, ap, arith, nat_tests, Answer, MemoryFault, Refusal, Command}
 use Rattle.kernel.proofs.Names.{Geometry, Running, Up, touching, touched_count, Step, refusal_of, carried_out, reached, writable, writing, is_process}
-use Rattle.kernel.proofs.Names.{is_running_process, with_word, IsLoaded, IsEarly, List, subst, IsErrOf, Frame, ObjectHeader, Object, header_at, objects_of}
-use Rattle.kernel.proofs.Names.{IsSoundFrames, Frozen, Saved, Machine, none_in_frame, renewing_none, word_frame, SameFrame, frame_refl, tests_at, IsUnchanged}
-use Rattle.kernel.proofs.Names.{IsUnprepared, OnlyFetches, Parts, frames_of, objects_in, IsStored, KeepsSound, OverfillsStore, renews_none, Performs}
-use Rattle.kernel.proofs.Names.{machine_at, renewed_by, FetchesOrFails, unrisen, ok_no_err, ok_no_failure, AreCounted, BanksState, counted_on, length, IfOk}
-use Rattle.kernel.proofs.Names.{shown, answer_of, OnlyReads}
+use Rattle.kernel.proofs.Names.{is_running_process, with_word, IsLoaded, IsEarly, List, subst, IsErrOf, ObjectHeader, Object, header_at, IsSoundFrames, Frozen}
+use Rattle.kernel.proofs.Names.{Saved, Machine, none_in_frame, renewing_none, word_frame, SameFrame, frame_refl, tests_at, IsUnchanged, IsUnprepared}
+use Rattle.kernel.proofs.Names.{OnlyFetches, Parts, frames_of, objects_in, IsStored, KeepsSound, OverfillsStore, renews_none, Performs, machine_at, renewed_by}
+use Rattle.kernel.proofs.Names.{FetchesOrFails, ok_no_err, ok_no_failure, AreCounted, BanksState, counted_on, length, IfOk, shown, answer_of, OnlyReads}
+use Rattle.kernel.proofs.Names.{only_same}
+use Rattle.space_bank.proofs.Renewing.{unrisen}
 use Rattle.std.proofs.Common.{◌≡◌, ◌≢◌, ◌%◌, ◌<◌, ◌≤◌, ◌∷◌, ◌∙◌, ◌↔◌}
 use Rattle.model.specs.declared.answer.Answer.TheVariants as answer
 use Rattle.model.specs.declared.answer.Refusal.TheVariants as refusal
 use Rattle.model.specs.declared.command.Command.TheVariants as command
-use Rattle.kernel.proofs.Performing.{done_step, refused_step, AreSame, refused_serves, same_frames, same_renews, same_sound, serves_looked, standing}
+use Rattle.kernel.proofs.Performing.{done_step, refused_step, AreSame, refused_serves, same_renews, same_sound, standing}
 use Rattle.kernel.proofs.Performing.{still_machine, reported_cause, early_fine, shown_fine, shown_serves, shown_unfailed, unshown_serves}
 
 -- what a load answers
@@ -112,30 +113,32 @@ module _ {S : Type 0} {parts : S → Parts} {Continues : S → S → Type 0} {ag
   abbrev new : Parts
   new = parts after
 
-  same : AreSame old mid
-  same = looked_same snapshots
+  same : mid ≡ old
+  same = only_same snapshots (unrisen old.failures mid.failures rises stayed)
 
-  failures : mid.failures ≡ old.failures
-  failures = unrisen old.failures mid.failures rises stayed
+  -- what is answered after the read is answered before it
+  back : {c : Command} {a : Answer} → Performs age mid c a age new → Performs age old c a age new
+  back {c} {a} performs = subst (λ (q : Parts). Performs age q c a age new) same performs
 
   process : is_process (objects_in mid) p ≡ true
-  process = ap (λ (fs : List Frame). is_process (objects_of fs) p) (same_frames same) ∙ acts.0
+  process = ap (λ (q : Parts). is_process (objects_in q) p) same ∙ acts.0
 
   running : is_running_process (objects_in mid) p ≡ true
-  running = ap (λ (fs : List Frame). is_running_process (objects_of fs) p) (same_frames same) ∙ acts.1
+  running = ap (λ (q : Parts). is_running_process (objects_in q) p) same ∙ acts.1
 
   mid_sound : IsSoundFrames mid.geometry age (frames_of mid)
-  mid_sound = same_sound same age sound
+  mid_sound = subst (λ (q : Parts). IsSoundFrames q.geometry age (frames_of q)) (sym same) sound
 
   refused_then : (c : Command) (why : Refusal) → (why ≡ refusal.Fault → ⊥) → AreSame mid new → mid.failures ≤ new.failures → (mid.failures < new.failures → ⊥) →
       ((renewed : List Bool) (frozen : Option Frozen) (saved : Saved) (to_move : ℕ) →
       Step mid.geometry (machine_at age mid renewed frozen saved to_move) c (answer.Refused why) (machine_at age mid renewed frozen saved to_move)) →
       Performs age old c (answer.Refused why) age new
-  refused_then c why other unchanged later stayed step = search (arith, nat_tests, serves_looked, same, failures, refused_serves, mid_sound, reported_cause)
+  refused_then c why other unchanged later stayed step =
+      back (refused_serves unchanged mid_sound later (reported_cause why other stayed) (λ renewed frozen saved to_move unfailed. step renewed frozen saved to_move))
 
   load_then : (loaded : Result ℕ MemoryFault) → IsLoaded (objects_in mid) p address loaded → AreSame mid new → mid.failures ≤ new.failures →
       (mid.failures < new.failures → ⊥) → Performs age old (command.Load p address) (loaded_answer loaded) age new
-  load_then loaded is unchanged later stayed = serves_looked same failures (record {
+  load_then loaded is unchanged later stayed = back (record {
     step = λ renewed frozen saved to_move other.
         subst (λ (m : Machine). Step mid.geometry (machine_at age mid renewed frozen saved to_move) (command.Load p address) (loaded_answer loaded) m)
         (sym (still_machine unchanged age renewed frozen saved to_move)) (load_step mid.geometry _ p address process running loaded is);
@@ -185,7 +188,7 @@ module _ {S : Type 0} {parts : S → Parts} {Continues : S → S → Type 0} {ag
         Performs age old (command.Store p address word) (stored_answer reported) age new
     store_answers stored reported is found keeps cause =
         subst (λ (r : Result (Unit {0}) MemoryFault). Performs age old (command.Store p address word) (stored_answer r) age new) is
-        (serves_looked same failures (record {
+        (back (record {
           step = λ renewed frozen saved to_move other. stored_step stored found renewed frozen saved to_move;
           renews = renews_none mid new (λ n. ap (λ (hs : List ObjectHeader). (header_at hs n).allocations) headers)
               (λ n used. (tests_at (objects_in mid) (objects_in new) (stored_frame stored found) n).free ∙ used);
@@ -206,7 +209,9 @@ module _ {S : Type 0} {parts : S → Parts} {Continues : S → S → Type 0} {ag
         refused_then (command.Store p address word) refusal.LogFull (λ e. cc) (unchanged_same mid new geometry unchanged) later
         (λ rose. let failed = cause.1 rose in cc)
         (λ renewed frozen saved to_move. store_full_step mid.geometry _ p address word process running over.0 over.1 over.2)
-    store_refused refusal.Fault of unchanged cause full = search (arith, nat_tests, serves_looked, same, failures, refused_serves, unchanged_same, mid_sound)
+    store_refused refusal.Fault of unchanged cause full =
+        back (refused_serves (unchanged_same mid new geometry unchanged) mid_sound later (λ e. cause.0 refl, λ rose. refl)
+        (λ renewed frozen saved to_move other. absurd (other refl)))
     store_refused c of unchanged cause full = absurd of
 
 abbrev IsCountedAt : Parts → BanksState → Type 0

@@ -4,7 +4,7 @@ use Rattle.kernel.proofs.Names.{Invocation, Geometry, Object, Effect, invoke, Ru
 use Rattle.kernel.proofs.Names.{refusal_of, carried_out, writing, shown, is_process, is_running_process, IsEarly, length, Result, Ok, Err, Frame, ResultCode}
 use Rattle.kernel.proofs.Names.{ObjectHeader, frames_in, header_at, objects_of, IsSoundFrames, Frozen, Saved, is_free, content_at, none_given_up, renewing_none}
 use Rattle.kernel.proofs.Names.{Parts, Renews, frames_of, objects_in, keepable_count, IsErr, IsErrOf, Invoked, Invokes, KeepsSoundFrames, TellsState, Failed}
-use Rattle.kernel.proofs.Names.{renews_after, renews_none, Performs, machine_at, renewed_by, IsUnread}
+use Rattle.kernel.proofs.Names.{renews_none, Performs, machine_at, renewed_by, IsUnread}
 use Rattle.std.proofs.Common.{◌≡◌, ◌+◌, ◌^◌, ◌<◌, ◌≤◌, ◌∙◌, ◌↔◌}
 use Rattle.model.specs.declared.answer.Answer.TheVariants as answer
 use Rattle.model.specs.declared.answer.Refusal.TheVariants as refusal
@@ -123,22 +123,6 @@ refused_serves {age} {old} {new} {c} {why} same sound later cause step = record 
 -- a refusal other than for a failure, where the count of failures didn't rise
 pub reported_cause : (why : Refusal) {X : Type 0} → (why ≡ refusal.Fault → ⊥) → (X → ⊥) → (why ≡ refusal.Fault) ↔ X
 reported_cause why other stayed = (λ e. absurd (other e), λ x. absurd (stayed x))
-
--- what is answered after a read-only call is answered before it
-pub serves_looked : {age after : ℕ} {old mid new : Parts} {c : Command} {a : Answer} → AreSame old mid → mid.failures ≡ old.failures →
-    Performs age mid c a after new → Performs age old c a after new
-serves_looked {age} {after} {old} {mid} {new} {c} {a} same failures serves = record {
-  step = λ renewed frozen saved to_move other.
-      subst (λ (X : Type 0). X) (λ k. Step (same.geometry k) (same_machine same age renewed frozen saved to_move k) c a
-      (machine_at after new (renewing renewed (objects_of (same_frames same k)) (objects_in new)) frozen saved to_move))
-      (serves.step renewed frozen saved to_move other);
-  renews = renews_after old mid new (λ n. ap (λ (hs : List ObjectHeader). (header_at hs n).allocations) same.headers)
-      (λ n. ap (λ (fs : List Frame). is_free (content_at (objects_of fs) n)) (same_frames same)) serves.renews;
-  sound = serves.sound;
-  geometry = serves.geometry ∙ same.geometry;
-  later = subst (λ (n : ℕ). n ≤ new.failures) failures serves.later;
-  cause = subst (λ (n : ℕ). (a ≡ answer.Refused refusal.Fault) ↔ (n < new.failures)) failures serves.cause;
-}
 
 abbrev pub standing : ℕ → List Bool → Option Frozen → Saved → ℕ → List Object → List Bool → Machine
 standing age renewed frozen saved to_move os ts = Up

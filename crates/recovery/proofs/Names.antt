@@ -3,7 +3,7 @@ pub use Rattle.capability.proofs.FrameLists.{frame_in, headers_in, length_in}
 pub use Rattle.capability.proofs.Keeping.{keepable_roles}
 pub use Rattle.capability.proofs.Mapped.{kind_map, mapped}
 pub use Rattle.capability.proofs.References.{not_annex, not_node, not_root}
-pub use Rattle.capability.proofs.SnapshotLaws.{only_reads_twice}
+pub use Rattle.capability.proofs.SnapshotLaws.{only_reads_twice, read_same}
 pub use Rattle.capability.proofs.Untouched.{untouched_count}
 pub use Rattle.capability.specs.Consistency.{AreBanked, AreLimited, AreNamed, AreOwned, AreWholeProcesses, IsNamed, IsRootOf, NamesItsRole, annex_in}
 pub use Rattle.capability.specs.Consistency.{is_waiting_root, owner_of, role_at}

@@ -32,7 +32,3 @@ annex_known p n annex = role_known p n (λ free. let wrong : role.Annex ≡ role
 
 pub bank_known : (p : Parts) (n : ℕ) → role_at (frames_of p) n ≡ role.Bank → n < length p.headers
 bank_known p n bank = role_known p n (λ free. let wrong : role.Bank ≡ role.Free = sym bank ∙ free in cc)
-
--- a read-only call leaves the frames
-pub frames_looked : (old now : Parts) → now.headers ≡ old.headers → now.contents ≡ old.contents → frames_of now ≡ frames_of old
-frames_looked old now hs cs = grind (arith, nat_tests)

@@ -41,7 +41,7 @@ fn refuse_worn<F: Frames>(store: &mut F, invocation: &Invocation) -> Refusal
 /// usages of the banks as they are afterwards.
 ///
 /// `Fault`: the device failed, and nothing has changed.
-#[tactic(auto, using(gate::proofs::BankStates::counted_looked, gate::proofs::Standing::looked_as))]
+#[tactic(auto, using(gate::proofs::BankStates::counted_looked))]
 pub fn invoke<F: PresentFrames>(
     store: &mut F,
     banks: &mut Banks,

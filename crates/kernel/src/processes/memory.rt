@@ -38,7 +38,7 @@ pub fn load<F: Frames>(store: &mut F, process: u64, address: u64) -> Result<Answ
 /// precedes `LogFull`. A refusal changes nothing: the first that applies of `NoProcess` (the store is
 /// untouched), `NotRunning` and `LogFull`. `Fault` exactly if the device failed. The counts of
 /// `Banks` stay right.
-#[tactic(auto, using(gate::proofs::BankStates::counted_looked, gate::proofs::Standing::looked_as))]
+#[tactic(auto, using(gate::proofs::BankStates::counted_looked))]
 pub fn store<F: PresentFrames>(
     store: &mut F,
     process: u64,

@@ -1,5 +1,5 @@
-use Rattle.gate.proofs.Names.{Object, annex_at, ap, is_process, objects_in, List, arith, sym, subst, All, Capability, frames_of}
-use Rattle.gate.proofs.Names.{keepable_later, keeps_twice, FitsCap}
+use Rattle.gate.proofs.Names.{Object, annex_at, ap, is_process, objects_in, List, arith, sym, subst, All, Capability, frames_of, keepable_later, keeps_twice}
+use Rattle.gate.proofs.Names.{FitsCap}
 use Rattle.std.proofs.Common.{◌≡◌, ◌+◌, ◌∙◌}
 use Rattle.gate.proofs.Plans.{after_annex, after_process}
 use Rattle.gate.proofs.Standing.{in_geometry}

@@ -1,9 +1,9 @@
-use Rattle.gate.proofs.Names.{true, List, None, sym, ap, subst, All, slice_index, err_from_is_err_and, Capability, Geometry, Object, can_start}
-use Rattle.gate.proofs.Names.{IsNoBankOrder, is_process, objects_in, entered, received, written_through, FitsCap, process_known}
-use Rattle.std.proofs.Common.{◌≡◌, ◌||◌, ◌∙◌}
+use Rattle.gate.proofs.Names.{ℕ, true, List, None, sym, ap, subst, All, slice_index, err_from_is_err_and, Capability, can_start, IsNoBankOrder, is_process}
+use Rattle.gate.proofs.Names.{objects_in, entered, length, received, written_through, FitsCap, Parts, process_known, AreSound, fetched_same}
+use Rattle.std.proofs.Common.{◌≡◌, ◌<◌, ◌||◌, ◌∙◌}
 use Rattle.gate.proofs.Effects.{effect_through, gate_code, gate_invoked, gate_process, gate_stalled, received_fits, carried_out, found_stalled, unannounced}
-use Rattle.gate.proofs.Standing.{running_process, gate_no_bank, renews_invoked, ReadsAs, annex_there, requested_annex, calls_below, few_objects, keepable_most}
-use Rattle.gate.proofs.Standing.{looked_as, looked_number, looked_objects, looked_sound, only_reads_again, now_sound, prepared_as}
+use Rattle.gate.proofs.Standing.{announced_same, running_process, gate_no_bank, renews_invoked, annex_there, requested_annex, calls_below, few_objects}
+use Rattle.gate.proofs.Standing.{keepable_most, now_sound}
 use Rattle.gate.proofs.gates.invoke_gate.Goals as goal
 
 pub fetch_process-requires-clause-keepable : goal.fetch_process-requires-clause-keepable
@@ -20,43 +20,43 @@ fetch_process-requires-clause-annex g c =
 
 pub can_enter-requires-clause-process : goal.can_enter-requires-clause-process
 can_enter-requires-clause-process g c =
-    subst (λ (us : List Object). is_process us c.args.gate.process ≡ true) (sym (looked_objects (looked_as c.in_ok-annex.ensures.fetches.snapshots)))
+    subst (λ (p : Parts). is_process (objects_in p) c.args.gate.process ≡ true) (sym (fetched_same c.in_ok-annex.ensures.fetches))
     (gate_process (g.F.Frames.parts c.args.store.now) c.requires.sound c.args.gate c.requires.requested c.requires.gate)
 
 pub announce_gate-requires : goal.announce_gate-requires
 announce_gate-requires g c =
     let old = g.F.Frames.parts c.args.store.now in
-    let there : ReadsAs old (g.F.Frames.parts c.fetch_process.new.store) = looked_as c.in_ok-annex.ensures.fetches.snapshots in
+    let now = g.F.Frames.parts c.fetch_process.new.store in
+    let same : old ≡ now = sym (fetched_same c.in_ok-annex.ensures.fetches) in
     let process = gate_process old c.requires.sound c.args.gate c.requires.requested c.requires.gate in
     let i = c.args.invocation.now in
+    let there : (n : ℕ) → n < length old.headers → n < length now.headers = λ n known. subst (λ (p : Parts). n < length p.headers) same known in
     record {
-      keepable = keepable_most (g.F.Frames.parts c.fetch_process.new.store) (looked_sound there c.requires.sound);
-      process = looked_number there i.process (process_known old i.process (running_process (objects_in old) i.process c.requires.running));
-      receiver = looked_number there c.args.gate.process (process_known old c.args.gate.process process);
-      annex = looked_number there c.in_ok-annex.annex
+      keepable = keepable_most now (subst AreSound same c.requires.sound);
+      process = there i.process (process_known old i.process (running_process (objects_in old) i.process c.requires.running));
+      receiver = there c.args.gate.process (process_known old c.args.gate.process process);
+      annex = there c.in_ok-annex.annex
           (requested_annex old c.requires.sound c.args.gate.process c.in_ok-annex.annex process c.in_ok-annex.ensures.annex.0);
     }
 
 pub enter-requires-clause-receiver : goal.enter-requires-clause-receiver
 enter-requires-clause-receiver g c =
-    subst (λ (us : List Object). is_process us c.args.gate.process ≡ true)
-    (sym (looked_objects (only_reads_again (looked_as c.in_ok-annex.ensures.fetches.snapshots) (prepared_as c.in_ok-announce_gate.ensures.prepares))))
+    subst (λ (p : Parts). is_process (objects_in p) c.args.gate.process ≡ true)
+    (sym (announced_same c.in_ok-annex.ensures.fetches c.in_ok-announce_gate.ensures.prepares))
     (gate_process (g.F.Frames.parts c.args.store.now) c.requires.sound c.args.gate c.requires.requested c.requires.gate)
 
 pub enter-requires-clause-calls : goal.enter-requires-clause-calls
 enter-requires-clause-calls g c =
     let old = g.F.Frames.parts c.args.store.now in
     let now = g.F.Frames.parts c.announce_gate.new.store in
-    let there : ReadsAs old now =
-    only_reads_again (looked_as c.in_ok-annex.ensures.fetches.snapshots) (prepared_as c.in_ok-announce_gate.ensures.prepares) in
+    let there = sym (announced_same c.in_ok-annex.ensures.fetches c.in_ok-announce_gate.ensures.prepares) in
     let process = gate_process old c.requires.sound c.args.gate c.requires.requested c.requires.gate in
-    calls_below now (looked_sound there c.requires.sound) c.args.gate.process
-    (looked_number there c.args.gate.process (process_known old c.args.gate.process process))
+    calls_below now (subst AreSound there c.requires.sound) c.args.gate.process
+    (subst (λ (p : Parts). c.args.gate.process < length p.headers) there (process_known old c.args.gate.process process))
 
 pub enter-requires-clause-current : goal.enter-requires-clause-current
 enter-requires-clause-current g c =
-    (looked_sound (only_reads_again (looked_as c.in_ok-annex.ensures.fetches.snapshots) (prepared_as c.in_ok-announce_gate.ensures.prepares))
-    c.requires.sound).1.current
+    (subst AreSound (sym (announced_same c.in_ok-annex.ensures.fetches c.in_ok-announce_gate.ensures.prepares)) c.requires.sound).1.current
 
 pub returns-then-not-can_enter : goal.returns-then-not-can_enter
 returns-then-not-can_enter g c =
@@ -64,16 +64,16 @@ returns-then-not-can_enter g c =
     let i = c.args.invocation.now in
     found_stalled i g.met.F.Frames.continues_twice c.fetch_process.new.store c.in_ok-annex.ensures.fetches
     (gate_stalled old.geometry (objects_in old) i c.args.caller c.args.gate c.requires.requested c.requires.gate
-    (sym (c.if-not-can_enter.ensures ∙ ap (λ (us : List Object). c.args.gate.is_resume || can_start us i c.args.gate.process)
-    (looked_objects (looked_as c.in_ok-annex.ensures.fetches.snapshots)))))
+    (sym (c.if-not-can_enter.ensures ∙ ap (λ (p : Parts). c.args.gate.is_resume || can_start (objects_in p) i c.args.gate.process)
+    (fetched_same c.in_ok-annex.ensures.fetches))))
 
 pub returns-in_err-announce_gate : goal.returns-in_err-announce_gate
 returns-in_err-announce_gate g c =
     let old = g.F.Frames.parts c.args.store.now in
     let i = c.args.invocation.now in
     let os = objects_in old in
-    let can = sym (c.if-not-can_enter.ensures ∙ ap (λ (us : List Object). c.args.gate.is_resume || can_start us i c.args.gate.process)
-    (looked_objects (looked_as c.in_ok-annex.ensures.fetches.snapshots))) in
+    let can = sym (c.if-not-can_enter.ensures ∙ ap (λ (p : Parts). c.args.gate.is_resume || can_start (objects_in p) i c.args.gate.process)
+    (fetched_same c.in_ok-annex.ensures.fetches)) in
     let p = err_from_is_err_and c.from_residual-in_err-announce_gate.result c.from_residual-in_err-announce_gate.ensures.1 in
     rw (p.1, p.2) (unannounced i g.met.F.Frames.continues_twice c.announce_gate.new.store c.in_ok-annex.ensures.fetches
     _ (effect_through os i c.args.gate) (gate_invoked old.geometry os i c.args.caller c.args.gate c.requires.requested c.requires.gate c.requires.key can)
@@ -82,19 +82,18 @@ returns-in_err-announce_gate g c =
 pub returns : goal.returns
 returns g c =
     let old = g.F.Frames.parts c.args.store.now in
-    let only_reads : ReadsAs old (g.F.Frames.parts c.fetch_process.new.store) = looked_as c.in_ok-annex.ensures.fetches.snapshots in
     let mid = g.F.Frames.parts c.announce_gate.new.store in
-    let there : ReadsAs old mid = only_reads_again only_reads (prepared_as c.in_ok-announce_gate.ensures.prepares) in
+    let there = announced_same c.in_ok-annex.ensures.fetches c.in_ok-announce_gate.ensures.prepares in
     let i = c.args.invocation.now in
     let os = objects_in old in
-    let can = sym (c.if-not-can_enter.ensures ∙ ap (λ (us : List Object). c.args.gate.is_resume || can_start us i c.args.gate.process)
-    (looked_objects only_reads)) in
+    let can = sym (c.if-not-can_enter.ensures ∙ ap (λ (p : Parts). c.args.gate.is_resume || can_start (objects_in p) i c.args.gate.process)
+    (fetched_same c.in_ok-annex.ensures.fetches)) in
     let invoked = gate_invoked old.geometry os i c.args.caller c.args.gate c.requires.requested c.requires.gate c.requires.key can in
     let effect = effect_through os i c.args.gate in
     let snapshots = c.enter.ensures.snapshots in
-    let objects = c.enter.ensures.objects ∙ ap (λ (us : List Object). entered us i c.args.gate c.all_sent-sent.result) (looked_objects there)
+    let objects = c.enter.ensures.objects ∙ ap (λ (p : Parts). entered (objects_in p) i c.args.gate c.all_sent-sent.result) there
     ∙ ap (λ (cs : List Capability). entered os i c.args.gate cs) c.all_sent-sent.ensures in
-    let fits = subst (λ (h : Geometry). All (FitsCap h) (received i c.all_sent-sent.result)) (sym there.geometry)
+    let fits = subst (λ (p : Parts). All (FitsCap p.geometry) (received i c.all_sent-sent.result)) (sym there)
     (received_fits old.geometry os i c.all_sent-sent.result (now_sound old c.requires.sound) (few_objects old c.requires.sound c.requires.few)
     (running_process os i.process c.requires.running) c.all_sent-sent.ensures) in
     let other = subst (λ (k : Capability). IsNoBankOrder k (slice_index i.words 0)) (sym c.requires.gate ∙ c.requires.requested.invoked)
@@ -104,6 +103,6 @@ returns g c =
     c.in_ok-announce_gate.ensures.prepares
     snapshots.failures snapshots.touched snapshots.geometry snapshots.continues objects c.requires.fits c.requires.running c.enter.ensures.current
     (λ age young. c.enter.ensures.keepable age young fits)
-    (renews_invoked old mid (g.F.Frames.parts c.enter.new.store) i effect c.requires.sound there c.requires.fits c.requires.running other invoked objects
-    snapshots.allocations)
+    (renews_invoked old mid (g.F.Frames.parts c.enter.new.store) i effect c.requires.sound (ap (λ (p : Parts). p.headers) there) c.requires.fits
+    c.requires.running other invoked objects snapshots.allocations)
     None (sym (gate_code old.geometry os i c.args.caller c.args.gate c.requires.requested c.requires.gate))

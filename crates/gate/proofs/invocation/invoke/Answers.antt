@@ -1,14 +1,14 @@
-use Rattle.std.proofs.Common.{rules}
+use Rattle.gate.proofs.Names.{rules, fetched_same}
 use Rattle.gate.proofs.BankStates.{counted_after}
 use Rattle.gate.proofs.Effects.{invoked_looked}
-use Rattle.gate.proofs.Standing.{gate_no_bank, keepable_most, looked_as, looked_objects, requested_by}
+use Rattle.gate.proofs.Standing.{gate_no_bank, keepable_most, requested_by}
 use Rattle.gate.proofs.invocation.invoke.Goals as goal
 
 pub fetch_process-requires-clause-keepable : goal.fetch_process-requires-clause-keepable
 fetch_process-requires-clause-keepable g c = keepable_most (g.F.Frames.parts c.args.store.now) c.requires.sound
 
 pub returns-in-Some-clause-counted : goal.returns-in-Some-clause-counted
-returns-in-Some-clause-counted g c = search (rules, looked_as, counted_after, looked_objects, gate_no_bank)
+returns-in-Some-clause-counted g c = search (rules, fetched_same, counted_after, gate_no_bank)
 
 pub returns-in-Some-clause-invoked : goal.returns-in-Some-clause-invoked
 returns-in-Some-clause-invoked g c =
@@ -21,7 +21,7 @@ returns-in-None-clause-invoked g c =
     c.invoke_order.ensures.invoked
 
 pub invoke_gate-requires-clause-requested : goal.invoke_gate-requires-clause-requested
-invoke_gate-requires-clause-requested g c = search (rules, requested_by, looked_as)
+invoke_gate-requires-clause-requested g c = search (rules, requested_by, fetched_same)
 
 pub invoke_order-requires-clause-requested : goal.invoke_order-requires-clause-requested
-invoke_order-requires-clause-requested g c = search (rules, requested_by, looked_as)
+invoke_order-requires-clause-requested g c = search (rules, requested_by, fetched_same)

@@ -1,6 +1,6 @@
-use Rattle.kernel.proofs.Names.{arith, answer_of}
+use Rattle.kernel.proofs.Names.{arith, answer_of, counted_looked}
 use Rattle.model.specs.declared.command.Command.TheVariants as command
-use Rattle.kernel.proofs.Acts.{acted, caused, still_counted, up_counted, up_sound}
+use Rattle.kernel.proofs.Acts.{acted, caused, up_counted, up_sound}
 use Rattle.kernel.proofs.serving.serve.Goals as goal
 
 pub returns-in-Load-clause-serves : goal.returns-in-Load-clause-serves
@@ -10,8 +10,7 @@ returns-in-Load-clause-serves g c =
     rw c.in-Load.is (acted _ _ _ g.met.D.Device.only_now g.met.S.ObjectStore.sound_holds l c.load.new.store
     (g.met.S.ObjectStore.continues l.store c.load.new.store said.snapshots.continues) l.banks l.age (command.Load c.in-Load.process c.in-Load.address)
     (answer_of c.load.result) (omega arith) (said.serves l.age (up_sound _ _ _ l c.requires.up))
-    (still_counted (g.S.Frames.parts l.store) (g.S.Frames.parts c.load.new.store) l.banks
-    said.snapshots.headers said.snapshots.contents said.snapshots.geometry (up_counted _ _ _ l c.requires.up)))
+    (counted_looked said.snapshots (up_counted _ _ _ l c.requires.up)))
 
 pub returns-in-Store-clause-serves : goal.returns-in-Store-clause-serves
 returns-in-Store-clause-serves g c =
@@ -28,8 +27,7 @@ returns-in-Show-clause-serves g c =
     let said = c.show.ensures in
     rw c.in-Show.is (acted _ _ _ g.met.D.Device.only_now g.met.S.ObjectStore.sound_holds l c.show.new.store
     (g.met.S.ObjectStore.continues l.store c.show.new.store said.snapshots.continues) l.banks l.age (command.Show c.in-Show.number) (answer_of c.show.result)
-    (omega arith) (said.serves l.age (up_sound _ _ _ l c.requires.up)) (still_counted (g.S.Frames.parts l.store) (g.S.Frames.parts c.show.new.store) l.banks
-    said.snapshots.headers said.snapshots.contents said.snapshots.geometry (up_counted _ _ _ l c.requires.up)))
+    (omega arith) (said.serves l.age (up_sound _ _ _ l c.requires.up)) (counted_looked said.snapshots (up_counted _ _ _ l c.requires.up)))
 
 pub returns-in-Evict-clause-serves : goal.returns-in-Evict-clause-serves
 returns-in-Evict-clause-serves g c = rw c.in-Evict.is c.evict.ensures.serves

@@ -1,20 +1,20 @@
-use Rattle.image_describer.proofs.Names.{Object, ap, content_at, objects_in, sym}
+use Rattle.image_describer.proofs.Names.{AreSound, Object, Parts, ap, content_at, objects_in, subst, sym, read_same}
 use Rattle.std.proofs.Common.{◌∙◌, ◌≡◌}
 use Rattle.model.specs.declared.object.Content.TheVariants as content
-use Rattle.image_describer.proofs.ReadOnly.{looked_once, read_failed, read_objects, read_sound, read_well, reads_after, root_annex}
+use Rattle.image_describer.proofs.ReadOnly.{looked_once, read_failed, read_well, reads_after, root_annex}
 use Rattle.image_describer.proofs.objects.ProcessEntryDescribedEntry.entry_of.Goals as goal
 
 pub returns-in_err-owner-clause-only_reads : goal.returns-in_err-owner-clause-only_reads
 returns-in_err-owner-clause-only_reads g c = read_failed c.from_residual.result c.from_residual.ensures.1 c.in_err-owner.ensures.only_reads
 
 pub registers-requires-clause-sound : goal.registers-requires-clause-sound
-registers-requires-clause-sound g c = read_sound c.in_ok-owner.ensures.only_reads.snapshots c.requires.sound
+registers-requires-clause-sound g c = subst AreSound (sym (read_same c.in_ok-owner.ensures.only_reads)) c.requires.sound
 
 pub registers-requires-clause-annex : goal.registers-requires-clause-annex
 registers-requires-clause-annex g c =
     let os = objects_in (g.F.Frames.parts c.args.store.now) in
     let at : content_at os c.args.number ≡ content.Root c.in-Root.root = sym (ap (λ (o : Object). o.content) c.in_ok-owner.ensures.object) ∙ c.in-Root.is in
-    root_annex os _ c.args.number c.in-Root.root (read_objects c.in_ok-owner.ensures.only_reads.snapshots) at
+    root_annex os _ c.args.number c.in-Root.root (ap (λ (p : Parts). objects_in p) (read_same c.in_ok-owner.ensures.only_reads)) at
     (λ process. (c.requires.sound.1.sound.annexes c.args.number process).0)
 
 pub returns-in_err-registers-clause-only_reads : goal.returns-in_err-registers-clause-only_reads

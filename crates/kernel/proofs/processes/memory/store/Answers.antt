@@ -1,4 +1,4 @@
-use Rattle.kernel.proofs.Names.{err_from_is_err_and, Ok, Err, subst, counted_looked, looked_as, objects_in, IsEarly}
+use Rattle.kernel.proofs.Names.{err_from_is_err_and, Ok, Err, subst, counted_looked, objects_in, IsEarly}
 use Rattle.kernel.proofs.MemoryServing.{stored_counted, early_store, store_answers, store_refused}
 use Rattle.kernel.proofs.Performing.{ok_stayed, early_none}
 use Rattle.kernel.proofs.processes.memory.store.Goals as goal
@@ -41,11 +41,11 @@ returns-in-Ok-clause-counted g c banks counted =
     let said = c.in_ok-store.ensures in
     stored_counted (g.F.Frames.parts c.early.new.store) (g.F.Frames.parts c.store.new.frames) banks c.args.process c.args.address c.args.word
     c.in_ok-store.field-0
-    said.writes.geometry said.stored (counted_looked (looked_as c.early.ensures.snapshots) counted)
+    said.writes.geometry said.stored (counted_looked c.early.ensures.snapshots counted)
 
 pub returns-in-Err-clause-counted : goal.returns-in-Err-clause-counted
 returns-in-Err-clause-counted g c banks counted =
     let said = c.in_ok-store.ensures in
     stored_counted (g.F.Frames.parts c.early.new.store) (g.F.Frames.parts c.store.new.frames) banks c.args.process c.args.address c.args.word
     c.in_ok-store.field-0
-    said.writes.geometry said.stored (counted_looked (looked_as c.early.ensures.snapshots) counted)
+    said.writes.geometry said.stored (counted_looked c.early.ensures.snapshots counted)

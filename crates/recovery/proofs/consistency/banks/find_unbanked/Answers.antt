@@ -1,7 +1,6 @@
-use Rattle.recovery.proofs.Names.{rules, ℕ, List, ap, length, slice_index, subst, sym, MatchOption, Frame, ObjectHeader, frames_of, IsAboveLimit, role_at}
+use Rattle.recovery.proofs.Names.{rules, ℕ, List, ap, length, slice_index, subst, sym, MatchOption, Parts, frames_of, IsAboveLimit, role_at, read_same}
 use Rattle.std.proofs.Common.{◌≡◌, ◌≤◌, ◌^◌, ◌-◌, ◌∙◌}
 use Rattle.model.specs.declared.object.Role.TheVariants as role
-use Rattle.recovery.proofs.Tables.{frames_looked}
 use Rattle.recovery.proofs.Trees.{bank_counted, count_all, limited, limits_count, owned_tree}
 use Rattle.recovery.proofs.consistency.banks.find_unbanked.Goals as goal
 
@@ -21,19 +20,16 @@ find_above_limit-requires-clause-limits g c =
     ∙ limits_count p.geometry (2 ^ 64 - 1) p c.requires c.table.result.now c.count-count.result c.table.ensures c.count-count.ensures
     c.in_ok-usages-in-None.usages.items c.in_ok-limits-in-None.limits.items c.in_ok-usages-in-None.ensures.counted c.in_ok-limits-in-None.ensures.limits
     ∙ all
-    ∙ sym (ap (λ (hs : List ObjectHeader). length hs) c.in_ok-limits-in-None.ensures.only_reads.snapshots.headers)
+    ∙ sym (ap (λ (q : Parts). length q.headers) (read_same c.in_ok-limits-in-None.ensures.only_reads))
 
 pub returns-in_ok-limits-in-None-clause-found : goal.returns-in_ok-limits-in-None-clause-found
 returns-in_ok-limits-in-None-clause-found g c =
     let p = g.F.Frames.parts c.args.store.now in
-    let q = g.F.Frames.parts c.read_limits.new.store in
     let usages = c.deref.result.now in
     let limits = c.deref-in-None.result.now in
-    let snapshots = c.in_ok-limits-in-None.ensures.only_reads.snapshots in
-    let same : frames_of q ≡ frames_of p = frames_looked p q snapshots.headers snapshots.contents in
     limited p.geometry (2 ^ 64 - 1) p c.requires c.table.result.now c.count-count.result c.table.ensures c.count-count.ensures usages limits
     (λ b bank. ap (λ (xs : List ℕ). slice_index xs b) c.deref.ensures.value ∙ c.in_ok-usages-in-None.ensures.counted b bank)
     (c.deref-in-None.ensures.value ∙ c.in_ok-limits-in-None.ensures.limits)
     (rw c.in-None.is at c.find_unowned.ensures) c.find_above_limit.result
-    (subst (λ (fs : List Frame). MatchOption c.find_above_limit.result ((b : ℕ) → role_at fs b ≡ role.Bank → slice_index usages b ≤ slice_index limits b)
-    (λ why. IsAboveLimit fs usages limits why)) same c.find_above_limit.ensures)
+    (subst (λ (q : Parts). MatchOption c.find_above_limit.result ((b : ℕ) → role_at (frames_of q) b ≡ role.Bank → slice_index usages b ≤ slice_index limits b)
+    (λ why. IsAboveLimit (frames_of q) usages limits why)) (read_same c.in_ok-limits-in-None.ensures.only_reads) c.find_above_limit.ensures)
