@@ -15,7 +15,7 @@ use devices::{FileDevice, FileFault, Fuse};
 use image_builder::Blueprint;
 use jobs::{Fault, ShellInput, build_image, check_image, finish, run_image, run_shell, run_traced};
 use object_cache::{Capacity, KeepAll, KeepRecent, PlainStore, Policy, Store};
-use queries::{Focus, explain_description};
+use queries::{Focus, ReachQuestion, explain_description};
 use runs::{ScriptReader, TraceOptions, Tracer};
 use script::{BufferedOutput, CountedWriter, Output};
 use std::alloc::Global;
@@ -444,6 +444,15 @@ fn sizes_of(sizes: &command_line::Sizes) -> Sizes {
     }
 }
 
+// What `reach` is asked: which processes can change the object of `--to`, or else a chain to that of `--shows`.
+fn question_of(shows: Option<u64>, to: Option<u64>) -> ReachQuestion {
+    match (to, shows) {
+        (Some(object), _) => ReachQuestion::Changers(object),
+        (None, Some(object)) => ReachQuestion::Chain(object),
+        (None, None) => ReachQuestion::Changes,
+    }
+}
+
 // Does a job, and gives the status.
 fn serve(rt: &HostRuntime, job: &Job<'_>, stdio: &mut Stdio) -> Result<u8, Fault> {
     let (image, query) = match job {
@@ -476,9 +485,16 @@ fn serve(rt: &HostRuntime, job: &Job<'_>, stdio: &mut Stdio) -> Result<u8, Fault
             image,
             processes,
             shows,
+            to,
         } => {
-            let (processes, shows) = (processes.as_slice(), *shows);
-            (*image, Query::Reach { processes, shows })
+            let (processes, question) = (processes.as_slice(), question_of(*shows, *to));
+            (
+                *image,
+                Query::Reach {
+                    processes,
+                    question,
+                },
+            )
         }
     };
     inspect(rt, image, query, stdio)
