@@ -76,13 +76,6 @@ module _ (name id : Text) (rows : List Row) where
       go None at is = let bad : None ≡ Some gives.0 = is in cc
       go (Some r) at is = let all = passing (Unsigned least most) (rule_named name id) refl parser has r at in first r.values all.0 is all.1
 
-  pub lacks_all : option_map_or (λ a. a.required) (rule_named name id) false ≡ true → all_of id rows ≡ None → IsNoJob name rows
-  lacks_all required none has = absurd (lacks_row (rule_named name id) refl required (go (row_named id rows) none) has)
-    where
-      go : (o : Option Row) → option_map (λ (r : Row). r.values) o ≡ None → option_map_or (λ (r : Row). nat_lt 0 (length r.values)) o false ≡ false
-      go None e = refl
-      go (Some r) e = let bad : Some r.values ≡ None = e in cc
-
   pub wrong_all : (least most : ℕ) (words : List Text) → option_map (λ a. parser_of_value a.parser) (rule_named name id) ≡ Some (Unsigned least most)
       → all_of id rows ≡ Some words → (All (IsUnsignedIn least most) words → ⊥) → IsNoJob name rows
   wrong_all least most words parser given bad has = absurd (go (row_named id rows) refl given)

@@ -31,10 +31,9 @@ cache_rule = option_rule (codes "cache") 8 8192
 abbrev pub number_rule : Text → Rule
 number_rule name = option_rule name 0 greatest_number
 
--- P [P ..], one or more numbers
+-- P [P ..], numbers, which may be left out
 abbrev pub processes_rule : Rule
 processes_rule = record (new_rule (codes "P")) {
-  required = true;
   range = Some (record { start_inclusive = 1; end_inclusive = greatest_number });
   parser = Some (Unsigned 0 greatest_number);
 }
@@ -78,7 +77,8 @@ rules_of sub.Shell = file_rule (codes "IMAGE") ∷ cache_rule ∷ cause_rule ∷
 rules_of sub.Check = file_rule (codes "IMAGE") ∷ cause_rule ∷ []
 rules_of sub.Explain = file_rule (codes "FILE") ∷ cause_rule ∷ []
 rules_of sub.Info = file_rule (codes "IMAGE") ∷ cause_rule ∷ []
-rules_of sub.Reach = file_rule (codes "IMAGE") ∷ processes_rule ∷ number_rule (codes "shows") ∷ cause_rule ∷ []
+rules_of sub.Reach = file_rule (codes "IMAGE") ∷ processes_rule ∷ number_rule (codes "shows") ∷ number_rule (codes "to")
+    ∷ cause_rule ∷ []
 rules_of sub.Upgrade = file_rule (codes "OLD") ∷ file_rule (codes "NEW") ∷ cause_rule ∷ []
 rules_of sub.Describe = file_rule (codes "IMAGE") ∷ number_rule (codes "nodes") ∷ number_rule (codes "pages")
     ∷ number_rule (codes "log") ∷ cause_rule ∷ []

@@ -1,7 +1,7 @@
 -- The job that a subcommand and its arguments name.
 use Rattle.std.specs.Prelude.{◌≡◌, ◌≢◌, ◌⊎◌, ℕ, ⊤, List, Option, Some, None, codes, true}
 use Rattle.clap.specs.Words.{Row, Text}
-use Rattle.command_line.specs.Arguments.{AreNumbers, IsFlag, IsGiven, IsNumberOption, IsOption, has_all}
+use Rattle.command_line.specs.Arguments.{AreNumbersIfAny, IsFlag, IsGiven, IsNumberOption, IsOption, has_all}
 use Rattle.command_line.specs.declared.requested.CommandLine.{CommandLine}
 use Rattle.command_line.specs.declared.requested.Job.{Job}
 use Rattle.command_line.specs.declared.requested.Job.TheVariants as job
@@ -36,8 +36,9 @@ IsJob name rows (job.Shell image cache) = (name ≡ codes "shell") × IsCache ro
 IsJob name rows (job.Check image) = (name ≡ codes "check") × IsGiven rows (codes "IMAGE") image.now
 IsJob name rows (job.Explain file) = (name ≡ codes "explain") × IsGiven rows (codes "FILE") file.now
 IsJob name rows (job.Info image) = (name ≡ codes "info") × IsGiven rows (codes "IMAGE") image.now
-IsJob name rows (job.Reach image processes shows) = (name ≡ codes "reach") × IsGiven rows (codes "IMAGE") image.now
-    × AreNumbers rows (codes "P") processes.items × IsNumberOption rows (codes "shows") shows
+IsJob name rows (job.Reach image processes shows to) = (name ≡ codes "reach") × IsGiven rows (codes "IMAGE") image.now
+    × AreNumbersIfAny rows (codes "P") processes.items × IsNumberOption rows (codes "shows") shows
+    × IsNumberOption rows (codes "to") to
 IsJob name rows (job.Upgrade old new) = (name ≡ codes "upgrade")
     × IsGiven rows (codes "OLD") old.now × IsGiven rows (codes "NEW") new.now × (old.now ≢ new.now)
 IsJob name rows (job.Describe image sizes) = (name ≡ codes "describe") × IsGiven rows (codes "IMAGE") image.now ×

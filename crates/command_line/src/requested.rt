@@ -2,7 +2,7 @@
 ghost use Rattle.std.specs.Prelude.{◌≡◌, ◌⊎◌, IfErr, IfOk, IfSome, IsNone, codes, map};
 ghost use Rattle.clap.specs.Words.{found_of, kind_of, rows_of, subcommand_of, subcommand_rows_of};
 ghost use Rattle.clap.specs.declared.error.kind.ErrorKind.TheVariants.{OutOfMemory};
-ghost use Rattle.command_line.specs.Arguments.{AreNumbers, GivesNoNumber, IsNumberOption};
+ghost use Rattle.command_line.specs.Arguments.{AreNumbersIfAny, GivesNoNumber, IsNumberOption};
 ghost use Rattle.command_line.specs.Commands.{IsCommand, eros_app, greatest_number, subcommand_name};
 ghost use Rattle.command_line.specs.Jobs.{AreSizes, IsCache, IsJob, IsLine, IsNoJob, IsScript, NamesLine, NamesNone};
 ghost use Rattle.command_line.specs.Refusals.{Explains};
@@ -83,10 +83,12 @@ pub enum Job<'a> {
     /// Prints what processes of an image can ever change.
     Reach {
         image: &'a str,
-        /// The numbers of the processes, at least one, in the order of the words.
+        /// The numbers of the processes, in the order of the words; none stands for all processes.
         processes: Vec<u64>,
         /// The object to which a shortest chain of capabilities is shown.
         shows: Option<u64>,
+        /// The object of which it is shown which processes can change it.
+        to: Option<u64>,
     },
     /// Writes what an image saves to a new image, of version 2 of the layout. The two names differ.
     Upgrade {
@@ -225,23 +227,25 @@ fn info_of<'a>(inner: &ArgMatches<'a>) -> Option<Job<'a>>
     Some(Job::Info { image })
 }
 
-// The analysis of these processes that the matches name, or `None` where the image is missing or `--shows`
+// The analysis of these processes that the matches name, or `None` where the image is missing or an option
 // gives no number.
 fn reach_from<'a>(inner: &ArgMatches<'a>, processes: Vec<u64>) -> Option<Job<'a>>
-    ensures named { AreNumbers (rows_of (found_of inner.now)) (codes "P") processes.items
+    ensures named { AreNumbersIfAny (rows_of (found_of inner.now)) (codes "P") processes.items
         → IfSome result (IsJob (codes "reach") (rows_of (found_of inner.now))) }
     ensures none { IsNone result → IsNoJob (codes "reach") (rows_of (found_of inner.now)) }
 {
     let image = inner.get_str(IMAGE)?;
     let shows = number_of(inner, SHOWS)?;
+    let to = number_of(inner, TO)?;
     Some(Job::Reach {
         image,
         processes,
         shows,
+        to,
     })
 }
 
-// The analysis that the matches name, or `None` where a word is missing or writes no number. Fails where
+// The analysis that the matches name, or `None` where the image is missing or a word writes no number. Fails where
 // memory runs out.
 fn reach_of<'a>(alloc: Global, inner: &ArgMatches<'a>) -> Result<Option<Job<'a>>, AllocError>
     ensures named { IfOk result (λ o. IfSome o (IsJob (codes "reach") (rows_of (found_of inner.now)))) }
@@ -252,7 +256,7 @@ fn reach_of<'a>(alloc: Global, inner: &ArgMatches<'a>) -> Result<Option<Job<'a>>
             Some(processes) => Ok(reach_from(inner, processes)),
             None => Ok(None),
         },
-        None => Ok(None),
+        None => Ok(reach_from(inner, Vec::new(alloc))),
     }
 }
 

@@ -59,7 +59,7 @@ enum Argument<'a> {
     File(&'a str, &'a str),
     /// How many objects a cache may hold, which may be left out.
     Cache,
-    /// The processes of `reach`, at least one.
+    /// The processes of `reach`, which may be left out.
     Processes,
     /// An option that gives a number, which may be left out: its name, the name of the number, and its help.
     Number(&'a str, &'a str, &'a str),
@@ -87,16 +87,16 @@ fn number_arg<'a>(
         .help(help)
 }
 
-// The processes of `reach`, at least one.
+// The processes of `reach`, which may be left out.
 fn processes_arg<'a>(alloc: Global) -> Arg<'a>
     ensures rule { rule_of result ≡ processes_rule }
     ensures local { result.global ≡ false }
 {
     let numbers = ValueParser::unsigned(0, u64::MAX);
-    let processes = Arg::new(alloc, PROCESS).num_args(1..).value_parser(numbers);
-    processes
-        .required(true)
-        .help("The numbers of the processes")
+    Arg::new(alloc, PROCESS)
+        .num_args(1..)
+        .value_parser(numbers)
+        .help("The numbers of the processes; without them, all processes")
 }
 
 impl<'a> Argument<'a> {
@@ -186,6 +186,11 @@ const REACH: &[Argument<'static>] = &[
         SHOWS,
         "O",
         "Prints a shortest chain of capabilities from the processes to object O, as --shows 7",
+    ),
+    Argument::Number(
+        TO,
+        "O",
+        "Prints which of the processes can ever change object O, as --to 7",
     ),
     CAUSE,
 ];
@@ -296,7 +301,7 @@ impl Subcommand {
                 "Prints the layout and sizes of an image, its checkpoint and how many objects it has"
             }
             Subcommand::Reach => {
-                "Prints what processes can ever change: the smallest closed set that contains them"
+                "Prints what processes can ever change: the smallest closed set with them; closed 4: it has 4 objects"
             }
             Subcommand::Upgrade => {
                 "Writes what an image saves to a new image of layout version 2, where nodes take less space"

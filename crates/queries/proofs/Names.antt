@@ -58,6 +58,7 @@ pub use Rattle.model.specs.declared.object.Object.{Object}
 pub use Rattle.model.specs.declared.object.Role.{Role}
 pub use Rattle.reach.proofs.Members.{processes_known}
 unfoldable pub use Rattle.reach.specs.ChainLines.{chain_text}
+pub use Rattle.reach.specs.Lines.{changers_text}
 unfoldable pub use Rattle.reach.specs.Lines.{reach_text}
 pub use Rattle.reach.specs.Reached.{AreSoundObjects}
 pub use Rattle.recovery.proofs.Unsound.{sound_banked, sound_named}
@@ -65,8 +66,8 @@ pub use Rattle.recovery.specs.Denotes.{saved_of}
 pub use Rattle.recovery.specs.Recovered.{Recovers, RefusesToOpen}
 pub use Rattle.recovery.specs.declared.live.Live.{Live}
 pub use Rattle.script.specs.Writing.{Written, Wrote, WroteFront}
-pub use Rattle.std.proofs.Common.{Err, Global, IfOk, List, None, Ok, Option, Result, Some, String, [], ap, arith, codes, cond, drop, length, map, refl}
-pub use Rattle.std.proofs.Common.{string_bytes, subst, suc, sym, take, ℕ}
+pub use Rattle.std.proofs.Common.{Err, Global, IfOk, List, Ok, Result, Some, String, [], ap, arith, codes, cond, drop, length, map, refl, string_bytes, subst}
+pub use Rattle.std.proofs.Common.{suc, sym, take, ℕ}
 pub use Rattle.std.proofs.lemmas.Bool.Decides.{nat_tests}
 pub use Rattle.std.proofs.lemmas.Option.{none-some, same_Some}
 pub use Rattle.std.proofs.lemmas.Result.{IfOk-weaker, err_from_is_err_and}
@@ -80,6 +81,8 @@ pub use Rattle.queries.specs.Growing.{IsGrownFrom, TellsDescription, TellsGrown,
 pub use Rattle.queries.specs.Images.{DescribesImage, IsDescribedIn, IsDescriptionOf, ReadsSaved, TellsWhole}
 pub use Rattle.queries.specs.Info.{InspectsImage, headers_with, info_line, info_lines, info_text, lines_with, objects_with, range_line}
 pub use Rattle.queries.specs.Laws.{DescribedIsAccepted, DescribedIsDenoted, GrownIsDenoted, UnsizedIsWhole}
-pub use Rattle.queries.specs.Reaching.{IsChainText, IsSetText, ReachesImage, TellsReach}
+pub use Rattle.queries.specs.Reaching.{IsChainText, IsChangersText, IsSetText, ReachesImage, TellsOf, TellsReach}
 pub use Rattle.queries.specs.declared.drawing.Focus.{Focus}
 pub use Rattle.queries.specs.declared.info.InfoLine.{InfoLine}
+pub use Rattle.queries.specs.declared.reaching.ReachQuestion.{ReachQuestion}
+pub use Rattle.queries.specs.declared.reaching.ReachQuestion.TheVariants.{Chain, Changers, Changes}

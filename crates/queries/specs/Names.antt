@@ -43,13 +43,14 @@ pub use Rattle.model.specs.declared.object.Object.{Object}
 pub use Rattle.model.specs.declared.object.Role.{Role}
 pub use Rattle.reach.specs.Chain.{IsShortestIfAny}
 unfoldable pub use Rattle.reach.specs.ChainLines.{chain_text}
+pub use Rattle.reach.specs.Lines.{changers_text}
 unfoldable pub use Rattle.reach.specs.Lines.{reach_text}
-pub use Rattle.reach.specs.Reached.{BoundsRuns, IsReach}
+pub use Rattle.reach.specs.Reached.{AreChangers, BoundsRuns, IsReach}
 pub use Rattle.reach.specs.declared.step.Step.{Step}
 pub use Rattle.recovery.specs.Denotes.{Denotes, saved_of}
 pub use Rattle.recovery.specs.Recovered.{RefusesToOpen}
 pub use Rattle.script.specs.Writing.{Written, Wrote, WroteFront}
-pub use Rattle.std.specs.List.{All, count_by, find, flat_map}
+pub use Rattle.std.specs.List.{All, Contains, count_by, find, flat_map}
 pub use Rattle.std.specs.Prelude.{Bool, Err, IsTrue, List, None, Ok, Option, Result, Some, Vec, [], codes, decimal}
 pub use Rattle.std.specs.Prelude.{false, is_some, length, map, nat_lt, not, take, true, ℕ}
 pub use Rattle.std.specs.declared.alloc.Global.{Global}

@@ -2,8 +2,10 @@
 use Rattle.queries.specs.Names.{Written, ℕ, Bool, not, Option, None, Some, List, Vec, Result, Ok, Err, IsTrue, is_some}
 use Rattle.queries.specs.Names.{Wrote, WroteFront, All, find, Global, is_marked, Object, objects_of, is_process, Disk}
 use Rattle.queries.specs.Names.{Step, IsShortestIfAny, chain_text, reach_text, BoundsRuns, IsReach, true, false}
-use Rattle.queries.specs.Names.{is_free, content_at, Fault}
-use Rattle.std.specs.Prelude.{◌≡◌}
+use Rattle.queries.specs.Names.{is_free, content_at, Fault, changers_text, AreChangers, Contains, []}
+use Rattle.std.specs.Prelude.{◌≡◌, ◌↔◌, ◌∷◌}
+use Rattle.queries.specs.declared.reaching.ReachQuestion.{ReachQuestion}
+use Rattle.queries.specs.declared.reaching.ReachQuestion.TheVariants as question
 use Rattle.jobs.specs.declared.fault.Fault.TheVariants as fault
 use Rattle.queries.specs.Images.{TellsImage}
 
@@ -25,30 +27,51 @@ pub record IsChainText (os : List Object) (starts : List ℕ) (o : ℕ) (text : 
   pub reach : (inside : ℕ → Bool) → IsReach os starts inside → inside o ≡ is_some chain
   pub spelled : text ≡ chain_text os o chain
 
-abbrev pub IsReachText : List Object → List ℕ → Option ℕ → List ℕ → Type 0
-IsReachText os starts None text = IsSetText os starts text
-IsReachText os starts (Some o) text = IsChainText os starts o text
+-- the text of those of some processes that can ever change an object that there is
+pub record IsChangersText (os : List Object) (starts : List ℕ) (o : ℕ) (text : List ℕ) : Type 0 where
+  pub there : is_free (content_at os o) ≡ false
+  pub marks : List Bool
+  pub changers : AreChangers os starts o (is_marked marks)
+  pub spelled : text ≡ changers_text os marks
 
--- the numbers are those of processes, and the text was written
-abbrev pub Reaches : List Object → List ℕ → Option ℕ → (List ℕ → Type 0) → Type 0
-Reaches os starts shows Reported = AreProcesses os starts ×
-    ((text : List ℕ) × IsReachText os starts shows text × Reported text)
+-- the answer to a question
+abbrev pub IsReachText : List Object → List ℕ → ReachQuestion → List ℕ → Type 0
+IsReachText os starts question.Changes text = IsSetText os starts text
+IsReachText os starts (question.Chain o) text = IsChainText os starts o text
+IsReachText os starts (question.Changers o) text = IsChangersText os starts o text
 
--- so it was; or it couldn't be written whole; or a number has no process, or no object; or memory ran out
-abbrev pub TellsReach : List Object → List ℕ → Option ℕ → Written → Written → Result (Unit {0}) Fault →
-    Type 0
-TellsReach os starts shows output output_left (Ok a) = Reaches os starts shows (Wrote output output_left)
-TellsReach os starts shows output output_left (Err fault.CannotWriteOutput) = Reaches os starts shows
-    (WroteFront output output_left)
-TellsReach os starts shows output output_left (Err (fault.NoProcess p)) =
-    (find (λ n. not (is_process os n)) starts ≡ Some p) × (output_left ≡ output)
-TellsReach os starts shows output output_left (Err (fault.NoObject o)) =
-    AreProcesses os starts × (shows ≡ Some o) × (is_free (content_at os o) ≡ true) × (output_left ≡ output)
-TellsReach os starts shows output output_left (Err fault.NoMemory) = output_left ≡ output
-TellsReach os starts shows output output_left (Err _) = ⊥
+-- the number that a question names, if any
+abbrev pub object_of : ReachQuestion → Option ℕ
+object_of question.Changes = None
+object_of (question.Chain o) = Some o
+object_of (question.Changers o) = Some o
+
+-- the answer about some processes was written; or not whole; or the number that it names has no object; or memory ran out
+abbrev pub TellsOf : List Object → List ℕ → ReachQuestion → Written → Written → Result (Unit {0}) Fault → Type 0
+TellsOf os starts q output output_left (Ok a) =
+    (text : List ℕ) × IsReachText os starts q text × Wrote output output_left text
+TellsOf os starts q output output_left (Err fault.CannotWriteOutput) =
+    (text : List ℕ) × IsReachText os starts q text × WroteFront output output_left text
+TellsOf os starts q output output_left (Err (fault.NoObject o)) =
+    (object_of q ≡ Some o) × (is_free (content_at os o) ≡ true) × (output_left ≡ output)
+TellsOf os starts q output output_left (Err fault.NoMemory) = output_left ≡ output
+TellsOf os starts q output output_left (Err _) = ⊥
+
+-- the processes that a question is about: those named, or all if none is named
+abbrev pub AreStarts : List Object → List ℕ → List ℕ → Type 0
+AreStarts os [] starts = (n : ℕ) → Contains starts n ↔ IsTrue (is_process os n)
+AreStarts os (p ∷ ps) starts = (starts ≡ p ∷ ps) × AreProcesses os (p ∷ ps)
+
+-- so it was of these; or a number that is named has no process; or memory ran out
+abbrev pub TellsReach : List Object → List ℕ → ReachQuestion → Written → Written → Result (Unit {0}) Fault → Type 0
+TellsReach os named q output output_left (Err (fault.NoProcess p)) =
+    (find (λ n. not (is_process os n)) named ≡ Some p) × (output_left ≡ output)
+TellsReach os named q output output_left (Err fault.NoMemory) = output_left ≡ output
+TellsReach os named q output output_left outcome =
+    (starts : List ℕ) × AreStarts os named starts × TellsOf os starts q output output_left outcome
 
 -- what processes can ever change was written; or a fault; or the device wasn't opened, or memory ran out
-abbrev pub ReachesImage : {D : Type 0} → (D → Disk) → List ℕ → Option ℕ → D → D → Written → Written →
+abbrev pub ReachesImage : {D : Type 0} → (D → Disk) → List ℕ → ReachQuestion → D → D → Written → Written →
     Result (Unit {0}) Fault → Type 0
-ReachesImage disk starts shows device back output output_left outcome = TellsImage disk device back output output_left
-    (λ s o. TellsReach (objects_of s.frames) starts shows output output_left o) outcome
+ReachesImage disk named q device back output output_left outcome = TellsImage disk device back output output_left
+    (λ s o. TellsReach (objects_of s.frames) named q output output_left o) outcome

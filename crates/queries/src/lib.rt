@@ -17,4 +17,4 @@ pub use diagnosing::explain_image;
 pub use drawing::{Focus, draw_image};
 pub use explaining::explain_description;
 pub use inspecting::info_image;
-pub use reaching::reach_image;
+pub use reaching::{ReachQuestion, reach_image};

@@ -1,19 +1,46 @@
-// The command that says what processes can ever change.
-ghost use Rattle.std.specs.Prelude.{◌≡◌, None, Some, Result};
+// The command that says what processes can ever change, and which of them can change an object.
+ghost use Rattle.std.specs.Prelude.{◌≡◌, ℕ, [], false, true, IfSome, IsNone, Result, Some};
 ghost use Rattle.model.specs.Object.{is_free};
 ghost use Rattle.model.specs.World.{content_at};
 ghost use Rattle.reach.specs.Reached.{AreSoundObjects};
 ghost use Rattle.jobs.specs.Faults.{IsReported, status_of};
-ghost use Rattle.queries.specs.Reaching.{AreProcesses, ReachesImage, TellsReach};
+ghost use Rattle.queries.specs.Reaching.{AreProcesses, ReachesImage, TellsOf, TellsReach, object_of};
+ghost use Rattle.queries.specs.declared.reaching.ReachQuestion.TheVariants.{Chain, Changers, Changes};
 
 use crate::saved::read_saved;
 use device::Device;
 use jobs::{Done, Fault, of_write};
 use migrator::WholeStore;
 use model::{Content, Object};
-use reach::{missing_process, print_chain, print_reach, reach, shortest_chain};
+use reach::{
+    all_processes, changers, missing_process, print_chain, print_changers, print_reach, reach,
+    shortest_chain,
+};
 use script::Output;
 use std::alloc::Global;
+
+/// What `reach` says of some processes.
+#[derive(Clone, Copy)]
+pub enum ReachQuestion {
+    /// All that they can ever change.
+    Changes,
+    /// A shortest chain of steps from them to this object.
+    Chain(u64),
+    /// Those of them that can ever change this object.
+    Changers(u64),
+}
+
+impl ReachQuestion {
+    // The number that it names, if any.
+    fn object(self) -> Option<u64>
+        ensures { result ≡ object_of self }
+    {
+        match self {
+            ReachQuestion::Changes => None,
+            ReachQuestion::Chain(object) | ReachQuestion::Changers(object) => Some(object),
+        }
+    }
+}
 
 // Writes the least closed set that contains some processes.
 fn tell_set<W: Output>(
@@ -24,10 +51,50 @@ fn tell_set<W: Output>(
 ) -> Result<(), Fault>
     requires sound { AreSoundObjects objects.now }
     requires processes { AreProcesses objects.now processes.now }
-    ensures { TellsReach objects.now processes.now None (W.written writer.old) (W.written writer.new) result }
+    ensures { TellsOf objects.now processes.now Changes (W.written writer.old) (W.written writer.new) result }
 {
     match reach(alloc, objects, processes) {
         Ok(inside) => of_write(print_reach(objects, &inside, writer)),
+        Err(_) => Err(Fault::NoMemory),
+    }
+}
+
+// Writes a shortest chain from some processes to an object.
+fn tell_chain<W: Output>(
+    alloc: Global,
+    objects: &[Object],
+    processes: &[u64],
+    object: u64,
+    writer: &mut W,
+) -> Result<(), Fault>
+    requires sound { AreSoundObjects objects.now }
+    requires processes { AreProcesses objects.now processes.now }
+    requires there { is_free (content_at objects.now object) ≡ false }
+    ensures { TellsOf objects.now processes.now (Chain object) (W.written writer.old) (W.written writer.new)
+        result }
+{
+    match shortest_chain(alloc, objects, processes, object) {
+        Ok(chain) => of_write(print_chain(objects, object, &chain, writer)),
+        Err(_) => Err(Fault::NoMemory),
+    }
+}
+
+// Writes which of some processes can ever change an object.
+fn tell_changers<W: Output>(
+    alloc: Global,
+    objects: &[Object],
+    processes: &[u64],
+    object: u64,
+    writer: &mut W,
+) -> Result<(), Fault>
+    requires sound { AreSoundObjects objects.now }
+    requires processes { AreProcesses objects.now processes.now }
+    requires there { is_free (content_at objects.now object) ≡ false }
+    ensures { TellsOf objects.now processes.now (Changers object) (W.written writer.old) (W.written writer.new)
+        result }
+{
+    match changers(alloc, objects, processes, object) {
+        Ok(inside) => of_write(print_changers(objects, &inside, writer)),
         Err(_) => Err(Fault::NoMemory),
     }
 }
@@ -42,56 +109,88 @@ fn is_free(objects: &[Object], number: u64) -> bool
     }
 }
 
-// Writes a shortest chain from some processes to an object.
-fn tell_chain<W: Output>(
+// The number in a question, if it has no object.
+fn missing_object(objects: &[Object], question: ReachQuestion) -> Option<u64>
+    ensures some { IfSome result (λ o. (object_of question ≡ Some o) × (is_free (content_at objects.now o) ≡ true)) }
+    ensures none { IsNone result → (o : ℕ) → object_of question ≡ Some o → is_free (content_at objects.now o) ≡ false }
+{
+    let object = question.object()?;
+    if is_free(objects, object) {
+        Some(object)
+    } else {
+        None
+    }
+}
+
+// Writes the answer to a question about some processes.
+fn tell_of<W: Output>(
     alloc: Global,
     objects: &[Object],
     processes: &[u64],
-    object: u64,
+    question: ReachQuestion,
     writer: &mut W,
 ) -> Result<(), Fault>
     requires sound { AreSoundObjects objects.now }
     requires processes { AreProcesses objects.now processes.now }
-    ensures { TellsReach objects.now processes.now (Some object) (W.written writer.old) (W.written writer.new)
-        result }
+    ensures { TellsOf objects.now processes.now question (W.written writer.old) (W.written writer.new) result }
 {
-    if is_free(objects, object) {
+    if let Some(object) = missing_object(objects, question) {
         return Err(Fault::NoObject(object));
     }
-    match shortest_chain(alloc, objects, processes, object) {
-        Ok(chain) => of_write(print_chain(objects, object, &chain, writer)),
+    match question {
+        ReachQuestion::Changes => tell_set(alloc, objects, processes, writer),
+        ReachQuestion::Chain(object) => tell_chain(alloc, objects, processes, object, writer),
+        ReachQuestion::Changers(object) => tell_changers(alloc, objects, processes, object, writer),
+    }
+}
+
+// Writes the answer to a question about all processes.
+fn tell_of_all<W: Output>(
+    alloc: Global,
+    objects: &[Object],
+    question: ReachQuestion,
+    writer: &mut W,
+) -> Result<(), Fault>
+    requires { AreSoundObjects objects.now }
+    ensures { TellsReach objects.now [] question (W.written writer.old) (W.written writer.new) result }
+{
+    match all_processes(alloc, objects) {
+        Ok(all) => tell_of(alloc, objects, &all, question, writer),
         Err(_) => Err(Fault::NoMemory),
     }
 }
 
-// Writes what processes can ever change, or how they can change one object.
+// Writes the answer to a question about the named processes, or about all if none is named.
 fn tell_reach<W: Output>(
     alloc: Global,
     objects: &[Object],
-    processes: &[u64],
-    shows: Option<u64>,
+    named: &[u64],
+    question: ReachQuestion,
     writer: &mut W,
 ) -> Result<(), Fault>
     requires { AreSoundObjects objects.now }
-    ensures { TellsReach objects.now processes.now shows (W.written writer.old) (W.written writer.new) result }
+    ensures { TellsReach objects.now named.now question (W.written writer.old) (W.written writer.new) result }
 {
-    if let Some(number) = missing_process(objects, processes) {
+    if named.is_empty() {
+        return tell_of_all(alloc, objects, question, writer);
+    }
+    if let Some(number) = missing_process(objects, named) {
         return Err(Fault::NoProcess(number));
     }
-    match shows {
-        Some(object) => tell_chain(alloc, objects, processes, object, writer),
-        None => tell_set(alloc, objects, processes, writer),
-    }
+    tell_of(alloc, objects, named, question, writer)
 }
 
-/// Opens a device as a run does, and writes what some processes can ever change: the least closed set
-/// of numbers that contains them. With `shows` it instead writes a shortest chain of steps to that
-/// object, or `cannot change` with its kind and number if the set doesn't contain it. Then the status is 0.
+/// Opens a device as a run does, and answers a question about the processes named, or about all processes
+/// if none is named. Then the status is 0. The answer is
+/// - what they can ever change: the least closed set of numbers that contains them;
+/// - a shortest chain of steps to an object, or `cannot change` with its kind and number if that set
+///   doesn't contain it;
+/// - or those of them that can ever change an object.
 ///
 /// After a fault one line is written to `errors`, and the status is 1:
 /// - `bad image` with a number from 1 to 10, `device failed` or `no memory`;
 /// - `no process` with the first of the numbers that isn't the number of a process;
-/// - `no object` with the number `shows` if it is free or beyond the image;
+/// - `no object` with the number of the object if it is free or beyond the image;
 /// - `cannot write output` if the writer fails.
 ///
 /// The device is returned. Nothing is written to it at any moment.
@@ -99,19 +198,19 @@ pub fn reach_image<D: Device, S: WholeStore<D>, W: Output, V: Output>(
     alloc: Global,
     device: D,
     setting: S::Setting,
-    processes: &[u64],
-    shows: Option<u64>,
+    named: &[u64],
+    question: ReachQuestion,
     writer: &mut W,
     errors: &mut V,
 ) -> Done<D>
     ensures { (outcome : Result (Unit {0}) Fault) × (result.status ≡ status_of outcome)
         × IsReported outcome (V.written errors.old) (V.written errors.new)
-        × ReachesImage D.disk processes.now shows device result.device (W.written writer.old) (W.written writer.new)
-        outcome }
+        × ReachesImage D.disk named.now question device result.device (W.written writer.old)
+        (W.written writer.new) outcome }
 {
     match read_saved::<Vec<Object>, D, S>(alloc, device, setting) {
         Ok((objects, device)) => {
-            let outcome = tell_reach(alloc, &objects, processes, shows, writer);
+            let outcome = tell_reach(alloc, &objects, named, question, writer);
             Done::report(outcome, device, errors)
         }
         Err(refused) => Done::unopened(refused, errors),

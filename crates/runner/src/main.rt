@@ -15,7 +15,7 @@ use device::Device;
 use devices::{FileDevice, FileFault, Fuse};
 use jobs::{Done, Fault, ShellInput, check_image, finish, run_image, run_shell, run_traced};
 use object_cache::{Capacity, KeepAll, KeepRecent, PlainStore, Policy, Store};
-use queries::{Focus, explain_description};
+use queries::{Focus, ReachQuestion, explain_description};
 use runs::{ScriptReader, TraceOptions, Tracer};
 use script::{BufferedOutput, CountedWriter, Output};
 use std::alloc::Global;
@@ -395,6 +395,15 @@ fn sizes_of(sizes: &command_line::Sizes) -> Sizes {
     }
 }
 
+// What `reach` is asked: which processes can change the object of `--to`, or else a chain to that of `--shows`.
+fn question_of(shows: Option<u64>, to: Option<u64>) -> ReachQuestion {
+    match (to, shows) {
+        (Some(object), _) => ReachQuestion::Changers(object),
+        (None, Some(object)) => ReachQuestion::Chain(object),
+        (None, None) => ReachQuestion::Changes,
+    }
+}
+
 // Does a job, and returns its end.
 fn serve(rt: &HostRuntime, job: &Job<'_>, stdio: &mut Stdio) -> Result<End, Refusal> {
     let (image, query) = match job {
@@ -431,9 +440,16 @@ fn serve(rt: &HostRuntime, job: &Job<'_>, stdio: &mut Stdio) -> Result<End, Refu
             image,
             processes,
             shows,
+            to,
         } => {
-            let (processes, shows) = (processes.as_slice(), *shows);
-            (*image, Query::Reach { processes, shows })
+            let (processes, question) = (processes.as_slice(), question_of(*shows, *to));
+            (
+                *image,
+                Query::Reach {
+                    processes,
+                    question,
+                },
+            )
         }
     };
     inspect(rt, image, query, stdio)

@@ -7,7 +7,9 @@ use device::Device;
 use image_builder::OldImage;
 use jobs::{Fault, upgrade_opened};
 use migrator::WholeStore;
-use queries::{Focus, describe_image, draw_image, explain_image, info_image, reach_image};
+use queries::{
+    Focus, ReachQuestion, describe_image, draw_image, explain_image, info_image, reach_image,
+};
 use script::Output;
 
 /// What a command asks about an image that it only reads.
@@ -21,10 +23,10 @@ pub(crate) enum Query<'w> {
     Explain,
     /// Its sizes, and what it holds.
     Info,
-    /// What processes can ever change, or how they reach an object.
+    /// A question about what the processes named can ever change, or all processes if none is named.
     Reach {
         processes: &'w [u64],
-        shows: Option<u64>,
+        question: ReachQuestion,
     },
     /// What it saves, in a new image by version 2 of the layout.
     Upgrade {
@@ -73,9 +75,12 @@ impl<'w> Query<'w> {
             ),
             Query::Explain => explain_image::<_, S, _, _>(alloc, device, setting, output, errors),
             Query::Info => info_image::<_, S, _, _>(alloc, device, setting, output, errors),
-            Query::Reach { processes, shows } => {
-                reach_image::<_, S, _, _>(alloc, device, setting, processes, shows, output, errors)
-            }
+            Query::Reach {
+                processes,
+                question,
+            } => reach_image::<_, S, _, _>(
+                alloc, device, setting, processes, question, output, errors,
+            ),
             Query::Upgrade { old, new } => {
                 return upgrade::<_, S, _, _>(rt, device, setting, old, new, output, errors);
             }

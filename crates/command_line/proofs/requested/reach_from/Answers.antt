@@ -10,10 +10,15 @@ pub returns-in_err-shows-clause-none : goal.returns-in_err-shows-clause-none
 returns-in_err-shows-clause-none c = λ _. wrong (codes "reach") (codes "shows") (rows_of (found_of c.args.inner.now)) _ _ refl
     (c.number_of.ensures.none (search rules))
 
+pub returns-in_err-to-clause-none : goal.returns-in_err-to-clause-none
+returns-in_err-to-clause-none c = λ _. wrong (codes "reach") (codes "to") (rows_of (found_of c.args.inner.now)) _ _ refl
+    (c.number_of-2.ensures.none (search rules))
+
 pub returns-clause-named : goal.returns-clause-named
 returns-clause-named c = λ numbers. (
   refl,
   given (found_of c.args.inner.now) (codes "IMAGE") c.get_str.result c.in_ok-image.image c.get_str.ensures (search rules),
   numbers,
   held (IsNumberOption (rows_of (found_of c.args.inner.now)) (codes "shows")) c.number_of.result c.in_ok-shows.shows c.number_of.ensures.named (search rules),
+  held (IsNumberOption (rows_of (found_of c.args.inner.now)) (codes "to")) c.number_of-2.result c.in_ok-to.to c.number_of-2.ensures.named (search rules),
 )

@@ -1,5 +1,4 @@
-use Rattle.queries.proofs.Names.{refl, sym, Some, chain_text, processes_known, TellsReach, IsChainText, text_written}
-use Rattle.std.proofs.Common.{◌∙◌}
+use Rattle.queries.proofs.Names.{refl, chain_text, processes_known, IsChainText, text_written, TellsOf, Chain}
 use Rattle.queries.proofs.reaching.tell_chain.Goals as goal
 
 pub shortest_chain-requires-clause-known : goal.shortest_chain-requires-clause-known
@@ -10,8 +9,7 @@ returns-in-Ok g c =
     let old = g.W.Output.written c.args.writer.now in
     let new = g.W.Output.written c.print_chain.new.writer in
     let text = chain_text c.args.objects.now c.args.object c.in-Ok.chain in
-    let there = sym c.is_free.ensures ∙ c.if-is_free.false in
     let is : IsChainText c.args.objects.now c.args.processes.now c.args.object text =
-    record { there = there; chain = c.in-Ok.chain; shortest = c.in-Ok.ensures.shortest; reach = c.in-Ok.ensures.reach; spelled = refl } in
-    rw c.of_write.ensures (text_written old new text (TellsReach c.args.objects.now c.args.processes.now (Some c.args.object) old new)
-    (λ a wrote. (c.requires.processes, (text, is, wrote))) (λ front. (c.requires.processes, (text, is, front))) c.print_chain.result c.print_chain.ensures)
+    record { there = c.requires.there; chain = c.in-Ok.chain; shortest = c.in-Ok.ensures.shortest; reach = c.in-Ok.ensures.reach; spelled = refl } in
+    rw c.of_write.ensures (text_written old new text (TellsOf c.args.objects.now c.args.processes.now (Chain c.args.object) old new)
+    (λ a wrote. (text, is, wrote)) (λ front. (text, is, front)) c.print_chain.result c.print_chain.ensures)

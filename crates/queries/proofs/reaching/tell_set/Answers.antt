@@ -1,4 +1,4 @@
-use Rattle.queries.proofs.Names.{refl, None, reach_text, processes_known, TellsReach, IsSetText, text_written}
+use Rattle.queries.proofs.Names.{refl, reach_text, processes_known, IsSetText, text_written, TellsOf, Changes}
 use Rattle.queries.proofs.reaching.tell_set.Goals as goal
 
 pub reach-requires-clause-known : goal.reach-requires-clause-known
@@ -11,5 +11,5 @@ returns-in-Ok g c =
     let text = reach_text c.args.objects.now c.in-Ok.inside in
     let is : IsSetText c.args.objects.now c.args.processes.now text =
     record { marks = c.in-Ok.inside; reach = c.in-Ok.ensures.reach; bounds = c.in-Ok.ensures.bounds; spelled = refl } in
-    rw c.of_write.ensures (text_written old new text (TellsReach c.args.objects.now c.args.processes.now None old new)
-    (λ a wrote. (c.requires.processes, (text, is, wrote))) (λ front. (c.requires.processes, (text, is, front))) c.print_reach.result c.print_reach.ensures)
+    rw c.of_write.ensures (text_written old new text (TellsOf c.args.objects.now c.args.processes.now Changes old new)
+    (λ a wrote. (text, is, wrote)) (λ front. (text, is, front)) c.print_reach.result c.print_reach.ensures)
