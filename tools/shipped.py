@@ -15,12 +15,16 @@ def sum_of(data):
     return hashlib.sha256(data).hexdigest()
 
 
+def lines_of(text):
+    """The values of a manifest, by the words before them."""
+    lines = [it.split(" ", 2 if it.startswith("file ") else 1) for it in text.splitlines() if " " in it]
+    return {" ".join(words[:-1]): words[-1] for words in lines}
+
+
 def manifest():
-    """The lines of the manifest, by their words before the value. Empty if there is none."""
+    """The values of the manifest of dist/. Empty if there is none."""
     path = DIST / "manifest"
-    lines = path.read_text().splitlines() if path.exists() else []
-    values = [line.split(" ", 2) if line.startswith("file ") else line.split(" ", 1) for line in lines if " " in line]
-    return {" ".join(words[:-1]): words[-1] for words in values}
+    return lines_of(path.read_text()) if path.exists() else {}
 
 
 def library_sources():
