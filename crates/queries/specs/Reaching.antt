@@ -46,7 +46,7 @@ object_of question.Changes = None
 object_of (question.Chain o) = Some o
 object_of (question.Changers o) = Some o
 
--- the answer about some processes was written; or not whole; or the number that it names has no object; or memory ran out
+-- the answer about some processes was written; or not whole; or its number has no object; or memory ran out
 abbrev pub TellsOf : List Object → List ℕ → ReachQuestion → Written → Written → Result (Unit {0}) Fault → Type 0
 TellsOf os starts q output output_left (Ok a) =
     (text : List ℕ) × IsReachText os starts q text × Wrote output output_left text
