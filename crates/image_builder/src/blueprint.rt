@@ -60,7 +60,7 @@ impl Blueprint {
         self.superblock.total()
     }
 
-    /// Whether `build` accepts the description on a device with `sectors` sectors or more. It answers the least fault of
+    /// Whether `build` accepts the description on a device with enough sectors. It answers the least fault of
     /// the description, as `build` does on any device, or `NoMemory` where memory ran out.
     pub fn check(&self, alloc: Global) -> Result<(), BuildFault>
         ensures accepted { OnOk result ((sectors : ℕ) → (plan_for self.now).total ≤ sectors

@@ -27,7 +27,8 @@ fn is_first(home: &Home, number: u64) -> bool
 }
 
 /// Writes the homes of all `count` objects, each home once. Each frame has the header and the content
-/// of its number, and clusters end in zeros. The gates of both headers are closed, and a crash at any moment leaves them so.
+/// of its number, and clusters end in zeros. The gates of both headers are closed, and a crash at any
+/// moment leaves them so.
 /// Returns `Failed` exactly if the device failed.
 #[tactic(auto, using(crate::proofs::HomeFrames::stays_between))]
 pub(crate) fn write_homes<D: Device>(

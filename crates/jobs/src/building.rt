@@ -36,9 +36,9 @@ fn build_and_tell<D: Device, W: Output>(
 }
 
 /// Builds the image of a description that was read, whichever its table is, on a device, and writes
-/// `built T sectors`. A fault is returned after one line was written to `errors`: `bad description` with a number from 1 to 6, `cannot write image` where the device
-/// is too small, `device failed`, `no memory`, or, with the image built, `cannot write output`
-/// where the writer fails.
+/// `built T sectors`. A fault is returned after one line was written to `errors`: `bad description`
+/// with a number from 1 to 6, `cannot write image` if the device is too small, `device failed`,
+/// `no memory`, or, with the image built, `cannot write output` if the writer fails.
 ///
 /// A crash at any moment leaves the image that was there, as it was; or nothing that can be opened;
 /// or the described one, whole.

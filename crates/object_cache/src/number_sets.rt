@@ -1,5 +1,6 @@
 // Which numbers of a list a set lacks, and how they are added.
-ghost use Rattle.std.specs.Prelude.{◌≡◌, ◌↔◌, ◌+◌, ◌<◌, ◌≤◌, IsTrue, length, not, slice_index_or, slice_set, true, false};
+ghost use Rattle.std.specs.Prelude.{◌≡◌, ◌↔◌, ◌+◌, ◌<◌, ◌≤◌, IsTrue, length, not, slice_index_or, slice_set};
+ghost use Rattle.std.specs.Prelude.{true, false};
 ghost use Rattle.std.specs.List.{All};
 ghost use Rattle.model.specs.Machine.{touching, touched_count};
 
@@ -34,8 +35,8 @@ fn count_missing(marks: &NumberSet, numbers: &[u64]) -> u64
     missing
 }
 
-/// Whether the set lacks more than `room` numbers of a list; one listed twice counts once. Only a list longer than `room`
-/// is compared with itself.
+/// Whether the set lacks more than `room` numbers of a list; one listed twice counts once. Only a list longer than
+/// `room` is compared with itself.
 pub(crate) fn lacks_more(marks: &NumberSet, numbers: &[u64], room: u64) -> bool
     requires { All (λ n. n < length marks.now) numbers.now }
     ensures { IsTrue result ↔ (touched_count marks.now + room < touched_count (touching marks.now numbers.now)) }

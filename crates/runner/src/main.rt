@@ -289,8 +289,8 @@ fn check(rt: &HostRuntime, image: &str, stdio: &mut Stdio) -> Result<End, Refusa
     Ok(run_with_cache(rt, device, cache, io::empty(), Mode::Check, notes, stdio))
 }
 
-/// Answers a query about the image on a device, and returns the end of the command. Only here is a store of objects named for
-// `WholeStore`.
+/// Answers a query about the image on a device, and returns the end of the command. Only here a store is named for
+/// `WholeStore`.
 pub(crate) fn answer<D: Device, W: Output, V: Output>(
     rt: &HostRuntime,
     device: D,
@@ -395,12 +395,21 @@ fn sizes_of(sizes: &command_line::Sizes) -> Sizes {
     }
 }
 
-// What `reach` is asked: which processes can change the object of `--to`, or else a chain to that of `--shows`.
-fn question_of(shows: Option<u64>, to: Option<u64>) -> ReachQuestion {
-    match (to, shows) {
+// The query of `draw`.
+fn drawing(from: Option<u64>, to: Option<u64>) -> Query<'static> {
+    Query::Draw(Focus { from, to })
+}
+
+// The query of `reach`: which processes can change the object of `--to`, or else a chain to that of `--shows`.
+fn reaching(processes: &[u64], shows: Option<u64>, to: Option<u64>) -> Query<'_> {
+    let question = match (to, shows) {
         (Some(object), _) => ReachQuestion::Changers(object),
         (None, Some(object)) => ReachQuestion::Chain(object),
         (None, None) => ReachQuestion::Changes,
+    };
+    Query::Reach {
+        processes,
+        question,
     }
 }
 
@@ -431,26 +440,14 @@ fn serve(rt: &HostRuntime, job: &Job<'_>, stdio: &mut Stdio) -> Result<End, Refu
         Job::Explain { file } => return explain(rt, file, stdio),
         Job::Upgrade { old, new } => (*old, Query::Upgrade { old, new }),
         Job::Describe { image, sizes } => (*image, Query::Describe(sizes_of(sizes))),
-        Job::Draw { image, from, to } => {
-            let (from, to) = (*from, *to);
-            (*image, Query::Draw(Focus { from, to }))
-        }
+        Job::Draw { image, from, to } => (*image, drawing(*from, *to)),
         Job::Info { image } => (*image, Query::Info),
         Job::Reach {
             image,
             processes,
             shows,
             to,
-        } => {
-            let (processes, question) = (processes.as_slice(), question_of(*shows, *to));
-            (
-                *image,
-                Query::Reach {
-                    processes,
-                    question,
-                },
-            )
-        }
+        } => (*image, reaching(processes.as_slice(), *shows, *to)),
     };
     inspect(rt, image, query, stdio)
 }

@@ -61,7 +61,8 @@ impl<R: RawReader> Script for ScriptReader<R> {
         ensures cause { IsCounted (IsErr result) (failed_reads self.old) (failed_reads self.new) }
         ensures fewer { OnOk result (left_to_read self.new < left_to_read self.old) }
         ensures left { left_to_read self.new ≡ left_to_read self.old - 1 }
-        ensures errors { 0 < left_to_read self.old → HasCause (R.errors self.old.inner) (R.errors self.new.inner) result }
+        ensures errors { 0 < left_to_read self.old
+            → HasCause (R.errors self.old.inner) (R.errors self.new.inner) result }
     {
         if self.left == 0 {
             return Err(self.fail());

@@ -35,6 +35,7 @@ returns-clause-planned g c =
     let now = g.F.Frames.parts c.fetch_named.new.store in
     object_planned old.geometry (objects_in old) (objects_in now) c.args.invocation.now c.args.caller c.plan-plan.result c.needed_arguments-arguments.result
     c.args.banks.now.listed c.list_target.new.banks.listed
-    (ap (λ (p : Parts). objects_in p) (fetched_same c.in_ok-fetch_named.ensures.fetches)) (now_sound old c.requires.sound) (few_objects old c.requires.sound c.requires.few) c.requires.fits c.requires.requested
+    (ap (λ (p : Parts). objects_in p) (fetched_same c.in_ok-fetch_named.ensures.fetches)) (now_sound old c.requires.sound)
+    (few_objects old c.requires.sound c.requires.few) c.requires.fits c.requires.requested
     c.needed_arguments-arguments.ensures c.requires.listed (ap (λ (s : BanksState). s.listed) c.list_target.ensures)
     c.plan-plan.ensures.only (c.plan-plan.ensures.outcome old.geometry) (c.plan-plan.ensures.change old.geometry)
