@@ -13,7 +13,7 @@ HERE = ROOT / "tools" / "native"
 MEMORY = ("malloc", "realloc", "free", "memcpy", "memmove", "memset", "memcmp")
 SYSTEM = (
     "__errno_location", "__libc_start_main", "__sysv_signal", "__write", "close", "fchmod", "fdatasync", "flock", "fsync", "ftruncate", "isatty",
-    "lseek", "open", "pread", "pwrite", "read", "signal", "strlen", "syscall", "write", "fcntl", "abort", "memchr",
+    "lseek", "open", "pread", "pwrite", "read", "signal", "strlen", "syscall", "unlink", "write", "fcntl", "abort", "memchr",
 )
 # Functions of the C library, by the version of glibc that first had them, on x86-64 and on other processors.
 VERSIONS = {"GLIBC_2.2.5": (*MEMORY, *SYSTEM), "GLIBC_2.3.4": ("__xpg_strerror_r",)}
