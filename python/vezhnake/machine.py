@@ -140,7 +140,7 @@ class Machine:
         self.command(f"store {process} {address} {value}")
 
     def show(self, number: int) -> Answer:
-        """The lines of an object, the last of which is `end`."""
+        """The lines of an object. The last line is `end`."""
         line = f"show {number}"
         answer = self.step(line)
         if not answer.endswith("\nend"):
@@ -186,7 +186,7 @@ class Machine:
         return self.command(f"migrate {count}").values[0]
 
     def journal(self, number: int) -> int:
-        """Saves one page as it is now, and returns the generation."""
+        """Saves the present words of one page, and returns the generation."""
         return self.command(f"journal {number}").values[0]
 
     def restart(self) -> tuple[int, int]:
