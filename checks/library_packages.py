@@ -9,6 +9,7 @@ from pathlib import Path
 
 from cases import need
 from common import EXAMPLES, ROOT
+from library_python import try_post_office
 
 sys.path.append(str(ROOT / "tools"))
 import shipped  # noqa: E402
@@ -114,8 +115,8 @@ def try_c(folder, image):
     print("CMake finds the library, shared and static")
 
 
-def try_cargo(folder, image):
-    """`cargo test` in bindings/rust. Its example image is the one that the program builds."""
+def try_cargo(folder, image, eros, chance):
+    """`cargo test` in bindings/rust, and kills of its post office. Its example image is the one that the program builds."""
     if shutil.which("cargo") is None:
         return skipped("cargo", "it is not here")
     crate, where = ROOT / "bindings" / "rust", {**bare(), "CARGO_TARGET_DIR": str(folder / "cargo")}
@@ -129,6 +130,8 @@ def try_cargo(folder, image):
         zeros[number : number + 512] = data[place + 4 : place + 516]
     need(bytes(zeros) == sectors, "the example image of the crate is another one than the program builds")
     print(f"cargo test: {passed} passed")
+    done("cargo", "build", "--offline", "--locked", "--release", "--example", "post_office", cwd=crate, env=where)
+    try_post_office(eros, folder, chance, [folder / "cargo" / "release" / "examples" / "post_office"])
 
 
 def try_glibc():
@@ -159,10 +162,10 @@ def try_other_processor(folder):
     return None
 
 
-def try_packages(folder, image):
+def try_packages(folder, image, eros, chance):
     """Makes all packages, and tries them."""
     try_glibc()
     try_pip(folder, image)
     try_c(folder, image)
-    try_cargo(folder, image)
+    try_cargo(folder, image, eros, chance)
     try_other_processor(folder)

@@ -225,20 +225,20 @@ def letters_in(path):
         return sorted(machine.page(it)[0] for it in pages), machine.page(20)[0], machine.page(21)[0]
 
 
-def try_post_office(eros, folder, chance):
-    """Kills the post office a hundred times. No letter is lost or doubled: those that wait have the numbers between the read and the sent
-    ones, or one more where a client hasn't handled its answer yet."""
-    image, office = folder / "post.image", EXAMPLES / "post-office"
-    subprocess.run([eros, "build", office / "post.toml", image], check=True, stdout=subprocess.DEVNULL)
+def try_post_office(eros, folder, chance, words=(sys.executable, EXAMPLES / "post-office" / "office.py")):
+    """Kills the post office of these words a hundred times. No letter is lost or doubled: those that wait have the numbers between the
+    read and the sent ones, or one more where a client hasn't handled its answer yet."""
+    image, name = folder / f"{words[-1].stem}.image", words[-1].name
+    subprocess.run([eros, "build", EXAMPLES / "post-office" / "post.toml", image], check=True, stdout=subprocess.DEVNULL)
     environment = {**os.environ, "PYTHONPATH": str(ROOT / "python")}
     last = {b"sent": 0, b"read": 0}
     for number in range(KILLS):
-        with subprocess.Popen([sys.executable, office / "office.py", image, "100000000"], stdout=subprocess.PIPE, env=environment) as running:
+        with subprocess.Popen([*words, image, "100000000"], stdout=subprocess.PIPE, env=environment) as running:
             first = running.stdout.readline()
             time.sleep(chance.random() * 0.05)
             running.kill()
             lines = (first + running.stdout.read()).split(b"\n")[:-1]
-        need(lines, "the post office prints nothing")
+        need(lines, f"{name} prints nothing")
         for what in last:
             counts = [int(line.split()[1]) for line in lines if line.startswith(what)]
             follow = not counts or counts[0] in (last[what] + 1, last[what] + 2) and counts == [*range(counts[0], counts[0] + len(counts))]
@@ -250,7 +250,7 @@ def try_post_office(eros, folder, chance):
         whole = waiting == [*range(begin, begin + len(waiting))] and begin - read in (1, 2) and begin + len(waiting) - 1 - sent in (0, 1)
         need(whole if waiting else abs(sent - read) <= 1, f"after kill {number} the letters {waiting} wait, with {sent} sent and {read} read")
     need(last[b"read"] > 10, f"only {last[b'read']} letters were read")
-    print(f"the post office was killed {KILLS} times: {last[b'sent']} letters sent, {last[b'read']} read, none lost or doubled")
+    print(f"{name} was killed {KILLS} times: {last[b'sent']} letters sent, {last[b'read']} read, none lost or doubled")
 
 
 def try_module(folder, image):
