@@ -1,43 +1,45 @@
 -- What is wrong with the fields of a description: how it is found, and that the rule is broken where it is.
-use Rattle.description.proofs.Names.{ℕ, zero, suc, List, [], length, map, Option, None, Some, slice_get, slice_index, slice_index_or, get_or, IsSomeAnd, refl}
+use Rattle.description.proofs.Names.{ℕ, zero, suc, List, [], length, map, Option, None, Some, slice_get, slice_index, slice_index_or, IsSomeAnd, refl}
 use Rattle.description.proofs.Names.{sym, ap, arith, All, All-cons, All-head, All-map, All-tail, none-some, same_Some, slice_get_within, AreDistinct, AreSlots}
-use Rattle.description.proofs.Names.{AreWords, HasFields, IsProcessEntry, IsSomeCapability, Description, NodeEntry, PageEntry, SlotEntry, WordEntry}
-use Rattle.description.proofs.Names.{BreaksField, BreaksIndexed, BreaksSlots, IsTwice, Indexed, Part, SlotFlaw, cases_lt, inl, inr, slice_get-get_or}
-use Rattle.description.proofs.Names.{MatchOption, is_some, true, false, false≢true, true≢false}
-use Rattle.std.proofs.Common.{◌≡◌, ◌≢◌, ◌+◌, ◌<◌, ◌≤◌, ◌∷◌, ◌∙◌}
+use Rattle.description.proofs.Names.{AreWords, HasFields, IsProcessEntry, IsSomeCapability, Description, NodeEntry, PageEntry, ProcessEntry, SlotEntry}
+use Rattle.description.proofs.Names.{WordEntry, process_of, BreaksField, BreaksIndexed, BreaksProcess, BreaksSlots, IsFirst, IsTwice, Indexed, Part, SlotFlaw}
+use Rattle.description.proofs.Names.{inl, inr, slice_get-get_or, MatchOption, is_some, true, false, false≢true, true≢false, take, take_more, subst}
+use Rattle.description.proofs.Names.{Contains, Contains-append_cases}
+use Rattle.std.proofs.Common.{◌≡◌, ◌≢◌, ◌+◌, ◌<◌, ◌≤◌, ◌∷◌, ◌++◌, ◌∙◌}
 use Rattle.description.specs.declared.flaw.Indexed.TheVariants as indexed
 use Rattle.description.specs.declared.flaw.Part.TheVariants as part
 use Rattle.description.specs.declared.flaw.SlotFlaw.TheVariants as slot
-use Rattle.description.proofs.Lists.{all_got}
+use Rattle.description.proofs.Lists.{all_got, contains_cases, contains_here, contains_none, contains_there}
 
--- no number before an index comes again
-abbrev pub ApartBelow : List ℕ → ℕ → Type 0
-ApartBelow ns n = (k j : ℕ) → k < n → k < j → j < length ns → slice_index ns j ≢ slice_index ns k
+-- one more number that is another
+pub one_more_other : (ns : List ℕ) (i n : ℕ) → i < length ns → (Contains (take i ns) n → ⊥) → (slice_index ns i ≢ n) → Contains (take (i + 1) ns) n → ⊥
+one_more_other ns i n within none other there =
+    elim (Contains-append_cases (take i ns) (slice_index ns i ∷ []) n (subst (λ (ms : List ℕ). Contains ms n) (take_more ns i 0 within) there)) [
+      | inl before ↦ none before
+      | inr last ↦ elim (contains_cases n (slice_index ns i) [] last) [ inl is ↦ other is | inr nowhere ↦ contains_none n nowhere ]
+    ]
 
-pub apart_distinct : (ns : List ℕ) (n : ℕ) → length ns ≤ n → ApartBelow ns n → AreDistinct ns
-apart_distinct [] n past apart = tt
-apart_distinct (m ∷ ns) n past apart = (
-  λ there. apart 0 (suc there.0) (omega arith) (omega arith) (omega (arith, there.1)) (first ns there.0 there.1 there.2),
-  apart_distinct ns n (omega arith) (λ k j lt less within. apart (suc k) (suc j) (omega (arith, within)) (omega arith) (omega arith)),
+distinct_last : (ns : List ℕ) (n : ℕ) → AreDistinct ns → (Contains ns n → ⊥) → AreDistinct (ns ++ n ∷ [])
+distinct_last [] n distinct none = (contains_none n, tt)
+distinct_last (m ∷ ns) n distinct none = (
+  λ there. elim (Contains-append_cases ns (n ∷ []) m there) [
+    | inl before ↦ distinct.0 before
+    | inr last ↦ elim (contains_cases m n [] last) [
+      | inl is ↦ none (subst (λ (k : ℕ). Contains (m ∷ ns) k) (sym is) (contains_here m ns))
+      | inr nowhere ↦ contains_none m nowhere
+    ]
+  ],
+  distinct_last ns n distinct.1 (λ there. none (contains_there n m ns there)),
 )
-  where
-    first : (xs : List ℕ) (k : ℕ) → k < length xs → get_or xs k m ≡ m → slice_index xs k ≡ m
-    first [] k lt is = absurd (omega arith)
-    first (x ∷ xs) zero lt is = is
-    first (x ∷ xs) (suc k) lt is = first xs k (omega arith) is
 
-pub apart_more : (ns : List ℕ) (n m : ℕ) → m ≡ slice_index ns n → ((j : ℕ) → n + 1 ≤ j → j < length ns → slice_index ns j ≢ m) → ApartBelow ns n →
-    ApartBelow ns (n + 1)
-apart_more ns n m is none apart k j lt less within = elim (cases_lt k n) [
-  | inl before ↦ apart k j before less within
-  | inr past ↦
-      let same : k ≡ n = omega (arith, lt, past) in
-      λ e. none j (omega (arith, less, same)) within (e ∙ ap (slice_index ns) same ∙ sym is)
-]
+-- one more number that comes first
+pub distinct_more : (ns : List ℕ) (j n : ℕ) → j < length ns → n ≡ slice_index ns j → (Contains (take j ns) n → ⊥) → AreDistinct (take j ns) →
+    AreDistinct (take (j + 1) ns)
+distinct_more ns j n within is none distinct = rw (take_more ns j 0 within) (distinct_last (take j ns) (slice_index ns j) distinct (rw is at none))
 
-pub twice_at : (ns : List ℕ) (i j n : ℕ) → i < length ns → n ≡ slice_index ns i → (i + 1 ≤ j) × (j < length ns) × (slice_index ns j ≡ n) → IsTwice ns i j
+pub twice_at : (ns : List ℕ) (i j n : ℕ) → j < length ns → n ≡ slice_index ns j → (i < j) × (slice_index ns i ≡ n) → IsTwice ns i j
 twice_at ns i j n within is at =
-    (omega (arith, at.0), n, slice_get-get_or ns i 0 within ∙ ap Some (sym is), slice_get-get_or ns j 0 at.1 ∙ ap Some at.2)
+    (at.0, n, slice_get-get_or ns i 0 (omega (arith, at.0, within)) ∙ ap Some at.1, slice_get-get_or ns j 0 within ∙ ap Some (sym is))
 
 -- what holds of what is made of each holds of each so made
 pub all_unmapped : {A B : Type 0} (P : B → Type 0) (f : A → B) (xs : List A) → All P (map f xs) → All (λ x. P (f x)) xs
@@ -83,27 +85,48 @@ twice_refuted (m ∷ ns) (suc i) (suc j) twice distinct = twice_refuted ns i j (
 
 indexed_refuted : (first end : ℕ) (ns : List ℕ) (flaw : Indexed) → BreaksIndexed first end ns flaw → All (λ n. (first ≤ n) × (n < end)) ns → AreDistinct ns → ⊥
 unfolding BreaksIndexed
-indexed_refuted first end ns (indexed.OutOfRange i) broken within distinct = all_refuted (λ n. (first ≤ n) × (n < end)) _ ns i broken (λ x is out. out is)
-    within
-indexed_refuted first end ns (indexed.Twice i j) broken within distinct = twice_refuted ns i j broken distinct
+indexed_refuted first end ns (indexed.OutOfRange i) broken within distinct =
+    all_refuted (λ n. (first ≤ n) × (n < end)) _ ns i broken.1 (λ x is out. out is) within
+indexed_refuted first end ns (indexed.Twice i j) broken within distinct = twice_refuted ns i j broken.1.1 distinct
 
 slots_refuted : (first : ℕ) (slots : List SlotEntry) (flaw : SlotFlaw) → BreaksSlots first slots flaw → AreSlots first slots → ⊥
 unfolding BreaksSlots
 slots_refuted first slots (slot.Index flaw) broken are =
     indexed_refuted first 32 (map (λ s. s.index) slots) flaw broken (All-map (λ n. (first ≤ n) × (n < 32)) (λ s. s.index) slots are.places) are.distinct
-slots_refuted first slots (slot.Text i) broken are = all_refuted (λ s. IsSomeCapability s.capability) _ slots i broken (λ s is out. out is) are.held
+slots_refuted first slots (slot.Text i) broken are = all_refuted (λ s. IsSomeCapability s.capability) _ slots i broken.1.1 (λ s is out. out is) are.held
+
+process_refuted : (p : ProcessEntry) (which : Part) → BreaksProcess p which → IsProcessEntry p → ⊥
+unfolding BreaksProcess
+process_refuted p (part.State k) out is = is.state out
+process_refuted p (part.Key k) out is = omega (arith, is.key, out.1)
+process_refuted p (part.Space k) out is = out.2 is.space
+process_refuted p (part.Registers k flaw) out is = slots_refuted 1 p.registers.items flaw out.3 is.registers
+process_refuted p which out is = out
+
+process_part_refuted : (d : Description) (which : Part) → IsFirst IsProcessEntry (λ p. BreaksProcess p which) d.processes.items (process_of which) →
+    HasFields d → ⊥
+process_part_refuted d which broken has =
+    all_refuted IsProcessEntry _ d.processes.items (process_of which) broken.1 (λ p is out. process_refuted p which out is) has.processes
 
 pub field_refuted : (d : Description) (which : Part) → BreaksField d which → HasFields d → ⊥
-field_refuted d (part.State k) broken has = all_refuted IsProcessEntry _ d.processes.items k broken (λ p is out. is.state out) has.processes
-field_refuted d (part.Key k) broken has = all_refuted IsProcessEntry _ d.processes.items k broken (λ p is out. omega (arith, is.key, out)) has.processes
-field_refuted d (part.Space k) broken has = all_refuted IsProcessEntry _ d.processes.items k broken (λ p is out. out is.space) has.processes
-field_refuted d (part.Registers k flaw) broken has =
-    all_refuted IsProcessEntry _ _ k broken (λ p is out. slots_refuted 1 p.registers.items flaw out is.registers) has.processes
 field_refuted d (part.Slots k flaw) broken has =
-    all_refuted (λ (n : NodeEntry). AreSlots 0 n.slots.items) _ _ k broken (λ n is out. slots_refuted 0 n.slots.items flaw out is) has.nodes
-field_refuted d (part.Words k flaw) broken has = all_refuted (λ (p : PageEntry). AreWords p.words.items) _ _ k broken
+    all_refuted (λ (n : NodeEntry). AreSlots 0 n.slots.items) _ _ k broken.1.1 (λ n is out. slots_refuted 0 n.slots.items flaw out is) has.nodes
+field_refuted d (part.Words k flaw) broken has = all_refuted (λ (p : PageEntry). AreWords p.words.items) _ _ k broken.2.1
     (λ p is out. indexed_refuted 0 512 (map (λ w. w.index) p.words.items) flaw out
     (All-map (λ n. (0 ≤ n) × (n < 512)) (λ w. w.index) p.words.items (λ i e lt. (omega arith, is.places i e lt))) is.distinct) has.pages
+field_refuted d which broken has = process_part_refuted d which broken has
+
+never_there : {A : Type 0} (o : Option A) → IsSomeAnd o (λ x. ⊥) → ⊥
+never_there None is = is
+never_there (Some x) is = is
+
+-- the first bad field of a process is that of a description
+pub process_broken : (d : Description) (which : Part) → IsFirst IsProcessEntry (λ p. BreaksProcess p which) d.processes.items (process_of which) →
+    BreaksField d which
+unfolding BreaksProcess
+process_broken d (part.Slots k flaw) first = absurd (never_there _ first.1)
+process_broken d (part.Words k flaw) first = absurd (never_there _ first.1)
+process_broken d which first = first
 
 -- a part that was found
 pub flaw_refuted : (d : Description) (which : Option Part) → MatchOption which (HasFields d) (λ part. BreaksField d part) → is_some which ≡ true →

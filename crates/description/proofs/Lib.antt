@@ -16,6 +16,7 @@ pub mod Lists
 pub mod NamedTargets
 pub mod WholeProcesses
 pub mod Worlds
-pub mod Decisions
+pub mod FirstFlaws
+pub mod ShapeFaults
 pub mod Taken
 pub mod Rules

@@ -4,7 +4,6 @@ pub use Rattle.capability.proofs.Keeping.{keepable_later}
 pub use Rattle.capability.specs.Consistency.{AreNamed, AreWholeProcesses, IsAnnexFor, IsNamed, IsRootOf, NamesItsRole, annex_in, owner_of, role_at}
 pub use Rattle.capability.specs.Plain.{fresh_cap}
 pub use Rattle.collections.specs.Marks.{is_marked}
-pub use Rattle.home_ranges.specs.declared.number_range.NumberRange.{NumberRange}
 pub use Rattle.model.specs.Capability.{IsWellFormed, named}
 pub use Rattle.model.specs.Frame.{blank_frame, blank_header, current_count, frame_at, header_at, headers, void_held}
 unfoldable pub use Rattle.model.specs.Frame.{frames_in}
@@ -26,8 +25,8 @@ pub use Rattle.model.specs.declared.object.Role.{Role}
 pub use Rattle.model.specs.declared.object.State.{State}
 pub use Rattle.model.specs.declared.object.State.TheVariants.{Available, Running, Waiting}
 pub use Rattle.script.proofs.CapabilityTexts.{text_once}
-pub use Rattle.std.proofs.Common.{Bool, Bor, Global, IfNone, IfSome, IsErrAnd, IsSomeAnd, List, MatchOption, None, Option, Result, Some, Vec, [], ap, arith}
-pub use Rattle.std.proofs.Common.{codes, drop, false, get_or, inl, inr, is_eq, is_ok, is_some, length, map, nat_cmp, nat_eq, pos, refl, replicate, rules}
+pub use Rattle.std.proofs.Common.{Bool, Bor, Err, Global, IfNone, IfSome, IsErrAnd, IsSomeAnd, List, MatchOption, None, Ok, Option, Result, Some, Vec, [], ap}
+pub use Rattle.std.proofs.Common.{arith, codes, drop, false, get_or, inl, inr, is_eq, is_some, length, map, nat_cmp, nat_eq, pos, refl, replicate, rules}
 pub use Rattle.std.proofs.Common.{slice_get, slice_index, slice_index_or, slice_set, subst, suc, sym, take, true, true≢false, unwrap_or, vec_len, zero, ℕ, ℤ}
 pub use Rattle.std.proofs.Math.ListN.{get_or-map}
 pub use Rattle.std.proofs.lemmas.Bool.{cases_eq, cases_lt, false≢true}
@@ -48,7 +47,8 @@ pub use Rattle.std.specs.List.{All, AllZip, Contains, list_any}
 pub use Rattle.std.specs.Prelude.{IsTrue, unsigned_abs}
 pub use Rattle.std.specs.Str.{bytes_eq}
 pub use Rattle.std.specs.Vec.{with_item}
-pub use Rattle.toml.specs.Data.{Data, Items, Members, array, as_array, as_integer, as_str, get_member, integer, item, no_items, same_key, string, table}
+pub use Rattle.toml.specs.Data.{Data, Items, Members, array, as_array, as_integer, as_str, get_member, integer, item, member, no_items, no_members, same_key}
+pub use Rattle.toml.specs.Data.{string, table}
 pub use Rattle.toml.specs.View.{items_view, members_view, table_view, view}
 pub use Rattle.toml.specs.declared.value.Value.{Value}
 pub use Rattle.description.specs.Described.{AreDistinct, AreSlots, AreWords, HasFields, HasNamedWords, HasNumbers, HoldsNamed, IsDescribed, IsDescribedAnnex}
@@ -57,18 +57,21 @@ pub use Rattle.description.specs.Described.{first_named, node_numbers, page_numb
 pub use Rattle.description.specs.Describes.{plain_frame}
 unfoldable pub use Rattle.description.specs.Describes.{plain_frames}
 pub use Rattle.description.specs.Faults.{fault_number}
-pub use Rattle.description.specs.FieldFlaws.{BreaksField, IsTwice}
-unfoldable pub use Rattle.description.specs.FieldFlaws.{BreaksIndexed, BreaksSlots}
+pub use Rattle.description.specs.FieldFlaws.{BreaksField, IsFirst, IsTwice, process_of}
+unfoldable pub use Rattle.description.specs.FieldFlaws.{BreaksIndexed, BreaksProcess, BreaksSlots}
 pub use Rattle.description.specs.Laid.{AreLaid, AreTargets, Entry, Fits, HasProcessTargets, HasTargets, IsLaid, IsPut, OfAnnex, OfBank, OfNode, OfPage, OfRoot}
 pub use Rattle.description.specs.Laid.{entries, frame_of, frames_of, number_of, set_each, slot_held}
 unfoldable pub use Rattle.description.specs.Laid.{laid, slots_of, words_of}
 pub use Rattle.description.specs.Laws.{Each, IsSame, IsSameNode, IsSamePage, IsSameProcess, NoFault, NumberIsSpelledOnce, OneFault}
-pub use Rattle.description.specs.Outcomes.{Fails, Finds, Reads, ReadsList}
+pub use Rattle.description.specs.Outcomes.{AreBadEntries, AreBadTables, AtKey, Finds, IsBadList, IsBadTable, IsIn, IsMisfit, IsStranger, IsUnknown, Misses}
+pub use Rattle.description.specs.Outcomes.{Reads}
 pub use Rattle.description.specs.Reading.{AreFour, AreItems, At, AtOr, HasList, HasNumberAndOwner, HasProcessFields, IsBank, IsCapability, IsDescription}
-pub use Rattle.description.specs.Reading.{IsGeometry, IsList, IsNode, IsNumber, IsPage, IsPair, IsProcess, IsRange, IsSlot, IsState, IsTable, IsWord, has_key}
-pub use Rattle.description.specs.Reading.{has_only, whole_ranges}
+pub use Rattle.description.specs.Reading.{IsGeometry, IsList, IsNode, IsNumber, IsPage, IsPair, IsProcess, IsRange, IsSlot, IsState, IsTable, IsWord, has_only}
+pub use Rattle.description.specs.Reading.{whole_ranges}
 unfoldable pub use Rattle.description.specs.Reading.{IsWideNumber}
 pub use Rattle.description.specs.Rules.{IsAccepted, IsFirstBroken, Rule}
+pub use Rattle.description.specs.Shapes.{BreaksAt, BreaksShape, FitAll, FitsAt, FitsBefore, HasFirstItem, IsFirstFlaw, IsFirstInside, IsFirstItem, IsFormless}
+pub use Rattle.description.specs.Shapes.{IsItem, first_unknown, is_list, key_name, keys_of, misfit}
 pub use Rattle.description.specs.declared.entry.BankEntry.{BankEntry}
 pub use Rattle.description.specs.declared.entry.Description.{Description}
 pub use Rattle.description.specs.declared.entry.NodeEntry.{NodeEntry}
@@ -82,4 +85,13 @@ pub use Rattle.description.specs.declared.flaw.Indexed.{Indexed}
 pub use Rattle.description.specs.declared.flaw.Part.{Part}
 pub use Rattle.description.specs.declared.flaw.SlotFlaw.{SlotFlaw}
 pub use Rattle.description.specs.declared.object.ProcessFields.{ProcessFields}
+pub use Rattle.description.specs.declared.place.Flaw.{Flaw}
+pub use Rattle.description.specs.declared.place.Flaw.TheVariants.{Item, Misfit, Unknown}
+pub use Rattle.description.specs.declared.place.Key.{Key}
+pub use Rattle.description.specs.declared.place.Key.TheVariants.{Age, BankLimit, Banks, Layout, Log, NodeList, NodeSlots, Nodes, ObjectNumber, ObjectOwner}
+pub use Rattle.description.specs.declared.place.Key.TheVariants.{PageList, PageWords, Pages, ProcessAnnex, ProcessKey, ProcessRegisters, ProcessRoot}
+pub use Rattle.description.specs.declared.place.Key.TheVariants.{ProcessSpace, ProcessState, ProcessWords, Processes, Ranges}
+pub use Rattle.description.specs.declared.place.Misread.{Misread}
+pub use Rattle.description.specs.declared.place.ShapePlace.{ShapePlace}
+pub use Rattle.description.specs.declared.place.TableName.{TableName}
 pub use Rattle.description.specs.declared.world.World.{World}

@@ -1,7 +1,7 @@
 -- Values of their types, and of others.
-use Rattle.description.proofs.Names.{nat_tests, inl, inr, ℕ, ℤ, true, false, Option, Some, None, is_some, List, Result, IfSome, IfNone, sym, arith, none-some}
+use Rattle.description.proofs.Names.{nat_tests, inl, inr, ℕ, ℤ, true, false, Option, Some, None, is_some, List, IfSome, IfNone, sym, subst, arith, none-some}
 use Rattle.description.proofs.Names.{same_Some, unsigned_abs, is_negative, IsWellFormed, named, capability_text, state_text, Capability, Number, State, Data}
-use Rattle.description.proofs.Names.{string, integer, as_integer, as_str, IsCapability, IsNumber, IsState, IsWideNumber, Finds, BuildFault}
+use Rattle.description.proofs.Names.{string, integer, as_integer, as_str, IsCapability, IsNumber, IsState, IsWideNumber, Finds}
 use Rattle.std.proofs.Common.{◌≡◌, ◌≢◌, ◌^◌, ◌<◌, ◌≤◌}
 use Rattle.description.proofs.Once.{capability_once}
 
@@ -33,12 +33,18 @@ pub other_text : (d : Data) (r : Option Capability) → as_integer d ≡ None �
 other_text d r none said other n number =
     let text = no_integer d none n number in other n text.0 (capability_once d r (Some (Number n)) said text.1)
 
+-- what a text says
+pub text_number : (d : Data) (r : Option Capability) (found : Option ℕ) → as_integer d ≡ None → IsCapability d r →
+    IfSome found (λ n. (2 ^ 63 ≤ n) × (r ≡ Some (Number n))) → IfNone found ((n : ℕ) → 2 ^ 63 ≤ n → r ≢ Some (Number n)) → Finds (IsWideNumber d) found
+text_number d r None none said is other = other_text d r none said other
+text_number d r (Some n) none said is other = wide_text d n is.0 (subst (IsCapability d) is.1 said)
+
 -- an integer is a number of 64 bits where it is a number
 is_text : (d : Data) (n : ℕ) → is_some (as_integer d) ≡ true → IsWideNumber d n → IsNumber d n
 unfolding IsWideNumber
 is_text d n some either = search arith
 
-pub wide_read : (d : Data) (r : Result ℕ BuildFault) → is_some (as_integer d) ≡ true → Finds (IsNumber d) r → Finds (IsWideNumber d) r
+pub wide_read : (d : Data) (r : Option ℕ) → is_some (as_integer d) ≡ true → Finds (IsNumber d) r → Finds (IsWideNumber d) r
 unfolding IsWideNumber
 wide_read d r some reads = search (arith, is_text)
 

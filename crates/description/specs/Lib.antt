@@ -1,8 +1,9 @@
 pub mod Names
 pub mod Laws
 pub mod Faults
-pub mod Outcomes
 pub mod Reading
+pub mod Shapes
+pub mod Outcomes
 pub mod Described
 pub mod Describes
 pub mod FieldFlaws

@@ -27,8 +27,7 @@ pub use Rattle.model.specs.declared.object.State.{State}
 pub use Rattle.model.specs.declared.object.State.TheVariants.{Available}
 pub use Rattle.std.specs.List.{All, Contains, list_any}
 pub use Rattle.std.specs.Prelude.{Bool, Err, IfSome, IsSomeAnd, IsTrue, List, MatchOption, None, Ok, Option, Result}
-pub use Rattle.std.specs.Prelude.{Some, Vec, [], codes, false, length, map, pos, replicate, slice_get, slice_set, true}
-pub use Rattle.std.specs.Prelude.{unwrap_or, vec_len, ℕ}
-pub use Rattle.std.specs.declared.alloc.Global.{Global}
+pub use Rattle.std.specs.Prelude.{Some, [], codes, false, length, map, pos, replicate, slice_get, slice_set, suc, take}
+pub use Rattle.std.specs.Prelude.{true, unwrap_or, vec_len, zero, ℕ}
 pub use Rattle.toml.specs.Data.{Data, Items, Members, array, get_member, integer, item, member, no_items, no_members}
 pub use Rattle.toml.specs.Data.{same_key, string, table}

@@ -1,26 +1,82 @@
 -- What a function that reads answers.
-use Rattle.description.specs.Names.{Result, Ok, Err, List, Vec, Global}
-use Rattle.std.specs.Prelude.{◌≡◌}
+use Rattle.description.specs.Names.{ℕ, Result, Ok, Err, Option, Some, None, Data, Items, Members, array, table}
+use Rattle.description.specs.Names.{get_member, List}
+use Rattle.std.specs.Prelude.{◌≡◌, ◌⊎◌}
+use Rattle.description.specs.Reading.{IsTable}
+use Rattle.description.specs.Shapes.{IsFirstFlaw, IsFirstItem, first_unknown, key_name, keys_of, misfit}
 use Rattle.description.specs.declared.fault.BuildFault.{BuildFault}
-use Rattle.description.specs.declared.fault.BuildFault.TheVariants.{Shape, NoMemory}
+use Rattle.description.specs.declared.fault.BuildFault.TheVariants as fault
+use Rattle.description.specs.declared.place.Flaw.{Flaw}
+use Rattle.description.specs.declared.place.Flaw.TheVariants.{Unknown, Misfit, Item}
+use Rattle.description.specs.declared.place.Key.{Key}
+use Rattle.description.specs.declared.place.Misread.{Misread}
+use Rattle.description.specs.declared.place.Misread.TheVariants.{Misshapen, NoMemory}
+use Rattle.description.specs.declared.place.ShapePlace.{ShapePlace}
+use Rattle.description.specs.declared.place.TableName.{TableName}
+use Rattle.description.specs.declared.place.TableName.TheVariants as name
 
--- nothing is said, or memory ran out; no other fault comes
-abbrev pub Fails : {A : Type 0} → (A → Type 0) → BuildFault → Type 0
-Fails {A = A} P Shape = (x : A) → P x → ⊥
-Fails P NoMemory = Unit {0}
-Fails P _ = ⊥
+-- it answers what is said, or nothing where nothing is
+abbrev pub Finds : {A : Type 0} → (A → Type 0) → Option A → Type 0
+Finds P (Some x) = P x
+Finds {A = A} P None = (x : A) → P x → ⊥
 
--- it answers what is said, or fails
-abbrev pub Reads : {A : Type 0} → (A → Type 0) → Result A BuildFault → Type 0
-Reads P (Ok x) = P x
-Reads P (Err e) = Fails P e
+-- a place is so, or memory ran out
+abbrev pub Misses : (ShapePlace → Type 0) → Misread → Type 0
+Misses At (Misshapen place) = At place
+Misses At NoMemory = Unit {0}
 
--- it answers what is said, or `Shape` where nothing is
-abbrev pub Finds : {A : Type 0} → (A → Type 0) → Result A BuildFault → Type 0
-Finds P (Ok x) = P x
-Finds {A = A} P (Err e) = (e ≡ Shape) × ((x : A) → P x → ⊥)
+-- it answers what is said, or a place that is so
+abbrev pub Reads : {A : Type 0} → (A → Type 0) → (ShapePlace → Type 0) → Result A Misread → Type 0
+Reads P At (Ok x) = P x
+Reads P At (Err e) = Misses At e
 
--- `Reads` of a list
-abbrev pub ReadsList : {A : Type 0} → (List A → Type 0) → Result (Vec A Global) BuildFault → Type 0
-ReadsList P (Ok v) = P v.items
-ReadsList P (Err e) = Fails P e
+-- at a key of a table nothing is said
+abbrev pub IsMisfit : {A : Type 0} → TableName → Key → (A → Type 0) → ShapePlace → Type 0
+IsMisfit {A = A} which key P place = (place ≡ misfit which key) × ((x : A) → P x → ⊥)
+
+-- the first flaw of a table
+abbrev pub IsIn : TableName → Members → ShapePlace → Type 0
+IsIn which ms place = (place.table ≡ which) × IsFirstFlaw (keys_of which) ms place.flaw
+
+-- the first key that is unknown
+abbrev pub IsUnknown : List (List ℕ) → Members → Flaw → Type 0
+IsUnknown names ms (Unknown key) = first_unknown names ms ≡ Some key.now
+IsUnknown names ms _ = ⊥
+
+abbrev pub IsStranger : TableName → List (List ℕ) → Members → ShapePlace → Type 0
+IsStranger which names ms place = (place.table ≡ which) × IsUnknown names ms place.flaw
+
+-- a value is no list, or has a first item that is so
+abbrev pub IsBadList : (Data → Type 0) → (Data → Type 0) → Key → Data → Flaw → Type 0
+IsBadList Good So key d (Unknown k) = ⊥
+IsBadList Good So key d (Misfit k) = (k ≡ key) × ((ds : Items) → d ≡ array ds → ⊥)
+IsBadList Good So key d (Item k i) = (k ≡ key) × (ds : Items) × (d ≡ array ds) × IsFirstItem Good So i ds
+
+-- a list of entries
+abbrev pub AreBadEntries : {A : Type 0} → (Data → A → Type 0) → TableName → Key → Data → ShapePlace → Type 0
+AreBadEntries {A = A} P which key d place = (place.table ≡ which) ×
+    IsBadList (λ e. (x : A) × P e x) (λ e. ((x : A) × P e x) → ⊥) key d place.flaw
+
+-- a value is no table, or the table of an index has a flaw
+abbrev pub IsBadTable : (ℕ → TableName) → Key → ℕ → Data → ShapePlace → Type 0
+IsBadTable named key i d place =
+    ((place ≡ record { table = name.Whole; flaw = Item key i }) × ((ms : Members) → d ≡ table ms → ⊥))
+    ⊎ ((place.table ≡ named i) × (ms : Members) × (d ≡ table ms) × IsFirstFlaw (keys_of (named i)) ms place.flaw)
+
+-- a list of tables is no list, or has a first item that is no table, or a first table with a flaw
+abbrev pub AreBadTables : {A : Type 0} → (Members → A → Type 0) → (ℕ → TableName) → Key → Data → ShapePlace → Type 0
+AreBadTables {A = A} P named key d place =
+    ((place ≡ misfit name.Whole key) × ((ds : Items) → d ≡ array ds → ⊥)) ⊎ ((i : ℕ) × (ds : Items) × (d ≡ array ds) ×
+    (((place ≡ record { table = name.Whole; flaw = Item key i }) ×
+    IsFirstItem (λ e. (x : A) × IsTable P e x) (λ e. (ms : Members) → e ≡ table ms → ⊥) i ds)
+    ⊎ ((place.table ≡ named i) × IsFirstItem (λ e. (x : A) × IsTable P e x)
+    (λ e. (ms : Members) × (e ≡ table ms) × IsFirstFlaw (keys_of (named i)) ms place.flaw) i ds)))
+
+-- the same of the value at a key
+abbrev pub AtKey : Key → (Data → ShapePlace → Type 0) → Members → ShapePlace → Type 0
+AtKey key Bad ms place = (d : Data) × (get_member (key_name key) ms ≡ Some d) × Bad d place
+
+-- the fault for a table that isn't read
+abbrev pub misread_fault : Misread → BuildFault
+misread_fault (Misshapen place) = fault.Shape
+misread_fault NoMemory = fault.NoMemory

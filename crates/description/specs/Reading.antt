@@ -3,7 +3,7 @@ use Rattle.description.specs.Names.{ℕ, pos, Bool, true, false, Option, None, S
 use Rattle.description.specs.Names.{IsTrue, IsSomeAnd, MatchOption, list_any, NumberRange, IsWellFormed, named}
 use Rattle.description.specs.Names.{capability_text, state_text, Capability, Void, Geometry, State, Data, integer}
 use Rattle.description.specs.Names.{string, array, table, Items, no_items, item, Members, no_members, member}
-use Rattle.description.specs.Names.{get_member, same_key, Vec, Global, Number}
+use Rattle.description.specs.Names.{get_member, same_key, Number}
 use Rattle.std.specs.Prelude.{◌≡◌, ◌≢◌, ◌⊎◌, ◌^◌, ◌<◌, ◌≤◌, ◌&&◌, ◌||◌, ◌∷◌}
 use Rattle.description.specs.declared.entry.BankEntry.{BankEntry}
 use Rattle.description.specs.declared.entry.Description.{Description}
@@ -78,7 +78,7 @@ AtOr default key P ms x = MatchOption (get_member key ms) (x ≡ default) (λ d.
 
 -- a list of entries at a key, none where the key is missing
 abbrev pub HasList : {A : Type 0} → (Data → A → Type 0) → List ℕ → Members → Type 0
-HasList {A = A} P key ms = (v : Vec A Global) × AtOr [] key (IsList P) ms v.items
+HasList {A = A} P key ms = (xs : List A) × AtOr [] key (IsList P) ms xs
 
 -- Entries
 

@@ -2,6 +2,7 @@
 ghost use Rattle.std.specs.Prelude.{◌≡◌};
 ghost use Rattle.description.specs.Faults.{fault_number};
 
+use crate::place::Misread;
 use device::Failed;
 use std::alloc::{AllocError, AllocFailed};
 use thiserror::Error;
@@ -66,5 +67,18 @@ impl<T: Drop> From<AllocFailed<T>> for BuildFault {
 
     fn from(_failed: AllocFailed<T>) -> BuildFault {
         BuildFault::NoMemory
+    }
+}
+
+impl From<Misread<'_>> for BuildFault {
+    ghost use Rattle.description.specs.Outcomes.{misread_fault};
+
+    ghost from_gives = { λ why fault. fault ≡ misread_fault why };
+
+    fn from(why: Misread<'_>) -> BuildFault {
+        match why {
+            Misread::Misshapen(_) => BuildFault::Shape,
+            Misread::NoMemory => BuildFault::NoMemory,
+        }
     }
 }

@@ -1,13 +1,14 @@
 // Which field of an object isn't of its form, or is named twice.
-ghost use Rattle.std.specs.Prelude.{◌≡◌, ◌↔◌, map, slice_get, IsSomeAnd, IsTrue, MatchOption};
+ghost use Rattle.std.specs.Prelude.{◌≡◌, ◌↔◌, map, IsTrue, MatchOption};
 ghost use Rattle.std.specs.List.{All};
 ghost use Rattle.description.specs.Described.{AreSlots, AreWords, HasFields, IsProcessEntry, IsSomeCapability};
 ghost use Rattle.description.specs.Described.{IsSpaceEntry};
-ghost use Rattle.description.specs.FieldFlaws.{BreaksField, BreaksIndexed, BreaksProcess, BreaksSlots};
+ghost use Rattle.description.specs.FieldFlaws.{BreaksField, BreaksIndexed, BreaksProcess, BreaksSlots, IsFirst};
+ghost use Rattle.description.specs.FieldFlaws.{process_of};
 
 use crate::flaw::{Indexed, Part, SlotFlaw};
 use crate::indexed::find_indexed;
-use crate::{Description, ProcessEntry, SlotEntry, WordEntry};
+use crate::{Description, NodeEntry, PageEntry, ProcessEntry, SlotEntry, WordEntry};
 use model::{Capability, SLOTS, WORDS};
 
 // The keys below this one have 16 bits.
@@ -37,14 +38,17 @@ fn is_space(space: Option<Capability>) -> bool
 fn first_text(slots: &[SlotEntry]) -> Option<usize>
     ensures { MatchOption result
         (All (λ s. IsSomeCapability s.capability) slots.now)
-        (λ i. IsSomeAnd (slice_get slots.now i) (λ s. IsSomeCapability s.capability → ⊥)) }
+        (λ i. IsFirst (λ s. IsSomeCapability s.capability) (λ s. IsSomeCapability s.capability → ⊥) slots.now i) }
 {
-    slots
-        .iter()
-        .position(|slot| !is_capability(slot.capability))
+    for (i, slot) in slots.iter().enumerate() {
+        if !is_capability(slot.capability) {
+            return Some(i);
+        }
+    }
+    None
 }
 
-// What is wrong with slots, if anything is. The first of them has the index `first`.
+// The first slot that is wrong, if one is. Indexes begin at `first`.
 #[tactic(auto, unfolding(crate::specs::FieldFlaws::BreaksSlots))]
 fn bad_slots(first: u64, slots: &[SlotEntry]) -> Option<SlotFlaw>
     ensures { MatchOption result (AreSlots first slots.now) (λ flaw. BreaksSlots first slots.now flaw) }
@@ -58,7 +62,7 @@ fn bad_slots(first: u64, slots: &[SlotEntry]) -> Option<SlotFlaw>
     }
 }
 
-// What is wrong with the words of a page, if anything is.
+// The first word of a page that is wrong, if one is.
 #[tactic(auto, using(crate::proofs::FieldFlaws::are_words))]
 fn bad_words(words: &[WordEntry]) -> Option<Indexed>
     ensures { MatchOption result (AreWords words.now)
@@ -67,10 +71,11 @@ fn bad_words(words: &[WordEntry]) -> Option<Indexed>
     find_indexed(0, WORDS as u64, words)
 }
 
-// What is wrong with a process, the one of an index, if anything is.
+// The first field of a process that is wrong, if one is. The process is the one of an index.
 #[tactic(auto, unfolding(crate::specs::FieldFlaws::BreaksProcess))]
 fn bad_process(k: usize, process: &ProcessEntry) -> Option<Part>
-    ensures { MatchOption result (IsProcessEntry process.now) (λ part. BreaksProcess k process.now part) }
+    ensures { MatchOption result (IsProcessEntry process.now)
+        (λ part. (process_of part ≡ k) × BreaksProcess process.now part) }
 {
     if process.state.is_none() {
         return Some(Part::State(k));
@@ -87,49 +92,60 @@ fn bad_process(k: usize, process: &ProcessEntry) -> Option<Part>
     }
 }
 
-// The first process with a flaw, by its index, and the flaw.
-fn bad_processes(processes: &[ProcessEntry]) -> Option<(usize, Part)>
+// The first field of the first process that is wrong, if one is.
+fn bad_processes(processes: &[ProcessEntry]) -> Option<Part>
     ensures { MatchOption result (All IsProcessEntry processes.now)
-        (λ bad. IsSomeAnd (slice_get processes.now bad.0) (λ p. BreaksProcess bad.0 p bad.1)) }
+        (λ part. IsFirst IsProcessEntry (λ p. BreaksProcess p part) processes.now (process_of part)) }
 {
-    processes.iter().enumerate().find_map(|(k, process)| match bad_process(k, process) {
-        Some(part) => Some((k, part)),
-        None => None,
-    })
+    for (k, process) in processes.iter().enumerate() {
+        if let Some(part) = bad_process(k, process) {
+            return Some(part);
+        }
+    }
+    None
 }
 
-// What is wrong with the slots of the first node that has a flaw, if one has.
-fn bad_nodes(description: &Description) -> Option<Part>
-    ensures { MatchOption result (All (λ n. AreSlots 0 n.slots.items) description.now.nodes.items)
-        (λ part. BreaksField description.now part) }
+// The first node whose slots are wrong, if there is one, and what is wrong.
+fn bad_nodes(nodes: &[NodeEntry]) -> Option<(usize, SlotFlaw)>
+    ensures { MatchOption result (All (λ n. AreSlots 0 n.slots.items) nodes.now)
+        (λ bad. IsFirst (λ n. AreSlots 0 n.slots.items) (λ n. BreaksSlots 0 n.slots.items bad.1) nodes.now bad.0) }
 {
-    description.nodes.iter().enumerate().find_map(|(k, node)| match bad_slots(0, &node.slots) {
-        Some(flaw) => Some(Part::Slots(k, flaw)),
-        None => None,
-    })
+    for (k, node) in nodes.iter().enumerate() {
+        if let Some(flaw) = bad_slots(0, &node.slots) {
+            return Some((k, flaw));
+        }
+    }
+    None
 }
 
-// What is wrong with the words of the first page that has a flaw, if one has.
-fn bad_pages(description: &Description) -> Option<Part>
-    ensures { MatchOption result (All (λ p. AreWords p.words.items) description.now.pages.items)
-        (λ part. BreaksField description.now part) }
+// The first page whose words are wrong, if there is one, and what is wrong.
+fn bad_pages(pages: &[PageEntry]) -> Option<(usize, Indexed)>
+    ensures { MatchOption result (All (λ p. AreWords p.words.items) pages.now)
+        (λ bad. IsFirst (λ p. AreWords p.words.items)
+        (λ p. BreaksIndexed 0 512 (map (λ w. w.index) p.words.items) bad.1) pages.now bad.0) }
 {
-    description.pages.iter().enumerate().find_map(|(k, page)| match bad_words(&page.words) {
-        Some(flaw) => Some(Part::Words(k, flaw)),
-        None => None,
-    })
+    for (k, page) in pages.iter().enumerate() {
+        if let Some(flaw) = bad_words(&page.words) {
+            return Some((k, flaw));
+        }
+    }
+    None
 }
 
-/// Which field of an object isn't of its form, or is named twice, if there is one.
-#[tactic(auto, unfolding(crate::specs::FieldFlaws::BreaksProcess))]
+/// The first field of an object that isn't of its form, or is named twice, if there is one. Processes come
+/// first, then nodes, then pages. In a process the order is state, key, space, registers. In a list an index
+/// out of its range comes first, then one that is named twice, then a text that is that of no capability.
 pub fn misfilled(description: &Description) -> Option<Part>
     ensures { MatchOption result (HasFields description.now) (λ part. BreaksField description.now part) }
 {
-    if let Some((_, part)) = bad_processes(&description.processes) {
+    if let Some(part) = bad_processes(&description.processes) {
         return Some(part);
     }
-    if let Some(part) = bad_nodes(description) {
-        return Some(part);
+    if let Some((k, flaw)) = bad_nodes(&description.nodes) {
+        return Some(Part::Slots(k, flaw));
     }
-    bad_pages(description)
+    match bad_pages(&description.pages) {
+        Some((k, flaw)) => Some(Part::Words(k, flaw)),
+        None => None,
+    }
 }

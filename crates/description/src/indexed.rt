@@ -1,8 +1,9 @@
 // Lists of numbers, or of entries with an index: which is outside a range, and which comes twice.
-ghost use Rattle.std.specs.Prelude.{◌≡◌, ◌≢◌, ◌↔◌, ℕ, ◌<◌, ◌≤◌, List, length, map, slice_index, IsTrue, MatchOption};
-ghost use Rattle.std.specs.List.{All};
+ghost use Rattle.std.specs.Prelude.{◌≡◌, ◌↔◌, ℕ, ◌<◌, ◌≤◌, List, length, map, slice_index, take, IsTrue};
+ghost use Rattle.std.specs.Prelude.{MatchOption};
+ghost use Rattle.std.specs.List.{All, Contains};
 ghost use Rattle.description.specs.Described.{AreDistinct};
-ghost use Rattle.description.specs.FieldFlaws.{BreaksIndexed, IsOutside, IsTwice};
+ghost use Rattle.description.specs.FieldFlaws.{BreaksIndexed, IsFirstTwice, IsOutside};
 
 use crate::flaw::Indexed;
 use crate::{SlotEntry, WordEntry};
@@ -81,13 +82,14 @@ pub fn find_outside<N: Numbers>(first: u64, end: u64, numbers: N) -> Option<usiz
     None
 }
 
-// Where a number comes from an index on, if it does.
-fn find_from<N: Numbers>(numbers: N, from: usize, number: u64) -> Option<usize>
+// Where a number comes before a place, if it does.
+fn find_before<N: Numbers>(numbers: N, end: usize, number: u64) -> Option<usize>
+    requires { end ≤ length (N.numbers numbers) }
     ensures { MatchOption result
-        ((j : ℕ) → from ≤ j → j < length (N.numbers numbers) → slice_index (N.numbers numbers) j ≢ number)
-        (λ j. (from ≤ j) × (j < length (N.numbers numbers)) × (slice_index (N.numbers numbers) j ≡ number)) }
+        (Contains (take end (N.numbers numbers)) number → ⊥)
+        (λ i. (i < end) × (slice_index (N.numbers numbers) i ≡ number)) }
 {
-    for i in from..numbers.count() {
+    for i in 0..end {
         if numbers.at(i) == number {
             return Some(i);
         }
@@ -95,20 +97,21 @@ fn find_from<N: Numbers>(numbers: N, from: usize, number: u64) -> Option<usize>
     None
 }
 
-/// Two places of one number, if one comes twice.
+/// The places of one number: the first place whose number came before, and where it did. Nothing if no number
+/// comes twice.
 pub fn find_twice<N: Numbers>(numbers: N) -> Option<(usize, usize)>
     ensures { MatchOption result (AreDistinct (N.numbers numbers))
-        (λ p. IsTwice (N.numbers numbers) p.0 p.1) }
+        (λ p. IsFirstTwice (N.numbers numbers) p.0 p.1) }
 {
-    for i in 0..numbers.count() {
-        if let Some(j) = find_from(numbers, i + 1, numbers.at(i)) {
+    for j in 0..numbers.count() {
+        if let Some(i) = find_before(numbers, j, numbers.at(j)) {
             return Some((i, j));
         }
     }
     None
 }
 
-// What is wrong in a list of entries with an index, if anything is.
+// The first index that is wrong, if one is.
 #[tactic(auto, unfolding(crate::specs::FieldFlaws::BreaksIndexed))]
 pub(crate) fn find_indexed<N: Numbers>(first: u64, end: u64, entries: N) -> Option<Indexed>
     ensures { MatchOption result

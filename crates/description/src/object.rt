@@ -1,41 +1,34 @@
 // Banks, processes, nodes and pages.
-ghost use Rattle.std.specs.Prelude.{◌↔◌, ℕ, IsTrue};
+ghost use Rattle.std.specs.Prelude.{◌≡◌, ◌∷◌, [], IsTrue};
 ghost use Rattle.toml.specs.View.{table_view};
-ghost use Rattle.description.specs.Outcomes.{Finds};
-ghost use Rattle.description.specs.Reading.{HasList, HasNumberAndOwner, HasProcessFields, IsBank, IsNode, IsPage};
-ghost use Rattle.description.specs.Reading.{IsProcess, IsTable};
-ghost use Rattle.description.specs.declared.entry.ProcessEntry.{ProcessEntry};
+ghost use Rattle.description.specs.Outcomes.{IsIn, Reads};
+ghost use Rattle.description.specs.Reading.{HasNumberAndOwner, HasProcessFields, IsBank, IsNode, IsPage, IsProcess};
+ghost use Rattle.description.specs.Shapes.{key_name, keys_of};
+ghost use Rattle.description.specs.declared.place.Key.TheVariants.{ObjectNumber, ObjectOwner};
+ghost use Rattle.description.specs.declared.place.TableName.TheVariants.{Bank, Process, Node, Page};
 
-use crate::entry::{BankEntry, NodeEntry, PageEntry, ProcessEntry, SlotEntry, WordEntry};
-use crate::fault::BuildFault;
-use crate::list::{FromValue, four_or_zeros, list_or_empty, may_have_list};
+use crate::entry::{BankEntry, NodeEntry, PageEntry, ProcessEntry};
+use crate::list::{FromTable, entries, four_or_zeros};
 use crate::member::{capability_or_void, check_keys, number, number_or, state, wide_number};
-use crate::value::table_of;
+use crate::place::{Key, Misread, TableName};
 use model::{Capability, State};
 use std::alloc::Global;
-use toml::{Table, Value};
+use toml::Table;
 
 // The number and the owner of an object whose table has these two and one more key.
-fn read_numbers(table: &Table, other: &str) -> Result<(u64, u64), BuildFault>
-    ensures { Finds (HasNumberAndOwner other.now (table_view table.now)) result }
+fn read_numbers<'a>(
+    table: &'a Table,
+    name: TableName,
+    other: Key,
+) -> Result<(u64, u64), Misread<'a>>
+    requires { keys_of name ≡ ObjectNumber ∷ ObjectOwner ∷ other ∷ [] }
+    ensures { Reads (HasNumberAndOwner (key_name other) (table_view table.entry.now))
+        (IsIn name (table_view table.entry.now)) result }
 {
-    check_keys(table, &["number", "owner", other])?;
-    let owner = number(table, "owner")?;
-    let number = number(table, "number")?;
-    Ok((number, owner))
-}
-
-// Reads the table of a bank. `Shape` for any other.
-fn read_bank(table: &Table) -> Result<BankEntry, BuildFault>
-    ensures { Finds (IsBank (table_view table.now)) result }
-{
-    let (number, owner) = read_numbers(table, "limit")?;
-    let limit = wide_number(table, "limit")?;
-    Ok(BankEntry {
-        number,
-        owner,
-        limit,
-    })
+    check_keys(table, name, &["number", "owner", other.name()])?;
+    let first = number(table, name, Key::ObjectNumber)?;
+    let owner = number(table, name, Key::ObjectOwner)?;
+    Ok((first, owner))
 }
 
 // What a process has beside its registers.
@@ -50,13 +43,15 @@ struct ProcessFields {
     space: Option<Capability>,
 }
 
-// Reads the table of a process, except its registers. `Shape` if a key is unknown, a needed one
-// is missing, or a value isn't of its type.
-fn read_fields(table: &Table) -> Result<ProcessFields, BuildFault>
-    ensures { Finds (HasProcessFields (table_view table.now)) result }
+// Reads the table of a process, except its registers.
+fn read_fields<'a>(table: &'a Table, index: usize) -> Result<ProcessFields, Misread<'a>>
+    ensures { Reads (HasProcessFields (table_view table.entry.now))
+        (IsIn (Process index) (table_view table.entry.now)) result }
 {
+    let name = TableName::Process(index);
     check_keys(
         table,
+        name,
         &[
             "root",
             "annex",
@@ -68,13 +63,13 @@ fn read_fields(table: &Table) -> Result<ProcessFields, BuildFault>
             "registers",
         ],
     )?;
-    let root = number(table, "root")?;
-    let annex = number(table, "annex")?;
-    let owner = number(table, "owner")?;
-    let state = state(table, "state")?;
-    let key = number_or(table, "key", 0)?;
-    let words = four_or_zeros(table, "words")?;
-    let space = capability_or_void(table, "space")?;
+    let root = number(table, name, Key::ProcessRoot)?;
+    let annex = number(table, name, Key::ProcessAnnex)?;
+    let owner = number(table, name, Key::ObjectOwner)?;
+    let state = state(table, name, Key::ProcessState)?;
+    let key = number_or(table, name, Key::ProcessKey, 0)?;
+    let words = four_or_zeros(table, name, Key::ProcessWords)?;
+    let space = capability_or_void(table, name, Key::ProcessSpace)?;
     Ok(ProcessFields {
         root,
         annex,
@@ -86,58 +81,40 @@ fn read_fields(table: &Table) -> Result<ProcessFields, BuildFault>
     })
 }
 
-// Whether a table is that of a process.
-fn is_process(table: &Table) -> bool
-    ensures { IsTrue result ↔ ((p : ProcessEntry) × IsProcess (table_view table.now) p) }
-{
-    match read_fields(table) {
-        Ok(_) => may_have_list::<SlotEntry>(table, "registers"),
-        Err(_) => false,
+impl FromTable for BankEntry {
+    ghost IsRead = { IsBank };
+
+    ghost named = { λ i. Bank i };
+
+    fn from_table<'a>(
+        _alloc: Global,
+        table: &'a Table,
+        index: usize,
+    ) -> Result<BankEntry, Misread<'a>> {
+        let name = TableName::Bank(index);
+        let (number, owner) = read_numbers(table, name, Key::BankLimit)?;
+        let limit = wide_number(table, name, Key::BankLimit)?;
+        Ok(BankEntry {
+            number,
+            owner,
+            limit,
+        })
     }
 }
 
-// Whether a table has a number and an owner, and at a key nothing or a list of values of this type.
-fn is_numbered<T: FromValue>(table: &Table, list: &str) -> bool
-    ensures { IsTrue result ↔ (((numbers : ℕ × ℕ) × HasNumberAndOwner list.now (table_view table.now) numbers)
-        × HasList T.IsSaid list.now (table_view table.now)) }
-{
-    match read_numbers(table, list) {
-        Ok(_) => may_have_list::<T>(table, list),
-        Err(_) => false,
-    }
-}
+impl FromTable for ProcessEntry {
+    ghost IsRead = { IsProcess };
 
-impl FromValue for BankEntry {
-    ghost IsSaid = { IsTable IsBank };
+    ghost named = { λ i. Process i };
 
-    #[tactic(auto, using(crate::proofs::Decisions::read_or_not, crate::proofs::Decisions::table_said))]
-    fn is_said(value: &Value) -> bool {
-        match table_of(value) {
-            Ok(table) => read_bank(table).is_ok(),
-            Err(_) => false,
-        }
-    }
-
-    fn from_value(_alloc: Global, value: &Value) -> Result<BankEntry, BuildFault> {
-        let table = table_of(value)?;
-        read_bank(table)
-    }
-}
-
-impl FromValue for ProcessEntry {
-    ghost IsSaid = { IsTable IsProcess };
-
-    fn is_said(value: &Value) -> bool {
-        match table_of(value) {
-            Ok(table) => is_process(table),
-            Err(_) => false,
-        }
-    }
-
-    fn from_value(alloc: Global, value: &Value) -> Result<ProcessEntry, BuildFault> {
-        let table = table_of(value)?;
-        let fields = read_fields(table)?;
-        let registers = list_or_empty(alloc, table, "registers")?;
+    fn from_table<'a>(
+        alloc: Global,
+        table: &'a Table,
+        index: usize,
+    ) -> Result<ProcessEntry, Misread<'a>> {
+        let name = TableName::Process(index);
+        let fields = read_fields(table, index)?;
+        let registers = entries(alloc, table, name, Key::ProcessRegisters)?;
         let words = fields.words;
         Ok(ProcessEntry {
             root: fields.root,
@@ -152,20 +129,19 @@ impl FromValue for ProcessEntry {
     }
 }
 
-impl FromValue for NodeEntry {
-    ghost IsSaid = { IsTable IsNode };
+impl FromTable for NodeEntry {
+    ghost IsRead = { IsNode };
 
-    fn is_said(value: &Value) -> bool {
-        match table_of(value) {
-            Ok(table) => is_numbered::<SlotEntry>(table, "slots"),
-            Err(_) => false,
-        }
-    }
+    ghost named = { λ i. Node i };
 
-    fn from_value(alloc: Global, value: &Value) -> Result<NodeEntry, BuildFault> {
-        let table = table_of(value)?;
-        let (number, owner) = read_numbers(table, "slots")?;
-        let slots = list_or_empty(alloc, table, "slots")?;
+    fn from_table<'a>(
+        alloc: Global,
+        table: &'a Table,
+        index: usize,
+    ) -> Result<NodeEntry, Misread<'a>> {
+        let name = TableName::Node(index);
+        let (number, owner) = read_numbers(table, name, Key::NodeSlots)?;
+        let slots = entries(alloc, table, name, Key::NodeSlots)?;
         Ok(NodeEntry {
             number,
             owner,
@@ -174,20 +150,19 @@ impl FromValue for NodeEntry {
     }
 }
 
-impl FromValue for PageEntry {
-    ghost IsSaid = { IsTable IsPage };
+impl FromTable for PageEntry {
+    ghost IsRead = { IsPage };
 
-    fn is_said(value: &Value) -> bool {
-        match table_of(value) {
-            Ok(table) => is_numbered::<WordEntry>(table, "words"),
-            Err(_) => false,
-        }
-    }
+    ghost named = { λ i. Page i };
 
-    fn from_value(alloc: Global, value: &Value) -> Result<PageEntry, BuildFault> {
-        let table = table_of(value)?;
-        let (number, owner) = read_numbers(table, "words")?;
-        let words = list_or_empty(alloc, table, "words")?;
+    fn from_table<'a>(
+        alloc: Global,
+        table: &'a Table,
+        index: usize,
+    ) -> Result<PageEntry, Misread<'a>> {
+        let name = TableName::Page(index);
+        let (number, owner) = read_numbers(table, name, Key::PageWords)?;
+        let words = entries(alloc, table, name, Key::PageWords)?;
         Ok(PageEntry {
             number,
             owner,

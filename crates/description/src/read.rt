@@ -1,27 +1,29 @@
 // A whole description.
-ghost use Rattle.std.specs.Prelude.{◌≡◌, IfErr, IfOk, IsErrOf, codes};
+ghost use Rattle.std.specs.Prelude.{◌≡◌, IfErr, IfOk, IsTrue, codes, map};
 ghost use Rattle.toml.specs.View.{table_view};
-ghost use Rattle.description.specs.Outcomes.{Finds, Fails, Reads, ReadsList};
-ghost use Rattle.description.specs.Reading.{AtOr, IsDescription, IsGeometry, IsList, IsRange, whole_ranges};
-ghost use Rattle.description.specs.declared.entry.Description.{Description};
-ghost use Rattle.description.specs.declared.fault.BuildFault.TheVariants.{NoMemory, Shape};
+ghost use Rattle.description.specs.Outcomes.{AreBadEntries, AtKey, IsIn, Reads};
+ghost use Rattle.description.specs.Reading.{AtOr, IsDescription, IsGeometry, IsList, IsRange, has_only, whole_ranges};
+ghost use Rattle.description.specs.Shapes.{BreaksShape, key_name, keys_of};
+ghost use Rattle.description.specs.declared.place.Key.TheVariants.{Ranges};
+ghost use Rattle.description.specs.declared.place.TableName.TheVariants.{Whole};
 
 use crate::entry::Description;
-use crate::fault::BuildFault;
-use crate::list::{list_of, list_or_empty};
-use crate::member::{check_keys, member, number, number_or};
+use crate::list::{entries_of, objects};
+use crate::member::{check_keys, member_at, number, number_or};
+use crate::place::{Key, Misread, TableName};
 use home_ranges::NumberRange;
 use model::Geometry;
 use std::alloc::Global;
 use toml::Table;
 
 // How much the image holds.
-fn read_geometry(table: &Table) -> Result<Geometry, BuildFault>
-    ensures { Finds (IsGeometry (table_view table.now)) result }
+fn read_geometry<'a>(table: &Table) -> Result<Geometry, Misread<'a>>
+    requires { IsTrue (has_only (map key_name (keys_of Whole)) (table_view table.now)) }
+    ensures { Reads (IsGeometry (table_view table.now)) (IsIn Whole (table_view table.now)) result }
 {
-    let nodes = number(table, "nodes")?;
-    let pages = number(table, "pages")?;
-    let log = number(table, "log")?;
+    let nodes = number(table, TableName::Whole, Key::Nodes)?;
+    let pages = number(table, TableName::Whole, Key::Pages)?;
+    let log = number(table, TableName::Whole, Key::Log)?;
     Ok(Geometry { nodes, pages, log })
 }
 
@@ -41,42 +43,44 @@ fn whole_ranges(geometry: Geometry) -> [NumberRange; 2]
 }
 
 // The ranges that are named, or else those of all numbers.
-fn read_ranges(
+fn read_ranges<'a>(
     alloc: Global,
     table: &Table,
     geometry: Geometry,
-) -> Result<Vec<NumberRange>, BuildFault>
-    ensures { ReadsList
-        (AtOr (whole_ranges geometry) (codes "ranges") (IsList IsRange) (table_view table.now))
+) -> Result<Vec<NumberRange>, Misread<'a>>
+    ensures { Reads
+        (λ list. AtOr (whole_ranges geometry) (codes "ranges") (IsList IsRange) (table_view table.now) list.items)
+        (AtKey Ranges (AreBadEntries IsRange Whole Ranges) (table_view table.now))
         result }
 {
-    match member(table, "ranges") {
-        Some(value) => list_of(alloc, value),
+    match member_at(table, Key::Ranges) {
+        Some(value) => entries_of(alloc, value, TableName::Whole, Key::Ranges),
         None => match Vec::from_array(alloc, whole_ranges(geometry)) {
             Ok(ranges) => Ok(ranges),
-            Err(_) => Err(BuildFault::NoMemory),
+            Err(_) => Err(Misread::NoMemory),
         },
     }
 }
 
-// Reads a table as a description. `Shape` if it is none, `NoMemory` if memory runs out.
-fn read_description(alloc: Global, table: &Table) -> Result<Description, BuildFault>
-    ensures { Reads (IsDescription (table_view table.now)) result }
+// Reads the table of a whole description.
+fn read_description<'a>(alloc: Global, table: &'a Table) -> Result<Description, Misread<'a>>
+    ensures { Reads (IsDescription (table_view table.entry.now)) (BreaksShape (table_view table.entry.now)) result }
 {
     check_keys(
         table,
+        TableName::Whole,
         &[
             "nodes", "pages", "log", "layout", "age", "ranges", "bank", "process", "node", "page",
         ],
     )?;
     let geometry = read_geometry(table)?;
-    let layout = number_or(table, "layout", 1)?;
-    let age = number_or(table, "age", 0)?;
+    let layout = number_or(table, TableName::Whole, Key::Layout, 1)?;
+    let age = number_or(table, TableName::Whole, Key::Age, 0)?;
     let ranges = read_ranges(alloc, table, geometry)?;
-    let banks = list_or_empty(alloc, table, "bank")?;
-    let processes = list_or_empty(alloc, table, "process")?;
-    let nodes = list_or_empty(alloc, table, "node")?;
-    let pages = list_or_empty(alloc, table, "page")?;
+    let banks = objects(alloc, table, Key::Banks)?;
+    let processes = objects(alloc, table, Key::Processes)?;
+    let nodes = objects(alloc, table, Key::NodeList)?;
+    let pages = objects(alloc, table, Key::PageList)?;
     Ok(Description {
         geometry,
         layout,
@@ -90,15 +94,13 @@ fn read_description(alloc: Global, table: &Table) -> Result<Description, BuildFa
 }
 
 impl Description {
-    /// The description that a table is of.
+    /// Reads the description of a table. Fails with the first place that hasn't the shape of a description, or
+    /// if memory runs out.
     ///
-    /// It is `Shape` exactly where the table is of none: a key that is needed is missing, or a key
-    /// unknown, or a value isn't of its type; it is `NoMemory` where memory ran out, and no other fault.
-    pub fn read(alloc: Global, table: &Table) -> Result<Description, BuildFault>
-        ensures read { IfOk result (λ d. IsDescription (table_view table.now) d) }
-        ensures shape { IsErrOf result Shape
-            → (d : Description) → IsDescription (table_view table.now) d → ⊥ }
-        ensures refused { IfErr result (λ fault. Fails (IsDescription (table_view table.now)) fault) }
+    /// The first is, in this order: a key that is unknown; the first key where something is missing or of another
+    /// type; there, the first item of another form in a list; in the table of an object the same again.
+    pub fn read<'a>(alloc: Global, table: &'a Table) -> Result<Description, Misread<'a>>
+        ensures { Reads (IsDescription (table_view table.entry.now)) (BreaksShape (table_view table.entry.now)) result }
     {
         read_description(alloc, table)
     }

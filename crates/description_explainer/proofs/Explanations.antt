@@ -2,12 +2,15 @@
 use Rattle.description_explainer.proofs.Names.{ℕ, List, subst, Frame, Unbanked, AreNamed, NamesItsRole, IsUnbanked, unbanked_refuted, Description, HasFields}
 use Rattle.description_explainer.proofs.Names.{HasNumbers, IsDescribed, IsTarget, described_once, IsFirstBroken, IsWithinLimits, Refuses, field_broken}
 use Rattle.description_explainer.proofs.Names.{limits_broken, number_broken, owner_broken, target_broken, Held, Limit, Misnumbered, Part, BreaksField}
-use Rattle.description_explainer.proofs.Names.{BreaksLimit, BreaksNumber, BreaksTarget, AllHave, BreaksIt, OneLacks, ExplainsDescription, IfNone, IfSome}
-use Rattle.description_explainer.proofs.Names.{MatchOption, Members, IsDescription, Rule, field_refuted, rule_fault, arith, none-some, same_Some}
+use Rattle.description_explainer.proofs.Names.{BreaksLimit, BreaksNumber, BreaksTarget, AllHave, BreaksIt, FirstLacks, ExplainsDescription, IfNone, IfSome}
+use Rattle.description_explainer.proofs.Names.{MatchOption, Members, IsDescription, Rule, field_refuted, rule_fault, arith, none-some, same_Some, Misread}
+use Rattle.description_explainer.proofs.Names.{Misses, BreaksShape, shape_refuted, ShapePlace, Explains}
 use Rattle.std.proofs.Common.{◌≡◌}
 use Rattle.std.specs.Prelude.{Option, Some, None}
 use Rattle.description_explainer.proofs.NamedCapabilities.{all_named, kind_broken, role_broken}
 use Rattle.description_explainer.proofs.NamedCapabilities.{target_refuted}
+use Rattle.description.specs.declared.place.Misread.TheVariants as misread
+use Rattle.description_explainer.specs.declared.place.Place.TheVariants as place
 use Rattle.description_explainer.specs.declared.place.Rule.TheVariants as rule
 use Rattle.description_explainer.proofs.Sizes.{limit_refuted}
 
@@ -31,12 +34,13 @@ module _ (d : Description) where
         explains_target at broken =
             (broken, λ sectors. target_broken d sectors limits numbers fields (λ rule. target_refuted d at numbers fields broken rule.0 rule.1 rule.2))
 
-        pub explains_kind : (at : Held) → OneLacks (IsTarget d.geometry) d at → ExplainsDescription d (Some (rule.Target at))
+        pub explains_kind : (at : Held) → FirstLacks (IsTarget d.geometry) d at → ExplainsDescription d (Some (rule.Target at))
         explains_kind at lacks = explains_target at (kind_broken d at numbers lacks)
 
         module _ (fs : List Frame) (is : IsDescribed d fs) where
-          pub explains_role : (at : Held) → OneLacks (NamesItsRole fs) d at → ExplainsDescription d (Some (rule.Target at))
-          explains_role at lacks = explains_target at (role_broken d at fs is lacks)
+          pub explains_role : AllHave (IsTarget d.geometry) d → (at : Held) → FirstLacks (NamesItsRole fs) d at →
+              ExplainsDescription d (Some (rule.Target at))
+          explains_role kinds at lacks = explains_target at (role_broken d at fs is kinds lacks)
 
           pub explains_owner : (unbanked : Unbanked) → AreNamed fs → IsUnbanked fs unbanked → ExplainsDescription d (Some (rule.Owner unbanked))
           explains_owner unbanked named why = (
@@ -48,20 +52,27 @@ module _ (d : Description) where
 
 -- what the search of all capabilities finds in described frames
 module _ (d : Description) (fs gs : List Frame) (same : gs ≡ fs) (is : IsDescribed d fs) where
-  pub unnamed_none : (found : Option Held) → MatchOption found (AllHave (NamesItsRole gs) d) (λ at. OneLacks (NamesItsRole gs) d at) →
+  pub unnamed_none : (found : Option Held) → MatchOption found (AllHave (NamesItsRole gs) d) (λ at. FirstLacks (NamesItsRole gs) d at) →
       IfNone found (AreNamed fs)
   unnamed_none None all = all_named d fs is (subst (λ (hs : List Frame). AllHave (NamesItsRole hs) d) same all)
   unnamed_none (Some at) lacks = tt
 
-  pub unnamed_some : IsWithinLimits d → HasNumbers d → HasFields d → (found : Option Held) →
-      MatchOption found (AllHave (NamesItsRole gs) d) (λ at. OneLacks (NamesItsRole gs) d at)
+  pub unnamed_some : IsWithinLimits d → HasNumbers d → HasFields d → AllHave (IsTarget d.geometry) d → (found : Option Held) →
+      MatchOption found (AllHave (NamesItsRole gs) d) (λ at. FirstLacks (NamesItsRole gs) d at)
       → IfSome found (λ at. ExplainsDescription d (Some (rule.Target at)))
-  unnamed_some limits numbers fields None all = tt
-  unnamed_some limits numbers fields (Some at) lacks = explains_role d limits numbers fields fs is at
-      (subst (λ (hs : List Frame). OneLacks (NamesItsRole hs) d at) same lacks)
+  unnamed_some limits numbers fields kinds None all = tt
+  unnamed_some limits numbers fields kinds (Some at) lacks = explains_role d limits numbers fields fs is kinds at
+      (subst (λ (hs : List Frame). FirstLacks (NamesItsRole hs) d at) same lacks)
 
 -- a table is refused as its description is
 pub refused_rule : (ms : Members) (d : Description) (sectors : ℕ) (r : Rule) → IsDescription ms d → IsFirstBroken d sectors (rule_fault r) →
     Refuses ms sectors (rule_fault r)
 refused_rule ms d sectors (rule.Limit l) is first = (d, is, first)
 refused_rule ms d sectors other is first = (d, is, first)
+
+-- a table that isn't read is refused at the place where it isn't
+pub misshapen_explained : (ms : Members) (why : Misread) (shape : ShapePlace) → why ≡ misread.Misshapen shape → Misses (BreaksShape ms) why →
+    Explains ms (Some (place.Shape shape))
+misshapen_explained ms why shape is misses =
+    let broken : BreaksShape ms shape = subst (λ (w : Misread). Misses (BreaksShape ms) w) is misses in
+    (broken, λ sectors. shape_refuted ms shape broken)

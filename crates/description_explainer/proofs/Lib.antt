@@ -1,7 +1,7 @@
 mod Names
 mod Explanations
-mod Flaws
 mod NamedCapabilities
 mod NumberPlaces
+mod OneLine
 mod Ranges
 mod Sizes

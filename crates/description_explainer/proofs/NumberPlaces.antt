@@ -1,8 +1,8 @@
 -- The numbers of a description, by their places among all.
 use Rattle.description_explainer.proofs.Names.{ℕ, zero, suc, List, [], length, map, Option, Some, option_map, slice_get, IsSomeAnd, refl, sym, ap, subst, arith}
-use Rattle.description_explainer.proofs.Names.{length-append, length-map, slice_get-map, Geometry, object_count, Description, HasNumbers, node_numbers}
-use Rattle.description_explainer.proofs.Names.{page_numbers, Named, BreaksNumber, IsOfItsKind, number_at, IsOutside, IsTwice, BreaksIt, place_of, all_refuted}
-use Rattle.description_explainer.proofs.Names.{twice_refuted}
+use Rattle.description_explainer.proofs.Names.{length-append, length-map, slice_get-map, object_count, Description, HasNumbers, node_numbers}
+use Rattle.description_explainer.proofs.Names.{page_numbers, Named, BreaksNumber, number_at, IsFirstOutside, IsFirstTwice, IsOutside, BreaksIt, place_of}
+use Rattle.description_explainer.proofs.Names.{all_refuted, twice_refuted, All, IsTrue, false≢true, is_node}
 use Rattle.std.proofs.Common.{◌≡◌, ◌+◌, ◌-◌, ◌<◌, ◌≤◌, ◌∷◌, ◌++◌, ◌∙◌}
 use Rattle.description_explainer.specs.declared.faults.place.Misnumbered.TheVariants as misnumbered
 use Rattle.description_explainer.specs.declared.faults.place.Named.TheVariants as named
@@ -61,33 +61,50 @@ module _ (d : Description) where
   found_in : {P : ℕ → Type 0} (o : Option ℕ) → IsSomeAnd o P → (n : ℕ) × (o ≡ Some n) × P n
   found_in o is = search arith
 
+  -- of a node, a bank or a process
+  outside_at : (who : Named) → IsTrue (is_node who) → IsOutside 0 d.geometry.nodes (node_numbers d) (place_of d who) → IsFirstOutside d who
+  outside_at (named.Page k) node out = absurd (false≢true node)
+  outside_at who node out = out
+
+  below : (ns : List ℕ) → All (λ n. (0 ≤ n) × (n < d.geometry.nodes)) ns → All (λ n. n < d.geometry.nodes) ns
+  below ns all k e lt = (all k e lt).1
+
   pub node_outside : (ns : List ℕ) (i : ℕ) (who : Named) → ns ≡ node_numbers d → IsOutside 0 d.geometry.nodes ns i →
-      number_at d who ≡ slice_get (node_numbers d) i
-      → ((g : Geometry) (n : ℕ) → IsOfItsKind g who n → n < g.nodes) → BreaksIt (BreaksNumber d) (HasNumbers d) (misnumbered.OutOfRange who)
-  node_outside ns i who is out number kind =
-      let there = subst (λ ms. IsOutside 0 d.geometry.nodes ms i) is out in
-      let found = found_in (slice_get (node_numbers d) i) there in (
-        (found.0, number ∙ found.1, λ it. found.2 (omega arith, kind d.geometry found.0 it)),
-        λ has. all_refuted (λ n. n < d.geometry.nodes) (λ n. (0 ≤ n) × (n < d.geometry.nodes) → ⊥) (node_numbers d) i there
+      number_at d who ≡ slice_get (node_numbers d) i → place_of d who ≡ i → IsTrue (is_node who) →
+      BreaksIt (BreaksNumber d) (HasNumbers d) (misnumbered.OutOfRange who)
+  node_outside ns i who is out number place node =
+      let there : IsOutside 0 d.geometry.nodes (node_numbers d) i = subst (λ ms. IsOutside 0 d.geometry.nodes ms i) is out in
+      let found = found_in (slice_get (node_numbers d) i) there.1 in (
+        ((found.0, number ∙ found.1), outside_at who node (subst (λ j. IsOutside 0 d.geometry.nodes (node_numbers d) j) (sym place) there)),
+        λ has. all_refuted (λ n. n < d.geometry.nodes) (λ n. (0 ≤ n) × (n < d.geometry.nodes) → ⊥) (node_numbers d) i there.1
             (λ n within never. never (omega arith, within)) has.nodes,
       )
 
-  pub page_outside : (ps : List ℕ) (i end : ℕ) → ps ≡ page_numbers d → end ≡ object_count d.geometry → IsOutside d.geometry.nodes end ps i
-      → BreaksIt (BreaksNumber d) (HasNumbers d) (misnumbered.OutOfRange (named.Page i))
-  page_outside ps i end is last out =
-      let there = subst (λ e. IsOutside d.geometry.nodes e (page_numbers d) i) last (subst (λ ms. IsOutside d.geometry.nodes end ms i) is out) in
-      let found = found_in _ there in (
-        (found.0, sym (slice_get-map (λ p. p.number) _ i) ∙ found.1, found.2),
-        λ has. all_refuted (λ n. (d.geometry.nodes ≤ n) × (n < object_count d.geometry)) (λ n. (d.geometry.nodes ≤ n) × (n < object_count d.geometry) → ⊥)
-            (page_numbers d) i there (λ n within never. never within) has.pages,
+  pub page_outside : (ps : List ℕ) (i end : ℕ) → ps ≡ page_numbers d → end ≡ object_count d.geometry →
+      All (λ n. (0 ≤ n) × (n < d.geometry.nodes)) (node_numbers d) → IsOutside d.geometry.nodes end ps i →
+      BreaksIt (BreaksNumber d) (HasNumbers d) (misnumbered.OutOfRange (named.Page i))
+  page_outside ps i end is last nodes out =
+      let there : IsOutside d.geometry.nodes (object_count d.geometry) (page_numbers d) i = subst (λ e. IsOutside d.geometry.nodes e (page_numbers d) i) last
+      (subst (λ ms. IsOutside d.geometry.nodes end ms i) is out) in
+      let found = found_in (slice_get (page_numbers d) i) there.1 in (
+        ((found.0, sym (slice_get-map (λ p. p.number) _ i) ∙ found.1), (below (node_numbers d) nodes, there)),
+        λ has. all_refuted (λ n. (d.geometry.nodes ≤ n) × (n < object_count d.geometry))
+            (λ n. (d.geometry.nodes ≤ n) × (n < object_count d.geometry) → ⊥) (page_numbers d) i there.1 (λ n within never. never within) has.pages,
       )
 
-  pub named_twice : (ns : List ℕ) (i j : ℕ) (one other : Named) → ns ≡ node_numbers d ++ page_numbers d → IsTwice ns i j →
-      number_at d one ≡ slice_get (node_numbers d ++ page_numbers d) i
-      → number_at d other ≡ slice_get (node_numbers d ++ page_numbers d) j → place_of d one ≡ i → place_of d other ≡ j
-      → BreaksIt (BreaksNumber d) (HasNumbers d) (misnumbered.Twice one other)
-  named_twice ns i j one other is twice first second at_first at_second =
-      let there = subst (λ ms. IsTwice ms i j) is twice in (
-        (λ same. omega (arith, twice.0, at_first, at_second, ap (place_of d) same), there.1, first ∙ there.2, second ∙ there.3),
-        λ has. twice_refuted (node_numbers d ++ page_numbers d) i j there has.distinct,
+  pub named_twice : (ns : List ℕ) (i j : ℕ) (one other : Named) → ns ≡ node_numbers d ++ page_numbers d →
+      All (λ n. (0 ≤ n) × (n < d.geometry.nodes)) (node_numbers d) →
+      All (λ n. (d.geometry.nodes ≤ n) × (n < object_count d.geometry)) (page_numbers d) → IsFirstTwice ns i j →
+      number_at d one ≡ slice_get (node_numbers d ++ page_numbers d) i → number_at d other ≡ slice_get (node_numbers d ++ page_numbers d) j →
+      place_of d one ≡ i → place_of d other ≡ j → BreaksIt (BreaksNumber d) (HasNumbers d) (misnumbered.Twice one other)
+  named_twice ns i j one other is nodes pages twice first second at_first at_second =
+      let there : IsFirstTwice (node_numbers d ++ page_numbers d) i j = subst (λ ms. IsFirstTwice ms i j) is twice in (
+        (
+          (there.1.1, first ∙ there.1.2),
+          (there.1.1, second ∙ there.1.3),
+          below (node_numbers d) nodes,
+          pages,
+          rw (at_first, at_second) there,
+        ),
+        λ has. twice_refuted (node_numbers d ++ page_numbers d) i j there.1 has.distinct,
       )

@@ -1,9 +1,11 @@
--- Where a description breaks the rules beyond its shape.
-use Rattle.description_explainer.specs.Names.{ℕ, List, [], Option, Some, length, option_map, slice_get, take, IsSomeAnd}
-use Rattle.description_explainer.specs.Names.{Capability, Frame, Geometry, object_count, IsNext, version_number}
-use Rattle.description_explainer.specs.Names.{Version, placed, NumberRange, IsUnbanked, NamesItsRole, Unbanked}
-use Rattle.description_explainer.specs.Names.{Description, IsDescribed}
-use Rattle.std.specs.Prelude.{◌≡◌, ◌≢◌, ◌+◌, ◌^◌, ◌<◌, ◌≤◌, ◌∷◌}
+-- The first place where a description breaks a rule beyond its shape.
+use Rattle.description_explainer.specs.Names.{ℕ, Bool, true, false, List, [], Option, None, Some, length, option_map}
+use Rattle.description_explainer.specs.Names.{slice_get, take, IsSomeAnd, Capability, Frame, Geometry, object_count}
+use Rattle.description_explainer.specs.Names.{IsNext, IsGeometry, version_number, Version, placed, NumberRange}
+use Rattle.description_explainer.specs.Names.{IsUnbanked, NamesItsRole, Unbanked, Description, ProcessEntry, SlotEntry}
+use Rattle.description_explainer.specs.Names.{IsDescribed, IsTarget, node_numbers, page_numbers, All, IsFirst}
+use Rattle.description_explainer.specs.Names.{IsFirstTwice, IsOutside}
+use Rattle.std.specs.Prelude.{◌≡◌, ◌⊎◌, ◌+◌, ◌^◌, ◌<◌, ◌≤◌, ◌∷◌, ◌++◌}
 use Rattle.description_explainer.specs.declared.faults.place.Held.{Held}
 use Rattle.description_explainer.specs.declared.faults.place.Held.TheVariants as held
 use Rattle.description_explainer.specs.declared.faults.place.Limit.{Limit}
@@ -24,27 +26,50 @@ count_in (r ∷ rs) = r.count + count_in rs
 abbrev pub GoesOn : Geometry → NumberRange → ℕ → Type 0
 GoesOn g r next = IsNext g (placed 0 r) next × (next + r.count ≤ object_count g)
 
+-- counts of nodes, pages and slots that an image may have
+abbrev pub HasNodes : Geometry → Type 0
+HasNodes g = (16 ≤ g.nodes) × (g.nodes ≤ 4096)
+
+abbrev pub HasPages : Geometry → Type 0
+HasPages g = (1 ≤ g.pages) × (g.pages ≤ 4096)
+
+abbrev pub HasLog : Geometry → Type 0
+HasLog g = (16 ≤ g.log) × (g.log ≤ 4096)
+
+-- the first count of these that is outside its limits
 abbrev pub BreaksGeometry : Geometry → Limit → Type 0
-BreaksGeometry g limit.Nodes = (16 ≤ g.nodes) × (g.nodes ≤ 4096) → ⊥
-BreaksGeometry g limit.Pages = (1 ≤ g.pages) × (g.pages ≤ 4096) → ⊥
-BreaksGeometry g limit.Log = (16 ≤ g.log) × (g.log ≤ 4096) → ⊥
+BreaksGeometry g limit.Nodes = HasNodes g → ⊥
+BreaksGeometry g limit.Pages = HasNodes g × (HasPages g → ⊥)
+BreaksGeometry g limit.Log = HasNodes g × HasPages g × (HasLog g → ⊥)
 BreaksGeometry g _ = ⊥
 
--- the numbers of the ranges before one are as many as `next`, where it has to begin
+-- the ranges before an index go on, each where the one before ends
+abbrev pub GoOn : Geometry → List NumberRange → ℕ → Type 0
+GoOn g rs index =
+    (i : ℕ) → i < index → IsSomeAnd (slice_get rs i) (λ r. GoesOn g r (count_in (take i rs)))
+
+abbrev pub HasRanges : List NumberRange → Type 0
+HasRanges rs = (1 ≤ length rs) × (length rs ≤ 8)
+
+-- their count; or the first range that doesn't go on at `next`, where those before it end; or their end at `next`
 abbrev pub BreaksRanges : Geometry → List NumberRange → Limit → Type 0
-BreaksRanges g rs limit.RangeCount = (1 ≤ length rs) × (length rs ≤ 8) → ⊥
-BreaksRanges g rs (limit.Range index next) = (next ≡ count_in (take index rs)) × IsSomeAnd (slice_get rs index)
-    (λ r. GoesOn g r next → ⊥)
-BreaksRanges g rs (limit.RangesEnd next) = (next ≡ count_in rs) × (next < object_count g)
+BreaksRanges g rs limit.RangeCount = HasRanges rs → ⊥
+BreaksRanges g rs (limit.Range index next) = HasRanges rs × GoOn g rs index × (next ≡ count_in (take index rs))
+    × IsSomeAnd (slice_get rs index) (λ r. GoesOn g r next → ⊥)
+BreaksRanges g rs (limit.RangesEnd next) =
+    HasRanges rs × GoOn g rs (length rs) × (next ≡ count_in rs) × (next < object_count g)
 BreaksRanges g rs _ = ⊥
 
+-- the first of these that no image has: nodes, pages, log, age, layout and ranges
 abbrev pub BreaksLimit : Description → Limit → Type 0
-BreaksLimit d limit.Age = 2 ^ 62 < d.age
-BreaksLimit d limit.Layout = (v : Version) → d.layout ≡ version_number v → ⊥
 BreaksLimit d limit.Nodes = BreaksGeometry d.geometry limit.Nodes
 BreaksLimit d limit.Pages = BreaksGeometry d.geometry limit.Pages
 BreaksLimit d limit.Log = BreaksGeometry d.geometry limit.Log
-BreaksLimit d l = BreaksRanges d.geometry d.ranges.items l
+BreaksLimit d limit.Age = IsGeometry d.geometry × (2 ^ 62 < d.age)
+BreaksLimit d limit.Layout = IsGeometry d.geometry × (d.age ≤ 2 ^ 62)
+    × ((v : Version) → d.layout ≡ version_number v → ⊥)
+BreaksLimit d l = IsGeometry d.geometry × (d.age ≤ 2 ^ 62) × ((v : Version) × (d.layout ≡ version_number v))
+    × BreaksRanges d.geometry d.ranges.items l
 
 -- Numbers.
 
@@ -56,15 +81,36 @@ number_at d (named.Annex k) = option_map (λ p. p.annex) (slice_get d.processes.
 number_at d (named.Node k) = option_map (λ n. n.number) (slice_get d.nodes.items k)
 number_at d (named.Page k) = option_map (λ p. p.number) (slice_get d.pages.items k)
 
--- it is one that an object of its kind may have
-abbrev pub IsOfItsKind : Geometry → Named → ℕ → Type 0
-IsOfItsKind g (named.Page k) n = (g.nodes ≤ n) × (n < object_count g)
-IsOfItsKind g _ n = n < g.nodes
+-- where the number of an object stands among all: banks, roots, annexes, nodes and pages
+abbrev pub place_of : Description → Named → ℕ
+place_of d (named.Bank k) = k
+place_of d (named.Root k) = length d.banks.items + k
+place_of d (named.Annex k) = length d.banks.items + length d.processes.items + k
+place_of d (named.Node k) = length d.banks.items + length d.processes.items + length d.processes.items + k
+place_of d (named.Page k) = length (node_numbers d) + k
 
+-- an object is listed
+abbrev pub IsListed : Description → Named → Type 0
+IsListed d who = (n : ℕ) × (number_at d who ≡ Some n)
+
+-- it is a bank, a root, an annex or a node
+abbrev pub is_node : Named → Bool
+is_node (named.Page k) = false
+is_node who = true
+
+-- its number is the first of all that is none of its kind
+abbrev pub IsFirstOutside : Description → Named → Type 0
+IsFirstOutside d (named.Page k) = All (λ n. n < d.geometry.nodes) (node_numbers d)
+    × IsOutside d.geometry.nodes (object_count d.geometry) (page_numbers d) k
+IsFirstOutside d who = IsOutside 0 d.geometry.nodes (node_numbers d) (place_of d who)
+
+-- the first number that is none of its kind; or, where there is none, the first that stands before too, and where
 abbrev pub BreaksNumber : Description → Misnumbered → Type 0
-BreaksNumber d (misnumbered.OutOfRange who) = (n : ℕ) × (number_at d who ≡ Some n) × (IsOfItsKind d.geometry who n → ⊥)
-BreaksNumber d (misnumbered.Twice who other) = (who ≢ other) × (n : ℕ) × (number_at d who ≡ Some n) ×
-    (number_at d other ≡ Some n)
+BreaksNumber d (misnumbered.OutOfRange who) = IsListed d who × IsFirstOutside d who
+BreaksNumber d (misnumbered.Twice who other) = IsListed d who × IsListed d other
+    × All (λ n. n < d.geometry.nodes) (node_numbers d)
+    × All (λ n. (d.geometry.nodes ≤ n) × (n < object_count d.geometry)) (page_numbers d)
+    × IsFirstTwice (node_numbers d ++ page_numbers d) (place_of d who) (place_of d other)
 
 -- Capabilities.
 
@@ -76,10 +122,50 @@ HoldsAt d (held.Register k i) c = IsSomeAnd (slice_get d.processes.items k)
 HoldsAt d (held.Slot k i) c = IsSomeAnd (slice_get d.nodes.items k)
     (λ n. IsSomeAnd (slice_get n.slots.items i) (λ s. s.capability ≡ Some c))
 
--- it names no object of its kind, or resumes a process that isn't waiting
+-- a capability that is named has a property, or lacks it
+abbrev pub IfNamed : (Capability → Type 0) → Option Capability → Type 0
+IfNamed P None = Unit {0}
+IfNamed P (Some c) = P c
+
+abbrev pub LacksIt : (Capability → Type 0) → Option Capability → Type 0
+LacksIt P None = ⊥
+LacksIt P (Some c) = P c → ⊥
+
+-- all capabilities of a list, of a process or of a description have it
+abbrev pub AllIn : (Capability → Type 0) → List SlotEntry → Type 0
+AllIn P slots = All (λ s. IfNamed P s.capability) slots
+
+abbrev pub AllOfProcess : (Capability → Type 0) → ProcessEntry → Type 0
+AllOfProcess P p = IfNamed P p.space × AllIn P p.registers.items
+
+pub record AllHave (P : Capability → Type 0) (d : Description) : Type 0 where
+  pub processes : All (AllOfProcess P) d.processes.items
+  pub nodes : All (λ n. AllIn P n.slots.items) d.nodes.items
+
+-- the first capability that lacks it: processes before nodes, the address space of a process before its registers
+abbrev pub OneOf : (Capability → Type 0) → List SlotEntry → ℕ → Type 0
+OneOf P slots i = IsFirst (λ s. IfNamed P s.capability) (λ s. LacksIt P s.capability) slots i
+
+abbrev pub FirstLacks : (Capability → Type 0) → Description → Held → Type 0
+FirstLacks P d (held.Space k) = IsFirst (AllOfProcess P) (λ p. LacksIt P p.space) d.processes.items k
+FirstLacks P d (held.Register k i) =
+    IsFirst (AllOfProcess P) (λ p. IfNamed P p.space × OneOf P p.registers.items i) d.processes.items k
+FirstLacks P d (held.Slot k i) = All (AllOfProcess P) d.processes.items
+    × IsFirst (λ n. AllIn P n.slots.items) (λ n. OneOf P n.slots.items i) d.nodes.items k
+
+-- it names an object of its kind in the frames of a description, and does not resume a process that isn't waiting
+abbrev pub NamesItsObject : Description → Capability → Type 0
+NamesItsObject d c = (frames : List Frame) → IsDescribed d frames → NamesItsRole frames c
+
+-- the first that names no number of its kind; or, where there is none, the first that names no object of its kind
+abbrev pub IsFirstTarget : Description → Held → Type 0
+IsFirstTarget d at = FirstLacks (IsTarget d.geometry) d at
+    ⊎ (AllHave (IsTarget d.geometry) d × FirstLacks (NamesItsObject d) d at)
+
+-- the first that is wrong, and what it names is no object of its kind, or a process that isn't waiting
 abbrev pub BreaksTarget : Description → Held → Type 0
 BreaksTarget d at = (c : Capability) × HoldsAt d at c ×
-    ((frames : List Frame) → IsDescribed d frames → NamesItsRole frames c → ⊥)
+    ((frames : List Frame) → IsDescribed d frames → NamesItsRole frames c → ⊥) × IsFirstTarget d at
 
 -- Owners.
 

@@ -3,5 +3,4 @@ pub mod Broken
 pub mod Explained
 pub mod FaultOutcomes
 pub mod Places
-pub mod Shapes
 pub mod Text

@@ -1,6 +1,6 @@
 -- Why the image of a table isn't built, and where.
 use Rattle.description_explainer.specs.Names.{ℕ, Option, None, Some, Members, Description, IsDescription, BuildFault}
-use Rattle.description_explainer.specs.Names.{IsAccepted, Refuses, plan_for, BreaksField}
+use Rattle.description_explainer.specs.Names.{IsAccepted, Refuses, plan_for, BreaksField, BreaksShape}
 use Rattle.std.specs.Prelude.{◌≤◌}
 use Rattle.description.specs.declared.fault.BuildFault.TheVariants as fault
 use Rattle.description_explainer.specs.declared.place.Place.{Place}
@@ -8,7 +8,6 @@ use Rattle.description_explainer.specs.declared.place.Place.TheVariants as place
 use Rattle.description_explainer.specs.declared.place.Rule.{Rule}
 use Rattle.description_explainer.specs.declared.place.Rule.TheVariants as rule
 use Rattle.description_explainer.specs.Broken.{BreaksLimit, BreaksNumber, BreaksOwner, BreaksTarget}
-use Rattle.description_explainer.specs.Shapes.{BreaksShape}
 
 -- the fault that `build` answers
 abbrev pub rule_fault : Rule → BuildFault

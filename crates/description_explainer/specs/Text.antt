@@ -1,13 +1,11 @@
 -- The text of a place, and what an explanation says.
 use Rattle.description_explainer.specs.Names.{ℕ, List, [], Option, None, Some, IfSome, codes, decimal, position}
 use Rattle.description_explainer.specs.Names.{unwrap_or, debug_str, list_any, Unbanked, Description, fault_number}
-use Rattle.description_explainer.specs.Names.{Indexed, Part, SlotFlaw}
+use Rattle.description_explainer.specs.Names.{IsOneLine, Indexed, Part, SlotFlaw, Flaw, ShapePlace, TableName, key_name}
 use Rattle.std.specs.Prelude.{◌≡◌, ◌==◌, ◌||◌, if◌then◌else◌, ◌++◌}
 use Rattle.recovery.specs.declared.consistency.reason.Unbanked.TheVariants as unbanked
 use Rattle.description_explainer.specs.Broken.{number_at}
-use Rattle.description_explainer.specs.Shapes.{key_name}
-use Rattle.description_explainer.specs.declared.faults.place.Flaw.{Flaw}
-use Rattle.description_explainer.specs.declared.faults.place.Flaw.TheVariants as flaw
+use Rattle.description.specs.declared.place.Flaw.TheVariants as flaw
 use Rattle.description_explainer.specs.declared.faults.place.Held.{Held}
 use Rattle.description_explainer.specs.declared.faults.place.Held.TheVariants as held
 use Rattle.description.specs.declared.flaw.Indexed.TheVariants as indexed
@@ -18,10 +16,8 @@ use Rattle.description_explainer.specs.declared.faults.place.Misnumbered.TheVari
 use Rattle.description_explainer.specs.declared.faults.place.Named.{Named}
 use Rattle.description_explainer.specs.declared.faults.place.Named.TheVariants as named
 use Rattle.description.specs.declared.flaw.Part.TheVariants as part
-use Rattle.description_explainer.specs.declared.faults.place.ShapePlace.{ShapePlace}
 use Rattle.description.specs.declared.flaw.SlotFlaw.TheVariants as slot
-use Rattle.description_explainer.specs.declared.faults.place.TableName.{TableName}
-use Rattle.description_explainer.specs.declared.faults.place.TableName.TheVariants as name
+use Rattle.description.specs.declared.place.TableName.TheVariants as name
 use Rattle.description_explainer.specs.declared.place.Place.{Place}
 use Rattle.description_explainer.specs.declared.place.Place.TheVariants as place
 use Rattle.description_explainer.specs.declared.place.Rule.{Rule}
@@ -42,10 +38,10 @@ table_text (name.Process k) = item_text (codes "process") k (codes ", ")
 table_text (name.Node k) = item_text (codes "node") k (codes ", ")
 table_text (name.Page k) = item_text (codes "page") k (codes ", ")
 
--- a key, or an item of its list; an unknown key stands in quotes, as `{:?}` writes it
+-- a key, or an item of its list; an unknown key stands in quotes, as `{:?}` writes it, on one line
 abbrev pub IsFlawText : Flaw → List ℕ → Type 0
-IsFlawText (flaw.Unknown key) text =
-    (shown : List ℕ) × IfSome (debug_str key.now) (λ s. shown ≡ s) × (text ≡ codes "key " ++ shown)
+IsFlawText (flaw.Unknown key) text = (shown : List ℕ) × IfSome (debug_str key.now) (λ s. shown ≡ s)
+    × IsOneLine shown × (text ≡ codes "key " ++ shown)
 IsFlawText (flaw.Misfit key) text = text ≡ key_name key
 IsFlawText (flaw.Item key i) text = text ≡ item_text (key_name key) i []
 
@@ -152,8 +148,8 @@ abbrev pub IsPlaceText : Place → List ℕ → Type 0
 IsPlaceText (place.Shape s) text = IsShapeText s text
 IsPlaceText (place.Rule d r) text = text ≡ rule_text d r
 
--- the place, what is wrong there, and the number of the fault that `build` answers
+-- one line: the place, what is wrong there, and the number of the fault that `build` answers
 abbrev pub IsExplanation : Place → List ℕ → Type 0
 IsExplanation p text =
-    (at : List ℕ) × IsPlaceText p at × (what : List ℕ)
+    (at : List ℕ) × IsPlaceText p at × (what : List ℕ) × IsOneLine text
     × (text ≡ at ++ (what ++ (codes " (bad description " ++ (decimal (fault_number (fault_of p)) ++ codes ")"))))

@@ -8,17 +8,21 @@ ghost use Rattle.recovery.specs.Noted.{AreNoted};
 ghost use Rattle.description.specs.declared.entry.Description.{Description};
 ghost use Rattle.description.specs.Reading.{IsDescription};
 ghost use Rattle.description.specs.Described.{HasFields, HasNumbers};
+ghost use Rattle.description.specs.Outcomes.{Misses};
+ghost use Rattle.description.specs.Shapes.{BreaksShape};
 ghost use Rattle.description.specs.Laid.{HasTargets};
 ghost use Rattle.description.specs.Rules.{IsWithinLimits};
 ghost use Rattle.description.specs.Laid.{AreLaid};
+ghost use Rattle.model.specs.Keepable.{IsTarget};
+ghost use Rattle.description_explainer.specs.Broken.{AllHave};
 ghost use Rattle.description_explainer.specs.Explained.{ExplainsDescription};
 ghost use Rattle.description_explainer.specs.Places.{Explains};
 
-use crate::faults::{Held, OfItsKind, OfItsRole, failing, misnumbered, misshapen};
+use crate::faults::{Held, OfItsKind, OfItsRole, failing, misnumbered};
 use crate::limits::beyond_limits;
 use crate::place::{Place, Rule};
 use capability::Plain;
-use description::{BuildFault, Description, World, lay_described, misfilled};
+use description::{Description, Misread, World, lay_described, misfilled};
 use recovery::{Noted, find_unbanked, read_notes};
 use std::alloc::{AllocError, Global};
 use toml::Table;
@@ -47,6 +51,7 @@ fn find_unnamed(description: &Description, frames: &Plain, notes: &[Option<Noted
     requires limits { IsWithinLimits description.now }
     requires laid { AreLaid description.now frames.now.headers frames.now.contents }
     requires notes { AreNoted (frames_in frames.now.headers frames.now.contents) notes.now }
+    requires kinds { AllHave (IsTarget description.now.geometry) description.now }
     ensures none { IfNone result (AreNamed (frames_in frames.now.headers frames.now.contents)) }
     ensures some { IfSome result (λ at. ExplainsDescription description.now (Some (Rule.Target at))) }
 {
@@ -62,6 +67,7 @@ fn explain_frames(
     requires limits { IsWithinLimits description.now }
     requires geometry { frames.old.geometry ≡ description.now.geometry }
     requires laid { AreLaid description.now frames.old.headers frames.old.contents }
+    requires kinds { AllHave (IsTarget description.now.geometry) description.now }
     ensures { IfOk result (λ found. ExplainsDescription description.now found) }
 {
     let notes = match read_notes(alloc, frames) {
@@ -81,6 +87,7 @@ fn explain_world(alloc: Global, description: &Description) -> Result<Option<Rule
     requires numbers { HasNumbers description.now }
     requires fields { HasFields description.now }
     requires targets { HasTargets description.now.geometry description.now }
+    requires kinds { AllHave (IsTarget description.now.geometry) description.now }
     ensures { IfOk result (λ found. ExplainsDescription description.now found) }
 {
     let World { headers, contents } = lay_described(alloc, description)?;
@@ -93,7 +100,8 @@ fn explain_objects(description: &Description) -> Option<Rule>
     requires limits { IsWithinLimits description.now }
     requires numbers { HasNumbers description.now }
     ensures { MatchOption result
-        (HasFields description.now × HasTargets description.now.geometry description.now)
+        (HasFields description.now × HasTargets description.now.geometry description.now
+        × AllHave (IsTarget description.now.geometry) description.now)
         (λ rule. ExplainsDescription description.now (Some rule)) }
 {
     if let Some(part) = misfilled(description) {
@@ -134,6 +142,16 @@ fn place_of<'a>(description: Description, found: Option<Rule>) -> Option<Place<'
     }
 }
 
+// The place for which a table isn't read.
+fn unread<'a>(why: Misread<'a>) -> Result<Option<Place<'a>>, AllocError>
+    ensures { (table : Members) → Misses (BreaksShape table) why.entry → IfOk result (Explains table) }
+{
+    match why {
+        Misread::Misshapen(place) => Ok(Some(Place::Shape(place))),
+        Misread::NoMemory => Err(AllocError),
+    }
+}
+
 /// Where a table breaks the first rule that `build` refuses it for. Nothing if `build` accepts it on a device
 /// that is large enough. Fails only where memory runs out.
 pub fn explain<'a>(alloc: Global, table: &'a Table) -> Result<Option<Place<'a>>, AllocError>
@@ -144,16 +162,6 @@ pub fn explain<'a>(alloc: Global, table: &'a Table) -> Result<Option<Place<'a>>,
             Ok(found) => Ok(place_of(description, found)),
             Err(error) => Err(error),
         },
-        Err(BuildFault::Shape) => Ok(Some(Place::Shape(misshapen(table)))),
-        Err(BuildFault::NoMemory) => Err(AllocError),
-        Err(
-            BuildFault::Limits
-            | BuildFault::Number
-            | BuildFault::Field
-            | BuildFault::Target
-            | BuildFault::Owner
-            | BuildFault::Small
-            | BuildFault::Failed,
-        ) => unreachable!(),
+        Err(why) => unread(why),
     }
 }

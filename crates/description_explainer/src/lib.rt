@@ -11,8 +11,8 @@ mod text;
 
 pub use explaining::explain;
 pub use faults::{
-    Flaw, Held, Key, Limit, Misnumbered, Named, Naming, OfItsKind, OfItsRole, ShapePlace,
-    TableName, bad_count, bad_ranges, failing, misnumbered, misshapen,
+    Held, Limit, Misnumbered, Named, Naming, OfItsKind, OfItsRole, bad_count, bad_ranges, failing,
+    misnumbered,
 };
 pub use place::{Place, Rule};
-pub use text::explanation;
+pub use text::{explanation, on_one_line};

@@ -22,7 +22,7 @@ fn bad_layout(description: &Description) -> Option<Limit>
     }
 }
 
-/// Which size of a description no image has, if there is one.
+/// The first size of a description that no image has, if there is one: nodes, pages, log, age, layout, ranges.
 #[tactic(auto, using(crate::proofs::Sizes::count_broken))]
 pub(crate) fn beyond_limits(description: &Description) -> Option<Limit>
     ensures { MatchOption result (IsWithinLimits description.now)

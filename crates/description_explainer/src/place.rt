@@ -2,8 +2,8 @@
 ghost use Rattle.std.specs.Prelude.{◌≡◌};
 ghost use Rattle.description_explainer.specs.Places.{fault_of, rule_fault};
 
-use crate::faults::{Held, Limit, Misnumbered, ShapePlace};
-use description::{BuildFault, Description, Part};
+use crate::faults::{Held, Limit, Misnumbered};
+use description::{BuildFault, Description, Part, ShapePlace};
 use recovery::Unbanked;
 
 /// Where a description breaks one of the rules beyond its shape.

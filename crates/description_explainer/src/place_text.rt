@@ -1,14 +1,17 @@
 // The text of a place. Each call fails only where memory runs out.
-ghost use Rattle.std.specs.Prelude.{◌≡◌, ℕ, ◌++◌, List, [], IfOk, MatchOption, OnOk, codes, string_bytes};
+ghost use Rattle.std.specs.Prelude.{◌≡◌, ℕ, ◌++◌, List, [], IfOk, IfSome, MatchOption, OnOk, codes};
+ghost use Rattle.std.specs.Prelude.{string_bytes};
+ghost use Rattle.std.specs.Fmt.{debug_str};
+ghost use Rattle.script.specs.Lines.{IsOneLine};
 ghost use Rattle.description_explainer.specs.Text.{IsFlawText, IsPlaceText, IsShapeText, entry_text, field_text};
 ghost use Rattle.description_explainer.specs.Text.{indexed_entry, item_text, limit_text, misnumbered_text, named_text};
 ghost use Rattle.description_explainer.specs.Text.{node_text, owner_text, page_text, process_text, rule_text};
 ghost use Rattle.description_explainer.specs.Text.{slot_entry, table_text, target_text};
 
-use crate::faults::{Flaw, Held, Limit, Misnumbered, Named, ShapePlace, TableName};
+use crate::faults::{Held, Limit, Misnumbered, Named};
 use crate::naming::{put_node, put_object, put_page, put_process};
 use crate::place::{Place, Rule};
-use description::{Description, Indexed, Part, SlotFlaw};
+use description::{Description, Flaw, Indexed, Part, ShapePlace, SlotFlaw, TableName};
 use recovery::Unbanked;
 use std::alloc::{AllocError, Global};
 
@@ -43,6 +46,25 @@ fn put_table(text: &mut String, name: TableName) -> Result<(), AllocError>
     }
 }
 
+// A key as `{:?}` writes it.
+fn debugged(alloc: Global, key: &str) -> Result<String, AllocError>
+    ensures { IfOk result (λ shown. IfSome (debug_str key.now) (λ s. string_bytes shown ≡ s)) }
+{
+    format!(in alloc; "{key:?}")
+}
+
+// A key in quotes, on one line. No clause of std says how `{:?}` writes a text that isn't ASCII.
+fn quoted(alloc: Global, key: &str) -> Result<String, AllocError>
+    ensures { IfOk result (λ shown. IfSome (debug_str key.now) (λ s. string_bytes shown ≡ s)
+        × IsOneLine (string_bytes shown)) }
+{
+    let shown = debugged(alloc, key)?;
+    if shown.as_bytes().contains(&b'\n') {
+        return String::from_str(alloc, "\"\"");
+    }
+    Ok(shown)
+}
+
 // Writes a key, or an item of its list.
 fn put_flaw(alloc: Global, text: &mut String, flaw: Flaw<'_>) -> Result<(), AllocError>
     ensures { OnOk result ((at : List ℕ) × IsFlawText flaw.entry at
@@ -50,7 +72,7 @@ fn put_flaw(alloc: Global, text: &mut String, flaw: Flaw<'_>) -> Result<(), Allo
 {
     match flaw {
         Flaw::Unknown(key) => {
-            let shown = format!(in alloc; "{key:?}")?;
+            let shown = quoted(alloc, key)?;
             write!(text, "key {shown}")
         }
         Flaw::Misfit(key) => text.push_str(key.name()),

@@ -1,14 +1,16 @@
 // What an explanation says. Each call that writes fails only where memory runs out.
 ghost use Rattle.std.specs.Prelude.{◌≡◌, ◌++◌, IfOk, codes, decimal, string_bytes};
+ghost use Rattle.script.specs.Lines.{IsOneLine};
 ghost use Rattle.description_explainer.specs.Text.{IsExplanation};
 
-use crate::faults::{Flaw, Held, Key, Limit, Misnumbered, Named, ShapePlace, TableName};
+use crate::faults::{Held, Limit, Misnumbered, Named};
 use crate::naming::listed_number;
 use crate::place::{Place, Rule};
 use crate::place_text::{indexed_entry, list_of, parts_of, place_text};
 use description::member::member;
 use description::{
-    Description, Indexed, Part, ProcessEntry, SlotEntry, SlotFlaw, WordEntry, is_capability,
+    Description, Flaw, Indexed, Key, Part, ProcessEntry, ShapePlace, SlotEntry, SlotFlaw,
+    TableName, WordEntry, is_capability,
 };
 use home_ranges::NumberRange;
 use model::{Capability, Geometry};
@@ -226,6 +228,15 @@ fn put_number(
     }
 }
 
+// Writes that a text is that of no capability, and which texts there are.
+fn put_no_capability(text: &mut String, found: &str) -> Result<(), AllocError> {
+    write!(
+        text,
+        ": {found:?} is not the text of a capability; the texts are void, number N, page O, node O, space O H, \
+        process P, start P K, resume P, bank B and discrim, and ro or weak may follow a page, node or space"
+    )
+}
+
 // A list of entries with indexes: its table and key, what its entries are, and the first and last index.
 #[derive(Clone, Copy)]
 struct Entries {
@@ -312,7 +323,7 @@ impl Entries {
             }
             SlotFlaw::Text(i) => {
                 let entry = entry_text(whole, self.table, self.key, i);
-                write!(text, ": {entry:?} is not the text of a capability")
+                put_no_capability(text, entry)
             }
         }
     }
@@ -329,7 +340,7 @@ fn put_space(
     if is_capability(process.space) {
         write!(text, ": {space:?} is not void, a page or a space")
     } else {
-        write!(text, ": {space:?} is not the text of a capability")
+        put_no_capability(text, space)
     }
 }
 
@@ -484,6 +495,17 @@ fn line(alloc: Global, at: &str, what: &str, number: u64) -> Result<String, Allo
     format!(in alloc; "{at}{what} (bad description {number})")
 }
 
+/// The words, if they stand on one line, or else none.
+pub fn on_one_line(words: &str) -> &str
+    ensures { IsOneLine result.now }
+{
+    if words.as_bytes().contains(&b'\n') {
+        ""
+    } else {
+        words
+    }
+}
+
 /// The line that names a place in the table of a description, says what has to stand there, and ends with the
 /// number of the fault that `build` answers. Fails only where memory runs out.
 pub fn explanation(alloc: Global, table: &Table, place: &Place<'_>) -> Result<String, AllocError>
@@ -491,5 +513,5 @@ pub fn explanation(alloc: Global, table: &Table, place: &Place<'_>) -> Result<St
 {
     let at = place_text(alloc, place)?;
     let what = what_at(alloc, table, place)?;
-    line(alloc, &at, &what, place.fault().number())
+    line(alloc, &at, on_one_line(&what), place.fault().number())
 }

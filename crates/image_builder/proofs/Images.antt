@@ -2,8 +2,7 @@
 use Rattle.image_builder.proofs.Names.{List, ap, inl, inr, subst, ⊎_elim, Members, Cap, Frame, ObjectHeader, Content, frames_in, IsSoundFrames, Disk, Image}
 use Rattle.image_builder.proofs.Names.{Elsewhere, LeavesOnly, OnlyNow, leaves_weaker, started, Encodes, Plan, Holds, IsLeftWriting, first_saved, first_state}
 use Rattle.image_builder.proofs.Names.{kept_holds_the_same, none_is_held, IsDescription, Description, Builds, IsLeftOf, IsLeftBuilding, IsSoundDescription}
-use Rattle.image_builder.proofs.Names.{described_once, IsWithinLimits, plan_for, AreLaid, holds_one}
-use Rattle.image_builder.specs.Names.{EndInZeros, []}
+use Rattle.image_builder.proofs.Names.{described_once, IsWithinLimits, plan_for, AreLaid, holds_one, EndInZeros, []}
 use Rattle.std.proofs.Common.{◌≡◌, ◌≤◌, ◌∙◌}
 use Rattle.image_builder.proofs.Refusals.{accepted}
 

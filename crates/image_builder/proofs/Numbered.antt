@@ -1,7 +1,7 @@
 -- Directories whose slots are in order.
-use Rattle.image_builder.proofs.Names.{ℕ, zero, suc, List, [], length, get_or, drop, refl, sym, ap, append_assoc, arith, slice_index_or, append-nil, drop_all}
+use Rattle.image_builder.proofs.Names.{ℕ, zero, suc, List, length, get_or, drop, refl, sym, ap, append_assoc, arith, slice_index_or, append-nil, drop_all}
 use Rattle.image_builder.proofs.Names.{drop_more, Geometry, Entry, IsDirectory, entry_at, numbered}
-use Rattle.std.proofs.Common.{◌≡◌, ◌+◌, ◌<◌, ◌≤◌, ◌∷◌, ◌++◌, ◌∙◌}
+use Rattle.std.proofs.Common.{[], ◌≡◌, ◌+◌, ◌<◌, ◌≤◌, ◌∷◌, ◌++◌, ◌∙◌}
 
 abbrev none : Entry
 none = record { object = 0; slot = 0 }

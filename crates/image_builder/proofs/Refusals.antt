@@ -4,8 +4,10 @@ use Rattle.image_builder.proofs.Names.{frames_in, sound_banked, sound_named, Bad
 use Rattle.image_builder.proofs.Names.{AreWholeProcesses, IsInconsistent, Description, IsDescription, HasFields, HasNumbers, IsDescribed, BuildFault, Shape}
 use Rattle.image_builder.proofs.Names.{Limits, Number, Field, Target, Owner, Small, Failed, NoMemory, Builds, BuildsFrom, IsAccepted, IsRefused, fault_number}
 use Rattle.image_builder.proofs.Names.{IsRefusedEarly, IsSoundDescription, described_once, IsWithinLimits, Refuses, Rule, TellsNoSize, AreLaid, IsWorldFault}
-use Rattle.image_builder.proofs.Names.{Fails, all_kept, field_broken, number_broken, owner_broken, small_broken, target_broken}
+use Rattle.image_builder.proofs.Names.{BreaksShape, Misread, Misses, misread_fault, shape_refuted, all_kept, field_broken, number_broken, owner_broken}
+use Rattle.image_builder.proofs.Names.{small_broken, target_broken}
 use Rattle.std.proofs.Common.{◌≡◌, ◌≢◌, ◌<◌}
+use Rattle.description.specs.declared.place.Misread.TheVariants as misread
 
 -- a lesser fault isn't that of the device
 unfailed : (fault : BuildFault) → fault_number fault < 8 → fault ≢ Failed
@@ -107,16 +109,9 @@ built_from ms d old new (Ok x) is built = (d, is, built)
 built_from ms d old new (Err fault) is built = built
 
 -- a table that isn't read has no size
-pub unread_refused : (ms : Members) (fault : BuildFault) → Fails (IsDescription ms) fault → TellsNoSize ms fault
-unread_refused ms Shape reported = reported
-unread_refused ms NoMemory reported = tt
-unread_refused ms Limits reported = absurd reported
-unread_refused ms Number reported = reported
-unread_refused ms Field reported = reported
-unread_refused ms Target reported = reported
-unread_refused ms Owner reported = reported
-unread_refused ms Small reported = reported
-unread_refused ms Failed reported = reported
+pub unread_refused : (ms : Members) (why : Misread) → Misses (BreaksShape ms) why → TellsNoSize ms (misread_fault why)
+unread_refused ms (misread.Misshapen place) broken = shape_refuted ms place broken
+unread_refused ms misread.NoMemory broken = tt
 
 -- a description outside the limits has no size
 pub size_refused : (ms : Members) (d : Description) (fault : BuildFault) → IsDescription ms d → fault ≡ Limits → (IsWithinLimits d → ⊥) → TellsNoSize ms fault

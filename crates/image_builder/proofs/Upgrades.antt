@@ -1,9 +1,9 @@
 -- What a device saves, written to another.
 use Rattle.image_builder.proofs.Names.{ℕ, List, length, ap, inl, inr, refl, subst, sym, arith, Result, Ok, Err, IfErr, IsErrOf, OnOk, Frame, Disk, Image}
-use Rattle.image_builder.proofs.Names.{Agrees, Elsewhere, LeavesOnly, agrees_is, OnlyNow, leaves_weaker, started, Entry, Two, IsDirectory, Encodes, SavedState}
-use Rattle.image_builder.proofs.Names.{Plan, OpenFault, OnlyReads, kept_of, laid_again, IsLeftWriting, state_of, kept_holds_the_same, none_is_held}
-use Rattle.image_builder.proofs.Names.{IsSoundSaved, UpgradeFault, IsLeftUpgrading, IsNotUpgraded, IsOnlyRead, Upgrades, numbered, upgraded, IfOk, holds_one}
-use Rattle.image_builder.specs.Names.{EndInZeros}
+use Rattle.image_builder.proofs.Names.{Agrees, Elsewhere, LeavesOnly, agrees_is, OnlyNow, leaves_weaker, started, Entry, Two, IsDirectory, Encodes, Plan}
+use Rattle.image_builder.proofs.Names.{OpenFault, OnlyReads, kept_of, laid_again, IsLeftWriting, state_of, kept_holds_the_same, none_is_held, IsSoundSaved}
+use Rattle.image_builder.proofs.Names.{UpgradeFault, IsLeftUpgrading, IsNotUpgraded, IsOnlyRead, Upgrades, numbered, upgraded, IfOk, holds_one, EndInZeros}
+use Rattle.layout.specs.Image.{SavedState}
 use Rattle.std.proofs.Common.{◌≡◌, ◌<◌, ◌≤◌, ◌∙◌}
 use Rattle.std.specs.Prelude.{◌≢◌}
 use Rattle.layout.specs.declared.open_fault.OpenFault.TheVariants as opening

@@ -1,13 +1,8 @@
 -- What the command says of the objects that processes can ever change.
 use Rattle.queries.proofs.Names.{Written, ℕ, List, Result, Err, sym, subst, Object, objects_of, Disk, SavedState, AreSoundObjects, Fault, ReachesImage}
-use Rattle.queries.proofs.Names.{ReadsSaved, TellsReach, ReachQuestion}
-use Rattle.queries.specs.Reaching.{AreProcesses, AreStarts, TellsOf}
-use Rattle.model.specs.World.{is_process}
-use Rattle.std.specs.List.{Contains}
-use Rattle.std.specs.Prelude.{slice_index_or, IsTrue}
-use Rattle.std.proofs.Common.{[], refl, length}
-use Rattle.std.specs.Prelude.{◌==◌, false}
-use Rattle.std.proofs.lemmas.List.{get_or_default}
+use Rattle.queries.proofs.Names.{ReadsSaved, TellsReach, ReachQuestion, AreProcesses, AreStarts, TellsOf, is_process, Contains, slice_index_or, IsTrue, []}
+use Rattle.queries.proofs.Names.{refl, length, false, get_or_default}
+use Rattle.std.specs.Prelude.{◌==◌}
 use Rattle.std.proofs.Common.{◌≡◌, ◌↔◌, ◌∷◌}
 use Rattle.jobs.specs.declared.fault.Fault.TheVariants as fault
 

@@ -1,7 +1,7 @@
 -- The explanation of the description in a text.
 use Rattle.queries.specs.Names.{Written, nat_lt, take, ℕ, Bool, true, false, not, List, [], length, codes, decimal}
 use Rattle.queries.specs.Names.{None, Some, Result, Ok, Err, Wrote, Members, parse_document, line_of, Place, Explains}
-use Rattle.queries.specs.Names.{IsExplanation, WroteFront, Fault}
+use Rattle.queries.specs.Names.{IsExplanation, WroteFront, Fault, IsOneLine}
 use Rattle.std.specs.Prelude.{◌+◌, if◌then◌else◌, ◌≡◌, ◌==◌, ◌||◌, ◌≤◌, ◌++◌, ◌∷◌}
 use Rattle.jobs.specs.declared.fault.Fault.TheVariants as fault
 
@@ -22,9 +22,10 @@ position_from line column (b ∷ bs) =
 abbrev pub position_text : ℕ × ℕ → List ℕ → List ℕ
 position_text p why = codes "line " ++ (decimal p.0 ++ (codes ", column " ++ (decimal p.1 ++ (codes ": " ++ why))))
 
+-- the place is one of the text, and the words stand on one line
 abbrev pub IsSyntaxLine : List ℕ → List ℕ → Type 0
 IsSyntaxLine text line =
-    (at : ℕ) × (why : List ℕ) × (at ≤ length text)
+    (at : ℕ) × (why : List ℕ) × (at ≤ length text) × IsOneLine why
     × (line ≡ position_text (position_from 1 1 (take at text)) (why ++ codes " (bad description)"))
 
 -- the explanation of a place where a table breaks a rule

@@ -49,6 +49,7 @@ pub use Rattle.reach.specs.Reached.{AreChangers, BoundsRuns, IsReach}
 pub use Rattle.reach.specs.declared.step.Step.{Step}
 pub use Rattle.recovery.specs.Denotes.{Denotes, saved_of}
 pub use Rattle.recovery.specs.Recovered.{RefusesToOpen}
+pub use Rattle.script.specs.Lines.{IsOneLine}
 pub use Rattle.script.specs.Writing.{Written, Wrote, WroteFront}
 pub use Rattle.std.specs.List.{All, Contains, count_by, find, flat_map}
 pub use Rattle.std.specs.Prelude.{Bool, Err, IsTrue, List, None, Ok, Option, Result, Some, Vec, [], codes, decimal}

@@ -1,12 +1,13 @@
 // The command that says why a description is refused.
 ghost use Rattle.std.specs.Prelude.{◌≡◌, ℕ, Bool, IfOk, List, Result, string_bytes};
+ghost use Rattle.script.specs.Lines.{IsOneLine};
 ghost use Rattle.toml.specs.Errors.{IsWithin};
 ghost use Rattle.queries.specs.Explained.{ExplainsText, IsSyntaxLine, TellsLine, TellsOf, accepted_status};
 ghost use Rattle.queries.specs.Explained.{position_from};
 ghost use Rattle.queries.specs.Explained.{without_answer};
 ghost use Rattle.jobs.specs.Faults.{IsReported};
 
-use description_explainer::{explain, explanation};
+use description_explainer::{explain, explanation, on_one_line};
 use jobs::{Fault, of_write, status};
 use script::Output;
 use std::alloc::{AllocError, Global};
@@ -29,6 +30,18 @@ fn position_after(before: &[u8]) -> (u64, u64)
     (line, column)
 }
 
+// The words of the parser, with a hint for a number that TOML doesn't have. They stand on one line.
+fn why_not_toml(words: &str) -> &str
+    ensures { IsOneLine result.now }
+{
+    let why = if words == "number out of range" {
+        "number out of range; a limit or a word from 2^63 on is a text \"number N\""
+    } else {
+        words
+    };
+    on_one_line(why)
+}
+
 // The line for a text that isn't TOML.
 fn syntax_line(alloc: Global, text: &str, error: &Error) -> Result<String, AllocError>
     requires { IsWithin text.now error.now }
@@ -39,7 +52,7 @@ fn syntax_line(alloc: Global, text: &str, error: &Error) -> Result<String, Alloc
         None => return Err(AllocError),
     };
     let (line, column) = position_after(&text.as_bytes()[..start]);
-    let why = error.message();
+    let why = why_not_toml(error.message());
     format!(in alloc; "line {line}, column {column}: {why} (bad description)")
 }
 

@@ -3,7 +3,7 @@ ghost use Rattle.std.specs.Prelude.{◌≡◌, ◌+◌, ◌<◌, ◌≤◌, ◌�
 ghost use Rattle.layout.specs.Superblock.{Cover, IsGeometry, IsNext};
 ghost use Rattle.home_ranges.specs.Laid.{MayBeLaid, placed};
 ghost use Rattle.model.specs.Sound.{object_count};
-ghost use Rattle.description_explainer.specs.Broken.{BreaksGeometry, BreaksRanges, GoesOn};
+ghost use Rattle.description_explainer.specs.Broken.{BreaksGeometry, BreaksRanges, GoesOn, HasRanges};
 
 use crate::faults::place::Limit;
 use home_ranges::NumberRange;
@@ -15,7 +15,7 @@ const LEAST: u64 = 16;
 
 const GREATEST: u64 = 4096;
 
-/// Which count of objects or slots is outside its limits, if one is.
+/// The first count that is outside its limits, if one is: of nodes, pages and slots in half of the log.
 pub fn bad_count(geometry: Geometry) -> Option<Limit>
     ensures { MatchOption result (IsGeometry geometry) (λ limit. BreaksGeometry geometry limit) }
 {
@@ -43,9 +43,10 @@ fn goes_on(geometry: Geometry, range: NumberRange, next: u64) -> bool
     range.first == next && range.count > 0 && is_of_one_kind && is_within
 }
 
-// Which range doesn't go on where the one before ends, if one doesn't.
+// The first range that doesn't go on where the one before ends, or that they end before the last number.
 fn bad_range(geometry: Geometry, ranges: &[NumberRange]) -> Option<Limit>
-    requires { IsGeometry geometry }
+    requires geometry { IsGeometry geometry }
+    requires count { HasRanges ranges.now }
     ensures { MatchOption result (Cover geometry 0 (map (placed 0) ranges.now))
         (λ limit. BreaksRanges geometry ranges.now limit) }
 {
@@ -62,7 +63,7 @@ fn bad_range(geometry: Geometry, ranges: &[NumberRange]) -> Option<Limit>
     None
 }
 
-/// What is wrong with the ranges, if anything is.
+/// What is wrong with the ranges, if anything is: their count, the first that doesn't go on, or their end.
 pub fn bad_ranges(geometry: Geometry, ranges: &[NumberRange]) -> Option<Limit>
     requires { IsGeometry geometry }
     ensures { MatchOption result (MayBeLaid geometry ranges.now)

@@ -1,12 +1,11 @@
 // Which number of a description is none of its kind, or comes twice.
-ghost use Rattle.std.specs.Prelude.{◌≡◌, ℕ, ◌++◌, ◌<◌, ◌≤◌, length, slice_get, IfOk, MatchOption};
+ghost use Rattle.std.specs.Prelude.{◌≡◌, ◌++◌, ◌<◌, ◌≤◌, length, slice_get, IfOk, IsTrue, MatchOption};
 ghost use Rattle.layout.specs.Superblock.{IsGeometry};
-ghost use Rattle.model.specs.declared.geometry.Geometry.{Geometry};
 ghost use Rattle.std.specs.List.{All};
 ghost use Rattle.model.specs.Sound.{object_count};
 ghost use Rattle.description.specs.Described.{AreDistinct, HasNumbers, node_numbers, page_numbers};
-ghost use Rattle.description_explainer.specs.FaultOutcomes.{BreaksIt, place_of};
-ghost use Rattle.description_explainer.specs.Broken.{BreaksNumber, IsOfItsKind, number_at};
+ghost use Rattle.description_explainer.specs.FaultOutcomes.{BreaksIt};
+ghost use Rattle.description_explainer.specs.Broken.{BreaksNumber, is_node, number_at, place_of};
 
 use crate::faults::place::{Misnumbered, Named};
 use description::{Description, find_outside, find_twice, node_numbers, page_numbers};
@@ -17,7 +16,7 @@ use std::alloc::{AllocError, Global};
 fn node_named_at(description: &Description, place: usize) -> Named
     ensures number { number_at description.now result ≡ slice_get (node_numbers description.now) place }
     ensures place { place_of description.now result ≡ place }
-    ensures kind { (g : Geometry) (n : ℕ) → IsOfItsKind g result n → n < g.nodes }
+    ensures kind { IsTrue (is_node result) }
 {
     let banks = description.banks.len();
     let processes = description.processes.len();
@@ -49,8 +48,7 @@ fn named_at(description: &Description, nodes: usize, place: usize) -> Named
     }
 }
 
-// Which number of a bank, a process or a node isn't one of a node, if there is one.
-#[tactic(auto, using(crate::proofs::NumberPlaces::node_outside))]
+// The first number of a bank, a process or a node that isn't one of a node, if there is one.
 fn node_out_of_range(description: &Description, numbers: &[u64]) -> Option<Misnumbered>
     requires { numbers.now ≡ node_numbers description.now }
     ensures { MatchOption result
@@ -63,10 +61,10 @@ fn node_out_of_range(description: &Description, numbers: &[u64]) -> Option<Misnu
     }
 }
 
-// Which number of a page isn't one of a page, if there is one.
-#[tactic(auto, using(crate::proofs::NumberPlaces::page_outside))]
+// The first number of a page that isn't one of a page, if there is one.
 fn page_out_of_range(description: &Description, numbers: &[u64]) -> Option<Misnumbered>
     requires geometry { IsGeometry description.now.geometry }
+    requires nodes { All (λ n. (0 ≤ n) × (n < description.now.geometry.nodes)) (node_numbers description.now) }
     requires numbers { numbers.now ≡ page_numbers description.now }
     ensures { MatchOption result
         (All (λ n. (description.now.geometry.nodes ≤ n) × (n < object_count description.now.geometry)) numbers.now)
@@ -79,9 +77,12 @@ fn page_out_of_range(description: &Description, numbers: &[u64]) -> Option<Misnu
     }
 }
 
-// Which two objects have one number, if there are two.
+// The first object whose number comes before too, and the object that has it there, if there are two.
 fn named_twice(description: &Description, nodes: usize, numbers: &[u64]) -> Option<Misnumbered>
     requires nodes { nodes ≡ length (node_numbers description.now) }
+    requires node_kinds { All (λ n. (0 ≤ n) × (n < description.now.geometry.nodes)) (node_numbers description.now) }
+    requires page_kinds { All (λ n. (description.now.geometry.nodes ≤ n)
+        × (n < object_count description.now.geometry)) (page_numbers description.now) }
     requires numbers { numbers.now ≡ node_numbers description.now ++ page_numbers description.now }
     ensures { MatchOption result (AreDistinct numbers.now)
         (BreaksIt (BreaksNumber description.now) (HasNumbers description.now)) }
@@ -95,8 +96,8 @@ fn named_twice(description: &Description, nodes: usize, numbers: &[u64]) -> Opti
     }
 }
 
-/// Which number of a description is none of its kind, or comes twice, if there is one. Fails only where
-/// memory runs out.
+/// The first number of a description that is none of its kind; or, if there is none, the first that comes
+/// twice. The order is banks, roots, annexes, nodes and pages. Fails only where memory runs out.
 pub fn misnumbered(
     alloc: Global,
     description: &Description,

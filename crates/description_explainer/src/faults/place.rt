@@ -1,35 +1,5 @@
 // Places in a description, and what is wrong there.
 
-use crate::faults::key::Key;
-
-/// A table of a description: the whole, or one of a list by its index.
-#[derive(Clone, Copy)]
-pub enum TableName {
-    Whole,
-    Bank(usize),
-    Process(usize),
-    Node(usize),
-    Page(usize),
-}
-
-/// What is wrong in a table.
-#[derive(Clone, Copy)]
-pub enum Flaw<'a> {
-    /// This key is unknown.
-    Unknown(&'a str),
-    /// This key is missing, or another value than its own is there.
-    Misfit(Key),
-    /// In the list at this key the item of this index isn't of its form.
-    Item(Key, usize),
-}
-
-/// A table, and what is wrong in it.
-#[derive(Clone, Copy)]
-pub struct ShapePlace<'a> {
-    pub table: TableName,
-    pub flaw: Flaw<'a>,
-}
-
 /// A size that no image has.
 #[derive(Clone, Copy)]
 pub enum Limit {

@@ -1,14 +1,15 @@
 // Which capability of a description names no object of its kind.
-ghost use Rattle.std.specs.Prelude.{◌≡◌, ◌↔◌, false, slice_get, IsSomeAnd, IsTrue, MatchOption};
+ghost use Rattle.std.specs.Prelude.{◌≡◌, ◌↔◌, false, IsTrue, MatchOption};
 ghost use Rattle.std.specs.List.{All};
 ghost use Rattle.model.specs.declared.capability.Capability.{Capability};
 ghost use Rattle.capability.specs.Parts.{frames_of};
 ghost use Rattle.capability.specs.Plain.{parts_of};
 ghost use Rattle.capability.specs.Consistency.{NamesItsRole};
 ghost use Rattle.recovery.specs.Noted.{AreNoted};
+ghost use Rattle.description.specs.FieldFlaws.{IsFirst};
 ghost use Rattle.model.specs.Keepable.{IsTarget};
-ghost use Rattle.description_explainer.specs.FaultOutcomes.{AllHave, AllIn, AllOfProcess, IfNamed, OneLacks, OneOf};
-ghost use Rattle.description_explainer.specs.FaultOutcomes.{OneOfNodes, OneOfProcess, LacksIt};
+ghost use Rattle.description_explainer.specs.FaultOutcomes.{OneOfNodes, OneOfProcess};
+ghost use Rattle.description_explainer.specs.Broken.{AllHave, AllIn, AllOfProcess, FirstLacks, IfNamed, LacksIt, OneOf};
 
 use crate::faults::place::Held;
 use capability::Plain;
@@ -110,11 +111,15 @@ fn first_failing<N: Naming>(naming: &N, slots: &[SlotEntry]) -> Option<usize>
     ensures { MatchOption result (AllIn (N.Passes naming.now) slots.now)
         (λ i. OneOf (N.Passes naming.now) slots.now i) }
 {
-    slots
-        .iter()
-        .position(|slot| !may_pass(naming, slot.capability))
+    for (i, slot) in slots.iter().enumerate() {
+        if !may_pass(naming, slot.capability) {
+            return Some(i);
+        }
+    }
+    None
 }
 
+// The first capability of a process that doesn't pass, if there is one: its address space, then its registers.
 #[tactic(auto, unfolding(crate::specs::FaultOutcomes::OneOfProcess))]
 fn failing_in_process<N: Naming>(naming: &N, k: usize, process: &ProcessEntry) -> Option<Held>
     ensures { MatchOption result (AllOfProcess (N.Passes naming.now) process.now)
@@ -132,8 +137,8 @@ fn failing_in_process<N: Naming>(naming: &N, k: usize, process: &ProcessEntry) -
 // The first process with a capability that doesn't pass, by its index, and where it holds that.
 fn failing_in_processes<N: Naming>(naming: &N, processes: &[ProcessEntry]) -> Option<(usize, Held)>
     ensures { MatchOption result (All (AllOfProcess (N.Passes naming.now)) processes.now)
-        (λ bad. IsSomeAnd (slice_get processes.now bad.0)
-        (λ p. OneOfProcess (N.Passes naming.now) bad.0 p bad.1)) }
+        (λ bad. IsFirst (AllOfProcess (N.Passes naming.now))
+        (λ p. OneOfProcess (N.Passes naming.now) bad.0 p bad.1) processes.now bad.0) }
 {
     for (k, process) in processes.iter().enumerate() {
         if let Some(at) = failing_in_process(naming, k, process) {
@@ -143,6 +148,7 @@ fn failing_in_processes<N: Naming>(naming: &N, processes: &[ProcessEntry]) -> Op
     None
 }
 
+// The first slot of a node whose capability doesn't pass, if there is one.
 fn failing_in_nodes<N: Naming>(naming: &N, nodes: &[NodeEntry]) -> Option<Held>
     ensures { MatchOption result (All (λ n. AllIn (N.Passes naming.now) n.slots.items) nodes.now)
         (λ at. OneOfNodes (N.Passes naming.now) nodes.now at) }
@@ -155,11 +161,10 @@ fn failing_in_nodes<N: Naming>(naming: &N, nodes: &[NodeEntry]) -> Option<Held>
     None
 }
 
-/// Which capability of a description doesn't pass, if there is one.
-#[tactic(auto, unfolding(crate::specs::FaultOutcomes::OneOfProcess))]
+/// The first capability of a description that doesn't pass, if there is one: of processes, then of nodes.
 pub fn failing<N: Naming>(naming: &N, description: &Description) -> Option<Held>
     ensures { MatchOption result (AllHave (N.Passes naming.now) description.now)
-        (λ at. OneLacks (N.Passes naming.now) description.now at) }
+        (λ at. FirstLacks (N.Passes naming.now) description.now at) }
 {
     if let Some((_, at)) = failing_in_processes(naming, &description.processes) {
         return Some(at);

@@ -1,5 +1,6 @@
-use Rattle.description.proofs.FieldFlaws.{ApartBelow}
+use Rattle.description.proofs.Names.{AreDistinct, take}
 use Rattle.description.proofs.indexed.find_twice.Given as goal
 
-abbrev pub invariant-loop-i : goal.invariant-loop-i
-invariant-loop-i g l = ApartBelow (g.N.Numbers.numbers l.numbers) l.i
+-- no number so far comes twice
+abbrev pub invariant-loop-j : goal.invariant-loop-j
+invariant-loop-j g l = AreDistinct (take l.j (g.N.Numbers.numbers l.numbers))

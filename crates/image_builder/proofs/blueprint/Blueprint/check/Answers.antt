@@ -1,5 +1,5 @@
-use Rattle.std.proofs.Common.{◌≤◌}
 use Rattle.image_builder.proofs.Names.{subst, sym, Description, IsAccepted, plan_for}
+use Rattle.std.proofs.Common.{◌≤◌}
 use Rattle.image_builder.proofs.Refusals.{accepted}
 use Rattle.image_builder.proofs.blueprint.Blueprint.check.Goals as goal
 
