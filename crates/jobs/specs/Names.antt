@@ -32,7 +32,6 @@ pub use Rattle.recovery.specs.Recovered.{RefusesToOpen}
 pub use Rattle.runs.specs.KernelRuns.{RunsOver, RunsSeen}
 pub use Rattle.runs.specs.Tracing.{cause_text}
 pub use Rattle.runs.specs.declared.cause.Stop.{Stop}
-pub use Rattle.runs.specs.declared.script_pieces.Piece.{Piece}
 pub use Rattle.runs.specs.declared.unsaved.Unsaved.{Unsaved}
 pub use Rattle.script.specs.Writing.{Writes, Written, Wrote, WroteFront}
 pub use Rattle.script.specs.declared.fault.RunFault.{RunFault}

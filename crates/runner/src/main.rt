@@ -13,11 +13,12 @@ use command_line::{CommandLine, Job, JobFault, Script, command_line};
 use description::Sizes;
 use device::Device;
 use devices::{FileDevice, FileFault, Fuse};
-use jobs::{Done, Fault, ShellInput, check_image, finish, run_image, run_shell, run_traced};
+use jobs::{Done, Fault, check_image, finish, run_image, run_shell, run_traced};
 use object_cache::{Capacity, KeepAll, KeepRecent, PlainStore, Policy, Store};
 use queries::{Focus, ReachQuestion, explain_description};
 use runs::{ScriptReader, TraceOptions, Tracer};
 use script::{BufferedOutput, CountedWriter, Output};
+use shell::{ShellInput, TOPICS};
 use std::alloc::Global;
 use std::fmt::Display;
 use std::fs::{self, File};
@@ -161,7 +162,7 @@ fn shell_by<D: Device, S: ObjectStore<D>, R: Read + Drop, W: Output, V: Output +
     streams: &mut Streams<W, V>,
 ) -> End {
     let is_prompting = rt.stdin().is_terminal() && rt.stderr().is_terminal();
-    let mut input = ShellInput::new(lines, notes, is_prompting);
+    let mut input = ShellInput::new(lines, notes, TOPICS, is_prompting);
     let Streams { output, errors } = streams;
     let done = run_shell::<_, S, _, _, _>(rt.alloc(), device, setting, &mut input, output, errors);
     End::of_done(done)
