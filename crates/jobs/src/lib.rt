@@ -9,6 +9,7 @@ mod fault;
 pub mod laws;
 mod output;
 mod running;
+mod saving;
 mod shell;
 mod upgrading;
 
@@ -18,4 +19,5 @@ pub use done::Done;
 pub use fault::{Fault, of_write, status};
 pub use output::finish;
 pub use running::{run_image, run_shell, run_traced};
+pub use saving::run_and_save;
 pub use upgrading::upgrade_opened;
