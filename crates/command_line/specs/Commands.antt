@@ -72,7 +72,7 @@ abbrev pub rules_of : Subcommand → List Rule
 rules_of sub.Build = file_rule (codes "DESCRIPTION") ∷ file_rule (codes "IMAGE") ∷ flag_rule (codes "new")
     ∷ cause_rule ∷ []
 rules_of sub.Run = file_rule (codes "IMAGE") ∷ file_rule (codes "SCRIPT") ∷ cache_rule ∷ flag_rule (codes "trace")
-    ∷ flag_rule (codes "strict") ∷ number_rule (codes "stop-after") ∷ cause_rule ∷ []
+    ∷ flag_rule (codes "strict") ∷ flag_rule (codes "save") ∷ number_rule (codes "stop-after") ∷ cause_rule ∷ []
 rules_of sub.Shell = file_rule (codes "IMAGE") ∷ cache_rule ∷ cause_rule ∷ []
 rules_of sub.Check = file_rule (codes "IMAGE") ∷ cause_rule ∷ []
 rules_of sub.Explain = file_rule (codes "FILE") ∷ cause_rule ∷ []

@@ -27,8 +27,9 @@ AreSizes rows sizes = IsNumberOption rows (codes "nodes") sizes.nodes
 abbrev pub IsJob : Text → List Row → Job → Type 0
 IsJob name rows (job.Build description image is_new) = (name ≡ codes "build") × IsFlag rows (codes "new") is_new
     × IsGiven rows (codes "DESCRIPTION") description.now × IsGiven rows (codes "IMAGE") image.now
-IsJob name rows (job.Run image script cache trace strict stop_after) = (name ≡ codes "run") × IsCache rows cache
+IsJob name rows (job.Run image script cache trace strict saves stop_after) = (name ≡ codes "run") × IsCache rows cache
     × IsFlag rows (codes "trace") trace × IsFlag rows (codes "strict") strict
+    × IsFlag rows (codes "save") saves
     × IsNumberOption rows (codes "stop-after") stop_after
     × IsGiven rows (codes "IMAGE") image.now × (word : Text) × IsGiven rows (codes "SCRIPT") word × IsScript word script
 IsJob name rows (job.Shell image cache) = (name ≡ codes "shell") × IsCache rows cache × IsGiven rows (codes "IMAGE")

@@ -9,8 +9,8 @@ ghost use Rattle.command_line.specs.Refusals.{Explains};
 
 use crate::arguments::{flag_of, numbers_in, option_of};
 use crate::subcommands::{
-    CACHE, DESCRIPTION, FILE, FROM, IMAGE, LOG, NEW, NEW_ONLY, NODES, OLD, PAGES, PROCESS, SCRIPT,
-    SHOWS, STOP_AFTER, STRICT, Subcommand, TO, TRACE, VERBOSE,
+    CACHE, DESCRIPTION, FILE, FROM, IMAGE, LOG, NEW, NEW_ONLY, NODES, OLD, PAGES, PROCESS, SAVE,
+    SCRIPT, SHOWS, STOP_AFTER, STRICT, Subcommand, TO, TRACE, VERBOSE,
 };
 use clap::error::ErrorKind;
 use clap::{ArgMatches, Command, Error};
@@ -59,6 +59,8 @@ pub enum Job<'a> {
         /// Whether the run stops at the first line that is bad or refused, or whose invocation of a kernel
         /// object fails.
         strict: bool,
+        /// Whether all is saved after the last line.
+        saves: bool,
         /// How many reads, writes and syncs the device answers before it fails each; `None` where it answers all.
         stop_after: Option<u64>,
     },
@@ -179,6 +181,7 @@ fn run_of<'a>(inner: &ArgMatches<'a>) -> Option<Job<'a>>
     let cache = cache_of(inner)?;
     let trace = flag_of(inner, TRACE);
     let strict = flag_of(inner, STRICT);
+    let saves = flag_of(inner, SAVE);
     let stop_after = number_of(inner, STOP_AFTER)?;
     Some(Job::Run {
         image,
@@ -186,6 +189,7 @@ fn run_of<'a>(inner: &ArgMatches<'a>) -> Option<Job<'a>>
         cache,
         trace,
         strict,
+        saves,
         stop_after,
     })
 }

@@ -37,6 +37,8 @@ pub(crate) const TRACE: &str = "trace";
 
 pub(crate) const STRICT: &str = "strict";
 
+pub(crate) const SAVE: &str = "save";
+
 pub(crate) const NODES: &str = "nodes";
 
 pub(crate) const PAGES: &str = "pages";
@@ -156,6 +158,10 @@ const RUN: &[Argument<'static>] = &[
     Argument::Flag(
         STRICT,
         "Stops at the first line that is bad or refused, or whose order fails",
+    ),
+    Argument::Flag(
+        SAVE,
+        "Saves after the last line: a checkpoint, its commit and its migration",
     ),
     Argument::Number(
         STOP_AFTER,

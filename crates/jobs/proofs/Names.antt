@@ -23,7 +23,6 @@ pub use Rattle.recovery.specs.Denotes.{saved_of}
 pub use Rattle.recovery.specs.Recovered.{Recovers}
 pub use Rattle.recovery.specs.declared.live.Live.{Live}
 pub use Rattle.runs.specs.KernelRuns.{AreSeen}
-pub use Rattle.runs.specs.Reader.{failed_reads, left_to_read}
 pub use Rattle.runs.specs.Tracing.{Ends, Sees}
 pub use Rattle.runs.specs.declared.cause.Stop.{Stop}
 pub use Rattle.runs.specs.declared.tracer.Tracer.{Tracer}

@@ -4,6 +4,7 @@ use Rattle.jobs.proofs.Names.{OpenFault, View, Stop, Tracer, AreSeen, Ends, Sees
 use Rattle.jobs.proofs.Names.{SeesImage, Result}
 use Rattle.std.proofs.Common.{◌≡◌, ◌∷◌, ◌∙◌}
 use Rattle.script.specs.declared.fault.RunFault.TheVariants as run
+use Rattle.jobs.specs.Saving.{SavesImage}
 
 -- an observer that lets each run go on never ends one
 goes_on_to_end : {O : Type 0} (sees : Turn → O → O → Bool → Type 0) → ((t : Turn) (old new : O) (on : Bool) → sees t old new on → on ≡ true) →
@@ -50,6 +51,15 @@ module _ {D S : Type 0} (disk : D → Disk) (view : S → View D) (parts : S →
     runs_unseen (Ok (Err run.Write)) end is seen = rw is (opens_and_runs (Err run.Write) seen)
     runs_unseen (Ok (Err run.Stopped)) end is seen = absurd is
     runs_unseen (Err why) end is seen = rw is (seen.0, seen.1, seen.2)
+
+  -- a tracer that ended a run has the place, also where all was to be saved
+  pub saver_has_stop : {V : Type 0} (written : V → Written) (before after : Tracer V) (input input_left : Option (List ℕ)) (output output_left : Written)
+      (outcome : Result (Result (Unit {0}) RunFault) OpenFault) (saved : Result (Unit {0}) Fault) →
+      SavesImage disk view parts (Sees written) device back before after input input_left output output_left outcome saved → HasStop outcome after.stop
+  saver_has_stop written before after input input_left output output_left (Ok (Err run.Stopped)) saved seen =
+      let r = seen.5 seen.3.geometry (Up (opened seen.3.geometry seen.3.saved)) seen.3.stands in
+      rw (has_ended written seen.3.geometry before after r.0 r.3 r.4 r.5).1 tt
+  saver_has_stop written before after input input_left output output_left outcome saved seen = tt
 
   -- a tracer that ended a run has the place
   pub tracer_has_stop : {V : Type 0} (written : V → Written) (before after : Tracer V) (input input_left : Option (List ℕ)) (output output_left : Written)

@@ -1,7 +1,7 @@
 -- The message of a fault, and the exit status of a command.
 use Rattle.jobs.specs.Names.{Written, ℕ, List, [], codes, decimal, Option, None, Some, Result, Ok, Err, OpenFault}
 use Rattle.jobs.specs.Names.{line_of, spaced, BuildFault, UpgradeFault, fault_number, GrowthFault, Stop, cause_text}
-use Rattle.jobs.specs.Names.{RunFault, Writes, reason_number}
+use Rattle.jobs.specs.Names.{Refusal, RunFault, Writes, reason_number, refusal_text}
 use Rattle.std.specs.Prelude.{◌≡◌, ◌≢◌, ◌∷◌, ◌++◌}
 use Rattle.layout.specs.declared.open_fault.OpenFault.TheVariants as opening
 use Rattle.description.specs.declared.fault.BuildFault.TheVariants as build
@@ -38,6 +38,10 @@ sizes_text growth.Nodes = codes "eros: too few nodes"
 sizes_text growth.Pages = codes "eros: too few pages"
 sizes_text growth.NoMemory = codes "eros: no memory"
 
+-- a stage of saving was refused
+abbrev pub not_saved_text : Refusal → List ℕ
+not_saved_text why = spaced (codes "eros: not saved:" ∷ refusal_text why ∷ [])
+
 abbrev pub fault_text : Fault → List ℕ
 fault_text fault.CannotReadDescription = codes "eros: cannot read description"
 fault_text fault.NotToml = codes "eros: bad description"
@@ -52,6 +56,7 @@ fault_text (fault.Upgrade why) = upgrade_text why
 fault_text (fault.Stopped stop) = stop_text stop
 fault_text (fault.NoObject o) = spaced (codes "eros: no object" ∷ decimal o ∷ [])
 fault_text (fault.Sizes why) = sizes_text why
+fault_text (fault.NotSaved why) = not_saved_text why
 fault_text (fault.NoProcess p) = spaced (codes "eros: no process" ∷ decimal p ∷ [])
 
 -- a run that was ended by its observer has a place where it was

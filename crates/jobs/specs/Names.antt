@@ -24,15 +24,18 @@ pub use Rattle.layout.specs.declared.version.Version.TheVariants.{Two}
 pub use Rattle.model.specs.Keepable.{IsSoundFrames, world_at}
 pub use Rattle.model.specs.Machine.{Saved}
 pub use Rattle.model.specs.Run.{Turn}
-pub use Rattle.model.specs.Text.{line_of, spaced}
+pub use Rattle.model.specs.Text.{line_of, refusal_text, spaced}
+unfoldable pub use Rattle.model.specs.Text.{printed}
+pub use Rattle.model.specs.declared.answer.Answer.{Answer}
+pub use Rattle.model.specs.declared.answer.Refusal.{Refusal}
 pub use Rattle.model.specs.declared.frame.Frame.{Frame}
 pub use Rattle.model.specs.declared.geometry.Geometry.{Geometry}
 pub use Rattle.recovery.specs.Denotes.{Denotes}
 pub use Rattle.recovery.specs.Recovered.{RefusesToOpen}
 pub use Rattle.runs.specs.KernelRuns.{RunsOver, RunsSeen}
+pub use Rattle.runs.specs.Saving.{Saves}
 pub use Rattle.runs.specs.Tracing.{cause_text}
 pub use Rattle.runs.specs.declared.cause.Stop.{Stop}
-pub use Rattle.runs.specs.declared.script_pieces.Piece.{Piece}
 pub use Rattle.runs.specs.declared.unsaved.Unsaved.{Unsaved}
 pub use Rattle.script.specs.Writing.{Writes, Written, Wrote, WroteFront}
 pub use Rattle.script.specs.declared.fault.RunFault.{RunFault}

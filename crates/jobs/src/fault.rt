@@ -3,13 +3,14 @@ ghost use Rattle.std.specs.Prelude.{◌≡◌, ◌≤◌, length};
 ghost use Rattle.model.specs.Text.{line_of};
 ghost use Rattle.script.specs.Writing.{Writes};
 ghost use Rattle.jobs.specs.Faults.{HasStop, IsRunEnd, IsReported, after_write, build_text, fault_text, open_text};
-ghost use Rattle.jobs.specs.Faults.{sizes_text, status_of, stop_text, upgrade_text};
+ghost use Rattle.jobs.specs.Faults.{not_saved_text, sizes_text, status_of, stop_text, upgrade_text};
 
 use checkpoint::OpenFault;
 use description::GrowthFault;
 use image_builder::{BuildFault, UpgradeFault};
+use model::Refusal;
 use runs::Stop;
-use script::{LineText, Output, RunFault};
+use script::{LineText, Output, RunFault, refusal_line};
 
 /// Why a command of `eros` failed.
 #[derive(Clone, Copy)]
@@ -42,6 +43,8 @@ pub enum Fault {
     NoObject(u64),
     /// There is no image of these sizes for what is saved.
     Sizes(GrowthFault),
+    /// A stage of saving was refused.
+    NotSaved(Refusal),
 }
 
 /// The end of a run, where the device was opened, as a fault of the command. A run that its observer
@@ -142,6 +145,16 @@ fn stop_line(stop: Stop) -> LineText
     line
 }
 
+// The line where a stage of saving was refused.
+fn unsaved_line(refusal: Refusal) -> LineText
+    ensures text { result ≡ not_saved_text refusal }
+    ensures short { length result ≤ 60 }
+{
+    let mut line = LineText::new(b"eros: not saved:");
+    line.word(refusal_line(refusal).as_bytes());
+    line
+}
+
 impl Fault {
     // The message of this fault.
     fn line(self) -> LineText
@@ -163,6 +176,7 @@ impl Fault {
             Fault::NoProcess(number) => LineText::numbered(b"eros: no process", number),
             Fault::NoObject(number) => LineText::numbered(b"eros: no object", number),
             Fault::Sizes(fault) => sizes_line(fault),
+            Fault::NotSaved(refusal) => unsaved_line(refusal),
         }
     }
 

@@ -6,10 +6,10 @@ mod building;
 mod checking;
 mod done;
 mod fault;
-mod help;
 pub mod laws;
 mod output;
 mod running;
+mod saving;
 mod shell;
 mod upgrading;
 
@@ -19,5 +19,5 @@ pub use done::Done;
 pub use fault::{Fault, of_write, status};
 pub use output::finish;
 pub use running::{run_image, run_shell, run_traced};
-pub use shell::ShellInput;
+pub use saving::run_and_save;
 pub use upgrading::upgrade_opened;

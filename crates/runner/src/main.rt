@@ -13,11 +13,12 @@ use command_line::{CommandLine, Job, JobFault, Script, command_line};
 use description::Sizes;
 use device::Device;
 use devices::{FileDevice, FileFault, Fuse};
-use jobs::{Done, Fault, ShellInput, check_image, finish, run_image, run_shell, run_traced};
+use jobs::{Done, Fault, check_image, finish, run_and_save, run_image, run_shell, run_traced};
 use object_cache::{Capacity, KeepAll, KeepRecent, PlainStore, Policy, Store};
 use queries::{Focus, ReachQuestion, explain_description};
 use runs::{ScriptReader, TraceOptions, Tracer};
 use script::{BufferedOutput, CountedWriter, Output};
+use shell::{ShellInput, TOPICS};
 use std::alloc::Global;
 use std::fmt::Display;
 use std::fs::{self, File};
@@ -128,13 +129,14 @@ fn open_to_read(rt: &HostRuntime, image: &str) -> Result<FileDevice, Refusal> {
 #[derive(Clone, Copy)]
 enum Mode {
     Plain,
-    Traced(TraceOptions),
+    // It is traced, or strict, or all is saved in the end.
+    Watched { options: TraceOptions, saves: bool },
     Shell,
     // The image is only checked.
     Check,
 }
 
-// Runs a script over the image on a device, by a store of this kind, traces it in `notes`, and returns its end.
+// Runs a script over the image on a device, by a store of this kind, with a tracer, and returns its end.
 fn trace_by<D: Device, S: ObjectStore<D>, R: Read, W: Output, V: Output + Drop>(
     alloc: Global,
     device: D,
@@ -142,8 +144,14 @@ fn trace_by<D: Device, S: ObjectStore<D>, R: Read, W: Output, V: Output + Drop>(
     script: &mut ScriptReader<R>,
     tracer: &mut Tracer<V>,
     streams: &mut Streams<W, V>,
+    saves: bool,
 ) -> End {
     let Streams { output, errors } = streams;
+    if saves {
+        return End::of_done(run_and_save::<_, S, _, _, _, _>(
+            alloc, device, setting, script, output, tracer, errors,
+        ));
+    }
     let done = run_traced::<_, S, _, _, _, _>(
         alloc, device, setting, script, output, tracer, errors,
     );
@@ -161,7 +169,7 @@ fn shell_by<D: Device, S: ObjectStore<D>, R: Read + Drop, W: Output, V: Output +
     streams: &mut Streams<W, V>,
 ) -> End {
     let is_prompting = rt.stdin().is_terminal() && rt.stderr().is_terminal();
-    let mut input = ShellInput::new(lines, notes, is_prompting);
+    let mut input = ShellInput::new(lines, notes, TOPICS, is_prompting);
     let Streams { output, errors } = streams;
     let done = run_shell::<_, S, _, _, _>(rt.alloc(), device, setting, &mut input, output, errors);
     End::of_done(done)
@@ -191,7 +199,7 @@ fn run_in_mode<D: Device, S: ObjectStore<D>, R: Read + Drop, W: Output, V: Outpu
             );
             End::of_done(done)
         }
-        Mode::Traced(options) => {
+        Mode::Watched { options, saves } => {
             let (mut script, mut tracer) = (ScriptReader::new(script), Tracer::new(notes, options));
             trace_by::<_, S, _, _, _>(
                 rt.alloc(),
@@ -200,6 +208,7 @@ fn run_in_mode<D: Device, S: ObjectStore<D>, R: Read + Drop, W: Output, V: Outpu
                 &mut script,
                 &mut tracer,
                 streams,
+                saves,
             )
         }
         Mode::Shell => shell_by::<_, S, _, _, _>(rt, device, setting, script, notes, streams),
@@ -312,9 +321,12 @@ fn inspect(
 }
 
 // How a script is run by these options.
-fn mode_of(trace: bool, strict: bool) -> Mode {
-    if trace || strict {
-        Mode::Traced(TraceOptions { trace, strict })
+fn mode_of(trace: bool, strict: bool, saves: bool) -> Mode {
+    if trace || strict || saves {
+        Mode::Watched {
+            options: TraceOptions { trace, strict },
+            saves,
+        }
     } else {
         Mode::Plain
     }
@@ -427,9 +439,10 @@ fn serve(rt: &HostRuntime, job: &Job<'_>, stdio: &mut Stdio) -> Result<End, Refu
             cache,
             trace,
             strict,
+            saves,
             stop_after,
         } => {
-            let mode = mode_of(*trace, *strict);
+            let mode = mode_of(*trace, *strict, *saves);
             return open_image_and_run(rt, image, script, *cache, mode, *stop_after, stdio);
         }
         Job::Shell { image, cache } => {

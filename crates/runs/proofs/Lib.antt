@@ -5,6 +5,7 @@ mod ScriptLines
 mod Tracing
 mod TurnLists
 mod Turning
+pub mod SavedRuns
 mod Agreeing
 mod ConfinedRuns
 mod Surviving

@@ -34,7 +34,7 @@ denotes_this g size c (s ∷ ss) one = ⊎_elim
 left_before : (g : Geometry) (size : ℕ) (t : Turn) (c : Image) → DenotesOne g size (candidates t.before) c → IsLeftIn g size t c
 left_before g size t c one = let is = denotes_this g size c (candidates t.before) one in (is.0, inl is.1, is.2)
 
-left_by : (g : Geometry) (size : ℕ) (t : Turn) (command : Command) → Says t.line (line.Command command) → (c : Image) →
+pub left_by : (g : Geometry) (size : ℕ) (t : Turn) (command : Command) → Says t.line (line.Command command) → (c : Image) →
     DenotesOne g size (candidates t.before ++ second t.before command) c → IsLeftIn g size t c
 left_by g size t command says c one = ⊎_elim
     (left_before g size t c)
@@ -44,7 +44,7 @@ left_by g size t command says c one = ⊎_elim
 -- ---- failures
 
 -- an answer reports a failure exactly where there was one
-answer_reported : (old new : Disk) (a : Answer) → IsCaused old new a → IsReportedBy old new (Reported a)
+pub answer_reported : (old new : Disk) (a : Answer) → IsCaused old new a → IsReportedBy old new (Reported a)
 answer_reported old new a caused = search (arith, nat_tests)
 
 -- where no call is made none fails

@@ -5,4 +5,5 @@ pub mod Taking
 pub mod Tracing
 pub mod Reader
 pub mod Unsaved
+pub mod Saving
 pub mod Laws

@@ -23,6 +23,7 @@ returns-clause-named c = (
   held (IsCache (rows_of (found_of c.args.inner.now))) c.cache_of.result c.in_ok-cache.cache c.cache_of.ensures.named (search rules),
   c.flag_of-trace.ensures,
   c.flag_of-strict.ensures,
+  c.flag_of-saves.ensures,
   held (IsNumberOption (rows_of (found_of c.args.inner.now)) (codes "stop-after")) c.number_of.result c.in_ok-stop_after.stop_after c.number_of.ensures.named
       (search rules),
   given (found_of c.args.inner.now) (codes "IMAGE") c.get_str.result c.in_ok-image.image c.get_str.ensures (search rules),

@@ -1,13 +1,23 @@
 // What a shell says of its commands.
+ghost use Rattle.std.specs.Prelude.{◌≡◌, ◌≢◌, MatchOption};
+ghost use Rattle.std.specs.List.{All, Any};
+ghost use Rattle.shell.specs.Served.{WritesHelp};
+
 use script::Output;
 
-// A word, and what is said of it.
-struct Topic {
-    word: &'static [u8],
-    text: &'static [u8],
+/// A word, and what is said of it.
+pub struct Topic {
+    /// The word that follows `help`, or none.
+    pub word: &'static [u8],
+    /// Lines for a person.
+    pub text: &'static [u8],
 }
 
-const COMMANDS: &[u8] = b"\
+/// The help of `eros shell`.
+pub const TOPICS: &[Topic] = &[
+    Topic {
+        word: b"",
+        text: b"\
 call P R W0 W1 W2 W3 C0 C1 C2 C3    process P invokes the capability in register R, and gets the reply
 return, send                        the same, without a reply
 load P A, store P A V               reads or writes the word at address A of process P
@@ -15,14 +25,11 @@ show O, evict O                     prints object O; lets it leave memory
 checkpoint, stabilize N, commit     freezes the machine, writes N objects to the log, saves
 migrate N, journal O                copies N saved objects home; saves page O alone
 restart, cut                        opens the image again; cuts the power first
-quit                                ends the shell
+quit, exit                          ends the shell
 help WORD                           explains a command, or the orders of number, page, node, space,
                                     discrim, process or bank
-";
-
-const UNKNOWN: &[u8] = b"There is no help on this. Type help for the commands.\n";
-
-const TOPICS: &[Topic] = &[
+",
+    },
     Topic {
         word: b"call",
         text: b"\
@@ -58,7 +65,10 @@ is done; show P prints the result code, the first of its words.
     },
     Topic {
         word: b"checkpoint",
-        text: b"checkpoint: freezes the machine. Then stabilize and commit save it.\n",
+        text: b"\
+checkpoint: freezes the machine. Then stabilize and commit save it, and migrate must copy it home
+before the next checkpoint.
+",
     },
     Topic {
         word: b"stabilize",
@@ -87,6 +97,10 @@ is done; show P prints the result code, the first of its words.
     Topic {
         word: b"quit",
         text: b"quit: ends the shell. What is not committed is lost.\n",
+    },
+    Topic {
+        word: b"exit",
+        text: b"exit: the same as quit.\n",
     },
     Topic {
         word: b"number",
@@ -128,23 +142,26 @@ Orders of a bank: 1 page, 2 node, 3 process, 4 sub-bank (W1 limit), 5 free (C0),
     },
 ];
 
-// What is said of a word.
-fn text_on(word: &[u8]) -> &'static [u8] {
-    for topic in TOPICS {
+// The text of a topic with this word.
+fn text_in<'t>(topics: &'t [Topic], word: &[u8]) -> Option<&'t [u8]>
+    ensures { MatchOption result (All (λ t. t.word.now ≢ word.now) topics.now)
+        (λ text. Any (λ t. (t.word.now ≡ word.now) × (text.now ≡ t.text.now)) topics.now) }
+{
+    for topic in topics {
         if topic.word == word {
-            return topic.text;
+            return Some(topic.text);
         }
     }
-    UNKNOWN
+    None
 }
 
-/// Writes what is said of a word, or of all commands where the word is empty. A text that can't be
-/// written is left out.
-pub(crate) fn help_on<V: Output>(word: &[u8], notes: &mut V) {
-    let text = if word.is_empty() {
-        COMMANDS
-    } else {
-        text_on(word)
+/// Writes what the topics say of a word. A text that can't be written is left out.
+pub(crate) fn help_on<V: Output>(topics: &[Topic], word: &[u8], notes: &mut V)
+    ensures { WritesHelp topics.now word.now (V.written notes.old) (V.written notes.new) }
+{
+    let text = match text_in(topics, word) {
+        Some(text) => text,
+        None => b"There is no help on this. Type help for the commands.\n",
     };
     let _reported = notes.write_fully(text);
 }

@@ -1,0 +1,48 @@
+-- Saving all: the stages of a checkpoint, one after another.
+use Rattle.runs.specs.Names.{ℕ, List, [], Result, Ok, Err, Answer, Command, Disk, Geometry, Machine, Parts, Power, Reported, Stands, Turn, View}
+use Rattle.runs.specs.Names.{Refusal, spelling}
+use Rattle.std.specs.Prelude.{◌≡◌, ◌≢◌, ◌⊎◌, ◌-◌, ◌^◌, ◌∷◌}
+use Rattle.model.specs.declared.answer.Answer.TheVariants as answer
+use Rattle.model.specs.declared.command.Command.TheVariants as command
+use Rattle.runs.specs.KernelRuns.{IsRunOf}
+
+-- as many objects as a command can name
+abbrev pub all_objects : ℕ
+all_objects = 2 ^ 64 - 1
+
+-- a turn is the command, and this its answer, or its refusal
+abbrev pub IsStage : Command → Turn → Result Answer Refusal → Type 0
+IsStage c t (Ok a) = (t.line ≡ spelling c) × (t.reply ≡ Reported a) × ((why : Refusal) → a ≢ answer.Refused why)
+IsStage c t (Err why) = (t.line ≡ spelling c) × (t.reply ≡ Reported (answer.Refused why))
+
+-- the answer to the commit, unless the migration was refused
+abbrev pub after_migration : Answer → Result Answer Refusal → Result Answer Refusal
+after_migration committed (Ok a) = Ok committed
+after_migration committed (Err why) = Err why
+
+-- The parameters are ghost members of a device and of an object store.
+module _ {D S : Type 0} (disk : D → Disk) (view : S → View D) (parts : S → Parts) where
+  -- whichever machine the kernel stands for, a command was carried out by a run of one turn
+  abbrev pub CarriesOut : Power D S → Command → Power D S → Result Answer Refusal → Type 0
+  CarriesOut old c new r = (g : Geometry) (m : Machine) → Stands disk view parts g old m →
+      (t : Turn) × IsRunOf disk view parts g m old new (t ∷ []) × IsStage c t r
+
+  -- commands were carried out in this order, up to the first that was refused; the answer is that of the last
+  abbrev pub CarriesOutAll : Power D S → List Command → Power D S → Result Answer Refusal → Type 0
+  CarriesOutAll old [] new r = ⊥
+  CarriesOutAll old (c ∷ []) new r = CarriesOut old c new r
+  CarriesOutAll old (c ∷ d ∷ cs) new r =
+      ((why : Refusal) × (r ≡ Err why) × CarriesOut old c new (Err why))
+      ⊎ ((next : Power D S) × (a : Answer) × CarriesOut old c next (Ok a) × CarriesOutAll next (d ∷ cs) new r)
+
+  -- what was committed was moved home; or it wasn't committed
+  abbrev pub Moves : Result Answer Refusal → Power D S → Power D S → Result Answer Refusal → Type 0
+  Moves (Ok committed) old new r = (moved : Result Answer Refusal) × CarriesOut old (command.Migrate all_objects) new moved
+      × (r ≡ after_migration committed moved)
+  Moves (Err why) old new r = (new ≡ old) × (r ≡ Err why)
+
+  -- all was saved, with the answer to the commit; or a stage was refused, and none was begun after it
+  abbrev pub Saves : Power D S → Power D S → Result Answer Refusal → Type 0
+  Saves old new r = (next : Power D S) × (committed : Result Answer Refusal)
+      × CarriesOutAll old (command.Checkpoint ∷ command.Stabilize all_objects ∷ command.Commit ∷ []) next committed
+      × Moves committed next new r

@@ -1,0 +1,2 @@
+pub mod ShellLines
+pub mod Words

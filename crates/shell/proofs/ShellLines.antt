@@ -1,0 +1,259 @@
+-- The lines that a shell will read, as bytes are read, and the text that the machine will be given.
+use Rattle.std.proofs.Common.{◌≡◌, ◌≢◌, ◌⊎◌, ◌≤◌, ◌<◌, ◌+◌, ◌∷◌, ◌++◌, ◌==◌, ◌∙◌, ℕ, Bool, true, false, List, [], Option, None, Some, length, take, drop, map, refl}
+use Rattle.std.proofs.Common.{sym, ap, subst, arith, append-nil, append_assoc, ⊎_elim}
+use Rattle.std.proofs.lemmas.Bool.Decides.{nat_tests}
+use Rattle.std.specs.Io.KnownBytes.{Consumes, IsAtEnd}
+use Rattle.std.specs.Prelude.{◌↔◌, IsTrue, option_map}
+use Rattle.std.proofs.Common.{codes, inl, inr, zero, suc}
+use Rattle.std.proofs.lemmas.List.{drop-drop, length-append, length-drop, take-append-drop, take-append-le, take_all}
+use Rattle.std.proofs.lemmas.Bool.{lt-ltb}
+use Rattle.std.specs.Prelude.{Err, Ok, nat_lt, Result, slice_index_or}
+use Rattle.script.specs.declared.fault.RunFault.{RunFault}
+use Rattle.runs.specs.Taking.{ReadsPiece}
+use Rattle.runs.specs.declared.script_pieces.Piece.{Piece}
+use Rattle.runs.specs.declared.script_pieces.Piece.TheVariants as piece
+use Rattle.std.specs.List.{flat_map}
+use Rattle.script.specs.Writing.{Written}
+use Rattle.model.specs.Run.{lines_of, onto_first}
+use Rattle.model.specs.Text.{line_of, spaced}
+use Rattle.shell.specs.Lines.{IsKept, Takes, NoneAhead, before_comment, ends_shell, for_machine, lines_ahead, lines_from, machine_text, read_as, requests_help, words_in}
+use Rattle.shell.specs.Served.{IsServed, Notes, ReadsLine, Serves, is_end, lines_to}
+use Rattle.shell.specs.declared.help.Topic.{Topic}
+use Rattle.shell.specs.declared.input.LineEnd.{LineEnd}
+use Rattle.shell.specs.declared.input.LineEnd.TheVariants as end
+use Rattle.shell.specs.declared.input.Next.{Next}
+use Rattle.shell.specs.declared.input.Next.TheVariants as next
+
+-- one byte more of a line, which isn't its end
+byte_more : (begun rest : List ℕ) (b : ℕ) → b ≢ 10 → lines_from begun (b ∷ rest) ≡ lines_from (begun ++ b ∷ []) rest
+byte_more [] rest b other = let differs : (b == 10) ≡ false = grind (arith, nat_tests) in rw differs refl
+byte_more (c ∷ begun) rest b other = ap (onto_first c) (byte_more begun rest b other)
+
+-- a newline ends the line
+newline : (begun rest : List ℕ) → lines_from begun (10 ∷ rest) ≡ begun ∷ lines_of rest
+newline [] rest = refl
+newline (c ∷ begun) rest = ap (onto_first c) (newline begun rest)
+
+-- the bytes of a line before the lines of what follows
+abbrev joined : List ℕ → List (List ℕ) → List (List ℕ)
+joined begun [] = begun ∷ []
+joined begun (l ∷ ls) = (begun ++ l) ∷ ls
+
+onto_joined : (c : ℕ) (begun : List ℕ) (ls : List (List ℕ)) → onto_first c (joined begun ls) ≡ joined (c ∷ begun) ls
+onto_joined c begun [] = refl
+onto_joined c begun (l ∷ ls) = refl
+
+from_joined : (c : ℕ) (begun rest : List ℕ) → lines_from (c ∷ begun) rest ≡ joined (c ∷ begun) (lines_of rest)
+from_joined c [] rest = onto_first_one (lines_of rest)
+  where
+    onto_first_one : (ls : List (List ℕ)) → onto_first c ls ≡ joined (c ∷ []) ls
+    onto_first_one [] = refl
+    onto_first_one (l ∷ ls) = refl
+from_joined c (d ∷ begun) rest = ap (onto_first c) (from_joined d begun rest) ∙ onto_joined c (d ∷ begun) (lines_of rest)
+
+-- a line of more than 256 bytes is read as its first 257
+read_long : (begun more : List ℕ) → 257 ≤ length begun → read_as (begun ++ more) ≡ take 257 begun
+read_long begun more full =
+    let long : nat_lt 256 (length (begun ++ more)) ≡ true = lt-ltb 256 (length (begun ++ more)) (omega (arith, full, length-append begun more)) in
+    rw long (take-append-le 257 begun more full)
+
+read_begun : (begun : List ℕ) → 257 ≤ length begun → read_as begun ≡ take 257 begun
+read_begun begun full = subst (λ (l : List ℕ). read_as l ≡ take 257 begun) (append-nil begun) (read_long begun [] full)
+
+dropped : (begun : List ℕ) (b : ℕ) (ls : List (List ℕ)) → 257 ≤ length begun →
+    map read_as (joined begun (onto_first b ls)) ≡ map read_as (joined begun ls)
+dropped begun b [] full = ap (λ (l : List ℕ). l ∷ []) (read_long begun (b ∷ []) full ∙ sym (read_begun begun full))
+dropped begun b (l ∷ ls) full =
+    ap (λ (k : List ℕ). k ∷ map read_as ls) (read_long begun (b ∷ l) full ∙ sym (read_long begun l full))
+
+byte_dropped : (begun rest : List ℕ) (b : ℕ) → b ≢ 10 → 257 ≤ length begun → map read_as (lines_from begun (b ∷ rest)) ≡ map read_as (lines_from begun rest)
+byte_dropped [] rest b other full = absurd (omega (arith, full))
+byte_dropped (c ∷ begun) rest b other full =
+    let differs : (b == 10) ≡ false = grind (arith, nat_tests) in
+    ap (map read_as) (from_joined c begun (b ∷ rest)) ∙ rw differs (dropped (c ∷ begun) b (lines_of rest) full) ∙ sym (ap (map read_as) (from_joined c begun rest))
+
+-- at the end of the input what was read is the last line
+at_end : (begun : List ℕ) → lines_from begun [] ≡ lines_to end.Input begun
+at_end [] = refl
+at_end (c ∷ begun) = from_joined c begun []
+
+-- ---- one read
+
+module _ (first : Option (List (List ℕ))) (begun : List ℕ) where
+  -- nothing was read
+  pub none_read : (old new : Option (List ℕ)) → Consumes old new [] → Takes first (lines_ahead begun old) [] → Takes first (lines_ahead begun new) []
+  none_read old new = nothing first old new
+    where
+      nothing : (f : Option (List (List ℕ))) (o n : Option (List ℕ)) → Consumes o n [] → Takes f (lines_ahead begun o) [] → Takes f (lines_ahead begun n) []
+      nothing None o n read takes = tt
+      nothing (Some ls) None n read takes = absurd takes
+      nothing (Some ls) (Some xs) None read takes = absurd read
+      nothing (Some ls) (Some xs) (Some ys) read takes = takes ∙ ap (λ (t : List ℕ). map read_as (lines_from begun t)) read
+
+  -- a byte of the line was read, and kept if it is one of the first
+  pub byte_read : (old new : Option (List ℕ)) (b : ℕ) (after : List ℕ) → b ≢ 10 → IsKept begun b after →
+      Consumes old new (b ∷ []) → Takes first (lines_ahead begun old) [] → Takes first (lines_ahead after new) []
+  byte_read old new b after other is = more first old new
+    where
+      same : (rest : List ℕ) → map read_as (lines_from begun (b ∷ rest)) ≡ map read_as (lines_from after rest)
+      same rest = ⊎_elim
+          (λ fits. ap (map read_as) (byte_more begun rest b other) ∙ ap (λ (l : List ℕ). map read_as (lines_from l rest)) (sym fits.1))
+          (λ full. byte_dropped begun rest b other full.0 ∙ ap (λ (l : List ℕ). map read_as (lines_from l rest)) (sym full.1))
+          is
+
+      more : (f : Option (List (List ℕ))) (o n : Option (List ℕ)) → Consumes o n (b ∷ []) → Takes f (lines_ahead begun o) [] → Takes f (lines_ahead after n) []
+      more None o n read takes = tt
+      more (Some ls) None n read takes = absurd takes
+      more (Some ls) (Some xs) None read takes = absurd read
+      more (Some ls) (Some xs) (Some ys) read takes = takes ∙ ap (λ (t : List ℕ). map read_as (lines_from begun t)) read ∙ same ys
+
+  -- the newline of the line was read
+  pub newline_read : (old new : Option (List ℕ)) → Consumes old new (10 ∷ []) → Takes first (lines_ahead begun old) [] →
+      ReadsLine first new begun end.Newline
+  newline_read old new read takes = (whole first old new read takes, tt)
+    where
+      whole : (f : Option (List (List ℕ))) (o n : Option (List ℕ)) → Consumes o n (10 ∷ []) → Takes f (lines_ahead begun o) [] →
+          Takes f (lines_ahead [] n) (read_as begun ∷ [])
+      whole None o n read takes = tt
+      whole (Some ls) None n read takes = absurd takes
+      whole (Some ls) (Some xs) None read takes = absurd read
+      whole (Some ls) (Some xs) (Some ys) read takes =
+          takes ∙ ap (λ (t : List ℕ). map read_as (lines_from begun t)) read ∙ ap (map read_as) (newline begun ys)
+
+  -- the input is at its end
+  pub end_read : (old new : Option (List ℕ)) → Consumes old new [] × IsAtEnd new → Takes first (lines_ahead begun old) [] →
+      ReadsLine first new begun end.Input
+  end_read old new read takes = (whole first old new read takes, read.1)
+    where
+      whole : (f : Option (List (List ℕ))) (o n : Option (List ℕ)) → Consumes o n [] × IsAtEnd n → Takes f (lines_ahead begun o) [] →
+          Takes f (lines_ahead [] n) (map read_as (lines_to end.Input begun))
+      whole None o n read takes = tt
+      whole (Some ls) None n read takes = absurd takes
+      whole (Some ls) (Some xs) None read takes = absurd read.0
+      whole (Some ls) (Some xs) (Some ys) read takes =
+          takes ∙ ap (λ (t : List ℕ). map read_as (lines_from begun t)) (read.0 ∙ read.1) ∙ ap (map read_as) (at_end begun)
+          ∙ sym (append-nil (map read_as (lines_to end.Input begun)))
+          ∙ ap (λ (t : List ℕ). map read_as (lines_to end.Input begun) ++ map read_as (lines_of t)) (sym read.1)
+
+-- ---- a line that was served
+
+-- the machine's text after a line, as before it
+pub text_served : (topics : List Topic) (prompts : Bool) (old new : Option (List (List ℕ))) (before after : Written) (n : Next) (waiting : List ℕ)
+    (over : Bool) → Serves topics prompts old new before after n waiting over →
+    Consumes (option_map (machine_text false []) old) (option_map (machine_text over waiting) new) []
+text_served topics prompts None new before after n waiting over serves = tt
+text_served topics prompts (Some ls) None before after n waiting over serves = ⊎_elim (λ s. absurd s.1) (λ s. absurd s.0) serves
+text_served topics prompts (Some ls) (Some others) before after n waiting over serves = ⊎_elim
+    (λ s. taken n s.0 s.1 s.2 s.3)
+    (λ s. rw (s.4, s.5) (ap (λ (xs : List (List ℕ)). flat_map line_of (for_machine xs)) s.0))
+    serves
+  where
+    taken : (n : Next) (line : List ℕ) → ls ≡ line ∷ others → IsServed topics line before after n waiting → over ≡ is_end n →
+        flat_map line_of (for_machine ls) ≡ machine_text over waiting others
+    taken next.Line line is served goes = rw (is, served.0, served.1, served.3, goes) refl
+    taken next.Own line is served goes = rw (is, served.0, served.1, served.3, goes) refl
+    taken next.End line is served goes = rw (is, served.0, served.2, goes) refl
+
+-- no text is left where the shell has ended
+pub text_ended : (topics : List Topic) (prompts : Bool) (old new : Option (List (List ℕ))) (before after : Written) (waiting : List ℕ)
+    (over : Bool) → Serves topics prompts old new before after next.End waiting over → IsAtEnd (option_map (machine_text over waiting) new)
+text_ended topics prompts old None before after waiting over serves = tt
+text_ended topics prompts old (Some others) before after waiting over serves = ⊎_elim
+    (λ s. rw (s.2.2, s.3) refl)
+    (λ s. rw (s.4, s.5) (ap (λ (xs : List (List ℕ)). flat_map line_of (for_machine xs)) s.1))
+    serves
+
+-- what was read of a line is served
+pub line_served : (topics : List Topic) (prompts : Bool) (old : Option (List (List ℕ))) (rest : Option (List ℕ)) (before after : Written)
+    (n : Next) (waiting line : List ℕ) (e : LineEnd) (over : Bool) → ReadsLine old rest line e → (e ≡ end.Input → line ≡ [] → ⊥) →
+    IsServed topics (read_as line) before after n waiting → over ≡ is_end n →
+    Serves topics prompts old (lines_ahead [] rest) before after n waiting over
+line_served topics prompts old rest before after n waiting line e over reads some served goes =
+    inl (read_as line, taken e line reads.0 some, served, goes)
+  where
+    taken : (e : LineEnd) (line : List ℕ) → Takes old (lines_ahead [] rest) (map read_as (lines_to e line)) → (e ≡ end.Input → line ≡ [] → ⊥) →
+        Takes old (lines_ahead [] rest) (read_as line ∷ [])
+    taken end.Newline line takes some = takes
+    taken end.Input [] takes some = absurd (some refl refl)
+    taken end.Input (b ∷ bs) takes some = takes
+
+-- how a line is read, by its length
+pub read_whole : (line whole : List ℕ) → 257 ≤ length line → length line ≤ 257 → whole ≡ line → whole ≡ read_as line
+read_whole line whole long short is =
+    let tested : nat_lt 256 (length line) ≡ true = lt-ltb 256 (length line) (omega (arith, long)) in
+    is ∙ sym (rw tested (take_all 257 line short))
+
+pub read_short : (line words : List ℕ) → length line < 257 → words ≡ spaced (words_in (before_comment line)) → words ≡ read_as line
+read_short line words short is =
+    let tested : nat_lt 256 (length line) ≡ false = grind (arith, nat_tests) in
+    is ∙ sym (rw tested refl)
+
+-- the input ended behind a line, or it is none
+pub not_last : (r : Bool) (A B : Type 0) → IsTrue r ↔ (A × B) → r ≡ false → A → B → ⊥
+not_last r A B is none a b = let holds : IsTrue r = is.1 (a, b) in cc
+
+-- there was no line
+none_ahead : (rest : Option (List ℕ)) → IsAtEnd rest → NoneAhead (lines_ahead [] rest)
+none_ahead None ends = tt
+none_ahead (Some xs) ends = ap (λ (t : List ℕ). map read_as (lines_of t)) ends
+
+pub none_served : (topics : List Topic) (prompts : Bool) (old : Option (List (List ℕ))) (rest : Option (List ℕ)) (before after : Written)
+    (n : Next) (waiting line : List ℕ) (e : LineEnd) (over : Bool) → ReadsLine old rest line e → e ≡ end.Input → line ≡ [] → n ≡ next.End →
+    Notes prompts (codes "\n") before after → waiting ≡ [] → over ≡ false → Serves topics prompts old (lines_ahead [] rest) before after n waiting over
+none_served topics prompts old rest before after n waiting line e over reads ended empty is noted none goes =
+    let read = subst (λ (l : List ℕ). ReadsLine old rest l end.Input) empty (subst (ReadsLine old rest line) ended reads) in
+    inr (read.0, none_ahead rest read.1, is, noted, none, goes)
+
+-- ---- bytes that are passed on
+
+pub passed_on : (over : Bool) (waiting left front : List ℕ) (ahead : Option (List (List ℕ))) → waiting ≡ front ++ left →
+    Consumes (option_map (machine_text over waiting) ahead) (option_map (machine_text over left) ahead) front
+passed_on over waiting left front None is = tt
+passed_on true waiting left front (Some ls) is = is
+passed_on false waiting left front (Some ls) is =
+    ap (λ (w : List ℕ). w ++ flat_map line_of (for_machine ls)) is ∙ append_assoc front left (flat_map line_of (for_machine ls))
+
+-- what is left of a line whose front was passed on
+pub passed_more : (items front : List ℕ) (sent n : ℕ) → front ≡ take n (drop sent items) → drop sent items ≡ front ++ drop (sent + n) items
+passed_more items front sent n is =
+    sym (take-append-drop n (drop sent items)) ∙ ap (λ (l : List ℕ). l ++ drop n (drop sent items)) (sym is)
+    ∙ ap (λ (l : List ℕ). front ++ l) (drop-drop n sent items)
+
+-- bytes wait where not all were passed on
+pub some_wait : (items : List ℕ) (sent : ℕ) → sent < length items → drop sent items ≡ [] → ⊥
+some_wait items sent within none = let short : length (drop sent items) ≡ 0 = ap length none in omega (arith, within, short, length-drop sent items)
+
+-- what is read after the end is no text for the machine
+pub read_over : (begun after : List ℕ) (old new : Option (List ℕ)) (bytes waiting : List ℕ) (r : Result Piece RunFault) → ReadsPiece old new bytes r →
+    waiting ≡ [] →
+    Consumes (option_map (machine_text true waiting) (lines_ahead begun old)) (option_map (machine_text true waiting) (lines_ahead after new)) []
+    × IsAtEnd (option_map (machine_text true waiting) (lines_ahead after new))
+read_over begun after None None bytes waiting r reads none = (tt, tt)
+read_over begun after None (Some ys) bytes waiting r reads none = (tt, none)
+read_over begun after (Some xs) None bytes waiting (Ok (piece.Bytes n)) reads none = absurd reads.1
+read_over begun after (Some xs) None bytes waiting (Ok piece.End) reads none = absurd reads.0
+read_over begun after (Some xs) None bytes waiting (Ok piece.Nothing) reads none = absurd reads
+read_over begun after (Some xs) None bytes waiting (Err e) reads none = absurd reads.1
+read_over begun after (Some xs) (Some ys) bytes waiting r reads none = (refl, none)
+
+-- a byte alone
+pub one_byte : (old new : Option (List ℕ)) (bytes : List ℕ) (p : Piece) (b d : ℕ) → ReadsPiece old new bytes (Ok p) → p ≡ piece.Bytes 1 → length bytes ≡ 1 →
+    slice_index_or bytes 0 d ≡ b → Consumes old new (b ∷ [])
+one_byte old new [] p b d reads is one at = absurd (omega (arith, one))
+one_byte old new (x ∷ []) p b d reads is one at =
+    subst (λ (y : ℕ). Consumes old new (y ∷ [])) at (subst (λ (q : Piece). ReadsPiece old new (x ∷ []) (Ok q)) is reads).1
+one_byte old new (x ∷ y ∷ ys) p b d reads is one at = absurd (omega (arith, one))
+
+-- a byte makes a line at most one longer
+pub kept_length : (old new : List ℕ) (b : ℕ) → IsKept old b new → length new ≤ length old + 1
+kept_length old new b is = ⊎_elim
+    (λ fits. omega (arith, ap length fits.1, length-append old (b ∷ [])))
+    (λ full. omega (arith, ap length full.1))
+    is
+
+-- no byte was read of a text
+pub nothing_lost : (over : Bool) (waiting : List ℕ) (old new : Option (List (List ℕ))) → Takes old new [] →
+    Consumes (option_map (machine_text over waiting) old) (option_map (machine_text over waiting) new) []
+nothing_lost over waiting None new takes = tt
+nothing_lost over waiting (Some ls) None takes = absurd takes
+nothing_lost over waiting (Some ls) (Some others) takes = ap (machine_text over waiting) takes
