@@ -112,7 +112,9 @@ module _ (w : ℕ) (x y : List ℕ) (rx : IsRow x) (ry : IsRow y) (len : length 
       let short : length (numbers (body_of x)) ≤ w + 2 = omega (arith, length_numbers (body_of x), length_body x, late, whole) in
       let few = few_differ 2 w (numbers (body_of x)) (numbers (body_of y)) counts
       (number_before w (body_of x) (body_of y) lens (body_near w x y len is))
-      (λ k ge. get_or_past (numbers (body_of x)) k 0 (omega (arith, ge, short)) ∙ sym (get_or_past (numbers (body_of y)) k 0 (omega (arith, ge, short, counts)))) in
+      (λ k ge.
+      get_or_past (numbers (body_of x)) k 0 (omega (arith, ge, short))
+      ∙ sym (get_or_past (numbers (body_of y)) k 0 (omega (arith, ge, short, counts)))) in
       same_rows (body_of x) (body_of y) (are_bytes (body_of x) row_x.bytes) (are_bytes (body_of y) row_y.bytes) row_x.whole lens
       (two_told (numbers (body_of x)) (numbers (body_of y)) counts few bc.0 bc.1)
 
@@ -145,7 +147,8 @@ unfolding sums_of
 zero_sums n =
     let hs : List ℕ = numbers (replicate n 0) in
     let zeros : (k : ℕ) → get_or hs k 0 ≡ 0 = number_zero n in
-    same_sums (sums_of (replicate n 0)) (record { a = 0; b = 0; c = 0 }) (weighted_zero one hs zeros) (weighted_zero place hs zeros) (weighted_zero triangle hs zeros)
+    same_sums (sums_of (replicate n 0)) (record { a = 0; b = 0; c = 0 }) (weighted_zero one hs zeros) (weighted_zero place hs zeros)
+    (weighted_zero triangle hs zeros)
 
 zeros_from : (n : ℕ) → 24 ≤ n → drop (n - 24) (replicate n 0) ≡ sums_bytes (sums_of (take (n - 24) (replicate n 0)))
 zeros_from n room =

@@ -13,7 +13,7 @@ pub const SUMS_BYTES: usize = 24;
 pub struct Sums {
     /// The sum of the row's numbers of 4 bytes.
     pub a: u64,
-    /// Their sum, each times its place k. The last has place 1.
+    /// Their sum, each times its place k, counted from the end: the last has place 1.
     pub b: u64,
     /// Their sum, each times k (k + 1) / 2.
     pub c: u64,
