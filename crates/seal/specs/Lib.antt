@@ -1,0 +1,4 @@
+pub mod Sums
+pub mod Seal
+pub mod Damage
+pub mod Laws

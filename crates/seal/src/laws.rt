@@ -1,0 +1,19 @@
+// Laws of sums and seals, stated by functions that do nothing.
+ghost use Rattle.seal.specs.Laws.{BodiesDecideSeals, BurstsBreakSeals, BurstsChangeSums, FewChangesChangeSums, SumsFit};
+ghost use Rattle.seal.specs.Laws.{ZerosAreSealed};
+
+/// A change of at most three numbers of 4 bytes changes the sums of a row, and so does a burst of at most 64 bits. A
+/// sealed row with such a burst, also in its seal, isn't sealed. It does nothing: its contract is the law.
+pub fn damage_is_seen()
+    ensures numbers { FewChangesChangeSums }
+    ensures burst { BurstsChangeSums }
+    ensures sealed { BurstsBreakSeals }
+{}
+
+/// The sums of a row are below 2^60. A row of zeros is sealed. Sealed rows with the same body are the same. It does
+/// nothing: its contract is the law.
+pub fn seals_are_sums()
+    ensures size { SumsFit }
+    ensures zeros { ZerosAreSealed }
+    ensures body { BodiesDecideSeals }
+{}
