@@ -2,7 +2,8 @@
 use Rattle.command_line.proofs.Names.{nat_tests, arith, ap, subst, sym, Bool, false, Option, Some, None, List, codes, map, option_map, Bor, IfSome, unwrap_or}
 use Rattle.command_line.proofs.Names.{bytes_eq, bytes_eq-Decides, Row, Text, all_of, first_of, first_value, matched_of, raw_values, rows_of, subcommand_name_of}
 use Rattle.command_line.proofs.Names.{subcommand_rows, subcommand_rows_of, ArgMatches, out-ArgMatches, Found, first_value-rows, raw_values-rows, IsFlag}
-use Rattle.command_line.proofs.Names.{IsGiven}
+use Rattle.command_line.proofs.Names.{IsGiven, All, IsUnsignedIn, greatest_number, inl, number_of, ℕ, Result, Ok, Err, Vec, IfOk, IsNone, Global, AllocError}
+use Rattle.command_line.proofs.Names.{AreNumbersIfAny, GivesNoNumbers}
 use Rattle.std.proofs.Common.{◌≡◌, ◌∙◌}
 
 -- the subcommand that was met is that of its name and its rows
@@ -39,3 +40,16 @@ flagged rows id word b given e = grind (arith, nat_tests, bytes_eq-Decides)
 
 pub unflagged : (rows : List Row) (id : Text) → first_of id rows ≡ None → IsFlag rows id false
 unflagged rows id none = λ set. let bad : None ≡ Some (codes "true") = sym none ∙ set in cc
+
+-- numbers that were given, or a word that is none
+pub numbers_given : (rows : List Row) (name : Text) (words : List Text) (r : Result (Option (Vec ℕ Global)) AllocError) → all_of name rows ≡ Some words
+    → IfOk r (λ o. IfSome o (λ numbers. (numbers.items ≡ map number_of words) × All (IsUnsignedIn 0 greatest_number) words))
+    → IfOk r (λ o. IfSome o (λ numbers. AreNumbersIfAny rows name numbers.items))
+numbers_given rows name words (Ok (Some numbers)) given is = inl (words, given, is.1, is.0)
+numbers_given rows name words (Ok None) given is = tt
+numbers_given rows name words (Err e) given is = tt
+
+pub numbers_not_given : (rows : List Row) (name : Text) (words : List Text) (r : Result (Option (Vec ℕ Global)) AllocError) → all_of name rows ≡ Some words
+    → IfOk r (λ o. IsNone o → All (IsUnsignedIn 0 greatest_number) words → ⊥) → IfOk r (λ o. IsNone o → GivesNoNumbers rows name)
+numbers_not_given rows name words (Ok o) given bad = λ none. (words, given, bad none)
+numbers_not_given rows name words (Err e) given bad = tt

@@ -27,8 +27,8 @@ pub use Rattle.clap.specs.declared.parser.matches.ArgMatches.{ArgMatches}
 pub use Rattle.clap.specs.declared.parser.matches.ArgMatches.TheViews.{out-ArgMatches}
 pub use Rattle.clap.specs.declared.parser.matches.Found.{Found}
 pub use Rattle.clap.specs.declared.parser.matches.ValueSource.{ValueSource}
-pub use Rattle.std.proofs.Common.{Bool, IfOk, IsNone, List, None, Option, Some, [], add-one, ap, ap₂, arith, codes, drop, false, get_or, inl, inr, is_some}
-pub use Rattle.std.proofs.Common.{length, map, not, option_map, refl, rules, subst, suc, sym, take, true, true≢false, zero, ℕ}
+pub use Rattle.std.proofs.Common.{Bool, Err, IfOk, IsNone, List, None, Ok, Option, Result, Some, Vec, [], add-one, ap, ap₂, arith, codes, drop, false, get_or}
+pub use Rattle.std.proofs.Common.{inl, inr, is_some, length, map, not, option_map, refl, rules, subst, suc, sym, take, true, true≢false, zero, ℕ}
 pub use Rattle.std.proofs.Math.Seq.{take-length, take-suc}
 pub use Rattle.std.proofs.lemmas.Bool.{eqb-true, leb-true, lt-ltb}
 pub use Rattle.std.proofs.lemmas.Bool.Decides.{nat_tests}
@@ -43,15 +43,16 @@ pub use Rattle.std.specs.List.{All, list_all, list_any, slice_index_or}
 pub use Rattle.std.specs.Option.{option_map_or}
 pub use Rattle.std.specs.Prelude.{IfSome, cond, find, fold, nat_le, nat_lt, option_and_then, slice_get, unwrap_or, ⊤}
 pub use Rattle.std.specs.Str.{bytes_eq}
-pub use Rattle.command_line.specs.Arguments.{GivesNoNumber, IsFlag, IsGiven, IsNumber, IsNumberOption, has_all, is_filled, is_whole, number_of}
-pub use Rattle.command_line.specs.Arguments.{subcommand_named, texts_of}
+pub use Rattle.std.specs.declared.alloc.AllocError.{AllocError}
+pub use Rattle.std.specs.declared.alloc.Global.{Global}
+pub use Rattle.command_line.specs.Arguments.{AreNumbersIfAny, GivesNoNumber, GivesNoNumbers, IsFlag, IsGiven, IsNumber, IsNumberOption, has_all, is_filled}
+pub use Rattle.command_line.specs.Arguments.{is_whole, number_of, subcommand_named, texts_of}
 pub use Rattle.command_line.specs.Commands.{IsCommand, argument_rule, bare_app, eros_app, greatest_number, subcommand_app, subcommand_name, subcommands}
 pub use Rattle.command_line.specs.Commands.{with_rules, with_subcommands}
-pub use Rattle.command_line.specs.Jobs.{AreSizes, IsCache, IsNoJob, IsSameTwice, IsLine, NamesLine, NamesNone}
+pub use Rattle.command_line.specs.Jobs.{AreSizes, IsCache, IsNoJob, IsSameTwice, NamesLine, NamesNone}
 pub use Rattle.command_line.specs.Refusals.{AsksForSame, IsFaultOf, IsRefused}
 unfoldable pub use Rattle.command_line.specs.Refusals.{Explains}
 pub use Rattle.command_line.specs.declared.fault.JobFault.{JobFault}
 pub use Rattle.command_line.specs.declared.requested.CommandLine.{CommandLine}
-pub use Rattle.command_line.specs.declared.requested.Job.{Job}
 pub use Rattle.command_line.specs.declared.subcommands.Argument.{Argument}
 pub use Rattle.command_line.specs.declared.subcommands.Subcommand.{Subcommand}

@@ -1,5 +1,6 @@
 -- What the rows of a subcommand say of its arguments.
-use Rattle.std.specs.Prelude.{◌≡◌, ◌⊎◌, ◌&&◌, ℕ, Bool, true, false, not, nat_lt, List, [], Option, Some, None, length, find}
+use Rattle.std.specs.Prelude.{◌≡◌, ◌⊎◌, ◌&&◌, ℕ, Bool, true, false, not, nat_lt, List, [], Option, Some, None, length}
+use Rattle.std.specs.Prelude.{find}
 use Rattle.std.specs.Prelude.{codes, map}
 use Rattle.std.specs.List.{All, list_all}
 use Rattle.std.specs.Borrow.{Bor}
@@ -49,6 +50,11 @@ AreNumbers rows name numbers = (words : List Text) × (all_of name rows ≡ Some
 -- the argument was given these numbers, in this order, or was left out and there are none
 abbrev pub AreNumbersIfAny : List Row → Text → List ℕ → Type 0
 AreNumbersIfAny rows name numbers = AreNumbers rows name numbers ⊎ ((all_of name rows ≡ None) × (numbers ≡ []))
+
+-- the argument was given a word that writes no number
+abbrev pub GivesNoNumbers : List Row → Text → Type 0
+GivesNoNumbers rows name = (words : List Text) × (all_of name rows ≡ Some words)
+    × (All (IsUnsignedIn 0 greatest_number) words → ⊥)
 
 -- the flag is given, or left out
 abbrev pub IsFlag : List Row → Text → Bool → Type 0

@@ -1,7 +1,7 @@
 -- The command of `eros`, as a parse reads it.
 use Rattle.std.specs.Prelude.{◌≡◌, ℕ, List, [], ◌∷◌, Some, true, false, codes}
 use Rattle.clap.specs.Words.{App, Rule, Text, app_of, new_app, new_rule, with_rule, with_subcommand}
-use Rattle.clap.specs.declared.builder.action.ArgAction.TheVariants.{SetTrue}
+use Rattle.clap.specs.declared.builder.action.ArgAction.TheVariants.{Append, SetTrue}
 use Rattle.clap.specs.declared.builder.command.Command.{Command}
 use Rattle.clap.specs.declared.builder.command.Command.TheViews.{out-Command}
 use Rattle.clap.specs.declared.builder.value_parser.ValueParser.TheVariants.{Unsigned}
@@ -31,6 +31,10 @@ cache_rule = option_rule (codes "cache") 8 8192
 abbrev pub number_rule : Text → Rule
 number_rule name = option_rule name 0 greatest_number
 
+-- --NAME VALUE, any number, which may be given several times or left out
+abbrev pub numbers_rule : Text → Rule
+numbers_rule name = record (number_rule name) { action = Some Append }
+
 -- P [P ..], numbers, which may be left out
 abbrev pub processes_rule : Rule
 processes_rule = record (new_rule (codes "P")) {
@@ -52,6 +56,7 @@ argument_rule (argument.File name help) = file_rule name.now
 argument_rule argument.Cache = cache_rule
 argument_rule argument.Processes = processes_rule
 argument_rule (argument.Number name value help) = number_rule name.now
+argument_rule (argument.Numbers name value help) = numbers_rule name.now
 argument_rule (argument.Flag name help) = flag_rule name.now
 
 -- the word that names a subcommand
@@ -78,7 +83,7 @@ rules_of sub.Check = file_rule (codes "IMAGE") ∷ cause_rule ∷ []
 rules_of sub.Explain = file_rule (codes "FILE") ∷ cause_rule ∷ []
 rules_of sub.Info = file_rule (codes "IMAGE") ∷ cause_rule ∷ []
 rules_of sub.Reach = file_rule (codes "IMAGE") ∷ processes_rule ∷ number_rule (codes "shows") ∷ number_rule (codes "to")
-    ∷ cause_rule ∷ []
+    ∷ numbers_rule (codes "trust") ∷ cause_rule ∷ []
 rules_of sub.Upgrade = file_rule (codes "OLD") ∷ file_rule (codes "NEW") ∷ cause_rule ∷ []
 rules_of sub.Describe = file_rule (codes "IMAGE") ∷ number_rule (codes "nodes") ∷ number_rule (codes "pages")
     ∷ number_rule (codes "log") ∷ cause_rule ∷ []

@@ -37,9 +37,9 @@ IsJob name rows (job.Shell image cache) = (name ≡ codes "shell") × IsCache ro
 IsJob name rows (job.Check image) = (name ≡ codes "check") × IsGiven rows (codes "IMAGE") image.now
 IsJob name rows (job.Explain file) = (name ≡ codes "explain") × IsGiven rows (codes "FILE") file.now
 IsJob name rows (job.Info image) = (name ≡ codes "info") × IsGiven rows (codes "IMAGE") image.now
-IsJob name rows (job.Reach image processes shows to) = (name ≡ codes "reach") × IsGiven rows (codes "IMAGE") image.now
+IsJob name rows (job.Reach image processes shows to trusted) = (name ≡ codes "reach") × IsGiven rows (codes "IMAGE") image.now
     × AreNumbersIfAny rows (codes "P") processes.items × IsNumberOption rows (codes "shows") shows
-    × IsNumberOption rows (codes "to") to
+    × IsNumberOption rows (codes "to") to × AreNumbersIfAny rows (codes "trust") trusted.items
 IsJob name rows (job.Upgrade old new) = (name ≡ codes "upgrade")
     × IsGiven rows (codes "OLD") old.now × IsGiven rows (codes "NEW") new.now × (old.now ≢ new.now)
 IsJob name rows (job.Describe image sizes) = (name ≡ codes "describe") × IsGiven rows (codes "IMAGE") image.now ×

@@ -2,7 +2,8 @@
 ghost use Rattle.std.specs.Prelude.{◌≡◌, IfSome, IsNone, IfOk, Some, codes, map};
 ghost use Rattle.std.specs.List.{All};
 ghost use Rattle.clap.specs.Words.{IsUnsignedIn, found_of, rows_of};
-ghost use Rattle.command_line.specs.Arguments.{GivesNoNumber, IsFlag, IsNumber, IsOption, number_of, texts_of};
+ghost use Rattle.command_line.specs.Arguments.{AreNumbersIfAny, GivesNoNumber, GivesNoNumbers, IsFlag};
+ghost use Rattle.command_line.specs.Arguments.{IsNumber, IsOption, number_of, texts_of};
 ghost use Rattle.command_line.specs.Commands.{greatest_number};
 
 use clap::ArgMatches;
@@ -55,6 +56,23 @@ pub(crate) fn numbers_in(alloc: Global, words: &[&str]) -> Result<Option<Vec<u64
         }
     }
     Ok(Some(numbers))
+}
+
+// The numbers that an argument was given, in their order, none where it is left out; or `None` where one of its
+// words writes none. Fails where memory runs out.
+pub(crate) fn numbers_of(
+    alloc: Global,
+    inner: &ArgMatches<'_>,
+    name: &str,
+) -> Result<Option<Vec<u64>>, AllocError>
+    ensures named { IfOk result (λ o. IfSome o (λ numbers.
+        AreNumbersIfAny (rows_of (found_of inner.now)) name.now numbers.items)) }
+    ensures none { IfOk result (λ o. IsNone o → GivesNoNumbers (rows_of (found_of inner.now)) name.now) }
+{
+    match inner.get_raw(name) {
+        Some(words) => numbers_in(alloc, words),
+        None => Ok(Some(Vec::new(alloc))),
+    }
 }
 
 // Whether a flag is given.

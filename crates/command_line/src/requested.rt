@@ -7,10 +7,10 @@ ghost use Rattle.command_line.specs.Commands.{IsCommand, eros_app, greatest_numb
 ghost use Rattle.command_line.specs.Jobs.{AreSizes, IsCache, IsJob, IsLine, IsNoJob, IsScript, NamesLine, NamesNone};
 ghost use Rattle.command_line.specs.Refusals.{Explains};
 
-use crate::arguments::{flag_of, numbers_in, option_of};
+use crate::arguments::{flag_of, numbers_of, option_of};
 use crate::subcommands::{
     CACHE, DESCRIPTION, FILE, FROM, IMAGE, LOG, NEW, NEW_ONLY, NODES, OLD, PAGES, PROCESS, SAVE,
-    SCRIPT, SHOWS, STOP_AFTER, STRICT, Subcommand, TO, TRACE, VERBOSE,
+    SCRIPT, SHOWS, STOP_AFTER, STRICT, Subcommand, TO, TRACE, TRUST, VERBOSE,
 };
 use clap::error::ErrorKind;
 use clap::{ArgMatches, Command, Error};
@@ -91,6 +91,8 @@ pub enum Job<'a> {
         shows: Option<u64>,
         /// The object of which it is shown which processes can change it.
         to: Option<u64>,
+        /// The processes that are trusted, in the order of the words.
+        trusted: Vec<u64>,
     },
     /// Writes what an image saves to a new image, of version 2 of the layout. The two names differ.
     Upgrade {
@@ -231,11 +233,11 @@ fn info_of<'a>(inner: &ArgMatches<'a>) -> Option<Job<'a>>
     Some(Job::Info { image })
 }
 
-// The analysis of these processes that the matches name, or `None` where the image is missing or an option
+// The analysis of these processes, with these trusted, that the matches name, or `None` where the image is missing or an option
 // gives no number.
-fn reach_from<'a>(inner: &ArgMatches<'a>, processes: Vec<u64>) -> Option<Job<'a>>
+fn reach_from<'a>(inner: &ArgMatches<'a>, processes: Vec<u64>, trusted: Vec<u64>) -> Option<Job<'a>>
     ensures named { AreNumbersIfAny (rows_of (found_of inner.now)) (codes "P") processes.items
-        → IfSome result (IsJob (codes "reach") (rows_of (found_of inner.now))) }
+        → AreNumbersIfAny (rows_of (found_of inner.now)) (codes "trust") trusted.items → IfSome result (IsJob (codes "reach") (rows_of (found_of inner.now))) }
     ensures none { IsNone result → IsNoJob (codes "reach") (rows_of (found_of inner.now)) }
 {
     let image = inner.get_str(IMAGE)?;
@@ -246,7 +248,25 @@ fn reach_from<'a>(inner: &ArgMatches<'a>, processes: Vec<u64>) -> Option<Job<'a>
         processes,
         shows,
         to,
+        trusted,
     })
+}
+
+// The analysis of these processes that the matches name, or `None` where the image is missing or a word writes
+// no number. Fails where memory runs out.
+fn reach_with<'a>(
+    alloc: Global,
+    inner: &ArgMatches<'a>,
+    processes: Vec<u64>,
+) -> Result<Option<Job<'a>>, AllocError>
+    ensures named { AreNumbersIfAny (rows_of (found_of inner.now)) (codes "P") processes.items
+        → IfOk result (λ o. IfSome o (IsJob (codes "reach") (rows_of (found_of inner.now)))) }
+    ensures none { IfOk result (λ o. IsNone o → IsNoJob (codes "reach") (rows_of (found_of inner.now))) }
+{
+    match numbers_of(alloc, inner, TRUST)? {
+        Some(trusted) => Ok(reach_from(inner, processes, trusted)),
+        None => Ok(None),
+    }
 }
 
 // The analysis that the matches name, or `None` where the image is missing or a word writes no number. Fails where
@@ -255,12 +275,9 @@ fn reach_of<'a>(alloc: Global, inner: &ArgMatches<'a>) -> Result<Option<Job<'a>>
     ensures named { IfOk result (λ o. IfSome o (IsJob (codes "reach") (rows_of (found_of inner.now)))) }
     ensures none { IfOk result (λ o. IsNone o → IsNoJob (codes "reach") (rows_of (found_of inner.now))) }
 {
-    match inner.get_raw(PROCESS) {
-        Some(words) => match numbers_in(alloc, words)? {
-            Some(processes) => Ok(reach_from(inner, processes)),
-            None => Ok(None),
-        },
-        None => Ok(reach_from(inner, Vec::new(alloc))),
+    match numbers_of(alloc, inner, PROCESS)? {
+        Some(processes) => reach_with(alloc, inner, processes),
+        None => Ok(None),
     }
 }
 

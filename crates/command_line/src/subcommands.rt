@@ -2,7 +2,8 @@
 ghost use Rattle.std.specs.Prelude.{◌≡◌, ◌≢◌, IfOk, MatchOption, false, map};
 ghost use Rattle.std.specs.List.{All};
 ghost use Rattle.clap.specs.Words.{new_app, rule_of};
-ghost use Rattle.command_line.specs.Commands.{IsCommand, argument_rule, bare_app, eros_app, option_rule};
+ghost use Rattle.command_line.specs.Commands.{IsCommand, argument_rule, bare_app, eros_app, numbers_rule};
+ghost use Rattle.command_line.specs.Commands.{option_rule};
 ghost use Rattle.command_line.specs.Commands.{processes_rule, rules_of, subcommand_app, subcommand_name, subcommands};
 ghost use Rattle.command_line.specs.Commands.{with_rules, with_subcommands};
 
@@ -49,6 +50,8 @@ pub(crate) const FROM: &str = "from";
 
 pub(crate) const TO: &str = "to";
 
+pub(crate) const TRUST: &str = "trust";
+
 pub(crate) const STOP_AFTER: &str = "stop-after";
 
 /// What `eros --version` prints behind the name.
@@ -65,6 +68,9 @@ enum Argument<'a> {
     Processes,
     /// An option that gives a number, which may be left out: its name, the name of the number, and its help.
     Number(&'a str, &'a str, &'a str),
+    /// An option that gives a number and may be given several times: its name, the name of the number, and its
+    /// help.
+    Numbers(&'a str, &'a str, &'a str),
     /// An option that gives no value, and may be left out: its name and its help.
     Flag(&'a str, &'a str),
 }
@@ -87,6 +93,14 @@ fn number_arg<'a>(
         .value_name(value)
         .value_parser(numbers)
         .help(help)
+}
+
+// An option that gives a number and may be given several times.
+fn numbers_arg<'a>(alloc: Global, name: &'a str, value: &'a str, help: &'a str) -> Arg<'a>
+    ensures rule { rule_of result ≡ numbers_rule name.now }
+    ensures local { result.global ≡ false }
+{
+    number_arg(alloc, name, value, help, 0, u64::MAX).action(ArgAction::Append)
 }
 
 // The processes of `reach`, which may be left out.
@@ -117,6 +131,7 @@ impl<'a> Argument<'a> {
             Argument::Number(name, value, help) => {
                 number_arg(alloc, name, value, help, 0, u64::MAX)
             }
+            Argument::Numbers(name, value, help) => numbers_arg(alloc, name, value, help),
             Argument::Flag(name, help) => Arg::new(alloc, name)
                 .long(name)
                 .action(ArgAction::SetTrue)
@@ -197,6 +212,11 @@ const REACH: &[Argument<'static>] = &[
         TO,
         "O",
         "Prints which of the processes can ever change object O, as --to 7",
+    ),
+    Argument::Numbers(
+        TRUST,
+        "S",
+        "Trusts process S: leaves out what is reached only by starting it, as --trust 5; repeatable",
     ),
     CAUSE,
 ];

@@ -66,14 +66,14 @@ pub use Rattle.recovery.specs.Denotes.{saved_of}
 pub use Rattle.recovery.specs.Recovered.{Recovers, RefusesToOpen}
 pub use Rattle.recovery.specs.declared.live.Live.{Live}
 pub use Rattle.script.specs.Writing.{Written, Wrote, WroteFront}
-pub use Rattle.std.proofs.Common.{Err, Global, IfOk, List, Ok, Result, Some, String, [], ap, arith, codes, cond, drop, length, map, refl, string_bytes, subst}
-pub use Rattle.std.proofs.Common.{suc, sym, take, ℕ}
+pub use Rattle.std.proofs.Common.{Err, Global, IfOk, List, None, Ok, Option, Result, Some, String, [], ap, arith, codes, cond, drop, inr, length, map, refl}
+pub use Rattle.std.proofs.Common.{string_bytes, subst, suc, sym, take, ℕ}
 pub use Rattle.std.proofs.lemmas.Bool.Decides.{nat_tests}
 pub use Rattle.std.proofs.lemmas.List.{get_or_default}
 pub use Rattle.std.proofs.lemmas.Option.{none-some, same_Some}
 pub use Rattle.std.proofs.lemmas.Result.{IfOk-weaker, err_from_is_err_and}
-pub use Rattle.std.specs.List.{Contains, fold}
-pub use Rattle.std.specs.Prelude.{IsTrue, Vec, false, slice_index_or}
+pub use Rattle.std.specs.List.{Contains, find, fold}
+pub use Rattle.std.specs.Prelude.{IfSome, IsTrue, Vec, false, not, slice_index_or}
 pub use Rattle.toml.specs.Data.{Members}
 pub use Rattle.toml.specs.View.{table_view}
 pub use Rattle.queries.specs.Drawing.{DrawsImage, DrawsPart, IsFocus, IsHeldTo, KeepsPart, KeepsReached}
@@ -82,7 +82,7 @@ pub use Rattle.queries.specs.Growing.{IsGrownFrom, TellsDescription, TellsGrown,
 pub use Rattle.queries.specs.Images.{DescribesImage, IsDescribedIn, IsDescriptionOf, ReadsSaved, TellsWhole}
 pub use Rattle.queries.specs.Info.{InspectsImage, headers_with, info_line, info_lines, info_text, lines_with, objects_with, range_line}
 pub use Rattle.queries.specs.Laws.{DescribedIsAccepted, DescribedIsDenoted, GrownIsDenoted, UnsizedIsWhole}
-pub use Rattle.queries.specs.Reaching.{AreProcesses, AreStarts, IsChainText, IsChangersText, IsSetText, ReachesImage, TellsOf, TellsReach}
+pub use Rattle.queries.specs.Reaching.{AreProcesses, AreStarts, IsChainText, IsChangersText, IsFirstMissing, IsSetText, ReachesImage, TellsOf, TellsReach}
 pub use Rattle.queries.specs.declared.drawing.Focus.{Focus}
 pub use Rattle.queries.specs.declared.info.InfoLine.{InfoLine}
 pub use Rattle.queries.specs.declared.reaching.ReachQuestion.{ReachQuestion}

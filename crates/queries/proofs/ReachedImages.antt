@@ -1,17 +1,17 @@
 -- What the command says of the objects that processes can ever change.
 use Rattle.queries.proofs.Names.{Written, ℕ, List, Result, Err, sym, subst, Object, objects_of, Disk, SavedState, AreSoundObjects, Fault, ReachesImage}
 use Rattle.queries.proofs.Names.{ReadsSaved, TellsReach, ReachQuestion, AreProcesses, AreStarts, TellsOf, is_process, Contains, slice_index_or, IsTrue, []}
-use Rattle.queries.proofs.Names.{refl, length, false, get_or_default}
+use Rattle.queries.proofs.Names.{refl, length, false, get_or_default, find, IfSome, not, Option, None, Some, inr, IsFirstMissing}
 use Rattle.std.specs.Prelude.{◌==◌}
 use Rattle.std.proofs.Common.{◌≡◌, ◌↔◌, ◌∷◌}
 use Rattle.jobs.specs.declared.fault.Fault.TheVariants as fault
 
 -- what is told of the processes that a question is about
-pub tells_of_starts : (os : List Object) (named starts : List ℕ) (q : ReachQuestion) (output output_left : Written) → AreStarts os named starts
-    → (outcome : Result (Unit {0}) Fault) → TellsOf os starts q output output_left outcome → TellsReach os named q output output_left outcome
-tells_of_starts os named starts q output output_left are (Err (fault.NoProcess p)) tells = absurd tells
-tells_of_starts os named starts q output output_left are (Err fault.NoMemory) tells = tells
-tells_of_starts os named starts q output output_left are outcome tells = (starts, are, tells)
+pub tells_of_starts : (os : List Object) (named starts trusted : List ℕ) (q : ReachQuestion) (output output_left : Written) → AreStarts os named starts
+    → (outcome : Result (Unit {0}) Fault) → TellsOf os starts trusted q output output_left outcome → TellsReach os named trusted q output output_left outcome
+tells_of_starts os named starts trusted q output output_left are (Err (fault.NoProcess p)) tells = absurd tells
+tells_of_starts os named starts trusted q output output_left are (Err fault.NoMemory) tells = tells
+tells_of_starts os named starts trusted q output output_left are outcome tells = (starts, are, tells)
 
 -- all that are listed are processes
 pub listed_processes : (os : List Object) (all : List ℕ) → ((n : ℕ) → Contains all n ↔ IsTrue (is_process os n)) → AreProcesses os all
@@ -22,14 +22,20 @@ pub named_starts : (os : List Object) (named : List ℕ) → (length named == 0)
 named_starts os [] some are = absurd (cc)
 named_starts os (p ∷ ps) some are = (refl, are)
 
+-- if all that are named are processes, the first that is missing is one of those trusted
+pub missing_trusted : (os : List Object) (named trusted : List ℕ) (r : Option ℕ) → r ≡ find (λ n. not (is_process os n)) trusted → AreProcesses os named →
+    IfSome r (IsFirstMissing os named trusted)
+missing_trusted os named trusted None is all = tt
+missing_trusted os named trusted (Some p) is all = inr (all, sym is)
+
 module _ {D : Type 0} {disk : D → Disk} {device back : D} {s : SavedState} (reads : ReadsSaved disk device back s) (objects : List Object)
     (are : objects ≡ objects_of s.frames) where
   -- they are sound
   pub objects_sound : AreSoundObjects objects
   objects_sound = subst AreSoundObjects (sym are) (s.plan.geometry, s.header.age, reads.sound.sound)
 
-  pub reaches_image : (named : List ℕ) (q : ReachQuestion) (output output_left : Written) (outcome : Result (Unit {0}) Fault) →
-      TellsReach objects named q output output_left outcome → ReachesImage disk named q device back output output_left outcome
-  reaches_image named q output output_left (Err (fault.Open why)) tells = absurd tells.2
-  reaches_image named q output output_left outcome tells =
-      (s, reads, subst (λ (os : List Object). TellsReach os named q output output_left outcome) are tells)
+  pub reaches_image : (named trusted : List ℕ) (q : ReachQuestion) (output output_left : Written) (outcome : Result (Unit {0}) Fault) →
+      TellsReach objects named trusted q output output_left outcome → ReachesImage disk named trusted q device back output output_left outcome
+  reaches_image named trusted q output output_left (Err (fault.Open why)) tells = absurd tells.2
+  reaches_image named trusted q output output_left outcome tells =
+      (s, reads, subst (λ (os : List Object). TellsReach os named trusted q output output_left outcome) are tells)

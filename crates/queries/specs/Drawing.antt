@@ -1,7 +1,7 @@
 -- What the command that draws says of an image.
 use Rattle.queries.specs.Names.{Written, Wrote, ℕ, Bool, true, false, Option, None, Some, List, [], Result, Ok, Err}
 use Rattle.queries.specs.Names.{Object, objects_of, is_process, Disk, WroteFront, Description, boxes, graph_text}
-use Rattle.queries.specs.Names.{IsPart, holders, is_listed, IsReach, Fault}
+use Rattle.queries.specs.Names.{IsPart, holders, is_listed, is_member, IsReach, Fault}
 use Rattle.std.specs.Prelude.{◌≡◌, ◌∷◌}
 use Rattle.queries.specs.declared.drawing.Focus.{Focus}
 use Rattle.jobs.specs.declared.fault.Fault.TheVariants as fault
@@ -16,7 +16,7 @@ IsHeldTo (Some o) d e = (is_listed o (boxes d) ≡ true) × (inside : ℕ → Bo
 -- and to what a process reaches, if one is named
 abbrev pub IsReachedFrom : List Object → Option ℕ → Description → Description → Type 0
 IsReachedFrom os None d e = e ≡ d
-IsReachedFrom os (Some p) d e = (is_process os p ≡ true) × (inside : ℕ → Bool) × IsReach os (p ∷ []) inside × IsPart
+IsReachedFrom os (Some p) d e = (is_process os p ≡ true) × (inside : ℕ → Bool) × IsReach os (is_member []) (p ∷ []) inside × IsPart
     inside d e
 
 -- to both

@@ -34,6 +34,7 @@ unfoldable pub use Rattle.model.specs.Frame.{objects_of}
 pub use Rattle.model.specs.Keepable.{IsSoundFrames, world_at}
 pub use Rattle.model.specs.Machine.{Saved}
 pub use Rattle.model.specs.Object.{is_free, role_number, role_of}
+pub use Rattle.model.specs.Revoke.{is_member}
 pub use Rattle.model.specs.Text.{line_of, spaced}
 pub use Rattle.model.specs.World.{World, content_at, is_process}
 pub use Rattle.model.specs.declared.frame.Frame.{Frame}

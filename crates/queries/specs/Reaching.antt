@@ -2,8 +2,8 @@
 use Rattle.queries.specs.Names.{Written, ℕ, Bool, not, Option, None, Some, List, Vec, Result, Ok, Err, IsTrue, is_some}
 use Rattle.queries.specs.Names.{Wrote, WroteFront, All, find, Global, is_marked, Object, objects_of, is_process, Disk}
 use Rattle.queries.specs.Names.{Step, IsShortestIfAny, chain_text, reach_text, BoundsRuns, IsReach, true, false}
-use Rattle.queries.specs.Names.{is_free, content_at, Fault, changers_text, AreChangers, Contains, []}
-use Rattle.std.specs.Prelude.{◌≡◌, ◌↔◌, ◌∷◌}
+use Rattle.queries.specs.Names.{is_free, content_at, Fault, changers_text, AreChangers, Contains, [], is_member}
+use Rattle.std.specs.Prelude.{◌≡◌, ◌⊎◌, ◌↔◌, ◌∷◌}
 use Rattle.queries.specs.declared.reaching.ReachQuestion.{ReachQuestion}
 use Rattle.queries.specs.declared.reaching.ReachQuestion.TheVariants as question
 use Rattle.jobs.specs.declared.fault.Fault.TheVariants as fault
@@ -12,33 +12,34 @@ use Rattle.queries.specs.Images.{TellsImage}
 abbrev pub AreProcesses : List Object → List ℕ → Type 0
 AreProcesses os numbers = All (λ n. IsTrue (is_process os n)) numbers
 
--- the text of the least closed set that contains some numbers; the authority bound holds for it
-pub record IsSetText (os : List Object) (starts : List ℕ) (text : List ℕ) : Type 0 where
+-- the text of the least set closed but for trusted processes that contains some numbers; the authority bound holds for
+-- it
+pub record IsSetText (os : List Object) (starts trusted : List ℕ) (text : List ℕ) : Type 0 where
   pub marks : List Bool
-  pub reach : IsReach os starts (is_marked marks)
-  pub bounds : BoundsRuns os (is_marked marks)
+  pub reach : IsReach os (is_member trusted) starts (is_marked marks)
+  pub bounds : BoundsRuns os (is_member trusted) (is_marked marks)
   pub spelled : text ≡ reach_text os marks
 
--- the text of a shortest chain to an object that there is, or that there is none: it is outside the least closed set
-pub record IsChainText (os : List Object) (starts : List ℕ) (o : ℕ) (text : List ℕ) : Type 0 where
+-- the text of a shortest chain to an object that there is, or that there is none: it is outside that set
+pub record IsChainText (os : List Object) (starts trusted : List ℕ) (o : ℕ) (text : List ℕ) : Type 0 where
   pub there : is_free (content_at os o) ≡ false
   pub chain : Option (Vec Step Global)
-  pub shortest : IsShortestIfAny os starts o chain
-  pub reach : (inside : ℕ → Bool) → IsReach os starts inside → inside o ≡ is_some chain
+  pub shortest : IsShortestIfAny os (is_member trusted) starts o chain
+  pub reach : (inside : ℕ → Bool) → IsReach os (is_member trusted) starts inside → inside o ≡ is_some chain
   pub spelled : text ≡ chain_text os o chain
 
 -- the text of those of some processes that can ever change an object that there is
-pub record IsChangersText (os : List Object) (starts : List ℕ) (o : ℕ) (text : List ℕ) : Type 0 where
+pub record IsChangersText (os : List Object) (starts trusted : List ℕ) (o : ℕ) (text : List ℕ) : Type 0 where
   pub there : is_free (content_at os o) ≡ false
   pub marks : List Bool
-  pub changers : AreChangers os starts o (is_marked marks)
+  pub changers : AreChangers os (is_member trusted) starts o (is_marked marks)
   pub spelled : text ≡ changers_text os marks
 
 -- the answer to a question
-abbrev pub IsReachText : List Object → List ℕ → ReachQuestion → List ℕ → Type 0
-IsReachText os starts question.Changes text = IsSetText os starts text
-IsReachText os starts (question.Chain o) text = IsChainText os starts o text
-IsReachText os starts (question.Changers o) text = IsChangersText os starts o text
+abbrev pub IsReachText : List Object → List ℕ → List ℕ → ReachQuestion → List ℕ → Type 0
+IsReachText os starts trusted question.Changes text = IsSetText os starts trusted text
+IsReachText os starts trusted (question.Chain o) text = IsChainText os starts trusted o text
+IsReachText os starts trusted (question.Changers o) text = IsChangersText os starts trusted o text
 
 -- the number that a question names, if any
 abbrev pub object_of : ReachQuestion → Option ℕ
@@ -47,31 +48,38 @@ object_of (question.Chain o) = Some o
 object_of (question.Changers o) = Some o
 
 -- the answer about some processes was written; or not whole; or its number has no object; or memory ran out
-abbrev pub TellsOf : List Object → List ℕ → ReachQuestion → Written → Written → Result (Unit {0}) Fault → Type 0
-TellsOf os starts q output output_left (Ok a) =
-    (text : List ℕ) × IsReachText os starts q text × Wrote output output_left text
-TellsOf os starts q output output_left (Err fault.CannotWriteOutput) =
-    (text : List ℕ) × IsReachText os starts q text × WroteFront output output_left text
-TellsOf os starts q output output_left (Err (fault.NoObject o)) =
+abbrev pub TellsOf : List Object → List ℕ → List ℕ → ReachQuestion → Written → Written → Result (Unit {0}) Fault →
+    Type 0
+TellsOf os starts trusted q output output_left (Ok a) =
+    (text : List ℕ) × IsReachText os starts trusted q text × Wrote output output_left text
+TellsOf os starts trusted q output output_left (Err fault.CannotWriteOutput) =
+    (text : List ℕ) × IsReachText os starts trusted q text × WroteFront output output_left text
+TellsOf os starts trusted q output output_left (Err (fault.NoObject o)) =
     (object_of q ≡ Some o) × (is_free (content_at os o) ≡ true) × (output_left ≡ output)
-TellsOf os starts q output output_left (Err fault.NoMemory) = output_left ≡ output
-TellsOf os starts q output output_left (Err _) = ⊥
+TellsOf os starts trusted q output output_left (Err fault.NoMemory) = output_left ≡ output
+TellsOf os starts trusted q output output_left (Err _) = ⊥
 
 -- the processes that a question is about: those named, or all if none is named
 abbrev pub AreStarts : List Object → List ℕ → List ℕ → Type 0
 AreStarts os [] starts = (n : ℕ) → Contains starts n ↔ IsTrue (is_process os n)
 AreStarts os (p ∷ ps) starts = (starts ≡ p ∷ ps) × AreProcesses os (p ∷ ps)
 
--- so it was of these; or a number that is named has no process; or memory ran out
-abbrev pub TellsReach : List Object → List ℕ → ReachQuestion → Written → Written → Result (Unit {0}) Fault → Type 0
-TellsReach os named q output output_left (Err (fault.NoProcess p)) =
-    (find (λ n. not (is_process os n)) named ≡ Some p) × (output_left ≡ output)
-TellsReach os named q output output_left (Err fault.NoMemory) = output_left ≡ output
-TellsReach os named q output output_left outcome =
-    (starts : List ℕ) × AreStarts os named starts × TellsOf os starts q output output_left outcome
+-- the first number that has no process, of those named and else of those trusted
+abbrev pub IsFirstMissing : List Object → List ℕ → List ℕ → ℕ → Type 0
+IsFirstMissing os named trusted p = (find (λ n. not (is_process os n)) named ≡ Some p)
+    ⊎ (AreProcesses os named × (find (λ n. not (is_process os n)) trusted ≡ Some p))
+
+-- so it was of these; or a number that is named or trusted has no process; or memory ran out
+abbrev pub TellsReach : List Object → List ℕ → List ℕ → ReachQuestion → Written → Written → Result (Unit {0}) Fault →
+    Type 0
+TellsReach os named trusted q output output_left (Err (fault.NoProcess p)) =
+    IsFirstMissing os named trusted p × (output_left ≡ output)
+TellsReach os named trusted q output output_left (Err fault.NoMemory) = output_left ≡ output
+TellsReach os named trusted q output output_left outcome =
+    (starts : List ℕ) × AreStarts os named starts × TellsOf os starts trusted q output output_left outcome
 
 -- what processes can ever change was written; or a fault; or the device wasn't opened, or memory ran out
-abbrev pub ReachesImage : {D : Type 0} → (D → Disk) → List ℕ → ReachQuestion → D → D → Written → Written →
+abbrev pub ReachesImage : {D : Type 0} → (D → Disk) → List ℕ → List ℕ → ReachQuestion → D → D → Written → Written →
     Result (Unit {0}) Fault → Type 0
-ReachesImage disk named q device back output output_left outcome = TellsImage disk device back output output_left
-    (λ s o. TellsReach (objects_of s.frames) named q output output_left o) outcome
+ReachesImage disk named trusted q device back output output_left outcome = TellsImage disk device back output
+    output_left (λ s o. TellsReach (objects_of s.frames) named trusted q output output_left o) outcome

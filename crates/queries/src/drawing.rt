@@ -64,7 +64,7 @@ fn keep_reached(
     if missing_process(objects, &[process]).is_some() {
         return Err(Fault::NoProcess(process));
     }
-    match reach(alloc, objects, &[process]) {
+    match reach(alloc, objects, &[process], &[]) {
         Ok(inside) => {
             restrict(description, &inside);
             Ok(())

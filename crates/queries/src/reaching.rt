@@ -4,7 +4,7 @@ ghost use Rattle.model.specs.Object.{is_free};
 ghost use Rattle.model.specs.World.{content_at};
 ghost use Rattle.reach.specs.Reached.{AreSoundObjects};
 ghost use Rattle.jobs.specs.Faults.{IsReported, status_of};
-ghost use Rattle.queries.specs.Reaching.{AreProcesses, ReachesImage, TellsOf, TellsReach, object_of};
+ghost use Rattle.queries.specs.Reaching.{AreProcesses, IsFirstMissing, ReachesImage, TellsOf, TellsReach, object_of};
 ghost use Rattle.queries.specs.declared.reaching.ReachQuestion.TheVariants.{Chain, Changers, Changes};
 
 use crate::saved::read_saved;
@@ -47,13 +47,16 @@ fn tell_set<W: Output>(
     alloc: Global,
     objects: &[Object],
     processes: &[u64],
+    trusted: &[u64],
     writer: &mut W,
 ) -> Result<(), Fault>
     requires sound { AreSoundObjects objects.now }
     requires processes { AreProcesses objects.now processes.now }
-    ensures { TellsOf objects.now processes.now Changes (W.written writer.old) (W.written writer.new) result }
+    requires trusted { AreProcesses objects.now trusted.now }
+    ensures { TellsOf objects.now processes.now trusted.now Changes (W.written writer.old) (W.written writer.new)
+        result }
 {
-    match reach(alloc, objects, processes) {
+    match reach(alloc, objects, processes, trusted) {
         Ok(inside) => of_write(print_reach(objects, &inside, writer)),
         Err(_) => Err(Fault::NoMemory),
     }
@@ -64,16 +67,18 @@ fn tell_chain<W: Output>(
     alloc: Global,
     objects: &[Object],
     processes: &[u64],
+    trusted: &[u64],
     object: u64,
     writer: &mut W,
 ) -> Result<(), Fault>
     requires sound { AreSoundObjects objects.now }
     requires processes { AreProcesses objects.now processes.now }
+    requires trusted { AreProcesses objects.now trusted.now }
     requires there { is_free (content_at objects.now object) ≡ false }
-    ensures { TellsOf objects.now processes.now (Chain object) (W.written writer.old) (W.written writer.new)
-        result }
+    ensures { TellsOf objects.now processes.now trusted.now (Chain object) (W.written writer.old)
+        (W.written writer.new) result }
 {
-    match shortest_chain(alloc, objects, processes, object) {
+    match shortest_chain(alloc, objects, processes, trusted, object) {
         Ok(chain) => of_write(print_chain(objects, object, &chain, writer)),
         Err(_) => Err(Fault::NoMemory),
     }
@@ -84,16 +89,18 @@ fn tell_changers<W: Output>(
     alloc: Global,
     objects: &[Object],
     processes: &[u64],
+    trusted: &[u64],
     object: u64,
     writer: &mut W,
 ) -> Result<(), Fault>
     requires sound { AreSoundObjects objects.now }
     requires processes { AreProcesses objects.now processes.now }
+    requires trusted { AreProcesses objects.now trusted.now }
     requires there { is_free (content_at objects.now object) ≡ false }
-    ensures { TellsOf objects.now processes.now (Changers object) (W.written writer.old) (W.written writer.new)
-        result }
+    ensures { TellsOf objects.now processes.now trusted.now (Changers object) (W.written writer.old)
+        (W.written writer.new) result }
 {
-    match changers(alloc, objects, processes, object) {
+    match changers(alloc, objects, processes, trusted, object) {
         Ok(inside) => of_write(print_changers(objects, &inside, writer)),
         Err(_) => Err(Fault::NoMemory),
     }
@@ -127,20 +134,27 @@ fn tell_of<W: Output>(
     alloc: Global,
     objects: &[Object],
     processes: &[u64],
+    trusted: &[u64],
     question: ReachQuestion,
     writer: &mut W,
 ) -> Result<(), Fault>
     requires sound { AreSoundObjects objects.now }
     requires processes { AreProcesses objects.now processes.now }
-    ensures { TellsOf objects.now processes.now question (W.written writer.old) (W.written writer.new) result }
+    requires trusted { AreProcesses objects.now trusted.now }
+    ensures { TellsOf objects.now processes.now trusted.now question (W.written writer.old) (W.written writer.new)
+        result }
 {
     if let Some(object) = missing_object(objects, question) {
         return Err(Fault::NoObject(object));
     }
     match question {
-        ReachQuestion::Changes => tell_set(alloc, objects, processes, writer),
-        ReachQuestion::Chain(object) => tell_chain(alloc, objects, processes, object, writer),
-        ReachQuestion::Changers(object) => tell_changers(alloc, objects, processes, object, writer),
+        ReachQuestion::Changes => tell_set(alloc, objects, processes, trusted, writer),
+        ReachQuestion::Chain(object) => {
+            tell_chain(alloc, objects, processes, trusted, object, writer)
+        }
+        ReachQuestion::Changers(object) => {
+            tell_changers(alloc, objects, processes, trusted, object, writer)
+        }
     }
 }
 
@@ -148,16 +162,51 @@ fn tell_of<W: Output>(
 fn tell_of_all<W: Output>(
     alloc: Global,
     objects: &[Object],
+    trusted: &[u64],
     question: ReachQuestion,
     writer: &mut W,
 ) -> Result<(), Fault>
-    requires { AreSoundObjects objects.now }
-    ensures { TellsReach objects.now [] question (W.written writer.old) (W.written writer.new) result }
+    requires sound { AreSoundObjects objects.now }
+    requires trusted { AreProcesses objects.now trusted.now }
+    ensures { TellsReach objects.now [] trusted.now question (W.written writer.old) (W.written writer.new) result }
 {
     match all_processes(alloc, objects) {
-        Ok(all) => tell_of(alloc, objects, &all, question, writer),
+        Ok(all) => tell_of(alloc, objects, &all, trusted, question, writer),
         Err(_) => Err(Fault::NoMemory),
     }
+}
+
+// Writes the answer to a question about the named processes, or about all if none is named.
+fn tell_named<W: Output>(
+    alloc: Global,
+    objects: &[Object],
+    named: &[u64],
+    trusted: &[u64],
+    question: ReachQuestion,
+    writer: &mut W,
+) -> Result<(), Fault>
+    requires sound { AreSoundObjects objects.now }
+    requires named { AreProcesses objects.now named.now }
+    requires trusted { AreProcesses objects.now trusted.now }
+    ensures { TellsReach objects.now named.now trusted.now question (W.written writer.old) (W.written writer.new)
+        result }
+{
+    if named.is_empty() {
+        return tell_of_all(alloc, objects, trusted, question, writer);
+    }
+    tell_of(alloc, objects, named, trusted, question, writer)
+}
+
+// The first number that isn't the number of a process, of those named and else of those trusted.
+fn first_missing(objects: &[Object], named: &[u64], trusted: &[u64]) -> Option<u64>
+    ensures some { IfSome result (IsFirstMissing objects.now named.now trusted.now) }
+    ensures named { IsNone result → AreProcesses objects.now named.now }
+    ensures trusted { IsNone result → AreProcesses objects.now trusted.now }
+{
+    if let Some(number) = missing_process(objects, named) {
+        return Some(number);
+    }
+    missing_process(objects, trusted)
 }
 
 // Writes the answer to a question about the named processes, or about all if none is named.
@@ -165,31 +214,32 @@ fn tell_reach<W: Output>(
     alloc: Global,
     objects: &[Object],
     named: &[u64],
+    trusted: &[u64],
     question: ReachQuestion,
     writer: &mut W,
 ) -> Result<(), Fault>
     requires { AreSoundObjects objects.now }
-    ensures { TellsReach objects.now named.now question (W.written writer.old) (W.written writer.new) result }
+    ensures { TellsReach objects.now named.now trusted.now question (W.written writer.old) (W.written writer.new)
+        result }
 {
-    if named.is_empty() {
-        return tell_of_all(alloc, objects, question, writer);
-    }
-    if let Some(number) = missing_process(objects, named) {
+    if let Some(number) = first_missing(objects, named, trusted) {
         return Err(Fault::NoProcess(number));
     }
-    tell_of(alloc, objects, named, question, writer)
+    tell_named(alloc, objects, named, trusted, question, writer)
 }
 
 /// Opens a device as a run does, and answers a question about the processes named, or about all processes
 /// if none is named. Then the status is 0. The answer is
-/// - what they can ever change: the least closed set of numbers that contains them;
+/// - what they can ever change, but for messages to the processes `trusted`: the least closed set of
+///   numbers that contains them, where a member may start a trusted process outside the set;
 /// - a shortest chain of steps to an object, or `cannot change` with its kind and number if that set
 ///   doesn't contain it;
 /// - or those of them that can ever change an object.
 ///
 /// After a fault one line is written to `errors`, and the status is 1:
 /// - `bad image` with a number from 1 to 10, `device failed` or `no memory`;
-/// - `no process` with the first of the numbers that isn't the number of a process;
+/// - `no process` with the first of the numbers that isn't the number of a process, of those named and
+///   else of those trusted;
 /// - `no object` with the number of the object if it is free or beyond the image;
 /// - `cannot write output` if the writer fails.
 ///
@@ -199,18 +249,19 @@ pub fn reach_image<D: Device, S: WholeStore<D>, W: Output, V: Output>(
     device: D,
     setting: S::Setting,
     named: &[u64],
+    trusted: &[u64],
     question: ReachQuestion,
     writer: &mut W,
     errors: &mut V,
 ) -> Done<D>
     ensures { (outcome : Result (Unit {0}) Fault) × (result.status ≡ status_of outcome)
         × IsReported outcome (V.written errors.old) (V.written errors.new)
-        × ReachesImage D.disk named.now question device result.device (W.written writer.old)
-        (W.written writer.new) outcome }
+        × ReachesImage D.disk named.now trusted.now question device result.device
+        (W.written writer.old) (W.written writer.new) outcome }
 {
     match read_saved::<Vec<Object>, D, S>(alloc, device, setting) {
         Ok((objects, device)) => {
-            let outcome = tell_reach(alloc, &objects, named, question, writer);
+            let outcome = tell_reach(alloc, &objects, named, trusted, question, writer);
             Done::report(outcome, device, errors)
         }
         Err(refused) => Done::unopened(refused, errors),

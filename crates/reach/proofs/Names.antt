@@ -2,9 +2,12 @@
 pub use Rattle.capability.proofs.FrameLists.{length_objects}
 pub use Rattle.capability.specs.Parts.{OnlyFetches, objects_in}
 pub use Rattle.collections.specs.Marks.{is_marked}
+pub use Rattle.confinement.proofs.TrustedRuns.{run_confined}
+pub use Rattle.confinement.specs.Trusted.{IsClosedBut, IsConfinedBut, StaysBut}
 pub use Rattle.model.specs.Capability.{IsWeak, named}
-pub use Rattle.model.specs.Closed.{IsClosed, StaysInside}
+pub use Rattle.model.specs.Closed.{StaysInside}
 pub use Rattle.model.specs.Object.{free, is_bank, is_free, is_node, is_page, is_root, root_in, slots_in}
+pub use Rattle.model.specs.Revoke.{is_member}
 pub use Rattle.model.specs.Sound.{NamesItsKind}
 pub use Rattle.model.specs.Text.{line_of, spaced}
 pub use Rattle.model.specs.World.{annex_at, content_at, is_process, object_at, owner_at, root_at, slot_at}
@@ -13,7 +16,7 @@ pub use Rattle.model.specs.declared.capability.Capability.TheVariants.{Bank, Nod
 pub use Rattle.model.specs.declared.object.Content.{Content}
 pub use Rattle.model.specs.declared.object.Object.{Object}
 pub use Rattle.model.specs.declared.object.Root.{Root}
-pub use Rattle.model_laws.proofs.ConfinedRuns.{run_confined}
+pub use Rattle.model_laws.specs.Confinement.{AreBy, with_free}
 pub use Rattle.script.proofs.Fronts.{first_front, second_front, text_fails, writes_after, writes_fail, wrote_trans}
 pub use Rattle.script.proofs.NumberedLines.{lines_all, lines_more, lines_split}
 pub use Rattle.script.specs.Writing.{Writes, Wrote}

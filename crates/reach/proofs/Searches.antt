@@ -1,29 +1,30 @@
 -- What holds as levels are followed.
-use Rattle.reach.proofs.Names.{ℕ, zero, suc, true, false, Option, None, Some, List, [], length, replicate, inl, inr, ⊎_elim, sym, subst, arith, Contains}
+use Rattle.reach.proofs.Names.{ℕ, Bool, zero, suc, true, false, Option, None, Some, List, [], length, replicate, inl, inr, ⊎_elim, sym, subst, arith, Contains}
 use Rattle.reach.proofs.Names.{cases_lt, nat_tests, get_or_default, length-replicate, Object, Found, Levels, Step, Begins, FindsBy, IsAfter, IsAt, IsFirst}
-use Rattle.reach.proofs.Names.{IsFoundBy, IsFoundIn, IsFrom, IsFromLevel, IsSearched, found_at, has_level, missing, slice_index_or}
-use Rattle.std.proofs.Common.{◌≡◌, ◌+◌, ◌<◌, ◌≤◌, ◌∷◌, ◌∙◌}
+use Rattle.reach.proofs.Names.{IsFoundBy, IsFoundIn, IsFrom, IsFromLevel, IsSearched, found_at, has_level, missing, slice_index_or, IsTrue, All, refl, add-one}
+use Rattle.reach.proofs.Names.{cases_eq, ap, get_or-set_other, get_or-set_same, is_marked, is_member, length-set, slice_set, take, take_all}
+use Rattle.std.proofs.Common.{◌≢◌, ◌==◌, ◌||◌, ◌≡◌, ◌+◌, ◌<◌, ◌≤◌, ◌∷◌, ◌∙◌}
 use Rattle.reach.proofs.Finding.{finds_both, finds_same, missing_most}
 
 level_of : (o : Option Found) (f : Found) (k : ℕ) → o ≡ Some f → f.level ≡ k → has_level o k ≡ true
 level_of o f k is at = grind (arith, nat_tests)
 
 -- the numbers below one were followed where they are at the level
-module _ (os : List Object) (start now : Levels) (level i : ℕ) (first : FindsBy (IsFromLevel os start level i) (level + 1) start now) where
+module _ (os : List Object) (trusted : ℕ → Bool) (start now : Levels) (level i : ℕ) (first : FindsBy (IsFromLevel os trusted start level i) (level + 1) start now) where
   at_once : (n : ℕ) → IsAt now n level → IsAt start n level
   at_once n at = ⊎_elim (λ before. (at.0, before, at.2)) (λ found. absurd (omega (arith, found.at, at.2))) (first.each n at.0 at.1)
 
-  pub level_next : (new : Levels) → has_level (found_at now i) level ≡ true → FindsBy (IsFrom os i) (level + 1) now new →
-      FindsBy (IsFromLevel os start level (i + 1)) (level + 1) start new
-  level_next new test next = finds_both (IsFromLevel os start level i) (IsFrom os i) (IsFromLevel os start level (i + 1)) (level + 1) start now new
+  pub level_next : (new : Levels) → has_level (found_at now i) level ≡ true → FindsBy (IsFrom os trusted i) (level + 1) now new →
+      FindsBy (IsFromLevel os trusted start level (i + 1)) (level + 1) start new
+  level_next new test next = finds_both (IsFromLevel os trusted start level i) (IsFrom os trusted i) (IsFromLevel os trusted start level (i + 1)) (level + 1) start now new
       (λ s from. (from.0, omega (arith, from.1), from.2)) (λ s from. (rw from.0 (at_once i (search arith)), omega (arith, from.0), from.1))
       (λ s from. elim (cases_lt s.from i) [
         | inl below ↦ inl (from.0, below, from.2)
         | inr past ↦ inr (omega (arith, past, from.1), from.2)
       ]) first next
 
-  pub level_skip : has_level (found_at now i) level ≡ false → FindsBy (IsFromLevel os start level (i + 1)) (level + 1) start now
-  level_skip test = finds_same (IsFromLevel os start level i) (IsFromLevel os start level (i + 1)) _ start now
+  pub level_skip : has_level (found_at now i) level ≡ false → FindsBy (IsFromLevel os trusted start level (i + 1)) (level + 1) start now
+  level_skip test = finds_same (IsFromLevel os trusted start level i) (IsFromLevel os trusted start level (i + 1)) _ start now
       (λ s from. (from.0, omega (arith, from.1), from.2)) (λ s from. elim (cases_lt s.from i) [
         | inl below ↦ (from.0, below, from.2)
         | inr past ↦ grind (arith, nat_tests, level_of)
@@ -69,8 +70,8 @@ begun_next os starts i old new begun begins lt = record {
     found_now : IsFoundIn new (slice_index_or starts i 0) 0
     found_now = grind (arith, nat_tests, first_now)
 
-pub searched_first : (os : List Object) (starts : List ℕ) (i : ℕ) (l : Levels) → Begun os starts i l → length starts ≤ i → IsSearched os starts 0 l
-searched_first os starts i l begun whole = grind (arith, nat_tests)
+pub searched_first : (os : List Object) (trusted : ℕ → Bool) (starts : List ℕ) (i : ℕ) (l : Levels) → Begun os starts i l → length starts ≤ i → IsSearched os trusted starts 0 l
+searched_first os trusted starts i l begun whole = grind (arith, nat_tests)
 
 -- what is found is one of the numbers
 found_below : (xs : List (Option Found)) (n : ℕ) (f : Found) → slice_index_or xs n None ≡ Some f → n < length xs
@@ -79,28 +80,88 @@ found_below (x ∷ xs) zero f is = omega arith
 found_below (x ∷ xs) (suc n) f is = let later : n < length xs = found_below xs n f is in omega (arith, later)
 
 -- one level more was followed
-module _ (os : List Object) (starts : List ℕ) (level : ℕ) (old new : Levels) (searched : IsSearched os starts level old)
-    (finds : FindsBy (IsFromLevel os old level (length os)) (level + 1) old new) where
+module _ (os : List Object) (trusted : ℕ → Bool) (starts : List ℕ) (level : ℕ) (old new : Levels) (searched : IsSearched os trusted starts level old)
+    (finds : FindsBy (IsFromLevel os trusted old level (length os)) (level + 1) old new) where
   kept_in : (n k : ℕ) → IsFoundIn old n k → IsFoundIn new n k
   kept_in n k found = (found.0, finds.kept n found.0 found.1, found.2)
 
-  after_before : (n : ℕ) (f : Found) → IsAfter os old n f → IsAfter os new n f
+  after_before : (n : ℕ) (f : Found) → IsAfter os trusted old n f → IsAfter os trusted new n f
   after_before n f after = grind (arith, nat_tests)
 
-  after_now : (n : ℕ) (f : Found) → IsFoundBy (IsFromLevel os old level (length os)) (level + 1) n f → IsAfter os new n f
+  after_now : (n : ℕ) (f : Found) → IsFoundBy (IsFromLevel os trusted old level (length os)) (level + 1) n f → IsAfter os trusted new n f
   after_now n f found = grind (arith, nat_tests)
 
   deepest_now : (n : ℕ) (f : Found) → found_at new n ≡ Some f → f.level ≤ level + 1
   deepest_now n f is = ⊎_elim (λ before. omega (arith, searched.deepest n f before)) (λ now. omega (arith, now.at)) (finds.each n f is)
 
-  continues_here : (n : ℕ) (f : Found) → found_at old n ≡ Some f → f.level ≡ level → (s : Step) → IsFrom os n s → IsFoundIn new s.to (f.level + 1)
+  continues_here : (n : ℕ) (f : Found) → found_at old n ≡ Some f → f.level ≡ level → (s : Step) → IsFrom os trusted n s → IsFoundIn new s.to (f.level + 1)
   continues_here n f is at s from = grind (arith, nat_tests, found_below, deepest_now)
 
-  continues_now : (n : ℕ) (f : Found) → found_at new n ≡ Some f → f.level < level + 1 → (s : Step) → IsFrom os n s → IsFoundIn new s.to (f.level + 1)
+  continues_now : (n : ℕ) (f : Found) → found_at new n ≡ Some f → f.level < level + 1 → (s : Step) → IsFrom os trusted n s → IsFoundIn new s.to (f.level + 1)
   continues_now n f is lt s from = ⊎_elim (λ before. elim (cases_lt f.level level) [
     | inl below ↦ kept_in s.to _ (searched.continues n f before below s from)
     | inr past ↦ continues_here n f before (omega (arith, past, lt)) s from
   ]) (λ now. absurd (omega (arith, now.at, lt))) (finds.each n f is)
 
-  pub searched_next : IsSearched os starts (level + 1) new
+  pub searched_next : IsSearched os trusted starts (level + 1) new
   searched_next = grind (arith, nat_tests, kept_in, after_before, after_now, continues_now, deepest_now)
+
+-- the set of some numbers
+
+member_more : (xs : List ℕ) (i n : ℕ) → i < length xs → is_member (take (suc i) xs) n ≡ (is_member (take i xs) n || (n == slice_index_or xs i 0))
+member_more [] i n lt = absurd (omega (arith, lt))
+member_more (x ∷ xs) zero n lt = grind (arith, nat_tests)
+member_more (x ∷ xs) (suc i) n lt =
+    let later : i < length xs = omega (arith, lt) in
+    let rest = member_more xs i n later in grind (arith, nat_tests)
+
+marked_more : (marks : List Bool) (x n : ℕ) → x < length marks → is_marked (slice_set marks x true) n ≡ (is_marked marks n || (n == x))
+marked_more marks x n lt = elim (cases_eq n x) [
+  | inl same ↦ rw same (get_or-set_same marks x true false lt ∙ sym (or_same (is_marked marks x) x))
+  | inr other ↦ get_or-set_other marks x n true false other ∙ sym (or_other (is_marked marks n) n x other)
+]
+  where
+    or_same : (b : Bool) (x : ℕ) → (b || (x == x)) ≡ true
+    or_same b x = grind (arith, nat_tests)
+
+    or_other : (b : Bool) (n x : ℕ) → n ≢ x → (b || (n == x)) ≡ b
+    or_other b n x other = grind (arith, nat_tests)
+
+-- the set of the first of some numbers
+pub record IsSetOf (numbers : List ℕ) (at total : ℕ) (set : List Bool) : Type 0 where
+  pub count : length set ≡ total
+  pub each : (n : ℕ) → is_marked set n ≡ is_member (take at numbers) n
+
+pub set_first : (numbers : List ℕ) (total : ℕ) (set : List Bool) → set ≡ replicate total false → IsSetOf numbers 0 total set
+set_first numbers total set is = record {
+  count = ap (λ (l : List Bool). length l) is ∙ length-replicate total false;
+  each = λ n. ap (λ (l : List Bool). is_marked l n) is ∙ unmarked total n;
+}
+  where
+    unmarked : (total n : ℕ) → is_marked (replicate total false) n ≡ false
+    unmarked zero n = refl
+    unmarked (suc total) zero = refl
+    unmarked (suc total) (suc n) = unmarked total n
+
+pub set_next : (numbers : List ℕ) (at total : ℕ) (old : List Bool) → IsSetOf numbers at total old → All (λ n. n < total) numbers → at < length numbers
+    → IsSetOf numbers (at + 1) total (slice_set old (slice_index_or numbers at 0) true)
+set_next numbers at total old set known lt =
+    let x = slice_index_or numbers at 0 in
+    let there : x < length old = subst (λ (k : ℕ). x < k) (sym set.count) (known at 0 lt) in
+    record {
+      count = length-set old x true ∙ set.count;
+      each = λ n.
+          marked_more old x n there ∙ ap (λ (b : Bool). b || (n == x)) (set.each n)
+          ∙ sym (ap (λ (k : ℕ). is_member (take k numbers) n) (add-one at) ∙ member_more numbers at n lt);
+    }
+
+pub set_whole : (numbers : List ℕ) (at total : ℕ) (set : List Bool) → IsSetOf numbers at total set → length numbers ≤ at → (n : ℕ)
+    → is_marked set n ≡ is_member numbers n
+set_whole numbers at total set is whole n = is.each n ∙ ap (λ (l : List ℕ). is_member l n) (take_all at numbers whole)
+
+-- what was searched without some marks was searched without their numbers
+pub searched_without : (os : List Object) (trusted starts : List ℕ) (marks : List Bool) (level : ℕ) (l : Levels)
+    → ((n : ℕ) → is_marked marks n ≡ is_member trusted n) → IsSearched os (is_marked marks) starts level l → IsSearched os (is_member trusted) starts level l
+searched_without os trusted starts marks level l same is =
+    let sets : is_marked marks ≡ is_member trusted = λ k n. same n k in
+    subst (λ (t : ℕ → Bool). IsSearched os t starts level l) sets is

@@ -1,5 +1,5 @@
 -- What the definitions of chains say.
-use Rattle.reach.specs.Names.{ℕ, Bool, List, IsTrue, Object, IsClosed, []}
+use Rattle.reach.specs.Names.{ℕ, Bool, List, IsTrue, Object, IsClosedBut, []}
 use Rattle.std.specs.Prelude.{◌↔◌, ◌∷◌}
 use Rattle.reach.specs.Reached.{CanChange, IsReach}
 use Rattle.reach.specs.declared.step.Step.{Step}
@@ -7,10 +7,10 @@ use Rattle.reach.specs.Chain.{IsStep}
 
 -- A number can change an object exactly if the least closed set that contains it contains the object.
 abbrev pub ReachIsChange : Type 0
-ReachIsChange = (os : List Object) (n o : ℕ) (inside : ℕ → Bool) → IsReach os (n ∷ []) inside →
-    IsTrue (inside o) ↔ CanChange os n o
+ReachIsChange = (os : List Object) (trusted inside : ℕ → Bool) (n o : ℕ) → IsReach os trusted (n ∷ []) inside →
+    IsTrue (inside o) ↔ CanChange os trusted n o
 
--- A set is closed exactly if no step leaves it.
+-- A set is closed but for trusted processes exactly if no step leaves it.
 abbrev pub StepsAreAuthority : Type 0
-StepsAreAuthority = (os : List Object) (inside : ℕ → Bool) →
-    IsClosed os inside ↔ ((s : Step) → IsStep os s → IsTrue (inside s.from) → IsTrue (inside s.to))
+StepsAreAuthority = (os : List Object) (trusted inside : ℕ → Bool) →
+    IsClosedBut trusted os inside ↔ ((s : Step) → IsStep os trusted s → IsTrue (inside s.from) → IsTrue (inside s.to))

@@ -66,11 +66,11 @@ NamesWithin count c = elim (named c) [ None ↦ Unit {0} | Some n ↦ n < count 
 abbrev pub IsTheStep : Step → Step → Type 0
 IsTheStep step s = (s.from ≡ step.from) × (s.way ≡ step.way) × (s.to ≡ step.to)
 
-abbrev pub IsBy : ℕ → Way → Capability → Step → Type 0
-IsBy from by c s = (s.from ≡ from) × (s.way ≡ by) × Conveys c s.to
+abbrev pub IsBy : (ℕ → Bool) → ℕ → Way → Capability → Step → Type 0
+IsBy trusted from by c s = (s.from ≡ from) × (s.way ≡ by) × Conveys trusted c s.to
 
-abbrev pub IsHeldIn : List Capability → ℕ → ℕ → Step → Type 0
-IsHeldIn slots count from s = (i : ℕ) × (i < count) × IsBy from (way.Slot i (slice_index_or slots i Void))
+abbrev pub IsHeldIn : (ℕ → Bool) → List Capability → ℕ → ℕ → Step → Type 0
+IsHeldIn trusted slots count from s = (i : ℕ) × (i < count) × IsBy trusted from (way.Slot i (slice_index_or slots i Void))
     (slice_index_or slots i Void) s
 
 abbrev pub IsOwnedBelow : List Object → ℕ → ℕ → Step → Type 0
@@ -78,28 +78,28 @@ IsOwnedBelow os count bank s = (s.from ≡ bank) × (s.way ≡ way.Owner) × (s.
     (is_free (content_at os s.to) ≡ false) × (owner_at os s.to ≡ bank)
 
 -- the steps from a number, and from those of a level
-abbrev pub IsFrom : List Object → ℕ → Step → Type 0
-IsFrom os n s = (s.from ≡ n) × IsStep os s
+abbrev pub IsFrom : List Object → (ℕ → Bool) → ℕ → Step → Type 0
+IsFrom os trusted n s = (s.from ≡ n) × IsStep os trusted s
 
-abbrev pub IsFromLevel : List Object → Levels → ℕ → ℕ → Step → Type 0
-IsFromLevel os l level count s = IsAt l s.from level × (s.from < count) × IsStep os s
+abbrev pub IsFromLevel : List Object → (ℕ → Bool) → Levels → ℕ → ℕ → Step → Type 0
+IsFromLevel os trusted l level count s = IsAt l s.from level × (s.from < count) × IsStep os trusted s
 
 -- a number was found by a step from one that was found in one step fewer
-pub record IsAfter (os : List Object) (l : Levels) (n : ℕ) (f : Found) : Type 0 where
+pub record IsAfter (os : List Object) (trusted : ℕ → Bool) (l : Levels) (n : ℕ) (f : Found) : Type 0 where
   pub step : Step
   pub is : f.step ≡ Some step
   pub to : step.to ≡ n
-  pub step_is : IsStep os step
+  pub step_is : IsStep os trusted step
   pub before : Found
   pub from : found_at l step.from ≡ Some before
   pub level : f.level ≡ before.level + 1
 
 -- the first numbers were found, and those below a level followed
-pub record IsSearched (os : List Object) (starts : List ℕ) (level : ℕ) (l : Levels) : Type 0 where
+pub record IsSearched (os : List Object) (trusted : ℕ → Bool) (starts : List ℕ) (level : ℕ) (l : Levels) : Type 0 where
   pub count : length l.found.items ≡ length os
   pub begins : All (λ p. IsFoundIn l p 0) starts
-  pub linked : (n : ℕ) (f : Found) → found_at l n ≡ Some f → (IsFirst n f × Contains starts n) ⊎ IsAfter os l n f
-  pub continues : (n : ℕ) (f : Found) → found_at l n ≡ Some f → f.level < level → (s : Step) → IsFrom os n s →
+  pub linked : (n : ℕ) (f : Found) → found_at l n ≡ Some f → (IsFirst n f × Contains starts n) ⊎ IsAfter os trusted l n f
+  pub continues : (n : ℕ) (f : Found) → found_at l n ≡ Some f → f.level < level → (s : Step) → IsFrom os trusted n s →
       IsFoundIn l s.to (f.level + 1)
   pub deepest : (n : ℕ) (f : Found) → found_at l n ≡ Some f → f.level ≤ level
   pub within : (n : ℕ) (f : Found) → found_at l n ≡ Some f → f.level ≤ l.greatest

@@ -1,7 +1,7 @@
 -- The names of other crates that the definitions here cite.
 pub use Rattle.collections.specs.Marks.{is_marked}
+pub use Rattle.confinement.specs.Trusted.{IsClosedBut, IsConfinedBut, StartsOne, StaysBut}
 pub use Rattle.model.specs.Capability.{IsWeak, named}
-pub use Rattle.model.specs.Closed.{IsClosed, StaysInside}
 pub use Rattle.model.specs.Machine.{Running, Up}
 pub use Rattle.model.specs.Object.{is_bank, is_free, is_root, root_in, slots_in}
 pub use Rattle.model.specs.Run.{IsRun, Turn}
@@ -14,7 +14,7 @@ pub use Rattle.model.specs.declared.capability.Capability.TheVariants.{Bank, Pro
 pub use Rattle.model.specs.declared.geometry.Geometry.{Geometry}
 pub use Rattle.model.specs.declared.object.Content.{Content}
 pub use Rattle.model.specs.declared.object.Object.{Object}
-pub use Rattle.model_laws.specs.Confinement.{AreBy, IsKept, with_free}
+pub use Rattle.model_laws.specs.Confinement.{AreBy, with_free}
 pub use Rattle.std.specs.List.{All, Contains, count_by, enumerate_from, flat_map}
 pub use Rattle.std.specs.Prelude.{Bool, IsTrue, List, None, Option, Some, Vec, [], codes, decimal, false, length, not}
 pub use Rattle.std.specs.Prelude.{slice_index_or, suc, true, ℕ}

@@ -1,6 +1,7 @@
 // A shortest chain of steps.
 ghost use Rattle.std.specs.Prelude.{◌≡◌, ℕ, ◌<◌, Bool, is_some, length, IfOk};
 ghost use Rattle.std.specs.List.{All};
+ghost use Rattle.model.specs.Revoke.{is_member};
 ghost use Rattle.reach.specs.Chain.{IsShortestIfAny};
 ghost use Rattle.reach.specs.Reached.{AreSoundObjects, IsReach};
 
@@ -10,8 +11,9 @@ use model::Object;
 use std::alloc::{AllocError, Global};
 
 /// A shortest chain of steps from one of the numbers `starts` to an object, first step first, in a
-/// sound world. It has no steps if the object is one of `starts`. `None` if there is no chain, which
-/// is if the object isn't in the least closed set that contains `starts`.
+/// sound world. No step is by a capability that starts a process of `trusted`. It has no steps if the
+/// object is one of `starts`. `None` if there is no chain, which is if the object isn't in the set that
+/// `reach` finds for `starts` and `trusted`.
 ///
 /// It follows each number once. `AllocError` means that memory ran out, which is tested, not proved.
 #[tactic(auto, using(crate::proofs::Chains::back_first))]
@@ -19,15 +21,17 @@ pub fn shortest_chain(
     alloc: Global,
     objects: &[Object],
     starts: &[u64],
+    trusted: &[u64],
     object: u64,
 ) -> Result<Option<Vec<Step>>, AllocError>
     requires sound { AreSoundObjects objects.now }
     requires known { All (λ n. n < length objects.now) starts.now }
-    ensures shortest { IfOk result (IsShortestIfAny objects.now starts.now object) }
-    ensures reach { IfOk result (λ chain. (inside : ℕ → Bool) → IsReach objects.now starts.now inside
+    requires trusted { All (λ n. n < length objects.now) trusted.now }
+    ensures shortest { IfOk result (IsShortestIfAny objects.now (is_member trusted.now) starts.now object) }
+    ensures reach { IfOk result (λ chain. (inside : ℕ → Bool) → IsReach objects.now (is_member trusted.now) starts.now inside
         → inside object ≡ is_some chain) }
 {
-    let levels = search(alloc, objects, starts)?;
+    let levels = search(alloc, objects, trusted, starts)?;
     if !levels.contains(object) {
         return Ok(None);
     }

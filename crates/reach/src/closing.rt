@@ -1,6 +1,7 @@
 // The least closed set.
 ghost use Rattle.std.specs.Prelude.{◌≡◌, ◌<◌, length, IfOk};
 ghost use Rattle.std.specs.List.{All};
+ghost use Rattle.model.specs.Revoke.{is_member};
 ghost use Rattle.collections.specs.Marks.{is_marked};
 ghost use Rattle.reach.specs.Reached.{AreSoundObjects, BoundsRuns, IsReach};
 
@@ -11,21 +12,29 @@ use std::alloc::{AllocError, Global};
 
 /// The least closed set that contains the numbers `starts`, in a sound world. A closed set contains
 /// the annexes of its processes, what its banks own, and what a member holds a capability to that
-/// isn't weak.
+/// isn't weak and doesn't start a process of `trusted`.
 ///
 /// Over any run of invocations, loads and stores by processes of the set, and by processes made of
 /// numbers that were free, objects outside the set that weren't free keep their content and their
-/// owner (EROS: confinement). Exception: capabilities to members may become void.
+/// owner (EROS: confinement). Exceptions: capabilities to members may become void, and the root and
+/// the annex of a process of `trusted` receive messages. It holds again from any later moment at which
+/// the set is closed in the same sense, whatever others did.
 ///
 /// It follows each number once. `AllocError` means that memory ran out, which is tested, not proved.
-pub fn reach(alloc: Global, objects: &[Object], starts: &[u64]) -> Result<NumberSet, AllocError>
+pub fn reach(
+    alloc: Global,
+    objects: &[Object],
+    starts: &[u64],
+    trusted: &[u64],
+) -> Result<NumberSet, AllocError>
     requires sound { AreSoundObjects objects.now }
     requires known { All (λ n. n < length objects.now) starts.now }
-    ensures reach { IfOk result (λ inside. IsReach objects.now starts.now (is_marked inside)) }
+    requires trusted { All (λ n. n < length objects.now) trusted.now }
+    ensures reach { IfOk result (λ inside. IsReach objects.now (is_member trusted.now) starts.now (is_marked inside)) }
     ensures count { IfOk result (λ inside. length inside ≡ length objects.now) }
-    ensures bounds { IfOk result (λ inside. BoundsRuns objects.now (is_marked inside)) }
+    ensures bounds { IfOk result (λ inside. BoundsRuns objects.now (is_member trusted.now) (is_marked inside)) }
 {
-    let levels = search(alloc, objects, starts)?;
+    let levels = search(alloc, objects, trusted, starts)?;
     let inside = levels.numbers(alloc)?;
     Ok(inside)
 }

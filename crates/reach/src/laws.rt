@@ -2,7 +2,7 @@
 
 ghost use Rattle.reach.specs.Laws.{ReachIsChange, StepsAreAuthority};
 
-/// A set is closed exactly if no step leaves it.
+/// A set is closed but for trusted processes exactly if no step leaves it.
 #[tactic(auto, using(crate::proofs::Chains::steps_are_authority))]
 pub fn steps_are_authority()
     ensures { StepsAreAuthority }

@@ -2,43 +2,55 @@
 ghost use Rattle.std.specs.Prelude.{◌≡◌, ◌↔◌, ℕ, ◌+◌, ◌<◌, ◌≤◌, false, length, IfOk, IsTrue};
 ghost use Rattle.std.specs.List.{All};
 ghost use Rattle.model.specs.declared.object.Content.TheVariants as content;
+ghost use Rattle.collections.specs.Marks.{is_marked};
 ghost use Rattle.model.specs.Object.{is_free};
+ghost use Rattle.model.specs.Revoke.{is_member};
 ghost use Rattle.model.specs.World.{content_at};
 ghost use Rattle.reach.specs.Levels.{FindsBy, IsBy, IsFrom, IsFromLevel, IsHeldIn, IsOwnedBelow, IsSearched};
 ghost use Rattle.reach.specs.Levels.{NamesWithin};
 ghost use Rattle.reach.specs.Reached.{AreSoundObjects};
 
-use crate::authority::authority;
+use crate::authority::authority_but;
 use crate::levels::Levels;
 use crate::printing::slots_of;
 use crate::step::{Step, Way};
+use collections::NumberSet;
 use model::{Capability, Content, Object, Root};
 use std::alloc::{AllocError, Global};
 
 // Finds what a capability has authority over.
-fn find(levels: &mut Levels, from: u64, way: Way, capability: Capability, level: u64)
+fn find(
+    levels: &mut Levels,
+    trusted: &NumberSet,
+    from: u64,
+    way: Way,
+    capability: Capability,
+    level: u64,
+)
     requires known { NamesWithin (length levels.old.found.items) capability }
+    requires count { length trusted.now ≡ length levels.old.found.items }
     requires level { level ≤ levels.old.greatest + 1 }
-    ensures { FindsBy (IsBy from way capability) level levels.old levels.new }
+    ensures { FindsBy (IsBy (is_marked trusted.now) from way capability) level levels.old levels.new }
 {
-    if let Some(to) = authority(capability) {
+    if let Some(to) = authority_but(capability, trusted) {
         levels.add(Step { from, way, to }, level);
     }
 }
 
 // Finds what the capabilities in slots have authority over.
 #[tactic(auto, using(crate::proofs::Finding::finds_none))]
-fn find_held(levels: &mut Levels, from: u64, slots: &[Capability], level: u64)
+fn find_held(levels: &mut Levels, trusted: &NumberSet, from: u64, slots: &[Capability], level: u64)
     requires known { All (NamesWithin (length levels.old.found.items)) slots.now }
+    requires count { length trusted.now ≡ length levels.old.found.items }
     requires level { level ≤ levels.old.greatest + 1 }
-    ensures { FindsBy (IsHeldIn slots.now (length slots.now) from) level levels.old levels.new }
+    ensures { FindsBy (IsHeldIn (is_marked trusted.now) slots.now (length slots.now) from) level levels.old levels.new }
 {
     for (index, capability) in slots.iter().enumerate() {
         let way = Way::Slot {
             index: index as u64,
             capability: *capability,
         };
-        find(levels, from, way, *capability, level);
+        find(levels, trusted, from, way, *capability, level);
     }
 }
 
@@ -78,15 +90,17 @@ fn find_owned(levels: &mut Levels, objects: &[Object], bank: u64, level: u64)
 fn find_of_process(
     levels: &mut Levels,
     objects: &[Object],
+    trusted: &NumberSet,
     process: u64,
     root: &Root<Capability>,
     level: u64,
 )
     requires sound { AreSoundObjects objects.now }
     requires count { length levels.old.found.items ≡ length objects.now }
+    requires trusted { length trusted.now ≡ length objects.now }
     requires root { content_at objects.now process ≡ content.Root root.now }
     requires level { level ≤ levels.old.greatest + 1 }
-    ensures { FindsBy (IsFrom objects.now process) level levels.old levels.new }
+    ensures { FindsBy (IsFrom objects.now (is_marked trusted.now) process) level levels.old levels.new }
 {
     let (from, to) = (process, root.annex);
     levels.add(
@@ -97,55 +111,84 @@ fn find_of_process(
         },
         level,
     );
-    find(levels, process, Way::Space(root.space), root.space, level);
-    find_held(levels, process, slots_of(objects, root.annex), level);
+    find(
+        levels,
+        trusted,
+        process,
+        Way::Space(root.space),
+        root.space,
+        level,
+    );
+    find_held(
+        levels,
+        trusted,
+        process,
+        slots_of(objects, root.annex),
+        level,
+    );
 }
 
 // Finds all that an object has authority over in one step.
-fn find_of_object(levels: &mut Levels, objects: &[Object], number: u64, level: u64)
+fn find_of_object(
+    levels: &mut Levels,
+    objects: &[Object],
+    trusted: &NumberSet,
+    number: u64,
+    level: u64,
+)
     requires sound { AreSoundObjects objects.now }
     requires count { length levels.old.found.items ≡ length objects.now }
+    requires trusted { length trusted.now ≡ length objects.now }
     requires known { number < length objects.now }
     requires level { level ≤ levels.old.greatest + 1 }
-    ensures { FindsBy (IsFrom objects.now number) level levels.old levels.new }
+    ensures { FindsBy (IsFrom objects.now (is_marked trusted.now) number) level levels.old levels.new }
 {
     match &objects[number as usize].content {
         Content::Free | Content::Page(_) => {}
-        Content::Node(slots) => find_held(levels, number, slots.as_slice(), level),
-        Content::Annex(registers) => find_held(levels, number, registers.as_slice(), level),
-        Content::Root(root) => find_of_process(levels, objects, number, root, level),
+        Content::Node(slots) => find_held(levels, trusted, number, slots.as_slice(), level),
+        Content::Annex(registers) => find_held(
+            levels,
+            trusted,
+            number,
+            registers.as_slice(),
+            level,
+        ),
+        Content::Root(root) => find_of_process(levels, objects, trusted, number, root, level),
         Content::Bank { .. } => find_owned(levels, objects, number, level),
     }
 }
 
 // Follows all that was found at a level.
 #[tactic(auto, using(crate::proofs::Finding::finds_none))]
-fn follow_level(levels: &mut Levels, objects: &[Object], level: u64)
+fn follow_level(levels: &mut Levels, objects: &[Object], trusted: &NumberSet, level: u64)
     requires sound { AreSoundObjects objects.now }
     requires count { length levels.old.found.items ≡ length objects.now }
+    requires trusted { length trusted.now ≡ length objects.now }
     requires level { level ≤ levels.old.greatest }
     requires few { levels.old.greatest ≤ length objects.now }
-    ensures { FindsBy (IsFromLevel objects.now levels.old level (length objects.now)) (level + 1) levels.old
-        levels.new }
+    ensures { FindsBy (IsFromLevel objects.now (is_marked trusted.now) levels.old level (length objects.now)) (level + 1)
+        levels.old levels.new }
 {
     for number in 0..objects.len() {
         if levels.is_at(number as u64, level) {
-            find_of_object(levels, objects, number as u64, level + 1);
+            find_of_object(levels, objects, trusted, number as u64, level + 1);
         }
     }
 }
 
-/// Finds all to which chains of steps from some numbers lead, each in as few steps as can be.
-/// Fails only if memory runs out.
+// Finds all to which chains of steps lead that don't start a process of a set.
 #[tactic(auto, using(crate::proofs::Searches::searched_first))]
-pub(crate) fn search(
+fn search_but(
     alloc: Global,
     objects: &[Object],
+    trusted: &NumberSet,
     starts: &[u64],
 ) -> Result<Levels, AllocError>
     requires sound { AreSoundObjects objects.now }
+    requires trusted { length trusted.now ≡ length objects.now }
     requires known { All (λ n. n < length objects.now) starts.now }
-    ensures { IfOk result (λ l. (level : ℕ) × (l.greatest < level) × IsSearched objects.now starts.now level l) }
+    ensures { IfOk result (λ l. (level : ℕ) × (l.greatest < level)
+        × IsSearched objects.now (is_marked trusted.now) starts.now level l) }
 {
     let mut levels = Levels::new(alloc, objects.len())?;
     for start in starts {
@@ -153,8 +196,40 @@ pub(crate) fn search(
     }
     let mut level = 0;
     while level <= levels.greatest() {
-        follow_level(&mut levels, objects, level);
+        follow_level(&mut levels, objects, trusted, level);
         level += 1;
     }
+    Ok(levels)
+}
+
+/// The set of some numbers. Fails only if memory runs out.
+pub(crate) fn set_of(alloc: Global, numbers: &[u64], total: usize) -> Result<NumberSet, AllocError>
+    requires { All (λ n. n < total) numbers.now }
+    ensures count { IfOk result (λ set. length set ≡ total) }
+    ensures each { IfOk result (λ set. (n : ℕ) → is_marked set n ≡ is_member numbers.now n) }
+{
+    let mut set = NumberSet::new(alloc, total)?;
+    for number in numbers {
+        set.set(*number as usize, true);
+    }
+    Ok(set)
+}
+
+/// Finds all to which chains of steps from some numbers lead, each in as few steps as can be. No step
+/// starts a trusted process. Fails only if memory runs out.
+pub(crate) fn search(
+    alloc: Global,
+    objects: &[Object],
+    trusted: &[u64],
+    starts: &[u64],
+) -> Result<Levels, AllocError>
+    requires sound { AreSoundObjects objects.now }
+    requires trusted { All (λ n. n < length objects.now) trusted.now }
+    requires known { All (λ n. n < length objects.now) starts.now }
+    ensures { IfOk result (λ l. (level : ℕ) × (l.greatest < level)
+        × IsSearched objects.now (is_member trusted.now) starts.now level l) }
+{
+    let set = set_of(alloc, trusted, objects.len())?;
+    let levels = search_but(alloc, objects, &set, starts)?;
     Ok(levels)
 }

@@ -413,7 +413,12 @@ fn drawing(from: Option<u64>, to: Option<u64>) -> Query<'static> {
 }
 
 // The query of `reach`: which processes can change the object of `--to`, or else a chain to that of `--shows`.
-fn reaching(processes: &[u64], shows: Option<u64>, to: Option<u64>) -> Query<'_> {
+fn reaching<'a>(
+    processes: &'a [u64],
+    trusted: &'a [u64],
+    shows: Option<u64>,
+    to: Option<u64>,
+) -> Query<'a> {
     let question = match (to, shows) {
         (Some(object), _) => ReachQuestion::Changers(object),
         (None, Some(object)) => ReachQuestion::Chain(object),
@@ -421,6 +426,7 @@ fn reaching(processes: &[u64], shows: Option<u64>, to: Option<u64>) -> Query<'_>
     };
     Query::Reach {
         processes,
+        trusted,
         question,
     }
 }
@@ -460,7 +466,11 @@ fn serve(rt: &HostRuntime, job: &Job<'_>, stdio: &mut Stdio) -> Result<End, Refu
             processes,
             shows,
             to,
-        } => (*image, reaching(processes.as_slice(), *shows, *to)),
+            trusted,
+        } => {
+            let (processes, trusted) = (processes.as_slice(), trusted.as_slice());
+            (*image, reaching(processes, trusted, *shows, *to))
+        }
     };
     inspect(rt, image, query, stdio)
 }

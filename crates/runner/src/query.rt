@@ -26,6 +26,7 @@ pub(crate) enum Query<'w> {
     /// A question about what the processes named can ever change, or all processes if none is named.
     Reach {
         processes: &'w [u64],
+        trusted: &'w [u64],
         question: ReachQuestion,
     },
     /// What it saves, in a new image by version 2 of the layout.
@@ -77,9 +78,10 @@ impl<'w> Query<'w> {
             Query::Info => info_image::<_, S, _, _>(alloc, device, setting, output, errors),
             Query::Reach {
                 processes,
+                trusted,
                 question,
             } => reach_image::<_, S, _, _>(
-                alloc, device, setting, processes, question, output, errors,
+                alloc, device, setting, processes, trusted, question, output, errors,
             ),
             Query::Upgrade { old, new } => {
                 return upgrade::<_, S, _, _>(rt, device, setting, old, new, output, errors);

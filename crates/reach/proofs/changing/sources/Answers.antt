@@ -1,4 +1,4 @@
-use Rattle.reach.proofs.Names.{arith, nat_tests, Bool, length, length-replicate, subst}
+use Rattle.reach.proofs.Names.{arith, nat_tests, Bool, is_marked, length, length-replicate, subst}
 use Rattle.std.proofs.Common.{◌≡◌}
 use Rattle.reach.proofs.Sources.{Sources, sources_are, sources_first, sources_next}
 use Rattle.reach.proofs.changing.sources.Goals as goal
@@ -6,12 +6,12 @@ use Rattle.reach.proofs.changing.sources.Goals as goal
 pub loop-grew-init : goal.loop-grew-init
 loop-grew-init c =
     let long : length c.in_ok-inside.inside ≡ length c.args.objects.now = grind (arith, nat_tests, length-replicate) in
-    sources_first _ _ _ _ _ c.in_ok-inside.ensures long c.add_owners.ensures
+    sources_first _ _ _ _ _ _ c.in_ok-inside.ensures long c.add_owners.ensures
 
 pub loop-grew-preserved : goal.loop-grew-preserved
-loop-grew-preserved c = sources_next _ _ _ _ _
-    (subst (λ (b : Bool). Sources c.args.objects.now c.args.object b c.loop-grew.inside) c.loop-grew-test.true c.loop-grew.invariant) c.widen-grew.ensures
+loop-grew-preserved c = sources_next _ _ _ _ _ _
+    (subst (λ (b : Bool). Sources c.args.objects.now (is_marked c.args.trusted.now) c.args.object b c.loop-grew.inside) c.loop-grew-test.true c.loop-grew.invariant) c.widen-grew.ensures
 
 pub returns-clause-each : goal.returns-clause-each
-returns-clause-each c = sources_are _ _ _
-    (subst (λ (b : Bool). Sources c.args.objects.now c.args.object b c.loop-grew.inside) c.loop-grew-test.false c.loop-grew.invariant)
+returns-clause-each c = sources_are _ _ _ _
+    (subst (λ (b : Bool). Sources c.args.objects.now (is_marked c.args.trusted.now) c.args.object b c.loop-grew.inside) c.loop-grew-test.false c.loop-grew.invariant)

@@ -1,4 +1,4 @@
-use Rattle.reach.proofs.Names.{refl}
+use Rattle.reach.proofs.Names.{is_marked, refl}
 use Rattle.reach.proofs.Sources.{widens_more, widens_skip}
 use Rattle.reach.proofs.changing.widen.Goals as goal
 use Rattle.reach.proofs.changing.widen.Goals.{then-leads_into, else-leads_into}
@@ -9,6 +9,6 @@ loop-number-preserved c =
     elim c.if-leads_into.branch [
       | then-leads_into w ↦
           let leads = w.if-leads_into.ensures.some refl in
-          rw (w.inside-is, w.grew-is) (widens_more _ _ _ _ _ i _ leads.0 leads.1 w.add_owners.ensures)
-      | else-leads_into w ↦ rw (w.inside-is, w.grew-is) (widens_skip _ _ _ _ _ i (w.if-leads_into.ensures.none refl))
+          rw (w.inside-is, w.grew-is) (widens_more _ _ _ _ _ _ i _ leads.0 leads.1 w.add_owners.ensures)
+      | else-leads_into w ↦ rw (w.inside-is, w.grew-is) (widens_skip _ _ _ _ _ _ i (w.if-leads_into.ensures.none refl))
     ]

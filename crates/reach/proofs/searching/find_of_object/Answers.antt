@@ -1,4 +1,4 @@
-use Rattle.reach.proofs.Names.{common_steps, arith, ap, sym, Capability, Content, slots_in}
+use Rattle.reach.proofs.Names.{common_steps, arith, ap, sym, Capability, Content, is_marked, slots_in}
 use Rattle.std.proofs.Common.{◌∙◌}
 use Rattle.model.specs.declared.object.Content.TheVariants as content
 use Rattle.reach.proofs.Members.{content_is, slots_known}
@@ -18,14 +18,14 @@ find_held-requires-in-Annex-clause-known c =
 pub returns-in-Node : goal.returns-in-Node
 returns-in-Node c =
     let is = content_is _ _ _ _ c.requires.known c.in-Node.is in
-    finds_of_slots _ _ _ _ _ _ (is ∙ ap content.Node (sym c.as_slice.ensures.value)) c.find_held.ensures
+    finds_of_slots _ _ _ _ _ _ _ (is ∙ ap content.Node (sym c.as_slice.ensures.value)) c.find_held.ensures
 
 pub returns-in-Annex : goal.returns-in-Annex
 returns-in-Annex c =
     let is = content_is _ _ _ _ c.requires.known c.in-Annex.is in
-    finds_of_registers _ _ _ _ _ _ (is ∙ ap content.Annex (sym c.as_slice-in-Annex.ensures.value)) c.find_held-in-Annex.ensures
+    finds_of_registers _ _ _ _ _ _ _ (is ∙ ap content.Annex (sym c.as_slice-in-Annex.ensures.value)) c.find_held-in-Annex.ensures
 
 pub returns-in-Bank : goal.returns-in-Bank
 returns-in-Bank c =
     let is = content_is c.args.objects.now c.args.number c.index-objects-number.result (content.Bank c.in-Bank.limit) c.requires.known c.in-Bank.is in
-    finds_of_bank c.args.objects.now c.args.number c.args.level c.args.levels.now c.find_owned.new.levels c.in-Bank.limit is c.find_owned.ensures
+    finds_of_bank c.args.objects.now (is_marked c.args.trusted.now) c.args.number c.args.level c.args.levels.now c.find_owned.new.levels c.in-Bank.limit is c.find_owned.ensures

@@ -1,0 +1,31 @@
+-- A set of members, processes that they may start, and numbers where messages to these may be delivered.
+use Rattle.confinement.proofs.Names.{ℕ, Bool, true, false, List, IsTrue, Capability, Object, is_free, is_process, annex_at, content_at, object_at, IsKept}
+use Rattle.confinement.proofs.Names.{IsClosedBut, StaysBut}
+use Rattle.std.proofs.Common.{◌≡◌, ◌⊎◌}
+
+pub record Zone : Type 0 where
+  pub members : ℕ → Bool
+  pub trusted : ℕ → Bool
+  pub ports : ℕ → Bool
+
+abbrev pub Stays : Zone → Capability → Type 0
+Stays z c = StaysBut z.trusted z.members c
+
+-- a number whose object members may change
+abbrev pub MayChange : Zone → ℕ → Type 0
+MayChange z n = IsTrue (z.members n) ⊎ IsTrue (z.ports n)
+
+-- a process that is a member, or receives messages where it may
+abbrev pub IsReceiver : Zone → ℕ → ℕ → Type 0
+IsReceiver z p annex = IsTrue (z.members p) ⊎ (IsTrue (z.ports p) × IsTrue (z.ports annex))
+
+-- a closed set that has the free numbers too, and each trusted process receives where it may
+pub record Encloses (z : Zone) (os : List Object) : Type 0 where
+  pub closed : IsClosedBut z.trusted os z.members
+  pub free : (n : ℕ) → is_free (content_at os n) ≡ true → IsTrue (z.members n)
+  pub receives : (p : ℕ) → IsTrue (z.trusted p) → IsTrue (is_process os p) → IsReceiver z p (annex_at os p)
+
+-- everything else is kept, and the set encloses what came of the rest
+pub record StaysWithin (z : Zone) (os us : List Object) : Type 0 where
+  pub encloses : Encloses z us
+  pub kept : (n : ℕ) → z.members n ≡ false → z.ports n ≡ false → IsKept z.members (object_at os n) (object_at us n)

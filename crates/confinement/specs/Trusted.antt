@@ -1,0 +1,85 @@
+-- Sets of numbers closed but for messages to trusted processes, and what the members of such a set can change.
+use Rattle.confinement.specs.Names.{ℕ, Bool, true, false, not, List, [], IsTrue, Capability, Start, Invocation}
+use Rattle.confinement.specs.Names.{Geometry, Object, StaysInside, Effect, invoke, Up, is_bank, is_free, IsRun, Turn}
+use Rattle.confinement.specs.Names.{IsSound, Fits, World, annex_at, content_at, is_process, is_running_process}
+use Rattle.confinement.specs.Names.{object_at, owner_at, root_at, slot_at, AreBy, IsKept, with_free, Some, Running}
+use Rattle.std.specs.Prelude.{◌≡◌, ◌⊎◌, ◌&&◌, ◌||◌, ◌∷◌}
+use Rattle.model.specs.declared.command.Command.TheVariants as command
+
+-- a capability to start one of some processes
+abbrev pub StartsOne : (ℕ → Bool) → Capability → Type 0
+StartsOne trusted (Start p key) = IsTrue (trusted p)
+StartsOne trusted _ = ⊥
+
+-- a capability stays inside a set, or starts a trusted process
+abbrev pub StaysBut : (ℕ → Bool) → (ℕ → Bool) → Capability → Type 0
+StaysBut trusted inside c = StaysInside inside c ⊎ StartsOne trusted c
+
+-- a closed set, but that its members may start trusted processes
+pub record IsClosedBut (trusted : ℕ → Bool) (os : List Object) (inside : ℕ → Bool) : Type 0 where
+  pub annexes : (p : ℕ) → IsTrue (inside p) → IsTrue (is_process os p) → IsTrue (inside (annex_at os p))
+  pub owned : (b n : ℕ) → IsTrue (inside b) → IsTrue (is_bank (content_at os b)) →
+      is_free (content_at os n) ≡ false → owner_at os n ≡ b → IsTrue (inside n)
+  pub slots : (n i : ℕ) → IsTrue (inside n) → StaysBut trusted inside (slot_at os n i)
+  pub spaces : (p : ℕ) → IsTrue (inside p) → StaysBut trusted inside (root_at os p).space
+
+-- where a trusted process receives a message: its root and its annex
+abbrev pub IsInbox : (ℕ → Bool) → List Object → ℕ → Type 0
+IsInbox trusted os n = (p : ℕ) × IsTrue (trusted p) × IsTrue (is_process os p) × ((n ≡ p) ⊎ (n ≡ annex_at os p))
+
+-- from some objects to others the set stays closed, with what was free, and each object outside that wasn't free keeps
+-- its content and owner, but for inboxes; capabilities in it that name a member may become void
+pub record IsConfinedBut (trusted inside : ℕ → Bool) (os us : List Object) : Type 0 where
+  pub closed : IsClosedBut trusted us (with_free os inside)
+  pub kept : (n : ℕ) → with_free os inside n ≡ false → (IsInbox trusted os n → ⊥) →
+      IsKept inside (object_at os n) (object_at us n)
+
+-- an invocation by a running member, or by a running process that has what was free
+abbrev pub InvocationIsConfinedBut : Type 0
+InvocationIsConfinedBut = (g : Geometry) (w : World) (i : Invocation) (e : Effect) (trusted inside : ℕ → Bool) →
+    IsSound g w → Fits (command.Invoke i) → IsTrue (is_running_process w.objects i.process) →
+    IsClosedBut trusted w.objects inside → IsTrue (inside i.process) → invoke g w.objects i ≡ Some e →
+    IsConfinedBut trusted inside w.objects e.objects
+
+-- the authority bound with trusted processes: any run of invocations and memory references by processes of such a set,
+-- and by those that they make of free numbers
+abbrev pub RunIsConfinedBut : Type 0
+RunIsConfinedBut = (g : Geometry) (trusted inside : ℕ → Bool) (s t : Running) (turns : List Turn) →
+    IsSound g s.now → IsClosedBut trusted s.now.objects inside → IsRun g (Up s) turns (Up t) →
+    AreBy (with_free s.now.objects inside) turns → IsConfinedBut trusted inside s.now.objects t.now.objects
+
+-- turns by members, or by anyone, and the machine after them
+pub record Stretch : Type 0 where
+  pub by_members : Bool
+  pub turns : List Turn
+  pub last : Running
+
+-- the members after a stretch: what members make of free numbers joins them, and what is freed leaves them
+abbrev pub members_after : Running → (ℕ → Bool) → Stretch → ℕ → Bool
+members_after s inside x n =
+    (inside n || (x.by_members && is_free (content_at s.now.objects n))) && not (is_free (content_at x.last.now.objects n))
+
+-- anyone else leaves the world sound and the set closed
+abbrev pub IsStretch : Geometry → (ℕ → Bool) → Running → (ℕ → Bool) → Stretch → Type 0
+IsStretch g trusted s inside x = IsRun g (Up s) x.turns (Up x.last) × elim x.by_members [
+  | true ↦ AreBy (with_free s.now.objects inside) x.turns
+  | false ↦ IsSound g x.last.now × IsClosedBut trusted x.last.now.objects (members_after s inside x)
+]
+
+abbrev pub AreStretches : Geometry → (ℕ → Bool) → Running → (ℕ → Bool) → List Stretch → Type 0
+AreStretches g trusted s inside [] = Unit {0}
+AreStretches g trusted s inside (x ∷ xs) =
+    IsStretch g trusted s inside x × AreStretches g trusted x.last (members_after s inside x) xs
+
+-- in each stretch by members everything outside is kept, but for inboxes
+abbrev pub AreConfinedBut : (ℕ → Bool) → Running → (ℕ → Bool) → List Stretch → Type 0
+AreConfinedBut trusted s inside [] = Unit {0}
+AreConfinedBut trusted s inside (x ∷ xs) =
+    (IsTrue x.by_members → IsConfinedBut trusted inside s.now.objects x.last.now.objects)
+    × AreConfinedBut trusted x.last (members_after s inside x) xs
+
+-- the same over a run in which members and others take turns, if the others leave the set closed
+abbrev pub TurnsAreConfinedBut : Type 0
+TurnsAreConfinedBut = (g : Geometry) (trusted inside : ℕ → Bool) (s : Running) (xs : List Stretch) →
+    IsSound g s.now → IsClosedBut trusted s.now.objects inside → AreStretches g trusted s inside xs →
+    AreConfinedBut trusted s inside xs
