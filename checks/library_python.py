@@ -151,7 +151,7 @@ def try_errors(image):
     need(machine.call(1, 6, 2, 3, 99) == ("done", 0, (0, 0, 0)) and machine.call(1, 6, 1, 3).values == (99, 0, 0), "a word is another one")
     raises(vezhnake.NoCheckpoint, "a commit of nothing", machine.commit)
     raises(vezhnake.BadLine, "a typing error", lambda: machine.command("sohw 16"))
-    raises(vezhnake.BadLine, "register 32", lambda: machine.call(1, 32))
+    raises(vezhnake.BadCommand, "register 32", lambda: machine.call(1, 32))
     raises(vezhnake.NoProcess, "a call by a page", lambda: machine.send(16, 6))
     raises(vezhnake.BadNumber, "a number without an object", lambda: machine.page(99999))
     raises(vezhnake.Refused, "the page of a process", lambda: machine.page(1))

@@ -1,9 +1,10 @@
 /* Vezhnake in a C program: a persistent machine of objects over your storage.
  *
  * The library never touches your storage. vezhnake_open copies an image that you pass as bytes. vezhnake_step runs
- * lines of a script and returns their answers. vezhnake_calls then returns the device calls that these lines made:
- * writes and syncs. Carry them out on your storage, in this order, before you trust the answers. If your storage
- * fails, close the handle, and open it again from what the storage holds.
+ * lines of a script and returns their answers; vezhnake_serve takes commands and returns answers as numbers.
+ * vezhnake_calls then returns the device calls that these made: writes and syncs. Carry them out on your storage, in
+ * this order, before you trust the answers. If your storage fails, close the handle, and open it again from what the
+ * storage holds.
  *
  * You must keep these rules. Nothing checks them:
  *   - Each pointer has as many bytes behind it as its size says. The arguments of one call don't overlap.
@@ -46,7 +47,8 @@ enum vezhnake_status {
     VEZHNAKE_NOT_OPEN = 15,         /* the handle is not open */
     VEZHNAKE_SMALL_BUFFER = 16,     /* the buffer is too small: *size is the size that fits, and nothing is lost */
     VEZHNAKE_CALLS_LOST = 17,       /* the calls are no longer kept: close the handle */
-    VEZHNAKE_FAILED = 18            /* memory ran out in opening, or the text could not be read: close the handle */
+    VEZHNAKE_FAILED = 18,           /* memory ran out in opening, or the text could not be read: close the handle */
+    VEZHNAKE_BAD_COMMAND = 19       /* a command's kind or register is out of range */
 };
 
 /* A handle. Its fields are the library's. */
@@ -74,6 +76,161 @@ uint32_t vezhnake_answer(vezhnake_machine *handle, uint8_t *buffer, size_t buffe
  * header is two numbers of 8 bytes, the lowest byte first: where a write begins, as a byte, and its length. Then come
  * the bytes to write. A sync has the header UINT64_MAX, 0. After VEZHNAKE_SMALL_BUFFER no call was returned. */
 uint32_t vezhnake_calls(vezhnake_machine *handle, uint8_t *buffer, size_t buffer_size, size_t *size);
+
+/* ---- Commands and answers as numbers. Each command does what its line does, and its answer has the same meaning. */
+
+/* What a command does. docs/SCRIPTS.md says what each means. */
+enum vezhnake_command_kind {
+    VEZHNAKE_CALL = 0,
+    VEZHNAKE_RETURN = 1,
+    VEZHNAKE_SEND = 2,
+    VEZHNAKE_LOAD = 3,
+    VEZHNAKE_STORE = 4,
+    VEZHNAKE_EVICT = 5,
+    VEZHNAKE_CHECKPOINT = 6,
+    VEZHNAKE_STABILIZE = 7,
+    VEZHNAKE_COMMIT = 8,
+    VEZHNAKE_MIGRATE = 9,
+    VEZHNAKE_JOURNAL = 10,
+    VEZHNAKE_RESTART = 11,
+    VEZHNAKE_CUT = 12
+};
+
+/* A command. A field that its kind doesn't use is ignored. */
+typedef struct vezhnake_command {
+    uint32_t kind;     /* enum vezhnake_command_kind */
+    uint8_t reg;       /* an invocation: the register of the capability, below 32 */
+    uint8_t sent[4];   /* an invocation: the registers whose capabilities are sent, below 32; 0 is void */
+    uint64_t number;   /* the process; EVICT, JOURNAL: the object; STABILIZE, MIGRATE: how many objects at most */
+    uint64_t words[4]; /* an invocation: the words sent, the first is the order; LOAD: the address; STORE: address, value */
+} vezhnake_command;
+
+/* Which answer. From 32 on the command was refused. */
+enum vezhnake_reply_kind {
+    VEZHNAKE_DONE = 0,
+    VEZHNAKE_VALUE = 1,        /* first: the word */
+    VEZHNAKE_MEMORY_FAULT = 2, /* first: the reason, 1 to 5 */
+    VEZHNAKE_FROZEN = 3,       /* first: how many objects */
+    VEZHNAKE_LEFT = 4,         /* first: how many objects */
+    VEZHNAKE_COMMITTED = 5,    /* first: the generation */
+    VEZHNAKE_JOURNALED = 6,    /* first: the generation */
+    VEZHNAKE_AT = 7,           /* first: the generation, second: the age */
+    VEZHNAKE_SHOWN = 8,        /* first: the object, second: its kind */
+    VEZHNAKE_DOWN = 32,
+    VEZHNAKE_NO_PROCESS = 33,
+    VEZHNAKE_NOT_RUNNING = 34,
+    VEZHNAKE_WORN = 35,
+    VEZHNAKE_STALLED = 36,
+    VEZHNAKE_LOG_FULL = 37,
+    VEZHNAKE_CHECKPOINT_RUNNING = 38,
+    VEZHNAKE_MIGRATION_PENDING = 39,
+    VEZHNAKE_NOT_STABLE = 40, /* first: how many objects */
+    VEZHNAKE_NO_CHECKPOINT = 41,
+    VEZHNAKE_COMMAND_NO_MEMORY = 42,
+    VEZHNAKE_FAULT = 43,
+    VEZHNAKE_BAD_NUMBER = 44,
+    VEZHNAKE_NOT_JOURNALED = 45 /* first: the reason, 1 or 2 */
+};
+
+/* `code` of an answer without a result code. */
+#define VEZHNAKE_NO_CODE UINT32_MAX
+
+/* An answer. Numbers that its kind doesn't have are 0. */
+typedef struct vezhnake_reply {
+    uint32_t kind; /* enum vezhnake_reply_kind */
+    uint32_t code; /* the result code of an order that a kernel object carried out, or VEZHNAKE_NO_CODE */
+    uint64_t first;
+    uint64_t second;
+} vezhnake_reply;
+
+/* Serves commands one after another, and sets *served to their number. replies[i] answers commands[i], also where the
+ * machine refuses it. After VEZHNAKE_BAD_COMMAND those before commands[*served] were served, and it was not. After
+ * VEZHNAKE_SMALL_BUFFER there are fewer replies than commands, and none was served. */
+uint32_t vezhnake_serve(vezhnake_machine *handle, const vezhnake_command *commands, size_t commands_count,
+                        vezhnake_reply *replies, size_t replies_count, size_t *served);
+
+/* Saves the state in five stages: migrates what an earlier save left, checkpoints, stabilizes, commits and migrates.
+ * Sets *served to how many stages it served. replies[i] answers stage i; the fourth has the new generation. The first
+ * stage that is refused is the last. After VEZHNAKE_SMALL_BUFFER there are fewer than five replies, and none was served. */
+#define VEZHNAKE_SAVE_STAGES 5
+uint32_t vezhnake_save(vezhnake_machine *handle, vezhnake_reply *replies, size_t replies_count, size_t *served);
+
+/* The words of a page. */
+typedef struct vezhnake_page_words {
+    uint64_t words[512];
+} vezhnake_page_words;
+
+/* Shows an object. If it is a page, copies its words, and otherwise leaves *page alone. The reply is VEZHNAKE_SHOWN with
+ * the object's kind, or a refusal. */
+uint32_t vezhnake_page(vezhnake_machine *handle, uint64_t number, vezhnake_page_words *page, vezhnake_reply *reply);
+
+/* A capability. Fields that its kind doesn't have are 0. */
+typedef struct vezhnake_capability {
+    uint8_t kind;    /* 0 void, 1 number, 2 page, 3 node, 4 space, 5 process, 6 start, 7 resume, 8 bank, 9 discrim */
+    uint8_t access;  /* 0 full, 1 read-only, 3 weak */
+    uint8_t height;  /* a space: how many levels of nodes it has */
+    uint16_t key;    /* start: the key that the started process sees */
+    uint64_t object; /* the object that it names; a number: its value */
+} vezhnake_capability;
+
+/* An object. Fields that its kind doesn't have are 0, and capabilities void. */
+typedef struct vezhnake_object {
+    uint32_t kind;             /* 0 free, 1 page, 2 node, 3 process, 4 annex, 5 bank */
+    uint16_t state;            /* a process: 0 available, 1 running, 2 waiting */
+    uint16_t key;              /* a process: the key that it was sent last */
+    uint64_t owner;            /* the bank that owns it */
+    uint64_t annex;            /* a process: the object with its registers */
+    uint64_t words[4];         /* a process: the words that it was sent last */
+    uint64_t limit;            /* a bank: how many objects it may own */
+    uint64_t used;             /* a bank: how many it and its banks own */
+    vezhnake_capability space; /* a process: its address space */
+    vezhnake_capability slots[32]; /* a node's slots; a process's or an annex's registers */
+} vezhnake_object;
+
+/* Shows an object. If there is one, sets *object, and otherwise leaves it alone. The reply is as for vezhnake_page. */
+uint32_t vezhnake_show(vezhnake_machine *handle, uint64_t number, vezhnake_object *object, vezhnake_reply *reply);
+
+/* Serves one command. */
+static inline uint32_t vezhnake_one(vezhnake_machine *handle, vezhnake_command command, vezhnake_reply *reply) {
+    size_t served;
+    return vezhnake_serve(handle, &command, 1, reply, 1, &served);
+}
+
+/* One command, by its kind and the numbers that it has. */
+static inline uint32_t vezhnake_numbered(vezhnake_machine *handle, uint32_t kind, uint64_t number, uint64_t first,
+                                         uint64_t second, vezhnake_reply *reply) {
+    vezhnake_command command = {kind, 0, {0, 0, 0, 0}, number, {first, second, 0, 0}};
+    return vezhnake_one(handle, command, reply);
+}
+
+static inline uint32_t vezhnake_load(vezhnake_machine *handle, uint64_t process, uint64_t address, vezhnake_reply *reply) {
+    return vezhnake_numbered(handle, VEZHNAKE_LOAD, process, address, 0, reply);
+}
+static inline uint32_t vezhnake_store(vezhnake_machine *handle, uint64_t process, uint64_t address, uint64_t value,
+                                      vezhnake_reply *reply) {
+    return vezhnake_numbered(handle, VEZHNAKE_STORE, process, address, value, reply);
+}
+static inline uint32_t vezhnake_evict(vezhnake_machine *handle, uint64_t object, vezhnake_reply *reply) {
+    return vezhnake_numbered(handle, VEZHNAKE_EVICT, object, 0, 0, reply);
+}
+static inline uint32_t vezhnake_checkpoint(vezhnake_machine *handle, vezhnake_reply *reply) {
+    return vezhnake_numbered(handle, VEZHNAKE_CHECKPOINT, 0, 0, 0, reply);
+}
+static inline uint32_t vezhnake_stabilize(vezhnake_machine *handle, uint64_t count, vezhnake_reply *reply) {
+    return vezhnake_numbered(handle, VEZHNAKE_STABILIZE, count, 0, 0, reply);
+}
+static inline uint32_t vezhnake_commit(vezhnake_machine *handle, vezhnake_reply *reply) {
+    return vezhnake_numbered(handle, VEZHNAKE_COMMIT, 0, 0, 0, reply);
+}
+static inline uint32_t vezhnake_migrate(vezhnake_machine *handle, uint64_t count, vezhnake_reply *reply) {
+    return vezhnake_numbered(handle, VEZHNAKE_MIGRATE, count, 0, 0, reply);
+}
+static inline uint32_t vezhnake_journal(vezhnake_machine *handle, uint64_t page, vezhnake_reply *reply) {
+    return vezhnake_numbered(handle, VEZHNAKE_JOURNAL, page, 0, 0, reply);
+}
+static inline uint32_t vezhnake_restart(vezhnake_machine *handle, vezhnake_reply *reply) {
+    return vezhnake_numbered(handle, VEZHNAKE_RESTART, 0, 0, 0, reply);
+}
 
 /* Closes the handle and frees its memory. */
 uint32_t vezhnake_close(vezhnake_machine *handle);

@@ -9,6 +9,7 @@
 
 #include "vezhnake.h"
 
+#include <algorithm>
 #include <array>
 #include <cerrno>
 #include <cstring>
@@ -114,6 +115,37 @@ private:
     int file_;
 };
 
+// The words of an answer as numbers, as `eros run` writes them.
+inline std::string text_of(const vezhnake_reply &reply) {
+    const auto numbered = [&](const char *words) { return words + (' ' + std::to_string(reply.first)); };
+    switch (reply.kind) {
+    case VEZHNAKE_DONE: return "done";
+    case VEZHNAKE_VALUE: return numbered("value");
+    case VEZHNAKE_MEMORY_FAULT: return numbered("memory fault");
+    case VEZHNAKE_FROZEN: return numbered("frozen");
+    case VEZHNAKE_LEFT: return numbered("left");
+    case VEZHNAKE_COMMITTED: return numbered("committed");
+    case VEZHNAKE_JOURNALED: return numbered("journaled");
+    case VEZHNAKE_AT: return numbered("at") + ' ' + std::to_string(reply.second);
+    case VEZHNAKE_SHOWN: return numbered("object");
+    case VEZHNAKE_DOWN: return "down";
+    case VEZHNAKE_NO_PROCESS: return "no process";
+    case VEZHNAKE_NOT_RUNNING: return "not running";
+    case VEZHNAKE_WORN: return "worn";
+    case VEZHNAKE_STALLED: return "stalled";
+    case VEZHNAKE_LOG_FULL: return "log full";
+    case VEZHNAKE_CHECKPOINT_RUNNING: return "checkpoint running";
+    case VEZHNAKE_MIGRATION_PENDING: return "migration pending";
+    case VEZHNAKE_NOT_STABLE: return numbered("not stable");
+    case VEZHNAKE_NO_CHECKPOINT: return "no checkpoint";
+    case VEZHNAKE_COMMAND_NO_MEMORY: return "no memory";
+    case VEZHNAKE_FAULT: return "fault";
+    case VEZHNAKE_BAD_NUMBER: return "bad number";
+    case VEZHNAKE_NOT_JOURNALED: return numbered("not journaled");
+    default: return numbered("answer");
+    }
+}
+
 // What an invocation gave. `code` is the result code, if a kernel object replied, and `values` are the other words of its reply.
 struct reply {
     std::optional<uint64_t> code;
@@ -153,65 +185,85 @@ public:
         }
         check(status);
         std::string answers(reinterpret_cast<char *>(buffer_.data()), size);
-        try {
-            carry_out();
-        } catch (...) {
-            close();
-            throw;
-        }
+        perform();
         return answers;
     }
 
     // Runs one line whose answer begins with `kind`, and returns the number in it, or 0.
     uint64_t command(std::string_view line, std::string_view kind) { return number_in(run(line), kind); }
 
+    // Serves commands one after another, and returns the answer to each. No answer is an exception, but the status VEZHNAKE_BAD_COMMAND is.
+    std::vector<vezhnake_reply> serve(const std::vector<vezhnake_command> &commands) {
+        std::vector<vezhnake_reply> replies(commands.size());
+        size_t served = 0;
+        const uint32_t status = vezhnake_serve(&handle_, commands.data(), commands.size(), replies.data(), replies.size(), &served);
+        if (status != VEZHNAKE_BAD_COMMAND) check(status);
+        perform();
+        if (status) throw status_error(status);
+        return replies;
+    }
+
+    // Serves one command. A refusal is an exception.
+    vezhnake_reply serve(const vezhnake_command &command) { return accepted(serve(std::vector<vezhnake_command>{command}).front()); }
+
     // The process invokes the capability in its register, and gets the reply. After a call of another process there is no code.
-    reply call(uint64_t process, unsigned reg, std::initializer_list<uint64_t> words, std::initializer_list<unsigned> sent = {}) {
-        const std::string answers = run(invocation("call", process, reg, words, sent) + "\nshow " + std::to_string(process));
-        const size_t end = answers.find('\n');
-        number_in(answers.substr(0, end), "done");
-        std::istringstream shown(answers.substr(end + 1, answers.find('\n', end + 1) - end - 1));
+    reply call(uint64_t process, uint8_t reg, std::initializer_list<uint64_t> words, std::initializer_list<uint8_t> sent = {}) {
+        const vezhnake_reply answer = serve(invocation(VEZHNAKE_CALL, process, reg, words, sent));
         reply got;
-        bool is_running = false;
-        for (std::string word; shown >> word && word != "words";) is_running |= word == "running";
-        uint64_t code = 0;
-        if (!is_running || !(shown >> code >> got.values[0] >> got.values[1] >> got.values[2])) return got;
-        if (code) throw order_refused(code);
-        got.code = code;
+        if (answer.code == VEZHNAKE_NO_CODE) return got;
+        if (answer.code) throw order_refused(answer.code);
+        const vezhnake_object shown = object(process);
+        got.code = answer.code;
+        for (size_t i = 0; i < 3; i++) got.values[i] = shown.words[i + 1];
         return got;
     }
 
     // The process invokes the capability in its register, and gets no reply.
-    void send(uint64_t process, unsigned reg, std::initializer_list<uint64_t> words, std::initializer_list<unsigned> sent = {}) {
-        command(invocation("send", process, reg, words, sent), "done");
+    void send(uint64_t process, uint8_t reg, std::initializer_list<uint64_t> words, std::initializer_list<uint8_t> sent = {}) {
+        serve(invocation(VEZHNAKE_SEND, process, reg, words, sent));
+    }
+
+    // The word at an address of the process.
+    uint64_t load(uint64_t process, uint64_t address) {
+        return serve(vezhnake_command{VEZHNAKE_LOAD, 0, {}, process, {address, 0, 0, 0}}).first;
+    }
+
+    // Writes the word at an address of the process.
+    void store(uint64_t process, uint64_t address, uint64_t value) {
+        serve(vezhnake_command{VEZHNAKE_STORE, 0, {}, process, {address, value, 0, 0}});
     }
 
     // The words of a page.
-    std::array<uint64_t, 512> page(uint64_t object) {
-        const std::string shown = run("show " + std::to_string(object));
-        if (shown.rfind("page ", 0)) throw refused(shown.substr(0, shown.find('\n')));
+    std::array<uint64_t, 512> page(uint64_t number) {
+        vezhnake_page_words shown{};
+        vezhnake_reply answer{};
+        check(vezhnake_page(&handle_, number, &shown, &answer));
+        perform();
+        if (accepted(answer).second != 1) throw refused("object " + std::to_string(number) + " is no page");
         std::array<uint64_t, 512> words{};
-        std::istringstream lines(shown);
-        std::string line;
-        while (std::getline(lines, line)) {
-            size_t place = 0;
-            uint64_t word = 0;
-            std::string kind;
-            if (std::istringstream(line) >> kind >> place >> word && kind == "word") words.at(place) = word;
-        }
+        std::copy_n(shown.words, words.size(), words.begin());
         return words;
+    }
+
+    // An object.
+    vezhnake_object object(uint64_t number) {
+        vezhnake_object shown{};
+        vezhnake_reply answer{};
+        check(vezhnake_show(&handle_, number, &shown, &answer));
+        perform();
+        accepted(answer);
+        return shown;
     }
 
     // Saves the state in one step, and returns the generation: migrates what an earlier run left, freezes, stabilizes, commits and
     // migrates. The first of these that is refused is the exception.
     uint64_t save() {
-        const std::string all = std::to_string(UINT64_MAX);
-        command("migrate " + all, "left");
-        command("checkpoint", "frozen");
-        command("stabilize " + all, "left");
-        const uint64_t generation = command("commit", "committed");
-        command("migrate " + all, "left");
-        return generation;
+        std::array<vezhnake_reply, VEZHNAKE_SAVE_STAGES> replies{};
+        size_t served = 0;
+        check(vezhnake_save(&handle_, replies.data(), replies.size(), &served));
+        perform();
+        accepted(replies.at(served - 1));
+        return replies[3].first;
     }
 
 private:
@@ -228,14 +280,27 @@ private:
         words >> number;
         return number;
     }
-    static std::string invocation(const char *how, uint64_t process, unsigned reg, std::initializer_list<uint64_t> words,
-                                  std::initializer_list<unsigned> sent) {
+    static vezhnake_command invocation(uint32_t kind, uint64_t process, uint8_t reg, std::initializer_list<uint64_t> words,
+                                       std::initializer_list<uint8_t> sent) {
         if (words.size() > 4 || sent.size() > 4) throw std::invalid_argument("an invocation sends at most four words and four capabilities");
-        std::ostringstream line;
-        line << how << ' ' << process << ' ' << reg;
-        for (size_t i = 0; i < 4; i++) line << ' ' << (i < words.size() ? words.begin()[i] : 0);
-        for (size_t i = 0; i < 4; i++) line << ' ' << (i < sent.size() ? sent.begin()[i] : 0);
-        return line.str();
+        vezhnake_command made{kind, reg, {}, process, {}};
+        std::copy(words.begin(), words.end(), made.words);
+        std::copy(sent.begin(), sent.end(), made.sent);
+        return made;
+    }
+    // An answer. A refusal is an exception.
+    static const vezhnake_reply &accepted(const vezhnake_reply &reply) {
+        if (reply.kind == VEZHNAKE_MEMORY_FAULT || reply.kind >= VEZHNAKE_DOWN) throw refused(text_of(reply));
+        return reply;
+    }
+    // Carries out the device calls. Closes the machine if the storage fails.
+    void perform() {
+        try {
+            carry_out();
+        } catch (...) {
+            close();
+            throw;
+        }
     }
     // Carries out the device calls.
     void carry_out() {

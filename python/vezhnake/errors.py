@@ -10,6 +10,7 @@ STATUSES = {
     11: "memory ran out", 12: "the image isn't a whole number of sectors, or is over 64 MiB", 13: "the cache is neither 0 nor 8 to 8192",
     14: "the machine is open already", 15: "the machine is closed", 16: "the buffer is too small", 17: "the calls are no longer kept",
     18: "memory ran out while the image was opened, or the text could not be read",
+    19: "a number or a register is out of range",
 }
 
 
@@ -55,6 +56,10 @@ class NoMemory(StatusError, MemoryError):
 
 class Closed(StatusError):
     """The machine is closed: by `close`, or because an earlier call failed."""
+
+
+class BadCommand(StatusError, ValueError):
+    """A register is not below 32, or a number not below 2^64. The command was not served."""
 
 
 class StorageError(Error):
@@ -150,7 +155,8 @@ def status_error(status: int) -> StatusError:
     """The exception for a status other than 0."""
     if status <= 10:
         return BadImage(status)
-    return {11: NoMemory, 12: BadArgument, 13: BadArgument, 15: Closed, 17: Closed, 18: NoMemory}.get(status, StatusError)(status)
+    kinds = {11: NoMemory, 12: BadArgument, 13: BadArgument, 15: Closed, 17: Closed, 18: NoMemory, 19: BadCommand}
+    return kinds.get(status, StatusError)(status)
 
 
 def refusal(answer: str, line: str) -> Refused:

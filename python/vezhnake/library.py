@@ -8,7 +8,9 @@ import struct
 from functools import cache
 from pathlib import Path
 
-OK, NO_MEMORY, ALREADY_OPEN, NOT_OPEN, SMALL_BUFFER = 0, 11, 14, 15, 16
+OK, NO_MEMORY, ALREADY_OPEN, NOT_OPEN, SMALL_BUFFER, BAD_COMMAND = 0, 11, 14, 15, 16, 19
+NO_CODE = 2**32 - 1
+STAGES = 5
 SYNC = 2**64 - 1
 HEADER = struct.Struct("<QQ")
 
@@ -19,6 +21,35 @@ class Handle(ctypes.Structure):
 
 class Batch(ctypes.Structure):
     _fields_ = [("answers", ctypes.c_size_t), ("calls", ctypes.c_size_t)]
+
+
+class RawCommand(ctypes.Structure):
+    _fields_ = [
+        ("kind", ctypes.c_uint32), ("register", ctypes.c_uint8), ("sent", ctypes.c_uint8 * 4), ("number", ctypes.c_uint64),
+        ("words", ctypes.c_uint64 * 4),
+    ]
+
+
+class RawReply(ctypes.Structure):
+    _fields_ = [("kind", ctypes.c_uint32), ("code", ctypes.c_uint32), ("first", ctypes.c_uint64), ("second", ctypes.c_uint64)]
+
+
+class RawPage(ctypes.Structure):
+    _fields_ = [("words", ctypes.c_uint64 * 512)]
+
+
+class RawCapability(ctypes.Structure):
+    _fields_ = [
+        ("kind", ctypes.c_uint8), ("access", ctypes.c_uint8), ("height", ctypes.c_uint8), ("key", ctypes.c_uint16), ("object", ctypes.c_uint64),
+    ]
+
+
+class RawObject(ctypes.Structure):
+    _fields_ = [
+        ("kind", ctypes.c_uint32), ("state", ctypes.c_uint16), ("key", ctypes.c_uint16), ("owner", ctypes.c_uint64), ("annex", ctypes.c_uint64),
+        ("words", ctypes.c_uint64 * 4), ("limit", ctypes.c_uint64), ("used", ctypes.c_uint64), ("space", RawCapability),
+        ("slots", RawCapability * 32),
+    ]
 
 
 def find() -> str:
@@ -37,12 +68,17 @@ def library() -> ctypes.CDLL:
     loaded = ctypes.CDLL(find())
     data, size, buffer = ctypes.c_char_p, ctypes.c_size_t, ctypes.c_void_p
     handle, result, batch = ctypes.POINTER(Handle), ctypes.POINTER(ctypes.c_size_t), ctypes.POINTER(Batch)
+    command, reply = ctypes.POINTER(RawCommand), ctypes.POINTER(RawReply)
     types = {
         "open": (data, size, ctypes.c_uint64, handle),
         "step": (handle, data, size, buffer, size, result),
         "answer": (handle, buffer, size, result),
         "calls": (handle, buffer, size, result),
         "close": (handle,),
+        "serve": (handle, command, size, reply, size, result),
+        "save": (handle, reply, size, result),
+        "page": (handle, ctypes.c_uint64, ctypes.POINTER(RawPage), reply),
+        "show": (handle, ctypes.c_uint64, ctypes.POINTER(RawObject), reply),
         "run": (data, size, ctypes.c_uint64, data, size, buffer, size, buffer, size, batch),
     }
     for name, arguments in types.items():

@@ -7,15 +7,18 @@ import os
 import threading
 import weakref
 from types import TracebackType
-from typing import NamedTuple, Sequence, Union
+from typing import Iterable, Sequence, Union
 
+from .commands import (
+    ALL, CHECKPOINT, COMMIT, EVICT, JOURNAL, LOAD, MIGRATE, OBJECTS, RESTART, SHOWN, STABILIZE, STORE, Invocation, Object, Operation, Reply,
+    answer_of, checked, invocation, numbered, object_of, result,
+)
 from .errors import OrderRefused, Refused, StorageError, refusal, status_error
-from .library import OK, SMALL_BUFFER, Batch, Handle, decode_calls, library
+from .library import (
+    BAD_COMMAND, OK, SMALL_BUFFER, STAGES, Batch, Handle, RawCommand, RawObject, RawPage, RawReply, decode_calls, library,
+)
 from .storage import Bytes, FileStorage, Storage
 
-# All objects that there are to stabilize or to migrate.
-ALL = 2**64 - 1
-WORDS = 512
 # The answers to a command that isn't refused.
 KINDS = ("done", "value", "frozen", "left", "committed", "journaled", "at")
 Text = Union[str, Bytes]
@@ -34,15 +37,6 @@ class Answer(str):
         """Its last word if that is a number, as in `value 7` or `committed 3`. Otherwise None."""
         last = self.words[-1:]
         return last[0] if last and isinstance(last[0], int) else None
-
-
-class Reply(NamedTuple):
-    """What a command gave. `kind` is the answer's first word. `code` is the result code, or None if no kernel object replied. `values` are
-    the other words of a kernel object's reply, or the numbers of the answer."""
-
-    kind: str
-    code: int | None
-    values: tuple[int, ...]
 
 
 def _bytes(data: Text) -> bytes:
@@ -92,13 +86,7 @@ class Machine:
         text = _bytes(text)
         with self._lock:
             answers = self._fetch(library().vezhnake_answer, library().vezhnake_step, text, len(text))
-            try:
-                self._carry_out()
-            except BaseException as error:
-                self._give_up()
-                if isinstance(error, Exception):
-                    raise StorageError(f"the storage failed: {error}") from error
-                raise
+            self._perform()
             return answers
 
     def step(self, line: Text) -> Answer:
@@ -109,35 +97,51 @@ class Machine:
         """Runs one line whose answer is one line. Raises Refused if it is refused."""
         return self._reply(line, self.step(line))
 
+    def invoke(self, process: int, register: int, *words: int, sent: Sequence[int] = (), operation: Operation = Operation.CALL) -> Reply:
+        """The process invokes the capability in its register. It sends up to four words, and the capabilities in up to four registers. The
+        code is None if no kernel object replied. Raises Refused, and OrderRefused for a result code other than 0."""
+        reply = self._one(invocation(Invocation(process, register, words, tuple(sent), operation)))
+        if reply.code:
+            raise OrderRefused(reply.code, ())
+        return reply
+
+    def invoke_all(self, invocations: Iterable[Invocation]) -> list[Reply | Refused]:
+        """Makes invocations, one after another, in one call of the library. Returns the reply to each, or why it was refused: neither a
+        refusal nor a result code raises an exception."""
+        commands = [invocation(it) for it in invocations]
+        return [result(*it) for it in zip(commands, self._serve(commands))]
+
     def call(self, process: int, register: int, *words: int, sent: Sequence[int] = ()) -> Reply:
-        """The process invokes the capability in its register, and gets the reply. It sends up to four words, and the capabilities in up to
-        four registers. Raises OrderRefused for a result code other than 0. After a call of another process the code is None."""
-        line = _invocation("call", process, register, words, sent)
-        answer, _, shown = self.run(f"{line}\nshow {process}\n").decode().partition("\n")
-        self._reply(line, answer)
-        first = shown.split("\n", 1)[0].split()
-        if "running" not in first:
-            return Reply(answer, None, ())
-        code, *values = (int(it) for it in first[first.index("words") + 1 :][:4])
-        if code:
-            raise OrderRefused(code, tuple(values))
-        return Reply(answer, code, tuple(values))
+        """The process calls the capability in its register, as `invoke`, and gets the reply: `values` are its words after the code, also in
+        OrderRefused. After a call of another process the code is None, and there are no values."""
+        with self._lock:
+            reply = self._one(invocation(Invocation(process, register, words, tuple(sent))))
+            if reply.code is None:
+                return reply
+            values = self.object(process).words[1:]
+        if reply.code:
+            raise OrderRefused(reply.code, values)
+        return Reply(reply.kind, reply.code, values)
 
     def send(self, process: int, register: int, *words: int, sent: Sequence[int] = ()) -> Reply:
-        """The process invokes the capability in its register, and gets no reply: the code is None."""
-        return self.command(_invocation("send", process, register, words, sent))
+        """The process invokes the capability in its register, as `invoke`, and goes on."""
+        return self.invoke(process, register, *words, sent=sent, operation=Operation.SEND)
 
     def return_(self, process: int, register: int, *words: int, sent: Sequence[int] = ()) -> Reply:
-        """The process invokes the capability in its register, and becomes available: the code is None."""
-        return self.command(_invocation("return", process, register, words, sent))
+        """The process invokes the capability in its register, as `invoke`, and becomes available."""
+        return self.invoke(process, register, *words, sent=sent, operation=Operation.RETURN)
 
     def load(self, process: int, address: int) -> int:
         """The word at an address of the process. Raises MemoryFault."""
-        return self.command(f"load {process} {address}").values[0]
+        return self._one(numbered(LOAD, process, address)).values[0]
 
     def store(self, process: int, address: int, value: int) -> None:
         """Writes the word at an address of the process. Raises MemoryFault."""
-        self.command(f"store {process} {address} {value}")
+        self._one(numbered(STORE, process, address, value))
+
+    def evict(self, number: int) -> None:
+        """Requests that an object leave the cache."""
+        self._one(numbered(EVICT, number))
 
     def show(self, number: int) -> Answer:
         """The lines of an object. The last line is `end`."""
@@ -147,51 +151,55 @@ class Machine:
             raise refusal(answer, line)
         return answer
 
+    def object(self, number: int) -> Object:
+        """An object. Raises BadNumber."""
+        raw = RawObject()
+        self._shown(library().vezhnake_show, number, raw)
+        return object_of(raw)
+
     def page(self, number: int) -> list[int]:
         """The 512 words of a page. Raises Refused if the object is no page."""
-        first, *lines = self.show(number).splitlines()
-        if not first.startswith("page "):
-            raise Refused(first, f"page {number}")
-        words = [0] * WORDS
-        for line in lines[:-1]:
-            _, place, word = line.split()
-            words[int(place)] = int(word)
-        return words
+        raw = RawPage()
+        kind = OBJECTS[self._shown(library().vezhnake_page, number, raw).second]
+        if kind != "page":
+            raise Refused(f"{kind} {number}", f"page {number}")
+        return list(raw.words)
 
     def save(self) -> int:
         """Saves the state in one step, and returns the generation: migrates what an earlier run left, freezes, stabilizes, commits and
         migrates. Raises Refused at the first of these that is refused."""
+        replies = (RawReply * STAGES)()
+        stages = [numbered(it, ALL) for it in (MIGRATE, CHECKPOINT, STABILIZE, COMMIT, MIGRATE)]
         with self._lock:
-            self.migrate()
-            self.checkpoint()
-            self.stabilize()
-            generation = self.commit()
-            self.migrate()
-            return generation
+            self._check(library().vezhnake_save(self._handle, replies, STAGES, self._size))
+            served = self._size.value
+            self._perform()
+        self._raised(result(stages[served - 1], replies[served - 1]))
+        return replies[STAGES - 2].first
 
     def checkpoint(self) -> int:
         """Freezes the state, and returns how many objects were written since the last checkpoint."""
-        return self.command("checkpoint").values[0]
+        return self._one(numbered(CHECKPOINT)).values[0]
 
     def stabilize(self, count: int = ALL) -> int:
         """Writes up to this many frozen objects to the log, and returns how many are left."""
-        return self.command(f"stabilize {count}").values[0]
+        return self._one(numbered(STABILIZE, count)).values[0]
 
     def commit(self) -> int:
         """Makes the frozen state the saved one, and returns its generation."""
-        return self.command("commit").values[0]
+        return self._one(numbered(COMMIT)).values[0]
 
     def migrate(self, count: int = ALL) -> int:
         """Copies up to this many saved objects from the log to their homes, and returns how many are left."""
-        return self.command(f"migrate {count}").values[0]
+        return self._one(numbered(MIGRATE, count)).values[0]
 
     def journal(self, number: int) -> int:
         """Saves the present words of one page, and returns the generation."""
-        return self.command(f"journal {number}").values[0]
+        return self._one(numbered(JOURNAL, number)).values[0]
 
     def restart(self) -> tuple[int, int]:
         """Goes back to the saved state, and returns the generation and the age."""
-        generation, age = self.command("restart").values
+        generation, age = self._one(numbered(RESTART)).values
         return generation, age
 
     def calls(self) -> list[tuple[int, bytes] | None]:
@@ -205,6 +213,56 @@ class Machine:
         if kind not in KINDS:
             raise refusal(answer, line)
         return Reply(kind, None, tuple(int(it) for it in numbers))
+
+    @staticmethod
+    def _raised(reply: Reply | Refused) -> Reply:
+        """A reply. Raises a refusal."""
+        if isinstance(reply, Refused):
+            raise reply
+        return reply
+
+    def _one(self, command: RawCommand) -> Reply:
+        """Serves a command. Raises Refused."""
+        return self._raised(result(command, self._serve([command])[0]))
+
+    def _serve(self, commands: Sequence[RawCommand]) -> Sequence[RawReply]:
+        """Serves commands, and returns the numbers of their answers."""
+        count = len(commands)
+        array, replies = (RawCommand * count)(*commands), (RawReply * count)()
+        with self._lock:
+            status = library().vezhnake_serve(self._handle, array, count, replies, count, self._size)
+            if status != BAD_COMMAND:
+                self._check(status)
+            self._perform()
+        if status != OK:
+            raise status_error(status)
+        return replies
+
+    def _shown(self, call, number: int, into: RawPage | RawObject) -> RawReply:  # type: ignore[no-untyped-def]
+        """Shows an object into a structure, and returns the reply. Raises Refused."""
+        reply, line = RawReply(), f"show {number}"
+        with self._lock:
+            self._check(call(self._handle, checked(number), into, reply))
+            self._perform()
+        if reply.kind != SHOWN:
+            raise refusal(answer_of(reply), line)
+        return reply
+
+    def _check(self, status: int) -> None:
+        """Closes the machine and raises the error of a status other than OK."""
+        if status != OK:
+            self._give_up()
+            raise status_error(status)
+
+    def _perform(self) -> None:
+        """Carries out the device calls. If the storage fails, closes the machine and raises StorageError."""
+        try:
+            self._carry_out()
+        except BaseException as error:
+            self._give_up()
+            if isinstance(error, Exception):
+                raise StorageError(f"the storage failed: {error}") from error
+            raise
 
     def _carry_out(self) -> None:
         """Carries out the device calls on the storage."""
@@ -231,18 +289,8 @@ class Machine:
             if status == SMALL_BUFFER:
                 self._buffer = ctypes.create_string_buffer(self._size.value)
                 status = again(self._handle, self._buffer, len(self._buffer), self._size)
-            if status != OK:
-                self._give_up()
-                raise status_error(status)
+            self._check(status)
             return ctypes.string_at(self._buffer, self._size.value)
-
-
-def _invocation(how: str, process: int, register: int, words: Sequence[int], sent: Sequence[int]) -> str:
-    """The line of an invocation."""
-    if len(words) > 4 or len(sent) > 4:
-        raise ValueError("an invocation sends at most four words and four capabilities")
-    numbers = [process, register, *words, *[0] * (4 - len(words)), *sent, *[0] * (4 - len(sent))]
-    return " ".join(str(it) for it in (how, *numbers))
 
 
 def open(path: str | os.PathLike[str], cache: int = 0) -> Machine:  # noqa: A001

@@ -170,6 +170,8 @@ pub enum Error {
     Refused(Refusal),
     /// A kernel object replied with a result code other than success, and these words.
     Order(Code, [u64; 3]),
+    /// A register is not below 32. The invocation was not made.
+    BadCommand,
     /// A status that this version doesn't know.
     Status(u32),
 }
@@ -196,6 +198,7 @@ impl Error {
             12 => Error::BadSize,
             13 => Error::BadCache,
             15 | 17 => Error::Closed,
+            19 => Error::BadCommand,
             _ => Error::Status(status),
         }
     }
@@ -215,6 +218,7 @@ impl fmt::Display for Error {
             Error::Refused(Refusal::Other(answer)) => write!(f, "the machine answered: {answer}"),
             Error::Refused(refusal) => write!(f, "the machine refused the command: {refusal:?}"),
             Error::Order(code, _) => write!(f, "the order failed: {code:?}"),
+            Error::BadCommand => f.write_str("a register is not below 32"),
             Error::Status(status) => write!(f, "status {status}"),
         }
     }

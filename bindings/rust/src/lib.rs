@@ -32,6 +32,7 @@
 //! ```
 #![deny(unsafe_op_in_unsafe_fn, missing_debug_implementations, missing_docs)]
 
+mod commands;
 mod error;
 mod example;
 mod machine;
@@ -39,8 +40,9 @@ mod message;
 mod storage;
 mod sys;
 
+pub use commands::{Invocation, Kind, Operation, Reply};
 pub use error::{BadImage, Code, Error, Refusal, Result};
 pub use example::example_image;
-pub use machine::{Kind, Machine, Reply, ALL};
+pub use machine::{Machine, ALL};
 pub use message::{Message, NewMessage};
 pub use storage::{FileStorage, Storage};

@@ -1,4 +1,5 @@
 //! A machine over storage, and its commands.
+use crate::commands::{Invocation, Operation, Reply};
 use crate::error::{Code, Error, Refusal, Result};
 use crate::message::Message;
 use crate::storage::{FileStorage, Storage};
@@ -12,73 +13,6 @@ const WORDS: usize = 512;
 /// A call of the device begins with two numbers: where it writes, and how many bytes. A sync has this number.
 const HEADER: usize = 16;
 const SYNC: u64 = u64::MAX;
-
-/// What kind of answer a command got.
-#[derive(Debug, Clone, Copy, PartialEq, Eq, Hash)]
-#[non_exhaustive]
-pub enum Kind {
-    /// An invocation or a store was carried out.
-    Done,
-    /// The word that was loaded.
-    Value,
-    /// How many objects were written since the last checkpoint.
-    Frozen,
-    /// How many objects are left.
-    Left,
-    /// The generation that was committed.
-    Committed,
-    /// The generation in which a page was journaled.
-    Journaled,
-    /// The generation and the age after a restart.
-    At,
-}
-
-impl Kind {
-    fn of(word: &str) -> Option<Kind> {
-        Some(match word {
-            "done" => Kind::Done,
-            "value" => Kind::Value,
-            "frozen" => Kind::Frozen,
-            "left" => Kind::Left,
-            "committed" => Kind::Committed,
-            "journaled" => Kind::Journaled,
-            "at" => Kind::At,
-            _ => return None,
-        })
-    }
-}
-
-/// What a command gave.
-#[derive(Debug, Clone, PartialEq, Eq, Hash)]
-pub struct Reply {
-    /// The kind of the answer.
-    pub kind: Kind,
-    /// The result code, if a kernel object replied.
-    pub code: Option<Code>,
-    /// The other words of a kernel object's reply, or the numbers of the answer.
-    pub values: Vec<u64>,
-}
-
-impl Reply {
-    fn of(answer: &str) -> Result<Reply> {
-        let mut words = answer.split(' ');
-        match words.next().and_then(Kind::of) {
-            Some(kind) => Ok(Reply {
-                kind,
-                code: None,
-                values: words.filter_map(|it| it.parse().ok()).collect(),
-            }),
-            None => Err(Error::Refused(Refusal::from(answer))),
-        }
-    }
-
-    fn number(&self) -> Result<u64> {
-        self.values
-            .first()
-            .copied()
-            .ok_or_else(|| Error::Refused(Refusal::Other(format!("{:?}", self.kind))))
-    }
-}
 
 /// A handle, which is closed when it is dropped.
 #[derive(Debug)]
@@ -182,64 +116,99 @@ impl<S: Storage> Machine<S> {
         Reply::of(&self.step(line)?)
     }
 
-    /// The process invokes the capability in its register, and gets the reply. A result code other than success is an error. After a call of
-    /// another process the code is `None`.
+    /// The process invokes the capability in its register. The code is `None` if no kernel object replied. A result code other than success
+    /// is an error.
+    pub fn invoke(
+        &mut self,
+        operation: Operation,
+        process: u64,
+        register: u8,
+        message: impl Into<Message>,
+    ) -> Result<Reply> {
+        let message = message.into();
+        let invocation = Invocation {
+            operation,
+            process,
+            register,
+            message,
+        };
+        let reply = self.one(sys::Command::from(&invocation))?;
+        match reply.code {
+            None | Some(Code::Success) => Ok(reply),
+            Some(code) => Err(Error::Order(code, [0; 3])),
+        }
+    }
+
+    /// Makes invocations, one after another, in one call of the library. Returns the reply to each, or why it was refused. A result code
+    /// other than success is in the reply.
+    pub fn invoke_all(&mut self, invocations: &[Invocation]) -> Result<Vec<Result<Reply>>> {
+        let commands: Vec<_> = invocations.iter().map(sys::Command::from).collect();
+        let replies = self.serve(&commands)?;
+        Ok(replies.iter().map(sys::Reply::reply).collect())
+    }
+
+    /// The process calls the capability in its register, as `invoke`, and gets the reply: the values are its words after the code, also in
+    /// the error. After a call of another process the code is `None`.
     pub fn call(
         &mut self,
         process: u64,
         register: u8,
         message: impl Into<Message>,
     ) -> Result<Reply> {
-        let line = invocation("call", process, register, message.into());
-        let answers = self.step(&format!("{line}\nshow {process}"))?;
-        let mut lines = answers.lines();
-        let mut reply = Reply::of(lines.next().unwrap_or_default())?;
-        let shown: Vec<&str> = lines.next().unwrap_or_default().split(' ').collect();
-        let words = shown
-            .iter()
-            .position(|it| *it == "words")
-            .map_or(&[][..], |it| &shown[it + 1..]);
-        if !shown.contains(&"running") || words.len() < 4 {
-            return Ok(reply);
+        let replied = match self.invoke(Operation::Call, process, register, message) {
+            Ok(reply) if reply.code.is_none() => return Ok(reply),
+            Ok(reply) => Ok(reply),
+            Err(Error::Order(code, _)) => Err(code),
+            Err(error) => return Err(error),
+        };
+        let [_, values @ ..] = self.words_of(process)?;
+        match replied {
+            Ok(mut reply) => {
+                reply.values = values.to_vec();
+                Ok(reply)
+            }
+            Err(code) => Err(Error::Order(code, values)),
         }
-        let number = |place: usize| words[place].parse().unwrap_or(0);
-        let (code, values) = (Code::from(number(0)), [number(1), number(2), number(3)]);
-        if code != Code::Success {
-            return Err(Error::Order(code, values));
-        }
-        reply.code = Some(code);
-        reply.values = values.to_vec();
-        Ok(reply)
     }
 
-    /// The process invokes the capability in its register, and gets no reply: the code is `None`.
+    /// The process invokes the capability in its register, as `invoke`, and goes on.
     pub fn send(
         &mut self,
         process: u64,
         register: u8,
         message: impl Into<Message>,
     ) -> Result<Reply> {
-        self.command(&invocation("send", process, register, message.into()))
+        self.invoke(Operation::Send, process, register, message)
     }
 
-    /// The process invokes the capability in its register, and becomes available: the code is `None`.
+    /// The process invokes the capability in its register, as `invoke`, and becomes available.
     pub fn return_(
         &mut self,
         process: u64,
         register: u8,
         message: impl Into<Message>,
     ) -> Result<Reply> {
-        self.command(&invocation("return", process, register, message.into()))
+        self.invoke(Operation::Return, process, register, message)
     }
 
     /// The word at an address of the process.
     pub fn load(&mut self, process: u64, address: u64) -> Result<u64> {
-        self.number(&format!("load {process} {address}"))
+        self.number(sys::Command::LOAD, process, [address, 0])
     }
 
     /// Writes the word at an address of the process.
     pub fn store(&mut self, process: u64, address: u64, value: u64) -> Result<()> {
-        self.command(&format!("store {process} {address} {value}"))
+        self.one(sys::Command::new(
+            sys::Command::STORE,
+            process,
+            [address, value],
+        ))
+        .map(drop)
+    }
+
+    /// Requests that an object leave the cache.
+    pub fn evict(&mut self, object: u64) -> Result<()> {
+        self.one(sys::Command::new(sys::Command::EVICT, object, [0; 2]))
             .map(drop)
     }
 
@@ -255,67 +224,125 @@ impl<S: Storage> Machine<S> {
 
     /// The words of a page.
     pub fn page(&mut self, object: u64) -> Result<[u64; WORDS]> {
-        let shown = self.show(object)?;
-        if !shown.starts_with("page ") {
-            return Err(Error::Refused(Refusal::Other(
-                shown.lines().next().unwrap_or_default().to_owned(),
-            )));
+        const PAGE: u64 = 1;
+        let mut page = sys::Page { words: [0; WORDS] };
+        let mut reply = sys::Reply::default();
+        // Safety: the handle is our own, and the page and the reply are writable.
+        let status =
+            unsafe { sys::vezhnake_page(&mut self.handle.0, object, &mut page, &mut reply) };
+        self.perform(status)?;
+        match reply.kind {
+            sys::Reply::SHOWN if reply.second == PAGE => Ok(page.words),
+            sys::Reply::SHOWN => Err(Error::Refused(Refusal::Other(format!(
+                "object {object} is no page"
+            )))),
+            _ => Err(Error::Refused(reply.refusal())),
         }
-        let mut words = [0; WORDS];
-        for (place, word) in shown
-            .lines()
-            .filter_map(|it| it.strip_prefix("word ")?.split_once(' '))
-        {
-            if let (Ok(place), Ok(word)) = (place.parse::<usize>(), word.parse()) {
-                words[place] = word;
-            }
-        }
-        Ok(words)
     }
 
     /// Saves the state in one step, and returns the generation: migrates what an earlier run left, freezes, stabilizes, commits and
     /// migrates. The first of these that is refused is the error.
     pub fn save(&mut self) -> Result<u64> {
-        self.migrate(ALL)?;
-        self.checkpoint()?;
-        self.stabilize(ALL)?;
-        let generation = self.commit()?;
-        self.migrate(ALL)?;
-        Ok(generation)
+        const COMMIT: usize = 3;
+        let (mut replies, mut served) = ([sys::Reply::default(); sys::STAGES], 0);
+        // Safety: the handle is our own, and there are so many replies.
+        let status = unsafe {
+            let handle = &mut self.handle.0;
+            sys::vezhnake_save(handle, replies.as_mut_ptr(), sys::STAGES, &mut served)
+        };
+        self.perform(status)?;
+        for reply in &replies[..served] {
+            reply.reply()?;
+        }
+        Ok(replies[COMMIT].first)
     }
 
     /// Freezes the state, and returns how many objects were written since the last checkpoint.
     pub fn checkpoint(&mut self) -> Result<u64> {
-        self.number("checkpoint")
+        self.number(sys::Command::CHECKPOINT, 0, [0; 2])
     }
 
     /// Writes up to this many frozen objects to the log, and returns how many are left.
     pub fn stabilize(&mut self, count: u64) -> Result<u64> {
-        self.number(&format!("stabilize {count}"))
+        self.number(sys::Command::STABILIZE, count, [0; 2])
     }
 
     /// Makes the frozen state the saved one, and returns its generation.
     pub fn commit(&mut self) -> Result<u64> {
-        self.number("commit")
+        self.number(sys::Command::COMMIT, 0, [0; 2])
     }
 
     /// Copies up to this many saved objects from the log to their homes, and returns how many are left.
     pub fn migrate(&mut self, count: u64) -> Result<u64> {
-        self.number(&format!("migrate {count}"))
+        self.number(sys::Command::MIGRATE, count, [0; 2])
     }
 
     /// Saves one page as it is now, and returns the generation.
     pub fn journal(&mut self, page: u64) -> Result<u64> {
-        self.number(&format!("journal {page}"))
+        self.number(sys::Command::JOURNAL, page, [0; 2])
     }
 
     /// Goes back to the saved state, and returns its generation.
     pub fn restart(&mut self) -> Result<u64> {
-        self.number("restart")
+        self.number(sys::Command::RESTART, 0, [0; 2])
     }
 
-    fn number(&mut self, line: &str) -> Result<u64> {
-        self.command(line)?.number()
+    /// Serves a command whose answer has a number.
+    fn number(&mut self, kind: u32, number: u64, words: [u64; 2]) -> Result<u64> {
+        self.one(sys::Command::new(kind, number, words))?.number()
+    }
+
+    /// Serves one command.
+    fn one(&mut self, command: sys::Command) -> Result<Reply> {
+        match self.serve(&[command])?.first() {
+            Some(reply) => reply.reply(),
+            None => Err(Error::BadCommand),
+        }
+    }
+
+    /// Serves commands, and returns the numbers of their answers.
+    fn serve(&mut self, commands: &[sys::Command]) -> Result<Vec<sys::Reply>> {
+        let (count, mut served) = (commands.len(), 0);
+        let mut replies = vec![sys::Reply::default(); count];
+        // Safety: the handle is our own, and there are so many commands and replies.
+        let status = unsafe {
+            let (from, to) = (commands.as_ptr(), replies.as_mut_ptr());
+            sys::vezhnake_serve(&mut self.handle.0, from, count, to, count, &mut served)
+        };
+        self.perform(if status == sys::BAD_COMMAND {
+            0
+        } else {
+            status
+        })?;
+        match status {
+            sys::BAD_COMMAND => Err(Error::BadCommand),
+            _ => Ok(replies),
+        }
+    }
+
+    /// The words that a process was sent last.
+    fn words_of(&mut self, process: u64) -> Result<[u64; 4]> {
+        let (mut object, mut reply) = (sys::Object::default(), sys::Reply::default());
+        // Safety: the handle is our own, and the object and the reply are writable.
+        let status =
+            unsafe { sys::vezhnake_show(&mut self.handle.0, process, &mut object, &mut reply) };
+        self.perform(status)?;
+        match reply.kind {
+            sys::Reply::SHOWN => Ok(object.words),
+            _ => Err(Error::Refused(reply.refusal())),
+        }
+    }
+
+    /// Carries out the device calls after a call with this status. Closes the machine after an error.
+    fn perform(&mut self, status: u32) -> Result<()> {
+        let done = match status {
+            0 => self.carry_out(),
+            _ => Err(Error::of(status)),
+        };
+        if done.is_err() {
+            self.handle.close();
+        }
+        done
     }
 
     /// Runs the lines of a text, and returns the answers.
@@ -378,10 +405,4 @@ fn header_of(calls: &[u8]) -> io::Result<(u64, usize)> {
         (Some(byte), Some(length)) => Ok((byte, length as usize)),
         _ => Err(io::ErrorKind::UnexpectedEof.into()),
     }
-}
-
-/// The line of an invocation.
-fn invocation(how: &str, process: u64, register: u8, message: Message) -> String {
-    let ([a, b, c, d], [e, f, g, h]) = (message.words, message.sent);
-    format!("{how} {process} {register} {a} {b} {c} {d} {e} {f} {g} {h}")
 }

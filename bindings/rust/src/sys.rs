@@ -2,6 +2,11 @@
 use std::ffi::c_void;
 
 pub const SMALL_BUFFER: u32 = 16;
+pub const BAD_COMMAND: u32 = 19;
+/// The stages of a save.
+pub const STAGES: usize = 5;
+/// The result code where there is none.
+pub const NO_CODE: u32 = u32::MAX;
 
 /// A handle. The library owns what `session` points to.
 #[repr(C)]
@@ -9,6 +14,60 @@ pub const SMALL_BUFFER: u32 = 16;
 pub struct Handle {
     pub session: *mut c_void,
     pub is_open: bool,
+}
+
+/// A command.
+#[repr(C)]
+#[derive(Debug, Clone, Copy)]
+pub struct Command {
+    pub kind: u32,
+    pub register: u8,
+    pub sent: [u8; 4],
+    pub number: u64,
+    pub words: [u64; 4],
+}
+
+/// An answer.
+#[repr(C)]
+#[derive(Debug, Clone, Copy, Default)]
+pub struct Reply {
+    pub kind: u32,
+    pub code: u32,
+    pub first: u64,
+    pub second: u64,
+}
+
+/// The words of a page.
+#[repr(C)]
+pub struct Page {
+    pub words: [u64; 512],
+}
+
+/// A capability.
+#[repr(C)]
+#[derive(Debug, Clone, Copy, Default)]
+pub struct Capability {
+    pub kind: u8,
+    pub access: u8,
+    pub height: u8,
+    pub key: u16,
+    pub object: u64,
+}
+
+/// An object.
+#[repr(C)]
+#[derive(Debug, Clone, Copy, Default)]
+pub struct Object {
+    pub kind: u32,
+    pub state: u16,
+    pub key: u16,
+    pub owner: u64,
+    pub annex: u64,
+    pub words: [u64; 4],
+    pub limit: u64,
+    pub used: u64,
+    pub space: Capability,
+    pub slots: [Capability; 32],
 }
 
 extern "C" {
@@ -34,4 +93,30 @@ extern "C" {
         size: *mut usize,
     ) -> u32;
     pub fn vezhnake_close(handle: *mut Handle) -> u32;
+    pub fn vezhnake_serve(
+        handle: *mut Handle,
+        commands: *const Command,
+        commands_count: usize,
+        replies: *mut Reply,
+        replies_count: usize,
+        served: *mut usize,
+    ) -> u32;
+    pub fn vezhnake_save(
+        handle: *mut Handle,
+        replies: *mut Reply,
+        replies_count: usize,
+        served: *mut usize,
+    ) -> u32;
+    pub fn vezhnake_page(
+        handle: *mut Handle,
+        number: u64,
+        page: *mut Page,
+        reply: *mut Reply,
+    ) -> u32;
+    pub fn vezhnake_show(
+        handle: *mut Handle,
+        number: u64,
+        object: *mut Object,
+        reply: *mut Reply,
+    ) -> u32;
 }

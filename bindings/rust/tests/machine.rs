@@ -50,7 +50,7 @@ fn refusals_and_result_codes_are_errors() {
     ));
     assert_eq!(refusal(machine.commit()), Refusal::NoCheckpoint);
     assert_eq!(refusal(machine.command("sohw 16")), Refusal::BadLine);
-    assert_eq!(refusal(machine.call(1, 32, [0])), Refusal::BadLine);
+    assert!(matches!(machine.call(1, 32, [0]), Err(Error::BadCommand)));
     assert_eq!(refusal(machine.send(16, 6, [0])), Refusal::NoProcess);
     assert_eq!(refusal(machine.page(99999)), Refusal::BadNumber);
     assert_eq!(refusal(machine.load(1, 0)), Refusal::MemoryFault(1));

@@ -1,16 +1,16 @@
 -- What a call does to a handle, by the session before and after it.
 use Rattle.vezhnake.proofs.Names.{ℕ, Bool, true, false, List, Some, Err, refl, sym, subst, IsSome, Session, Status, ClosesHandle, OnSession, OpensHandle}
-use Rattle.vezhnake.proofs.Names.{OpensKernel, OpensSession}
-use Rattle.std.proofs.Common.{◌≡◌, ◌↔◌, ◌∙◌, Option, None}
+use Rattle.vezhnake.proofs.Names.{OpensKernel, OpensSession, Option, None}
+use Rattle.std.proofs.Common.{◌≡◌, ◌↔◌, ◌∙◌}
 use Rattle.vezhnake.specs.declared.status.Status.TheVariants as status
 
-module _ (P : Session → Session → Type 0) (old new : Option Session) where
-  pub on_none : old ≡ None → new ≡ None → OnSession old new status.NotOpen P
-  on_none was is = subst (λ (o : Option Session). OnSession o new status.NotOpen P) (sym was) (refl, is)
+module _ (U : Type 0) (P : Session → Session → Type 0) (old new : Option Session) where
+  pub on_none : old ≡ None → new ≡ None → U → OnSession old new status.NotOpen U P
+  on_none was is same = subst (λ (o : Option Session). OnSession o new status.NotOpen U P) (sym was) (refl, is, same)
 
-  pub on_some : (s t : Session) (result : Status) → old ≡ Some s → new ≡ Some t → P s t → OnSession old new result P
+  pub on_some : (s t : Session) (result : Status) → old ≡ Some s → new ≡ Some t → P s t → OnSession old new result U P
   on_some s t result was is holds =
-      subst (λ (o : Option Session). OnSession o new result P) (sym was) (subst (λ (n : Option Session). OnSession (Some s) n result P) (sym is) holds)
+      subst (λ (o : Option Session). OnSession o new result U P) (sym was) (subst (λ (n : Option Session). OnSession (Some s) n result U P) (sym is) holds)
 
 module _ (old new : Option Session) where
   pub closes_none : old ≡ None → new ≡ None → ClosesHandle old new status.NotOpen

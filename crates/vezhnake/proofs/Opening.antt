@@ -23,6 +23,7 @@ module _ (bytes : List ℕ) (cache : ℕ) (d : HostDevice) (fresh : IsFresh byte
   refused_by status.NotOpen refuses = absurd refuses
   refused_by status.SmallBuffer refuses = absurd refuses
   refused_by status.CallsLost refuses = absurd refuses
+  refused_by status.BadCommand refuses = absurd refuses
 
   pub opened_plain : (k : Power HostDevice (StoreState HostDevice)) → cache ≡ 0 → Opens host_disk (view_of host_disk) (parts_of host_disk) d k
       → OpensKernel bytes cache (Ok (store.Plain k))

@@ -4,6 +4,11 @@ pub mod Steps
 pub mod Pending
 pub mod Statuses
 pub mod Hosting
+pub mod RawCommands
+pub mod RawReplies
+pub mod RawObjects
+pub mod Serving
 pub mod Sessions
+pub mod TypedCalls
 pub mod Owned
 pub mod Handles

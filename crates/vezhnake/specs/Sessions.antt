@@ -118,16 +118,17 @@ TakesCalls old new buffer copied size status.Done =
 TakesCalls old new buffer copied size status.SmallBuffer =
     CopiesOut (encoded (drop old.taken (calls_in old.kernel))) buffer copied size false × (new ≡ old)
 TakesCalls old new buffer copied size status.CallsLost =
-    (new ≡ old) × (old.taken ≢ kept_from old.kernel) × (old.taken ≢ length (calls_in old.kernel))
+    (new ≡ old) × (copied ≡ buffer) × (old.taken ≢ kept_from old.kernel) × (old.taken ≢ length (calls_in old.kernel))
 TakesCalls old new buffer copied size _ = ⊥
 
 -- ---- handles
 
--- a call does this to the session of a handle, and refuses a handle without one
-abbrev pub OnSession : Option Session → Option Session → Status → (Session → Session → Type 0) → Type 0
-OnSession None new result P = (result ≡ status.NotOpen) × (new ≡ None)
-OnSession (Some old) None result P = ⊥
-OnSession (Some old) (Some new) result P = P old new
+-- A call does this to the session of a handle. It refuses a handle without one: then nothing changes, neither the
+-- handle nor what `Unchanged` says.
+abbrev pub OnSession : Option Session → Option Session → Status → Type 0 → (Session → Session → Type 0) → Type 0
+OnSession None new result Unchanged P = (result ≡ status.NotOpen) × (new ≡ None) × Unchanged
+OnSession (Some old) None result Unchanged P = ⊥
+OnSession (Some old) (Some new) result Unchanged P = P old new
 
 -- a handle without a session gets one or stays without; a handle with a session keeps it
 abbrev pub OpensHandle : Option Session → Option Session → List ℕ → ℕ → Status → Type 0
@@ -154,9 +155,9 @@ RunsScript first last script answers_old answers_new calls_old calls_new answers
     × StepsSession first between script answers_old answers_new answers answered
     × TakesCalls between last calls_old calls_new calls taken × IsFirstFault answered taken result
 
--- a session was opened and a script run in it, or why none was opened
+-- a session was opened and a script run in it; or why none was opened, and then the buffers are unchanged
 abbrev pub RunsBatch : List ℕ → ℕ → List ℕ → List ℕ → List ℕ → List ℕ → List ℕ → ℕ → ℕ → Status → Type 0
 RunsBatch bytes cache script answers_old answers_new calls_old calls_new answers calls result =
-    OpensKernel bytes cache (Err result)
+    (OpensKernel bytes cache (Err result) × (answers_new ≡ answers_old) × (calls_new ≡ calls_old))
     ⊎ ((first : Session) × (last : Session) × OpensSession bytes cache first
     × RunsScript first last script answers_old answers_new calls_old calls_new answers calls result)

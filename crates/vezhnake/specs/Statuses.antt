@@ -24,3 +24,4 @@ number_of status.NotOpen = 15
 number_of status.SmallBuffer = 16
 number_of status.CallsLost = 17
 number_of status.Failed = 18
+number_of status.BadCommand = 19

@@ -27,7 +27,8 @@ fn first_fault(first: Status, second: Status) -> Status
         | Status::NotOpen
         | Status::SmallBuffer
         | Status::CallsLost
-        | Status::Failed => first,
+        | Status::Failed
+        | Status::BadCommand => first,
     }
 }
 

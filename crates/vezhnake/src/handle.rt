@@ -1,8 +1,12 @@
 // What C holds.
 ghost use Rattle.std.specs.Prelude.{◌≡◌, ◌↔◌, true, Some, None, IsSome, option_map};
+ghost use Rattle.vezhnake.specs.TypedCalls.{SavesSession, ServesBatch, ShowsObject, ShowsPage};
 ghost use Rattle.vezhnake.specs.Sessions.{ClosesHandle, CopiesAnswer, OnSession, OpensHandle, StepsSession, TakesCalls};
 
 use crate::pointer::SessionPointer;
+use crate::raw_command::RawCommand;
+use crate::raw_object::{RawObject, RawPage};
+use crate::raw_reply::RawReply;
 use crate::session::Session;
 use crate::status::Status;
 use std::alloc::Global;
@@ -101,6 +105,7 @@ impl Handle {
     #[tactic(auto, using(crate::proofs::Handles::on_none, crate::proofs::Handles::on_some))]
     pub fn step(&mut self, text: &[u8], buffer: &mut [u8], size: &mut usize) -> Status
         ensures { OnSession self.old.pointer.session self.new.pointer.session result
+            ((buffer.new ≡ buffer.old) × (size.new ≡ size.old))
             (λ old new. StepsSession old new text.now buffer.old buffer.new size.new result) }
     {
         let Some(mut session) = self.take() else {
@@ -115,6 +120,7 @@ impl Handle {
     #[tactic(auto, using(crate::proofs::Handles::on_none, crate::proofs::Handles::on_some))]
     pub fn copy_answer(&mut self, buffer: &mut [u8], size: &mut usize) -> Status
         ensures { OnSession self.old.pointer.session self.new.pointer.session result
+            ((buffer.new ≡ buffer.old) × (size.new ≡ size.old))
             (λ old new. CopiesAnswer old new buffer.old buffer.new size.new result) }
     {
         let Some(session) = self.take() else {
@@ -129,12 +135,78 @@ impl Handle {
     #[tactic(auto, using(crate::proofs::Handles::on_none, crate::proofs::Handles::on_some))]
     pub fn take_calls(&mut self, buffer: &mut [u8], size: &mut usize) -> Status
         ensures { OnSession self.old.pointer.session self.new.pointer.session result
+            ((buffer.new ≡ buffer.old) × (size.new ≡ size.old))
             (λ old new. TakesCalls old new buffer.old buffer.new size.new result) }
     {
         let Some(mut session) = self.take() else {
             return Status::NotOpen;
         };
         let status = session.take_calls(buffer, size);
+        self.put(session);
+        status
+    }
+
+    /// Serves commands, as `Session::serve` does. `NotOpen` if the handle is not open.
+    #[tactic(auto, using(crate::proofs::Handles::on_none, crate::proofs::Handles::on_some))]
+    pub fn serve(
+        &mut self,
+        commands: &[RawCommand],
+        replies: &mut [RawReply],
+        served: &mut usize,
+    ) -> Status
+        ensures { OnSession self.old.pointer.session self.new.pointer.session result
+            ((replies.new ≡ replies.old) × (served.new ≡ served.old))
+            (λ old new. ServesBatch old new commands.now replies.old replies.new served.new result) }
+    {
+        let Some(mut session) = self.take() else {
+            return Status::NotOpen;
+        };
+        let status = session.serve(commands, replies, served);
+        self.put(session);
+        status
+    }
+
+    /// Saves the state, as `Session::save` does. `NotOpen` if the handle is not open.
+    #[tactic(auto, using(crate::proofs::Handles::on_none, crate::proofs::Handles::on_some))]
+    pub fn save(&mut self, replies: &mut [RawReply], served: &mut usize) -> Status
+        ensures { OnSession self.old.pointer.session self.new.pointer.session result
+            ((replies.new ≡ replies.old) × (served.new ≡ served.old))
+            (λ old new. SavesSession old new replies.old replies.new served.new result) }
+    {
+        let Some(mut session) = self.take() else {
+            return Status::NotOpen;
+        };
+        let status = session.save(replies, served);
+        self.put(session);
+        status
+    }
+
+    /// Shows a page, as `Session::page` does. `NotOpen` if the handle is not open.
+    #[tactic(auto, using(crate::proofs::Handles::on_none, crate::proofs::Handles::on_some))]
+    pub fn page(&mut self, number: u64, page: &mut RawPage, reply: &mut RawReply) -> Status
+        ensures { OnSession self.old.pointer.session self.new.pointer.session result
+            ((page.new ≡ page.old) × (reply.new ≡ reply.old))
+            (λ old new. ShowsPage old new number page.old.words page.new.words reply.new result) }
+    {
+        let Some(mut session) = self.take() else {
+            return Status::NotOpen;
+        };
+        let status = session.page(number, page, reply);
+        self.put(session);
+        status
+    }
+
+    /// Shows an object, as `Session::show` does. `NotOpen` if the handle is not open.
+    #[tactic(auto, using(crate::proofs::Handles::on_none, crate::proofs::Handles::on_some))]
+    pub fn show(&mut self, number: u64, object: &mut RawObject, reply: &mut RawReply) -> Status
+        ensures { OnSession self.old.pointer.session self.new.pointer.session result
+            ((object.new ≡ object.old) × (reply.new ≡ reply.old))
+            (λ old new. ShowsObject old new number object.old object.new reply.new result) }
+    {
+        let Some(mut session) = self.take() else {
+            return Status::NotOpen;
+        };
+        let status = session.show(number, object, reply);
         self.put(session);
         status
     }

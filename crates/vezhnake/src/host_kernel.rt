@@ -1,21 +1,28 @@
 // A kernel over the host's storage.
 ghost use Rattle.std.specs.Prelude.{◌≡◌, ◌≢◌, ◌⊎◌, ◌<◌, ◌≤◌, ◌%◌, true, false, drop, length, IfErr, IfOk, IfNone};
-ghost use Rattle.std.specs.Prelude.{IfSome, IsErr, Err};
+ghost use Rattle.std.specs.Prelude.{IfSome, IsErr, Err, map, take};
 ghost use Rattle.kernel.specs.Opening.{Opens};
-ghost use Rattle.runs.specs.Reader.{read_from};
 ghost use Rattle.vezhnake.specs.Hosting.{IsFresh, RunsText, host_disk};
 ghost use Rattle.vezhnake.specs.Sessions.{IsCapacity, OpensKernel, RefusesFrom, RunsKernel, calls_in, kept_from};
 ghost use Rattle.vezhnake.specs.HostCalls.{encoded};
+ghost use Rattle.vezhnake.specs.RawCommands.{command_of};
+ghost use Rattle.vezhnake.specs.Serving.{EndsAt};
+ghost use Rattle.vezhnake.specs.TypedCalls.{ServesEachOver, ServesLineOver};
 
+use crate::raw_command::RawCommand;
+use crate::raw_reply::RawReply;
 use crate::recorder::Recorder;
+use crate::serving::{serve, serve_each};
 use crate::status::Status;
+use crate::text_script::TextScript;
 use checkpoint::ObjectStore;
 use device::{MAX_SECTORS, SECTOR_SIZE};
 use devices::{CopiedFile, SectorCopy};
-use kernel::Kernel;
+use kernel::{Kernel, Served};
+use model::Command;
 use object_cache::{BoundedCache, Capacity, PlainStore};
 use runs::laws::crashes_in_runs_are_survived;
-use runs::{ScriptReader, run};
+use runs::run;
 use script::{CountedWriter, RunFault};
 use std::alloc::{AllocError, Global};
 use std::mem::replace;
@@ -74,13 +81,6 @@ fn capacity_of(cache: u64) -> Result<Option<Capacity>, Status>
     }
 }
 
-// A reader of this text.
-fn reader_of(text: &[u8]) -> ScriptReader<&[u8]>
-    ensures { (read_from result).now ≡ text.now }
-{
-    ScriptReader::new(text)
-}
-
 // Runs a text as a script.
 fn run_lines<S: ObjectStore<HostDevice>>(
     alloc: Global,
@@ -92,7 +92,7 @@ fn run_lines<S: ObjectStore<HostDevice>>(
     ensures goes_on { IfErr result (λ e. e ≢ RunFault.Stopped) }
 {
     crashes_in_runs_are_survived::<HostDevice, S>();
-    let mut reader = reader_of(text);
+    let mut reader = TextScript::new(text);
     let mut writer = CountedWriter::new(replace(answers, Vec::new(alloc)));
     let outcome = run(kernel, &mut reader, &mut writer);
     *answers = writer.into_inner();
@@ -149,6 +149,35 @@ impl HostKernel {
         match self {
             HostKernel::Plain(kernel) => run_lines(alloc, kernel, text, answers),
             HostKernel::Bounded(kernel) => run_lines(alloc, kernel, text, answers),
+        }
+    }
+
+    /// Serves a command, as a run serves the line that spells it.
+    pub fn serve(&mut self, command: &Command) -> Served
+        ensures { ServesLineOver self.old self.new command.now result }
+    {
+        match self {
+            HostKernel::Plain(kernel) => serve(kernel, command),
+            HostKernel::Bounded(kernel) => serve(kernel, command),
+        }
+    }
+
+    /// Serves commands one after another, as `serving::serve_each` does.
+    pub fn serve_each(
+        &mut self,
+        commands: &[RawCommand],
+        stops: bool,
+        replies: &mut [RawReply],
+    ) -> usize
+        requires { length commands.now ≤ length replies.old }
+        ensures served { ServesEachOver self.old self.new (take result (map command_of commands.now))
+            (take result replies.new) }
+        ensures rest { drop result replies.new ≡ drop result replies.old }
+        ensures ends { EndsAt stops (map command_of commands.now) replies.new result }
+    {
+        match self {
+            HostKernel::Plain(kernel) => serve_each(kernel, commands, stops, replies),
+            HostKernel::Bounded(kernel) => serve_each(kernel, commands, stops, replies),
         }
     }
 

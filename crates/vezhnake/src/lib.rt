@@ -1,5 +1,5 @@
 //! Sessions of the kernel over storage of a host: the host passes an image as bytes, runs lines of
-//! scripts, and carries out the device calls. `vezhnake_c` offers this to C.
+//! scripts or commands as numbers, and carries out the device calls. `vezhnake_c` offers this to C.
 #![tactic(auto)]
 
 mod batch;
@@ -8,10 +8,18 @@ mod history;
 mod host_kernel;
 mod pending;
 mod pointer;
+mod raw_command;
+mod raw_object;
+mod raw_reply;
 mod recorder;
+mod serving;
 mod session;
 mod status;
+mod text_script;
 
 pub use batch::{Batch, run_batch};
 pub use handle::Handle;
+pub use raw_command::RawCommand;
+pub use raw_object::{RawCapability, RawObject, RawPage};
+pub use raw_reply::{RawReply, replies_tell_answers};
 pub use status::Status;

@@ -1,9 +1,14 @@
 // What an open handle owns.
 ghost use Rattle.std.specs.Prelude.{◌≡◌, IfOk, IfErr, IfSome, Err};
+ghost use Rattle.vezhnake.specs.TypedCalls.{SavesSession, ServesBatch, ShowsObject, ShowsPage};
 ghost use Rattle.vezhnake.specs.Sessions.{CopiesAnswer, CopiesOut, OpensKernel, OpensSession, StepsSession, TakesCalls};
 
 use crate::host_kernel::HostKernel;
+use crate::raw_command::{RawCommand, save_stages};
+use crate::raw_object::{RawObject, RawPage, copy_object, copy_words};
+use crate::raw_reply::RawReply;
 use crate::status::Status;
+use model::Command;
 use script::RunFault;
 use std::alloc::Global;
 
@@ -101,6 +106,73 @@ impl Session {
         } else {
             Status::SmallBuffer
         }
+    }
+
+    /// Serves commands one after another, each as the line that spells it, and writes the numbers of
+    /// their answers. `served` is how many it served.
+    ///
+    /// `BadCommand` if the next one's numbers are no command: those before it were served.
+    /// `SmallBuffer` if there are fewer replies than commands: none was served.
+    #[tactic(auto, using(crate::proofs::Saving::batch_done, crate::proofs::Saving::batch_bad))]
+    pub fn serve(
+        &mut self,
+        commands: &[RawCommand],
+        replies: &mut [RawReply],
+        served: &mut usize,
+    ) -> Status
+        ensures { ServesBatch self.old self.new commands.now replies.old replies.new served.new result }
+    {
+        *served = 0;
+        if replies.len() < commands.len() {
+            return Status::SmallBuffer;
+        }
+        *served = self.kernel.serve_each(commands, false, replies);
+        if *served < commands.len() {
+            Status::BadCommand
+        } else {
+            Status::Done
+        }
+    }
+
+    /// Saves the state: migrates what an earlier save left, freezes, stabilizes, commits and migrates,
+    /// each as its line. The first of these five stages that is refused is the last one served.
+    ///
+    /// `SmallBuffer` if there are fewer than five replies: none was served.
+    #[tactic(auto, using(crate::proofs::Saving::saved))]
+    pub fn save(&mut self, replies: &mut [RawReply], served: &mut usize) -> Status
+        ensures { SavesSession self.old self.new replies.old replies.new served.new result }
+    {
+        *served = 0;
+        let stages = save_stages();
+        if replies.len() < stages.len() {
+            return Status::SmallBuffer;
+        }
+        *served = self.kernel.serve_each(&stages, true, replies);
+        Status::Done
+    }
+
+    /// Shows an object as its line does. If it is a page, copies its words.
+    #[tactic(auto, using(crate::proofs::Saving::page_shown))]
+    pub fn page(&mut self, number: u64, page: &mut RawPage, reply: &mut RawReply) -> Status
+        ensures { ShowsPage self.old self.new number page.old.words page.new.words reply.new result }
+    {
+        let served = self.kernel.serve(&Command::Show { number });
+        *reply = RawReply::of(&served.answer, served.code);
+        copy_words(&served.answer, page);
+        drop(served);
+        Status::Done
+    }
+
+    /// Shows an object as its line does, and returns it as numbers.
+    #[tactic(auto, using(crate::proofs::Saving::object_shown))]
+    pub fn show(&mut self, number: u64, object: &mut RawObject, reply: &mut RawReply) -> Status
+        ensures { ShowsObject self.old self.new number object.old object.new reply.new result }
+    {
+        let served = self.kernel.serve(&Command::Show { number });
+        *reply = RawReply::of(&served.answer, served.code);
+        copy_object(&served.answer, object);
+        drop(served);
+        Status::Done
     }
 
     /// Copies the encoded calls that the host has not taken, which are then taken.

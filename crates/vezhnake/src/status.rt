@@ -28,6 +28,8 @@ pub enum Status {
     /// Memory ran out for the record of the sync with which opening begins, or the text could not be
     /// read.
     Failed,
+    /// The numbers are no command: the kind or a register is out of range.
+    BadCommand,
 }
 
 impl Status {
@@ -48,6 +50,7 @@ impl Status {
             Status::SmallBuffer => 16,
             Status::CallsLost => 17,
             Status::Failed => 18,
+            Status::BadCommand => 19,
         }
     }
 }

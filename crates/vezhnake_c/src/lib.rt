@@ -8,9 +8,10 @@ ghost use Rattle.vezhnake.specs.Handles.{session_of};
 ghost use Rattle.vezhnake.specs.Sessions.{ClosesHandle, CopiesAnswer, OnSession, OpensHandle, RunsBatch, StepsSession};
 ghost use Rattle.vezhnake.specs.Sessions.{TakesCalls};
 ghost use Rattle.vezhnake.specs.Statuses.{number_of};
+ghost use Rattle.vezhnake.specs.TypedCalls.{SavesSession, ServesBatch, ShowsObject, ShowsPage};
 
 use std::alloc::Global;
-use vezhnake::{Batch, Handle, run_batch};
+use vezhnake::{Batch, Handle, RawCommand, RawObject, RawPage, RawReply, run_batch};
 
 /// Opens the image in these bytes. If `cache` is 0, all objects are in memory. Otherwise it is the
 /// capacity of a cache.
@@ -32,6 +33,7 @@ pub extern "C" fn vezhnake_step(
 ) -> u32
     ensures { (status : Status) × (result ≡ number_of status)
         × OnSession (session_of handle.old) (session_of handle.new) status
+        ((answer.new ≡ answer.old) × (size.new ≡ size.old))
         (λ old new. StepsSession old new text.now answer.old answer.new size.new status) }
 {
     handle.step(text, answer, size).number()
@@ -42,6 +44,7 @@ pub extern "C" fn vezhnake_step(
 pub extern "C" fn vezhnake_answer(handle: &mut Handle, answer: &mut [u8], size: &mut usize) -> u32
     ensures { (status : Status) × (result ≡ number_of status)
         × OnSession (session_of handle.old) (session_of handle.new) status
+        ((answer.new ≡ answer.old) × (size.new ≡ size.old))
         (λ old new. CopiesAnswer old new answer.old answer.new size.new status) }
 {
     handle.copy_answer(answer, size).number()
@@ -53,9 +56,74 @@ pub extern "C" fn vezhnake_answer(handle: &mut Handle, answer: &mut [u8], size: 
 pub extern "C" fn vezhnake_calls(handle: &mut Handle, calls: &mut [u8], size: &mut usize) -> u32
     ensures { (status : Status) × (result ≡ number_of status)
         × OnSession (session_of handle.old) (session_of handle.new) status
+        ((calls.new ≡ calls.old) × (size.new ≡ size.old))
         (λ old new. TakesCalls old new calls.old calls.new size.new status) }
 {
     handle.take_calls(calls, size).number()
+}
+
+/// Serves commands one after another, each as the line that spells it, and writes the numbers of their
+/// answers.
+#[unsafe(no_mangle)]
+pub extern "C" fn vezhnake_serve(
+    handle: &mut Handle,
+    commands: &[RawCommand],
+    replies: &mut [RawReply],
+    served: &mut usize,
+) -> u32
+    ensures { (status : Status) × (result ≡ number_of status)
+        × OnSession (session_of handle.old) (session_of handle.new) status
+        ((replies.new ≡ replies.old) × (served.new ≡ served.old))
+        (λ old new. ServesBatch old new commands.now replies.old replies.new served.new status) }
+{
+    handle.serve(commands, replies, served).number()
+}
+
+/// Migrates what an earlier save left, freezes the state, stabilizes, commits and migrates it.
+#[unsafe(no_mangle)]
+pub extern "C" fn vezhnake_save(
+    handle: &mut Handle,
+    replies: &mut [RawReply],
+    served: &mut usize,
+) -> u32
+    ensures { (status : Status) × (result ≡ number_of status)
+        × OnSession (session_of handle.old) (session_of handle.new) status
+        ((replies.new ≡ replies.old) × (served.new ≡ served.old))
+        (λ old new. SavesSession old new replies.old replies.new served.new status) }
+{
+    handle.save(replies, served).number()
+}
+
+/// Shows an object as its line does. If it is a page, copies its words.
+#[unsafe(no_mangle)]
+pub extern "C" fn vezhnake_page(
+    handle: &mut Handle,
+    number: u64,
+    page: &mut RawPage,
+    reply: &mut RawReply,
+) -> u32
+    ensures { (status : Status) × (result ≡ number_of status)
+        × OnSession (session_of handle.old) (session_of handle.new) status
+        ((page.new ≡ page.old) × (reply.new ≡ reply.old))
+        (λ old new. ShowsPage old new number page.old.words page.new.words reply.new status) }
+{
+    handle.page(number, page, reply).number()
+}
+
+/// Shows an object as its line does, and returns it as numbers.
+#[unsafe(no_mangle)]
+pub extern "C" fn vezhnake_show(
+    handle: &mut Handle,
+    number: u64,
+    object: &mut RawObject,
+    reply: &mut RawReply,
+) -> u32
+    ensures { (status : Status) × (result ≡ number_of status)
+        × OnSession (session_of handle.old) (session_of handle.new) status
+        ((object.new ≡ object.old) × (reply.new ≡ reply.old))
+        (λ old new. ShowsObject old new number object.old object.new reply.new status) }
+{
+    handle.show(number, object, reply).number()
 }
 
 /// Closes the handle, and frees what it owns.

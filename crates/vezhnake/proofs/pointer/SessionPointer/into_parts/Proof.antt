@@ -1,7 +1,7 @@
 -- `into_parts` moves two fields and casts one, and what they own goes with them.
 use mathlib.Core.Path.{refl, sym, subst}
-use Rattle.vezhnake.proofs.Names.{Option, None, IsSome, D, B, word, box_typed, box_out, box_in}
-use Rattle.std.specs.Prelude.{◌≡◌, true, false, Some}
+use Rattle.vezhnake.proofs.Names.{IsSome, D, B, word, box_typed, box_out, box_in}
+use Rattle.std.specs.Prelude.{Option, None, ◌≡◌, true, false, Some}
 use mathlib.Core.List.{List, [], ◌∷◌, ◌++◌}
 use seplogic.Ra.Ura.{Ura}
 use mir.Val.{Val}

@@ -2,7 +2,8 @@
 use mathlib.Core.Path.{refl, sym, subst}
 use lib.Dec.{lit<}
 use mir.Syntax.{w64}
-use Rattle.vezhnake.proofs.Names.{None, α, handle_tells, and_tt}
+use Rattle.vezhnake.proofs.Names.{α, handle_tells, and_tt}
+use Rattle.std.specs.Prelude.{None}
 use mathlib.Core.List.{List, [], ◌∷◌, ◌++◌}
 use seplogic.Ra.Ura.{Ura}
 use mir.Val.{Val, vint, vstruct, vnil, vcons, has_ty}

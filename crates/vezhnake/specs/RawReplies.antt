@@ -1,0 +1,65 @@
+-- The numbers of an answer.
+use Rattle.std.specs.Prelude.{ℕ, Bool, not, nat_lt, ◌-◌, ◌^◌, ◌≡◌, Option, None, Some}
+use Rattle.model.specs.Object.{role_number, role_of}
+use Rattle.model.specs.OrderOutcome.{code_number}
+use Rattle.model.specs.Text.{fault_number, unjournaled_number}
+use Rattle.model.specs.declared.answer.Answer.{Answer}
+use Rattle.model.specs.declared.answer.Answer.TheVariants as answer
+use Rattle.model.specs.declared.answer.Refusal.{Refusal}
+use Rattle.model.specs.declared.answer.Refusal.TheVariants as refusal
+use Rattle.model.specs.declared.order.ResultCode.{ResultCode}
+use Rattle.vezhnake.specs.declared.raw_reply.RawReply.{RawReply}
+
+-- which refusal, and the number in it
+abbrev pub refusal_numbers : Refusal → ℕ × ℕ
+refusal_numbers refusal.Down = (32, 0)
+refusal_numbers refusal.NoProcess = (33, 0)
+refusal_numbers refusal.NotRunning = (34, 0)
+refusal_numbers refusal.Worn = (35, 0)
+refusal_numbers refusal.Stalled = (36, 0)
+refusal_numbers refusal.LogFull = (37, 0)
+refusal_numbers refusal.CheckpointRunning = (38, 0)
+refusal_numbers refusal.MigrationPending = (39, 0)
+refusal_numbers (refusal.NotStable left) = (40, left)
+refusal_numbers refusal.NoCheckpoint = (41, 0)
+refusal_numbers refusal.NoMemory = (42, 0)
+refusal_numbers refusal.Fault = (43, 0)
+refusal_numbers refusal.BadNumber = (44, 0)
+refusal_numbers (refusal.NotJournaled why) = (45, unjournaled_number why)
+
+-- which answer, and the numbers in it; of a shown object its number and what it is
+abbrev pub answer_numbers : Answer → ℕ × ℕ × ℕ
+answer_numbers answer.Done = (0, 0, 0)
+answer_numbers (answer.Value v) = (1, v, 0)
+answer_numbers (answer.MemoryFault f) = (2, fault_number f, 0)
+answer_numbers (answer.Frozen n) = (3, n, 0)
+answer_numbers (answer.Left n) = (4, n, 0)
+answer_numbers (answer.Committed g) = (5, g, 0)
+answer_numbers (answer.Journaled g) = (6, g, 0)
+answer_numbers (answer.At g age) = (7, g, age)
+answer_numbers (answer.Shown d) = (8, d.number, role_number (role_of d.object.content))
+answer_numbers (answer.Refused why) = ((refusal_numbers why).0, (refusal_numbers why).1, 0)
+
+-- a result code, or 2^32 - 1
+abbrev pub code_in : Option ResultCode → ℕ
+code_in None = 2 ^ 32 - 1
+code_in (Some code) = code_number code
+
+-- an answer and the result code beside it
+abbrev pub reply_of : Answer → Option ResultCode → RawReply
+reply_of a code = record
+    { kind = (answer_numbers a).0; code = code_in code; first = (answer_numbers a).1; second = (answer_numbers a).2 }
+
+-- the machine refused the command
+abbrev pub is_refused : RawReply → Bool
+is_refused r = not (nat_lt r.kind 32)
+
+-- no object is shown
+abbrev pub ShowsNone : Answer → Type 0
+ShowsNone (answer.Shown d) = ⊥
+ShowsNone _ = Unit {0}
+
+-- equal numbers are of one answer and one result code
+abbrev pub RepliesTellAnswers : Type 0
+RepliesTellAnswers = (a b : Answer) (m n : Option ResultCode) → ShowsNone a → ShowsNone b →
+    reply_of a m ≡ reply_of b n → (a ≡ b) × (m ≡ n)

@@ -1,0 +1,68 @@
+-- Commands that are served one after another, each as the line that spells it.
+use Rattle.std.specs.Prelude.{◌≡◌, ◌⊎◌, ◌+◌, ◌-◌, ◌<◌, ◌≤◌, ◌∷◌, ℕ, Bool, true, false, List, []}
+use Rattle.std.specs.Prelude.{length}
+use Rattle.std.specs.Prelude.{Option, Some, None, slice_index_or}
+use Rattle.capability.specs.Parts.{Parts}
+use Rattle.checkpoint.specs.Store.{View}
+use Rattle.kernel.specs.Power.{Power}
+use Rattle.kernel.specs.Standing.{Stands, reported_code}
+use Rattle.kernel.specs.declared.processes.served.Served.{Served}
+use Rattle.model.specs.Machine.{Machine}
+use Rattle.model.specs.Run.{Reported, Turn}
+use Rattle.model.specs.Step.{takes_memory}
+use Rattle.model.specs.Text.{spelling}
+use Rattle.model.specs.declared.answer.Answer.TheVariants as answer
+use Rattle.model.specs.declared.answer.Refusal.TheVariants as refusal
+use Rattle.model.specs.declared.command.Command.{Command}
+use Rattle.model.specs.declared.geometry.Geometry.{Geometry}
+use Rattle.runs.specs.KernelRuns.{IsRunOf}
+use Rattle.vezhnake.specs.declared.raw_reply.RawReply.{RawReply}
+use Rattle.vezhnake.specs.Hosting.{HostDevice, RunsSurvive, host_disk}
+use Rattle.vezhnake.specs.RawReplies.{is_refused, reply_of}
+
+-- a turn is the line of a command, with this answer and result code; only commands that take memory want it
+pub record IsTurnFor (g : Geometry) (t : Turn) (c : Command) (served : Served) : Type 0 where
+  pub line : t.line ≡ spelling c
+  pub reply : t.reply ≡ Reported served.answer
+  pub code : served.code ≡ reported_code g t.before c served.answer
+  pub memory : served.answer ≡ answer.Refused refusal.NoMemory → takes_memory c ≡ true
+
+-- the numbers of an answer and its result code
+abbrev pub numbers_of : Served → RawReply
+numbers_of served = reply_of served.answer served.code
+
+-- a turn is the line of a command, and these are the numbers of its answer
+abbrev pub IsNumbered : Geometry → Turn → Option Command → RawReply → Type 0
+IsNumbered g t (Some c) r = (served : Served) × IsTurnFor g t c served × (r ≡ numbers_of served)
+IsNumbered g t None r = ⊥
+
+-- turn by turn
+abbrev pub AreNumbered : Geometry → List Turn → List (Option Command) → List RawReply → Type 0
+AreNumbered g [] [] [] = Unit {0}
+AreNumbered g (t ∷ ts) (c ∷ cs) (r ∷ rs) = IsNumbered g t c r × AreNumbered g ts cs rs
+AreNumbered g _ _ _ = ⊥
+
+-- whether the reply at an index is a refusal
+abbrev pub refuses_at : List RawReply → ℕ → Bool
+refuses_at replies k = is_refused (slice_index_or replies k (reply_of answer.Done None))
+
+-- Where a batch ends: behind its last command, or before the first that is none. If a refusal ends it, then behind the
+-- first refusal.
+pub record EndsAt (stops : Bool) (commands : List (Option Command)) (replies : List RawReply) (n : ℕ) : Type 0 where
+  pub most : n ≤ length commands
+  pub goes_on : stops ≡ true → (k : ℕ) → k + 1 < n → refuses_at replies k ≡ false
+  pub ends : (slice_index_or commands n None ≡ None) ⊎ ((stops ≡ true) × (0 < n) × (refuses_at replies (n - 1) ≡ true))
+
+module _ {S : Type 0} (view : S → View HostDevice) (parts : S → Parts) where
+  -- A command was served as the line that spells it, and the storage survives.
+  pub record ServesLine (old new : Power HostDevice S) (c : Command) (served : Served) : Type 0 where
+    pub turn : (g : Geometry) (m : Machine) → Stands host_disk view parts g old m →
+        (t : Turn) × IsRunOf host_disk view parts g m old new (t ∷ []) × IsTurnFor g t c served
+    pub survives : RunsSurvive view parts old new
+
+  -- Commands were served one after another, each as the line that spells it, and the storage survives.
+  pub record ServesEach (old new : Power HostDevice S) (commands : List (Option Command)) (replies : List RawReply) :
+      Type 0 where
+    pub turns : (g : Geometry) (m : Machine) → Stands host_disk view parts g old m →
+        (turns : List Turn) × IsRunOf host_disk view parts g m old new turns × AreNumbered g turns commands replies
+    pub survives : RunsSurvive view parts old new

@@ -1,0 +1,103 @@
+// A command as numbers.
+ghost use Rattle.std.specs.Prelude.{◌≡◌, map};
+ghost use Rattle.vezhnake.specs.RawCommands.{save_stages};
+ghost use Rattle.vezhnake.specs.RawCommands.{command_of, invocation_of, registers_of, stage_of};
+
+use model::{Command, Invocation, Operation, Register};
+
+/// A command as numbers. Fields that its kind doesn't use are ignored.
+#[repr(C)]
+#[derive(Clone, Copy)]
+pub struct RawCommand {
+    /// From 0: call, return, send, load, store, evict, checkpoint, stabilize, commit, migrate, journal,
+    /// restart, cut.
+    pub kind: u32,
+    /// The register of the capability that an invocation invokes, below 32.
+    pub register: u8,
+    /// The registers whose capabilities an invocation sends, each below 32.
+    pub sent: [u8; 4],
+    /// The process, the object, or the count of objects.
+    pub number: u64,
+    /// The words that an invocation sends; or the address, and the value to store.
+    pub words: [u64; 4],
+}
+
+// The registers with these numbers, or `None` if one is out of range.
+fn registers_of(numbers: [u8; 4]) -> Option<[Register; 4]>
+    ensures { result ≡ registers_of numbers }
+{
+    Some([
+        Register::new(numbers[0])?,
+        Register::new(numbers[1])?,
+        Register::new(numbers[2])?,
+        Register::new(numbers[3])?,
+    ])
+}
+
+// An invocation with the fields of a command, or `None` if a register is out of range.
+fn invocation_of(operation: Operation, raw: &RawCommand) -> Option<Command>
+    ensures { result ≡ invocation_of operation raw.now }
+{
+    let register = Register::new(raw.register)?;
+    let sent = registers_of(raw.sent)?;
+    Some(Command::Invoke(Invocation {
+        operation,
+        process: raw.number,
+        register,
+        words: raw.words,
+        sent,
+    }))
+}
+
+impl RawCommand {
+    /// The command that the numbers are, or `None` if the kind or a register is out of range.
+    pub fn command(&self) -> Option<Command>
+        ensures { result ≡ command_of self.now }
+    {
+        let number = self.number;
+        let address = self.words[0];
+        match self.kind {
+            0 => invocation_of(Operation::Call, self),
+            1 => invocation_of(Operation::Return, self),
+            2 => invocation_of(Operation::Send, self),
+            3 => Some(Command::Load {
+                process: number,
+                address,
+            }),
+            4 => Some(Command::Store {
+                process: number,
+                address,
+                value: self.words[1],
+            }),
+            5 => Some(Command::Evict { number }),
+            6 => Some(Command::Checkpoint),
+            7 => Some(Command::Stabilize { count: number }),
+            8 => Some(Command::Commit),
+            9 => Some(Command::Migrate { count: number }),
+            10 => Some(Command::Journal { number }),
+            11 => Some(Command::Restart),
+            12 => Some(Command::Cut),
+            _ => None,
+        }
+    }
+}
+
+// A command without registers, of all objects.
+fn stage(kind: u32) -> RawCommand
+    ensures { result ≡ stage_of kind }
+{
+    RawCommand {
+        kind,
+        register: 0,
+        sent: [0; 4],
+        number: u64::MAX,
+        words: [0; 4],
+    }
+}
+
+/// The stages of a save: migrate, checkpoint, stabilize, commit, migrate, each of all objects.
+pub fn save_stages() -> [RawCommand; 5]
+    ensures { map command_of result ≡ save_stages }
+{
+    [stage(9), stage(6), stage(7), stage(8), stage(9)]
+}

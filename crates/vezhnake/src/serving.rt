@@ -1,0 +1,82 @@
+// Commands that a kernel serves.
+ghost use Rattle.std.specs.Prelude.{◌≡◌, ◌<◌, ◌≤◌, ◌&&◌, [], ◌∷◌, length, map, take, drop, None, Some, slice_index_or};
+ghost use Rattle.vezhnake.specs.Serving.{EndsAt, ServesEach, ServesLine};
+ghost use Rattle.vezhnake.specs.RawCommands.{command_of};
+ghost use Rattle.vezhnake.specs.RawReplies.{is_refused};
+
+use crate::host_kernel::HostDevice;
+use crate::raw_command::RawCommand;
+use crate::raw_reply::RawReply;
+use checkpoint::ObjectStore;
+use kernel::{Kernel, Served};
+use model::Command;
+use runs::laws::crashes_in_runs_are_survived;
+
+/// Serves a command, as a run serves the line that spells it.
+#[inline(never)]
+pub fn serve<S: ObjectStore<HostDevice>>(
+    kernel: &mut Kernel<HostDevice, S>,
+    command: &Command,
+) -> Served
+    ensures { ServesLine S.view S.parts kernel.old kernel.new command.now result }
+{
+    crashes_in_runs_are_survived::<HostDevice, S>();
+    command.can_be_spelt();
+    kernel.step_with_code(command)
+}
+
+// Serves a command, and returns the numbers of its answer.
+fn reply_to<S: ObjectStore<HostDevice>>(
+    kernel: &mut Kernel<HostDevice, S>,
+    command: &Command,
+) -> RawReply
+    ensures { ServesEach S.view S.parts kernel.old kernel.new (Some command.now ∷ []) (result ∷ []) }
+{
+    let served = serve(kernel, command);
+    let reply = RawReply::of(&served.answer, served.code);
+    drop(served);
+    reply
+}
+
+// The command at an index, or `None` if the numbers there are none.
+fn command_at(commands: &[RawCommand], index: usize) -> Option<Command>
+    requires { index < length commands.now }
+    ensures { result ≡ slice_index_or (map command_of commands.now) index None }
+{
+    commands[index].command()
+}
+
+// Whether a reply ends a batch that stops at the first refusal.
+fn is_last(stops: bool, reply: &RawReply) -> bool
+    ensures { result ≡ (stops && is_refused reply.now) }
+{
+    stops && reply.is_refused()
+}
+
+/// Serves commands one after another, up to the first whose numbers are no command, and writes the
+/// numbers of their answers. With `stops` the first refusal ends it too. Returns how many it served.
+pub fn serve_each<S: ObjectStore<HostDevice>>(
+    kernel: &mut Kernel<HostDevice, S>,
+    commands: &[RawCommand],
+    stops: bool,
+    replies: &mut [RawReply],
+) -> usize
+    requires { length commands.now ≤ length replies.old }
+    ensures served { ServesEach S.view S.parts kernel.old kernel.new (take result (map command_of commands.now))
+        (take result replies.new) }
+    ensures rest { drop result replies.new ≡ drop result replies.old }
+    ensures ends { EndsAt stops (map command_of commands.now) replies.new result }
+{
+    crashes_in_runs_are_survived::<HostDevice, S>();
+    for index in 0..commands.len() {
+        let Some(command) = command_at(commands, index) else {
+            return index;
+        };
+        let reply = reply_to(kernel, &command);
+        replies[index] = reply;
+        if is_last(stops, &reply) {
+            return index + 1;
+        }
+    }
+    commands.len()
+}
