@@ -1,5 +1,5 @@
-"""What checks/library tries of typed calls: random scripts as text and as typed calls, in C, Rust and Python. The answers are the same, and so
-are the images. Each object is the same as its lines."""
+"""What checks/library tries of typed calls: random scripts as text and as typed calls, in C, Rust and Python. The answers and the images are
+the same. Each object is the same as its lines."""
 import os
 import shutil
 import subprocess
@@ -20,8 +20,8 @@ COMMANDS = {
 }
 ARGUMENTS = {"load": 2, "store": 3, "evict": 1, "checkpoint": 0, "stabilize": 1, "commit": 0, "migrate": 1, "journal": 1, "restart": 0}
 WORDS = {
-    "load": "value", "store": "done", "evict": "done", "checkpoint": "frozen", "stabilize": "left", "commit": "committed", "migrate": "left",
-    "journal": "journaled", "restart": "at",
+    "load": "value", "store": "done", "evict": "done", "checkpoint": "frozen", "stabilize": "left", "commit": "committed",
+    "migrate": "left", "journal": "journaled", "restart": "at",
 }
 INVOCATIONS = {"call": vezhnake.Operation.CALL, "return": vezhnake.Operation.RETURN, "send": vezhnake.Operation.SEND}
 ACCESS = {0: "", 1: " ro", 3: " weak"}
@@ -100,7 +100,8 @@ def by_rust(folder, archive):
     libraries.mkdir()
     shutil.copy(archive, libraries / "libvezhnake.a")
     where = {**os.environ, "VEZHNAKE_LIB_DIR": str(libraries), "CARGO_TARGET_DIR": str(folder / "cargo-typed")}
-    subprocess.run(["cargo", "build", "--offline", "--locked", "--quiet", "--example", "lines"], cwd=ROOT / "bindings" / "rust", env=where, check=True)
+    words = ["cargo", "build", "--offline", "--locked", "--quiet", "--example", "lines"]
+    subprocess.run(words, cwd=ROOT / "bindings" / "rust", env=where, check=True)
     return folder / "cargo-typed" / "debug" / "examples" / "lines"
 
 
@@ -119,7 +120,8 @@ def try_saves(image):
         before = machine.run("show 1\nshow 2\n")
         made = [vezhnake.Invocation(1, 6, (2, 0, 5)), vezhnake.Invocation(16, 6), vezhnake.Invocation(1, 6, (1, 512))]
         done, refused, no_order = machine.invoke_all(made)
-        need(done.code == 0 and isinstance(refused, vezhnake.NoProcess) and no_order.code is vezhnake.Code.BAD_INDEX, "a batch answers otherwise")
+        codes = done.code == 0 and no_order.code is vezhnake.Code.BAD_INDEX
+        need(codes and isinstance(refused, vezhnake.NoProcess), "a batch answers otherwise")
         need(machine.page(40) == [5, *first[1:]] and machine.run("show 1\nshow 2\n") != before, "a batch changes nothing")
         before = machine.run("show 1\nshow 40\n")
         for wrong in ((1, 32), (1, 6, 2**64), (2**64, 6), (-1, 6)):

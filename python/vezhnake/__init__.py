@@ -11,8 +11,8 @@ standard library and libvezhnake.so. It looks for that file at VEZHNAKE_LIBRARY,
 from .commands import ALL, Capability, Invocation, Object, Operation, Reply
 from .errors import (
     BadArgument, BadCommand, BadImage, BadLine, BadNumber, CheckpointRunning, Closed, Code, CommandNoMemory, Down, Error, LogFull,
-    MemoryFault, MigrationPending, NoCheckpoint, NoMemory, NoProcess, NotJournaled, NotRunning, NotStable, OrderRefused, Refused, Stalled, StatusError,
-    StorageError, Worn,
+    MemoryFault, MigrationPending, NoCheckpoint, NoMemory, NoProcess, NotJournaled, NotRunning, NotStable, OrderRefused, Refused, Stalled,
+    StatusError, StorageError, Worn,
 )
 from .library import ALREADY_OPEN, NO_MEMORY, NOT_OPEN, OK, SMALL_BUFFER, decode_calls, library
 from .machine import Answer, Machine, open, run
