@@ -9,7 +9,7 @@ struct Row {
     sums: Sums,
 }
 
-// Of the body of a sector.
+// Rows as long as the body of a sealed sector.
 const BODIES: &[Row] = &[
     Row {
         first: 0,
@@ -36,7 +36,7 @@ const BODIES: &[Row] = &[
     },
 ];
 
-// Of 4096 bytes. The second has the greatest sums.
+// Rows of 4096 bytes. The second has the greatest sums.
 const WORDS: &[Row] = &[
     Row {
         first: 9,
