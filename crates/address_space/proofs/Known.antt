@@ -1,9 +1,9 @@
 -- What stands where a capability says so has a header. Sound frames with another word in a page. A descent through a tree.
-use Rattle.address_space.proofs.Names.{nat_tests, ℕ, List, length, sym, ap, subst, arith, IsTrue, Access, Capability, Space, Frame, ObjectHeader, Geometry}
-use Rattle.address_space.proofs.Names.{frames_in, objects_of, AreKeepable, IsSoundFrames, is_page, MayBeHeld, content_at, root_at, Parts, frames_of, objects_in}
+use Rattle.address_space.proofs.Names.{ℕ, List, length, sym, ap, subst, arith, IsTrue, Access, Capability, Space, Frame, Geometry}
+use Rattle.address_space.proofs.Names.{objects_of, AreKeepable, IsSoundFrames, is_page, MayBeHeld, content_at, root_at, Parts, frames_of, objects_in}
 use Rattle.address_space.proofs.Names.{known_used, node_used, page_used, keepable_later, Object, AreCurrent, world_at, is_waiting, IsSound, World, with_word}
-use Rattle.address_space.proofs.Names.{edited_word, Waits, nearly_from, nearly_to, nearly_weaken, slot_at, Ok, path, walk_along, AreSound, FetchesOrFails}
-use Rattle.address_space.proofs.Names.{OnlyFetches, Tree}
+use Rattle.address_space.proofs.Names.{edited_word, Waits, nearly_from, nearly_to, nearly_weaken, slot_at, path, walk_along, AreSound, Tree}
+use Rattle.capability.specs.Parts.{touched_too}
 use Rattle.std.proofs.Common.{◌≡◌, ◌-◌, ◌^◌, ◌<◌, ◌∙◌}
 
 pub space_known : (p : Parts) (n h : ℕ) (a : Access) → MayBeHeld (objects_in p) (Space n h a) → n < length p.headers
@@ -16,24 +16,14 @@ page_known p n is = known_used p n (page_used (content_at (objects_in p) n) is)
 pub sound_keepable : (g : Geometry) (age : ℕ) (fs : List Frame) → IsSoundFrames g age fs → AreKeepable g (2 ^ 64 - 1) fs
 sound_keepable g age fs sound = keepable_later g age (2 ^ 64 - 1) fs (omega (arith, sound.sound.age)) sound.keepable
 
--- Frames that are the same after a read-only call: what stands there, and what is sound.
-module _ (p q : Parts) (headers : q.headers ≡ p.headers) (contents : q.contents ≡ p.contents) where
-  pub frames_same : frames_of q ≡ frames_of p
-  frames_same = ap (λ (hs : List ObjectHeader). frames_in hs q.contents) headers ∙ ap (frames_in p.headers) contents
-
+-- Parts that are the same after a read-only call: what stands there, and what is sound.
+module _ (p q : Parts) (same : q ≡ p) where
   pub space_held : {g : Geometry} {age : ℕ} → IsSoundFrames g age (frames_of p) → (n : ℕ) (c : Capability) → c ≡ (root_at (objects_in q) n).space →
       MayBeHeld (objects_in p) c
-  space_held sound n c is =
-      subst (MayBeHeld (objects_in p)) (sym (is ∙ ap (λ (fs : List Frame). (root_at (objects_of fs) n).space) frames_same)) (sound.sound.spaces n).0
+  space_held sound n c is = subst (MayBeHeld (objects_in p)) (sym (is ∙ ap (λ (r : Parts). (root_at (objects_in r) n).space) same)) (sound.sound.spaces n).0
 
   pub page_still_known : (n : ℕ) → IsTrue (is_page (content_at (objects_in p) n)) → n < length q.headers
-  page_still_known n is = page_known q n (ap (λ (fs : List Frame). is_page (content_at (objects_of fs) n)) frames_same ∙ is)
-
-  pub sound_onward : q.geometry ≡ p.geometry → (fs : List Frame) → ((age : ℕ) → IsSoundFrames q.geometry age (frames_of q) → IsSoundFrames q.geometry age fs) →
-      (age : ℕ) → IsSoundFrames p.geometry age (frames_of p) → IsSoundFrames p.geometry age fs
-  sound_onward geometry fs keeps age sound =
-      subst (λ (g : Geometry). IsSoundFrames g age fs) geometry
-      (keeps age (subst (λ (X : Type 0). X) (λ i. IsSoundFrames (sym geometry i) age (sym frames_same i)) sound))
+  page_still_known n is = page_known q n (ap (λ (r : Parts). is_page (content_at (objects_in r) n)) same ∙ is)
 
 world_with_word : (g : Geometry) (w : World) (n i word : ℕ) → word < 2 ^ 64 → IsSound g w →
     IsSound g (record { objects = with_word w.objects n i word; age = w.age })
@@ -52,10 +42,17 @@ word_stays_sound g age fs gs n i word fits is current keepable sound = record {
   sound = subst (λ (os : List Object). IsSound g (record { objects = os; age = age })) (sym is) (world_with_word g (world_at age fs) n i word fits sound.sound);
 }
 
+-- an announced page with another word
+pub word_written : (p q : Parts) (written : List ℕ) → q ≡ touched_too written p → (fs : List Frame) → ((age : ℕ) →
+    IsSoundFrames q.geometry age (frames_of q) → IsSoundFrames q.geometry age fs) → (age : ℕ) → IsSoundFrames p.geometry age (frames_of p) →
+    IsSoundFrames p.geometry age fs
+word_written p q written is fs =
+    subst (λ (r : Parts). (age : ℕ) → IsSoundFrames r.geometry age (frames_of r) → IsSoundFrames r.geometry age fs) is
+
 -- from one tree to another on the way to the page with an index
 pub record HasDescended {S : Type 0} (parts : S → Parts) (Continues : S → S → Type 0) (index : ℕ) (tree : Tree) (old : S) (at : Tree) (now : S) : Type 0 where
-  pub snapshots : OnlyFetches parts Continues old now
-  pub failures : (parts now).failures ≡ (parts old).failures
+  pub same : parts now ≡ parts old
+  pub continues : Continues old now
   pub held : MayBeHeld (objects_in (parts old)) (Space at.node at.height at.access)
   pub way : walk_along (objects_in (parts old)) (Space tree.node tree.height tree.access) (path tree.height index) ≡
       walk_along (objects_in (parts old)) (Space at.node at.height at.access) (path at.height index)
@@ -63,18 +60,13 @@ pub record HasDescended {S : Type 0} (parts : S → Parts) (Continues : S → S 
 module _ {S : Type 0} {parts : S → Parts} {Continues : S → S → Type 0} {index : ℕ} {tree at : Tree} {old now : S}
     (so_far : HasDescended parts Continues index tree old at now) where
   pub same_objects : objects_in (parts now) ≡ objects_in (parts old)
-  same_objects = ap (λ (fs : List Frame). objects_of fs) (frames_same (parts old) (parts now) so_far.snapshots.headers so_far.snapshots.contents)
+  same_objects = ap objects_in so_far.same
 
   pub read_there : (s : Capability) (i : ℕ) → s ≡ slot_at (objects_in (parts now)) at.node i → s ≡ slot_at (objects_in (parts old)) at.node i
   read_there s i is = is ∙ ap (λ (us : List Object). slot_at us at.node i) same_objects
 
   pub still_sound : AreSound (parts old) → AreSound (parts now)
-  still_sound sound = grind (arith, nat_tests, frames_same)
+  still_sound = subst AreSound (sym so_far.same)
 
   pub still_held : MayBeHeld (objects_in (parts now)) (Space at.node at.height at.access)
   still_held = subst (λ (us : List Object). MayBeHeld us (Space at.node at.height at.access)) (sym same_objects) so_far.held
-
-  module _ (twice : (s t u : S) → Continues s t → Continues t u → Continues s u) {new : S} where
-    pub fetches_on : {T U : Type 0} (x : T) (y : U) → FetchesOrFails {T = T} parts Continues now new (Ok x) →
-        FetchesOrFails {T = U} parts Continues old new (Ok y)
-    fetches_on x y then = grind (arith, nat_tests)

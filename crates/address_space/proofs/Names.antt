@@ -1,9 +1,9 @@
 -- The names that the proofs here cite: of other crates, and of the definitions of this one.
 pub use Rattle.capability.proofs.FrameLists.{known_used, node_used, page_used}
 pub use Rattle.capability.proofs.Keeping.{keepable_later}
-pub use Rattle.capability.specs.Parts.{AreSound, FetchesOrFails, OnlyFetches, Parts, frames_of, objects_in}
+pub use Rattle.capability.specs.Parts.{AreSound, Parts, frames_of, objects_in}
 pub use Rattle.model.specs.Capability.{IsAccess, IsWellFormed, union}
-unfoldable pub use Rattle.model.specs.Frame.{frames_in, objects_of}
+unfoldable pub use Rattle.model.specs.Frame.{objects_of}
 pub use Rattle.model.specs.Keepable.{AreCurrent, AreKeepable, IsSoundFrames, world_at}
 pub use Rattle.model.specs.Object.{is_page, is_waiting}
 pub use Rattle.model.specs.Sound.{IsSound, MayBeHeld}
@@ -16,7 +16,6 @@ pub use Rattle.model.specs.declared.answer.MemoryFault.TheVariants.{Hole, Malfor
 pub use Rattle.model.specs.declared.capability.Capability.{Capability}
 pub use Rattle.model.specs.declared.capability.Capability.TheVariants.{Page, Space, Void}
 pub use Rattle.model.specs.declared.frame.Frame.{Frame}
-pub use Rattle.model.specs.declared.frame.ObjectHeader.{ObjectHeader}
 pub use Rattle.model.specs.declared.geometry.Geometry.{Geometry}
 pub use Rattle.model.specs.declared.object.Object.{Object}
 pub use Rattle.model_laws.proofs.SoundEdits.{edited_word}

@@ -1,5 +1,5 @@
 -- Loads and stores over a store of present frames.
-use Rattle.std.specs.Prelude.{◌≡◌, ◌↔◌, ℕ, ◌%◌, ◌<◌, ◌≤◌, Bool, List, [], ◌∷◌, Result, Ok, Err, IfErr, OnErr}
+use Rattle.std.specs.Prelude.{◌≡◌, ◌↔◌, ℕ, ◌%◌, ◌<◌, ◌≤◌, Bool, List, [], ◌∷◌, Result, Ok, Err, IfErr, OnErr, OnOk}
 use Rattle.std.specs.Prelude.{IsErrOf}
 use Rattle.model.specs.declared.access.Access.{Access}
 use Rattle.model.specs.declared.answer.MemoryFault.{MemoryFault}
@@ -10,7 +10,7 @@ use Rattle.model.specs.Step.{reached, writable}
 use Rattle.model.specs.World.{word_at, with_word}
 use Rattle.model.specs.declared.answer.Refusal.{Refusal}
 use Rattle.model.specs.declared.answer.Refusal.TheVariants as refusal
-use Rattle.capability.specs.Parts.{IsUnchanged, IsUnprepared, Parts, frames_of}
+use Rattle.capability.specs.Parts.{AreSameUnlessFailed, IsUnprepared, Parts, frames_of}
 
 -- a load gives a word, or says why there is none
 abbrev pub IsLoaded : List Object → ℕ → ℕ → Result ℕ MemoryFault → Type 0
@@ -37,15 +37,15 @@ abbrev pub KeepsSound : Parts → Parts → Type 0
 KeepsSound old new = (age : ℕ) → IsSoundFrames old.geometry age (frames_of old) →
     IsSoundFrames old.geometry age (frames_of new)
 
--- A store changes one content at most, and nothing where it fails. The parameters are ghost members of a store of
--- present frames.
+-- A store changes one content at most, and nothing if the log is full. Nothing is said of the parts after a failure of the
+-- device. The parameters are ghost members of a store of present frames.
 pub record WritesWord {S T : Type 0} (parts : S → Parts) (Continues : S → S → Type 0) (old new : S)
     (result : Result T Refusal) : Type 0 where
-  pub sound : KeepsSound (parts old) (parts new)
-  pub headers : (parts new).headers ≡ (parts old).headers
-  pub unchanged : OnErr result (IsUnchanged (parts old) (parts new))
+  pub sound : OnOk result (KeepsSound (parts old) (parts new))
+  pub headers : OnOk result ((parts new).headers ≡ (parts old).headers)
+  pub geometry : OnOk result ((parts new).geometry ≡ (parts old).geometry)
+  pub same : OnErr result (AreSameUnlessFailed (parts old) (parts new))
   pub refusals : IfErr result IsUnprepared
   pub cause : IsErrOf result refusal.Fault ↔ ((parts old).failures < (parts new).failures)
   pub later : (parts old).failures ≤ (parts new).failures
-  pub geometry : (parts new).geometry ≡ (parts old).geometry
   pub continues : Continues old new

@@ -44,9 +44,9 @@ pub fn load<F: Frames>(
 /// the first place where the way to it stops, as `walk` does for a store, and writes nothing.
 ///
 /// The page alone is written, and announced only once it is reached, so a fault comes before a full
-/// log. A refusal changes nothing: `LogFull` if the numbers written since the last checkpoint with
-/// the page would be more than half of the log holds, and `Fault` exactly if the device failed. There
-/// is no other refusal.
+/// log. `LogFull` comes if the numbers written since the last checkpoint with the page would be more
+/// than half of the log holds, and changes nothing. `Fault` comes exactly if the device failed, and
+/// nothing is said of the objects then. There is no other refusal.
 pub fn store<F: PresentFrames>(
     frames: &mut F,
     process: u64,
@@ -101,8 +101,8 @@ fn put<F: PresentFrames>(frames: &mut F, page: u64, index: usize, word: u64) -> 
         ≡ with_word (objects_in (F.parts frames.old)) page index word) }
     ensures touched { OnOk result ((F.parts frames.new).touched
         ≡ touching (F.parts frames.old).touched (page ∷ [])) }
-    ensures within { touched_count (F.parts frames.new).touched
-        ≤ (F.parts frames.old).geometry.log }
+    ensures within { OnOk result (touched_count (F.parts frames.new).touched
+        ≤ (F.parts frames.old).geometry.log) }
     ensures full { IsErrOf result Refusal.LogFull
         → (F.parts frames.old).geometry.log
         < touched_count (touching (F.parts frames.old).touched (page ∷ [])) }

@@ -88,9 +88,6 @@ not_here m ms n none = (λ same. true≢false (sym (member_head n m ms same) ∙
 pub listed_member : (ns : List ℕ) (i n : ℕ) → slice_get ns i ≡ Some n → is_member ns n ≡ true
 listed_member ns i n at = any_passes_from_place (nat_eq n) ns i n at (eq-eqb n n refl)
 
-pub in_either : (xs ys : List ℕ) (n : ℕ) → is_member (xs ++ ys) n ≡ true → (is_member xs n ≡ true) ⊎ (is_member ys n ≡ true)
-in_either xs ys n is = or_cases (is_member xs n) (is_member ys n) (sym (list_any-append (nat_eq n) xs ys) ∙ is)
-
 pub in_behind : (front ns : List ℕ) (n : ℕ) → is_member ns n ≡ true → is_member (front ++ ns) n ≡ true
 in_behind front ns n is = list_any-append (nat_eq n) front ns ∙ or_right (is_member front n) (is_member ns n) is
 

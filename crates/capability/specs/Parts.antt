@@ -102,20 +102,24 @@ pub record Edits {S : Type 0} (parts : S → Parts) (Fetched Announced : S → �
       AreKeepable (parts old).geometry age (frames_of (parts new))
   pub snapshots : KeepsRest parts Fetched Announced Continues old new
 
--- Frames were fetched, and nothing else came of it.
+-- the parts are the same, unless the device failed
+abbrev pub AreSameUnlessFailed : Parts → Parts → Type 0
+AreSameUnlessFailed old new = new.failures ≡ old.failures → new ≡ old
+
+-- Bodies were fetched, and nothing was announced. After a failure of the device only the touched numbers are known. The
+-- parameters are ghost members of frames.
 pub record OnlyFetches {S : Type 0} (parts : S → Parts) (Continues : S → S → Type 0) (old new : S) : Type 0 where
-  pub headers : (parts new).headers ≡ (parts old).headers
-  pub contents : (parts new).contents ≡ (parts old).contents
+  pub same : AreSameUnlessFailed (parts old) (parts new)
   pub touched : (parts new).touched ≡ (parts old).touched
-  pub geometry : (parts new).geometry ≡ (parts old).geometry
+  pub later : (parts old).failures ≤ (parts new).failures
   pub continues : Continues old new
 
--- Frames were fetched, and nothing else came of it. The call fails exactly if the device fails. The parameters are
+-- Bodies were fetched, and nothing else came of it. The call fails exactly if the device fails. The parameters are
 -- ghost members of frames.
 pub record FetchesOrFails {S T : Type 0} (parts : S → Parts) (Continues : S → S → Type 0) (old new : S)
     (result : Result T Failed) : Type 0 where
+  pub same : OnOk result (parts new ≡ parts old)
   pub snapshots : OnlyFetches parts Continues old new
-  pub later : (parts old).failures ≤ (parts new).failures
   pub cause : IsErr result ↔ ((parts old).failures < (parts new).failures)
 
 -- a refusal to read objects: memory ran out, or the device failed
@@ -124,12 +128,12 @@ IsUnread refusal.NoMemory = Unit {0}
 IsUnread refusal.Fault = Unit {0}
 IsUnread _ = ⊥
 
--- Frames were fetched for a call that may want memory or fail, and nothing else came of it. The parameters are
+-- Bodies were fetched for a call that may want memory or fail, and nothing else came of it. The parameters are
 -- ghost members of frames.
 pub record OnlyReads {S T : Type 0} (parts : S → Parts) (Continues : S → S → Type 0) (old new : S)
     (result : Result T Refusal) : Type 0 where
+  pub same : OnOk result (parts new ≡ parts old)
   pub snapshots : OnlyFetches parts Continues old new
-  pub later : (parts old).failures ≤ (parts new).failures
   pub refusals : IfErr result IsUnread
   pub cause : IsErrOf result refusal.Fault ↔ ((parts old).failures < (parts new).failures)
 
@@ -143,28 +147,20 @@ IsUnprepared _ = ⊥
 abbrev pub touched_too : List ℕ → Parts → Parts
 touched_too written p = record p { touched = touching p.touched written }
 
--- Frames were fetched, and numbers announced that are to be written; after a refusal none is. The parameters are
--- ghost members of a store of present frames.
+-- Bodies were fetched, and numbers announced that are to be written; after a refusal none is. Nothing is said of the parts
+-- after a failure of the device. The parameters are ghost members of a store of present frames.
 pub record Prepares {S T : Type 0} (parts : S → Parts) (Continues : S → S → Type 0) (old new : S) (written : List ℕ)
     (result : Result T Refusal) : Type 0 where
-  pub touched : OnOk result ((parts new).touched ≡ touching (parts old).touched written)
-  pub within : touched_count (parts new).touched ≤ (parts new).geometry.log
-  pub headers : (parts new).headers ≡ (parts old).headers
-  pub contents : (parts new).contents ≡ (parts old).contents
-  pub geometry : (parts new).geometry ≡ (parts old).geometry
-  pub untouched : OnErr result ((parts new).touched ≡ (parts old).touched)
-  pub refusals : IfErr result IsUnprepared
+  pub before : touched_count (parts old).touched ≤ (parts old).geometry.log
+  pub done : OnOk result (parts new ≡ touched_too written (parts old))
+  pub within : OnOk result (touched_count (touching (parts old).touched written) ≤ (parts old).geometry.log)
+  pub same : OnErr result (AreSameUnlessFailed (parts old) (parts new))
   pub full : IsErrOf result refusal.LogFull →
       (parts old).geometry.log < touched_count (touching (parts old).touched written)
+  pub refusals : IfErr result IsUnprepared
   pub cause : IsErrOf result refusal.Fault ↔ ((parts old).failures < (parts new).failures)
   pub later : (parts old).failures ≤ (parts new).failures
   pub continues : Continues old new
-
--- no object and no number written is another
-pub record IsUnchanged (old new : Parts) : Type 0 where
-  pub headers : new.headers ≡ old.headers
-  pub contents : new.contents ≡ old.contents
-  pub touched : new.touched ≡ old.touched
 
 -- no number is listed twice
 abbrev pub IsOnce : List ℕ → Type 0

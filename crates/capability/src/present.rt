@@ -1,14 +1,14 @@
 // The frames of objects as they are now: a trait to read them, and one to change them.
-ghost use Rattle.std.specs.Prelude.{◌≡◌, ◌≢◌, ℕ, ◌<◌, ◌≤◌, ◌∷◌, [], length, IfErr, OnOk, OnErr, IsErr, IsErrOf, ◌↔◌};
+ghost use Rattle.std.specs.Prelude.{◌≡◌, ◌≢◌, ℕ, ◌<◌, ◌≤◌, ◌∷◌, [], length, OnOk, IsErr, ◌↔◌};
 ghost use Rattle.std.specs.List.{All, Contains};
 ghost use Rattle.model.specs.declared.object.Content.TheVariants as content;
-ghost use Rattle.model.specs.Machine.{touching, touched_count};
+ghost use Rattle.model.specs.Machine.{touched_count};
 ghost use Rattle.model.specs.Frame.{content_behind, header_at, held_at, void_held, given_up, owned_by, called, claimed};
 ghost use Rattle.model.specs.Keepable.{AreKeepable};
 ghost use Rattle.model.specs.Object.{role_of, with_slot_in, with_word_in};
 ghost use Rattle.capability.specs.Objects.{changed_root, with_root_in, with_slots_in};
 ghost use Rattle.capability.specs.Parts.{Parts, frames_of, with_header, with_held, with_both, fresh_content, IsFreshAt};
-ghost use Rattle.capability.specs.Parts.{Becomes, IsUnprepared, OnlyFetches};
+ghost use Rattle.capability.specs.Parts.{Becomes, OnlyFetches, Prepares};
 
 use crate::table::ObjectTable;
 use device::Failed;
@@ -94,15 +94,15 @@ pub trait Frames: Drop {
         ensures { result.now ≡ (parts self.now).headers };
 
     /// Brings the bodies of up to 8 objects into memory. No object changes. Fails exactly if the device
-    /// fails.
+    /// fails. After a failure nothing is said of the objects, so no call can follow: close the store.
     fn fetch(&mut self, numbers: &[u64]) -> Result<(), Failed>
         requires few { length numbers.now ≤ MAX_FETCHED }
         requires known { All (λ n. n < length (parts self.old).headers) numbers.now }
         requires keepable { AreKeepable (parts self.old).geometry u64.MAX
             (frames_of (parts self.old)) }
         ensures fetched { OnOk result ((n : ℕ) → Contains numbers.now n → IsFetched self.new n) }
+        ensures same { OnOk result (parts self.new ≡ parts self.old) }
         ensures cause { IsErr result ↔ ((parts self.old).failures < (parts self.new).failures) }
-        ensures later { (parts self.old).failures ≤ (parts self.new).failures }
         ensures snapshots { OnlyFetches parts ContinuesTo self.old self.new };
 
     /// The body of a fetched object.
@@ -126,9 +126,9 @@ pub trait PresentFrames: Frames {
 
     /// Brings the bodies of up to 8 objects into memory, and announces the objects to be written.
     ///
-    /// A refusal changes no object and no touched number: `LogFull` only if more numbers would be
-    /// touched than half of the log has slots, and `Fault` exactly if the device failed. There is no
-    /// other refusal.
+    /// `LogFull` changes no object and no touched number; it comes only if more numbers would be touched
+    /// than half of the log has slots. `Fault` comes exactly if the device failed, and nothing is said
+    /// of the objects then. There is no other refusal.
     fn prepare(&mut self, fetched: &[u64], written: &[u64]) -> Result<(), Refusal>
         requires few { length fetched.now ≤ MAX_FETCHED }
         requires known { All (λ n. n < length (Self.parts self.old).headers) fetched.now }
@@ -140,24 +140,7 @@ pub trait PresentFrames: Frames {
             ((n : ℕ) → Contains fetched.now n → Self.IsFetched self.new n) }
         ensures announced { OnOk result
             ((n : ℕ) → Contains written.now n → IsAnnounced self.new n) }
-        ensures touched { OnOk result ((Self.parts self.new).touched
-            ≡ touching (Self.parts self.old).touched written.now) }
-        ensures within { touched_count (Self.parts self.new).touched
-            ≤ (Self.parts self.new).geometry.log }
-        ensures before { touched_count (Self.parts self.old).touched
-            ≤ (Self.parts self.old).geometry.log }
-
-        ensures headers { (Self.parts self.new).headers ≡ (Self.parts self.old).headers }
-        ensures contents { (Self.parts self.new).contents ≡ (Self.parts self.old).contents }
-        ensures geometry { (Self.parts self.new).geometry ≡ (Self.parts self.old).geometry }
-        ensures untouched { OnErr result ((Self.parts self.new).touched ≡ (Self.parts self.old).touched) }
-        ensures refusals { IfErr result IsUnprepared }
-        ensures full { IsErrOf result Refusal.LogFull → (Self.parts self.old).geometry.log
-            < touched_count (touching (Self.parts self.old).touched written.now) }
-        ensures cause { IsErrOf result Refusal.Fault
-            ↔ ((Self.parts self.old).failures < (Self.parts self.new).failures) }
-        ensures later { (Self.parts self.old).failures ≤ (Self.parts self.new).failures }
-        ensures continues { Self.ContinuesTo self.old self.new };
+        ensures prepares { Prepares Self.parts Self.ContinuesTo self.old self.new written.now result };
 
     /// Sets a word of a page. Any other body stays.
     fn set_word(&mut self, number: u64, index: usize, word: u64)

@@ -25,24 +25,29 @@ whole = record {
 abbrev pub all_frozen : List Frame → ℕ → FrozenFrames
 all_frozen fs size = record { frames = fs; size = size; left = size }
 
--- a store over a device; it is sound until a publishing fails
+-- the parts as a checkpoint begins: no number was written since
+abbrev pub all_untouched : Parts → Parts
+all_untouched p = record p { touched = untouched p.geometry }
+
+-- a store over a device; it can be used until the device fails
 pub record View (D : Type 0) : Type 1 where
   pub beneath : D
   pub snapshots : Snapshots FrozenFrames
-  pub is_sound : Type 0
+  pub usable : Type 0
 
--- the store went on with no commit and no checkpoint, whether or not the device failed
+-- The store went on with no commit and no checkpoint. If the device didn't fail, what lies beside the objects is the same,
+-- and the store can be used if it could.
 pub record Continues {D : Type 0} (disk : D → Disk) (old new : View D) : Type 0 where
-  pub snapshots : new.snapshots ≡ old.snapshots
+  pub snapshots : (disk new.beneath).failures ≡ (disk old.beneath).failures → new.snapshots ≡ old.snapshots
+  pub usable : (disk new.beneath).failures ≡ (disk old.beneath).failures → old.usable → new.usable
   pub size : (disk new.beneath).sectors ≡ (disk old.beneath).sectors
   pub later : (disk old.beneath).failures ≤ (disk new.beneath).failures
-  pub sound : old.is_sound → new.is_sound
-  pub any_moment : old.is_sound → LeavesSaved (disk old.beneath) (disk new.beneath) old.snapshots.saved
+  pub any_moment : old.usable → LeavesSaved (disk old.beneath) (disk new.beneath) old.snapshots.saved
 
 -- a device was opened, and nothing was written: the present objects are the saved ones, and a crash leaves what a read
 -- gives
 pub record OpensStore {D : Type 0} (disk : D → Disk) (device : D) (parts : Parts) (store : View D) : Type 0 where
-  pub sound : store.is_sound
+  pub usable : store.usable
   pub holds : Holds (disk device).sectors (disk device).seen store.snapshots.saved
   pub frames : frames_of parts ≡ store.snapshots.saved.frames
   pub touched : parts.touched ≡ untouched store.snapshots.saved.geometry

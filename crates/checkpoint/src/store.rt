@@ -11,9 +11,9 @@ ghost use Rattle.checkpoint.specs.Snapshots.{MayCommit, committed, freezing, jou
 ghost use Rattle.checkpoint.specs.Snapshots.{next_saved};
 ghost use Rattle.checkpoint.specs.Journal.{is_page_now, is_still_saved, next_journaled, words_now};
 ghost use Rattle.checkpoint.specs.Opened.{Refuses};
-ghost use Rattle.capability.specs.Parts.{frames_of};
+ghost use Rattle.capability.specs.Parts.{AreSameUnlessFailed, frames_of};
 ghost use Rattle.checkpoint.specs.Refused.{IsCommitAnswer, IsFreezeAnswer, IsJournalAnswer, IsRefused, IsTurnedAway};
-ghost use Rattle.checkpoint.specs.Store.{all_frozen, whole, FrozenFrames, View, Continues, OpensStore, stabilized};
+ghost use Rattle.checkpoint.specs.Store.{all_frozen, all_untouched, whole, FrozenFrames, View, Continues, OpensStore, stabilized};
 ghost use Rattle.checkpoint.specs.Store.{IsStabilizeAnswer};
 
 use crate::{Checkpoint, OpenRefused};
@@ -25,8 +25,9 @@ use std::alloc::Global;
 /// The present objects, those of a checkpoint on its way as they were when it began, and those that
 /// the committed checkpoint saves, over a device.
 ///
-/// Until a `commit`, a `journal`, or the `migrate` that brings the last object home, fails, a crash
-/// leaves what is saved, whatever else fails. After a failure of the device the store is to be opened again.
+/// After a call in which the device failed nothing is said of the objects, and no call can follow: give
+/// the device back and open it again. A crash then leaves what was saved, or, if the call was `commit`,
+/// `journal`, or the `migrate` that brings the last object home, that or what the call saves.
 pub trait ObjectStore<D: Device>: PresentFrames + Sized {
     /// How a store is set up.
     type Setting: Copy;
@@ -34,8 +35,7 @@ pub trait ObjectStore<D: Device>: PresentFrames + Sized {
     /// Memory that a closed store leaves for the next.
     type Memory: Drop;
 
-    /// The device beneath, what is kept beside the present objects, and whether a crash is sure to
-    /// leave what is saved.
+    /// The device beneath, what is kept beside the present objects, and whether the store can be used.
     ghost view: { Self → View D };
 
     /// Opens a device, and writes nothing to it. The present objects are the saved ones. The store takes
@@ -80,10 +80,7 @@ pub trait ObjectStore<D: Device>: PresentFrames + Sized {
         requires known { number < length (Self.parts self.old).headers }
         requires keepable { AreKeepable (Self.parts self.old).geometry u64.MAX
             (frames_of (Self.parts self.old)) }
-        ensures headers { (Self.parts self.new).headers ≡ (Self.parts self.old).headers }
-        ensures contents { (Self.parts self.new).contents ≡ (Self.parts self.old).contents }
-        ensures touched { (Self.parts self.new).touched ≡ (Self.parts self.old).touched }
-        ensures geometry { (Self.parts self.new).geometry ≡ (Self.parts self.old).geometry }
+        ensures same { AreSameUnlessFailed (Self.parts self.old) (Self.parts self.new) }
         ensures continues { Self.ContinuesTo self.old self.new }
         ensures cause { Counts (D.disk (view self.old).beneath) (D.disk (view self.new).beneath) result };
 
@@ -93,44 +90,35 @@ pub trait ObjectStore<D: Device>: PresentFrames + Sized {
     /// It is refused by `CheckpointRunning` exactly where one is on its way, and else by
     /// `MigrationPending` exactly where something saved isn't home, and changes nothing then.
     fn freeze(&mut self) -> Result<u64, Refusal>
+        requires usable { (view self.old).usable }
         requires keepable { AreKeepable (Self.parts self.old).geometry u64.MAX
             (frames_of (Self.parts self.old)) }
         ensures answer { IsFreezeAnswer (left_in whole (view self.old).snapshots)
             (view self.old).snapshots.saved.entries result }
         ensures unchanged { OnErr result (self.new ≡ self.old) }
         ensures size { IfOk result (λ n. n ≡ touched_count (Self.parts self.old).touched) }
-        ensures headers { (Self.parts self.new).headers ≡ (Self.parts self.old).headers }
-        ensures contents { (Self.parts self.new).contents ≡ (Self.parts self.old).contents }
-        ensures touched { OnOk result
-            ((Self.parts self.new).touched ≡ untouched (Self.parts self.old).geometry) }
-        ensures geometry { (Self.parts self.new).geometry ≡ (Self.parts self.old).geometry }
+        ensures same { OnOk result (Self.parts self.new ≡ all_untouched (Self.parts self.old)) }
         ensures snapshots { OnOk result ((view self.new).snapshots
             ≡ freezing (all_frozen (frames_of (Self.parts self.old)) (touched_count (Self.parts self.old).touched))
             (view self.old).snapshots) }
         ensures beneath { (view self.new).beneath ≡ (view self.old).beneath }
-        ensures sound { (view self.old).is_sound → (view self.new).is_sound };
+        ensures usable { OnOk result ((view self.new).usable) };
 
     /// Writes the next `count` frozen objects to the log, and answers how many are left.
     ///
     /// It is refused by `NoCheckpoint` exactly if none is on its way, and changes nothing then. It
-    /// returns `Fault` exactly if the device failed; then `left` fell by at most `count`.
+    /// returns `Fault` exactly if the device failed.
     fn stabilize(&mut self, count: u64) -> Result<u64, Refusal>
+        requires usable { (view self.old).usable }
         ensures answer { IsStabilizeAnswer (D.disk (view self.old).beneath) (D.disk (view self.new).beneath)
             (left_in whole (view self.old).snapshots) count result }
         ensures unchanged { IsRefused result → self.new ≡ self.old }
-        ensures headers { (Self.parts self.new).headers ≡ (Self.parts self.old).headers }
-        ensures contents { (Self.parts self.new).contents ≡ (Self.parts self.old).contents }
-        ensures touched { (Self.parts self.new).touched ≡ (Self.parts self.old).touched }
-        ensures geometry { (Self.parts self.new).geometry ≡ (Self.parts self.old).geometry }
+        ensures same { AreSameUnlessFailed (Self.parts self.old) (Self.parts self.new) }
         ensures snapshots { (f : FrozenFrames) → (view self.old).snapshots.frozen ≡ Some f
             → OnOk result ((view self.new).snapshots ≡ stabilized count f (view self.old).snapshots) }
-        ensures stopped { (f : FrozenFrames) → (view self.old).snapshots.frozen ≡ Some f
-            → OnErr result ((k : ℕ) × (k ≤ count)
-            × ((view self.new).snapshots ≡ stabilized k f (view self.old).snapshots)) }
-        ensures sound { (view self.old).is_sound → (view self.new).is_sound }
+        ensures usable { OnOk result ((view self.new).usable) }
         ensures size { (D.disk (view self.new).beneath).sectors ≡ (D.disk (view self.old).beneath).sectors }
-        ensures any_moment { (view self.old).is_sound
-            → LeavesSaved (D.disk (view self.old).beneath) (D.disk (view self.new).beneath)
+        ensures any_moment { LeavesSaved (D.disk (view self.old).beneath) (D.disk (view self.new).beneath)
             (view self.old).snapshots.saved };
 
     /// Commits the checkpoint on its way: its frames are saved, at an age. Answers its generation.
@@ -140,19 +128,16 @@ pub trait ObjectStore<D: Device>: PresentFrames + Sized {
     /// returns `Fault` exactly if the device failed; then a crash leaves what was saved or what is
     /// frozen.
     fn commit(&mut self, age: u64) -> Result<u64, Refusal>
-        requires sound { (view self.old).is_sound }
+        requires usable { (view self.old).usable }
         requires ready { (f : FrozenFrames) → (view self.old).snapshots.frozen ≡ Some f
             → MayCommit whole age f (view self.old).snapshots.saved }
         ensures answer { IsCommitAnswer (D.disk (view self.old).beneath) (D.disk (view self.new).beneath)
             (left_in whole (view self.old).snapshots) (view self.old).snapshots.saved.generation result }
         ensures unchanged { IsRefused result → self.new ≡ self.old }
-        ensures headers { (Self.parts self.new).headers ≡ (Self.parts self.old).headers }
-        ensures contents { (Self.parts self.new).contents ≡ (Self.parts self.old).contents }
-        ensures touched { (Self.parts self.new).touched ≡ (Self.parts self.old).touched }
-        ensures geometry { (Self.parts self.new).geometry ≡ (Self.parts self.old).geometry }
+        ensures same { AreSameUnlessFailed (Self.parts self.old) (Self.parts self.new) }
         ensures snapshots { (f : FrozenFrames) → (view self.old).snapshots.frozen ≡ Some f
             → OnOk result ((view self.new).snapshots ≡ committed whole age f (view self.old).snapshots) }
-        ensures sound { OnOk result ((view self.new).is_sound) }
+        ensures usable { OnOk result ((view self.new).usable) }
         ensures size { (D.disk (view self.new).beneath).sectors ≡ (D.disk (view self.old).beneath).sectors }
         ensures any_moment { (f : FrozenFrames) → (view self.old).snapshots.frozen ≡ Some f → f.left ≡ 0
             → LeavesEither (D.disk (view self.old).beneath) (D.disk (view self.new).beneath)
@@ -163,15 +148,12 @@ pub trait ObjectStore<D: Device>: PresentFrames + Sized {
     /// where that was to be reached. Where all of it is home already, as the header says, it makes
     /// no call of the device.
     fn migrate(&mut self, count: u64) -> Result<u64, Failed>
-        requires sound { (view self.old).is_sound }
-        ensures headers { (Self.parts self.new).headers ≡ (Self.parts self.old).headers }
-        ensures contents { (Self.parts self.new).contents ≡ (Self.parts self.old).contents }
-        ensures touched { (Self.parts self.new).touched ≡ (Self.parts self.old).touched }
-        ensures geometry { (Self.parts self.new).geometry ≡ (Self.parts self.old).geometry }
+        requires usable { (view self.old).usable }
+        ensures same { AreSameUnlessFailed (Self.parts self.old) (Self.parts self.new) }
         ensures left { IfOk result (λ n. n ≡ (view self.old).snapshots.to_move - count) }
         ensures snapshots { OnOk result ((view self.new).snapshots ≡ moved count (view self.old).snapshots) }
         ensures untouched { (view self.old).snapshots.saved.entries ≡ 0 → self.new ≡ self.old }
-        ensures sound { OnOk result ((view self.new).is_sound) }
+        ensures usable { OnOk result ((view self.new).usable) }
         ensures size { (D.disk (view self.new).beneath).sectors ≡ (D.disk (view self.old).beneath).sectors }
         ensures any_moment { LeavesEither (D.disk (view self.old).beneath) (D.disk (view self.new).beneath)
             (view self.old).snapshots.saved (moved_saved count (view self.old).snapshots) }
@@ -191,7 +173,7 @@ pub trait ObjectStore<D: Device>: PresentFrames + Sized {
     fn journal(&mut self, number: u64, age: u64) -> Result<u64, Refusal>
         requires keepable { AreKeepable (Self.parts self.old).geometry u64.MAX
             (frames_of (Self.parts self.old)) }
-        requires sound { (view self.old).is_sound }
+        requires usable { (view self.old).usable }
         requires later { (view self.old).snapshots.saved.age < age }
         requires most { age ≤ 2 ^ 62 }
         ensures answer { IsJournalAnswer (D.disk (view self.old).beneath) (D.disk (view self.new).beneath)
@@ -199,14 +181,11 @@ pub trait ObjectStore<D: Device>: PresentFrames + Sized {
             (nat_lt number (length (Self.parts self.old).headers)) (is_page_now (Self.parts self.old) number)
             (is_still_saved (Self.parts self.old) (view self.old).snapshots.saved number) result }
         ensures turned_away { IsTurnedAway result → self.new ≡ self.old }
-        ensures headers { (Self.parts self.new).headers ≡ (Self.parts self.old).headers }
-        ensures contents { (Self.parts self.new).contents ≡ (Self.parts self.old).contents }
-        ensures touched { (Self.parts self.new).touched ≡ (Self.parts self.old).touched }
-        ensures geometry { (Self.parts self.new).geometry ≡ (Self.parts self.old).geometry }
+        ensures same { AreSameUnlessFailed (Self.parts self.old) (Self.parts self.new) }
+        ensures usable { IsErrOf result Refusal.Fault ⊎ (view self.new).usable }
         ensures snapshots { OnOk result ((view self.new).snapshots ≡ journaled age number
             (words_now (Self.parts self.old) number) (view self.old).snapshots) }
-        ensures unchanged { OnErr result ((view self.new).snapshots ≡ (view self.old).snapshots) }
-        ensures sound { IsErrOf result Refusal.Fault ⊎ (view self.new).is_sound }
+        ensures refused { IsRefused result → (view self.new).snapshots ≡ (view self.old).snapshots }
         ensures size { (D.disk (view self.new).beneath).sectors ≡ (D.disk (view self.old).beneath).sectors }
         ensures any_moment { LeavesOneOf (D.disk (view self.old).beneath) (D.disk (view self.new).beneath)
             (view self.old).snapshots.saved (next_journaled age number
@@ -221,8 +200,8 @@ pub trait ObjectStore<D: Device>: PresentFrames + Sized {
     ghost continues_peeks: { (s t : Self) → Self.ContinuesTo s t → touched_count (Self.parts t).touched ≡ 0
         → (view s).snapshots.frozen ≡ None → Peeks (D.disk (view s).beneath) (D.disk (view t).beneath) };
 
-    /// A sound store: a crash leaves what is saved.
-    ghost sound_holds: { (s : Self) (c : Image) → (view s).is_sound → (D.disk (view s).beneath).may_leave c
+    /// A store that can be used: a crash leaves what is saved.
+    ghost sound_holds: { (s : Self) (c : Image) → (view s).usable → (D.disk (view s).beneath).may_leave c
         → Holds (D.disk (view s).beneath).sectors c (view s).snapshots.saved };
 
     ghost failures_are: { (s : Self) → (Self.parts s).failures ≡ (D.disk (view s).beneath).failures };

@@ -1,11 +1,11 @@
 -- What is counted, as a process that returns becomes available, after the reply, and after an invocation with no bank's order.
-use Rattle.gate.proofs.Names.{nat_tests, ℕ, Bool, true, false, List, Result, Ok, Err, drop, length, refl, sym, subst, arith, IsTrue, OnOk, OnErr, slice_index}
+use Rattle.gate.proofs.Names.{nat_tests, ℕ, Bool, true, false, List, Result, Ok, Err, drop, length, refl, sym, ap, subst, arith, IsTrue, OnOk, OnErr, slice_index}
 use Rattle.gate.proofs.Names.{All, Bank, Invocation, Operation, Call, Return, Send, Geometry, Object, Arguments, deliver, AreCurrent, AreKeepable}
 use Rattle.gate.proofs.Names.{IsSoundFrames, is_running, IsNoBankOrder, IsSound, NamesItsKind, Fits, World, annex_at, is_process, is_running_process}
 use Rattle.gate.proofs.Names.{register_at, root_at, deliver_frame, invocation_frame, state_sound, held_to, SameFrame, frame_refl, tests_at, usage_same, Caller}
-use Rattle.gate.proofs.Names.{OrderPlan, Reply, message_of, AreSound, IsUnchanged, OnlyFetches, Parts, frames_of, objects_in, AreCounted, BanksState, MayAsk}
-use Rattle.gate.proofs.Names.{writer_count, frames_in, objects_of, writers, IsPlanned, answered, AreEnough, state_before, MayChange, Invokes, IsRequested}
-use Rattle.std.proofs.Common.{◌≡◌, ◌++◌, ◌≤◌, if◌then◌else◌}
+use Rattle.gate.proofs.Names.{OrderPlan, Reply, message_of, AreSound, AreSameUnlessFailed, Parts, frames_of, objects_in, AreCounted, BanksState, MayAsk}
+use Rattle.gate.proofs.Names.{writer_count, writers, IsPlanned, answered, AreEnough, state_before, MayChange, Invokes, IsRequested}
+use Rattle.std.proofs.Common.{◌≡◌, ◌++◌, ◌≤◌, if◌then◌else◌, ◌∙◌}
 use Rattle.model.specs.declared.command.Command.TheVariants as command
 use Rattle.gate.proofs.Effects.{frame_before}
 use Rattle.gate.proofs.Standing.{running_process, now_sound}
@@ -71,30 +71,24 @@ no_send op is other = grind (arith, nat_tests)
 pub writers_within : (op : Operation) (p a : ℕ) (rest list : List ℕ) → list ≡ writers op p a ++ rest → writer_count op ≤ length list
 writers_within op p a rest list is = grind (arith, nat_tests)
 
--- what is counted stays after a read-only call
-pub counted_looked : {S : Type 0} {parts : S → Parts} {Continues : S → S → Type 0} {old new : S} {s : BanksState} →
-    OnlyFetches parts Continues old new →
-    AreCounted (parts old).geometry (objects_in (parts old)) s → AreCounted (parts new).geometry (objects_in (parts new)) s
-counted_looked {S} {parts} {Continues} {old} {new} {s} fetched counted =
-    subst (λ (X : Type 0). X) (λ k. AreCounted (sym fetched.geometry k) (objects_of (frames_in (sym fetched.headers k) (sym fetched.contents k))) s) counted
-
 -- what isn't a bank's order leaves what is counted, after a read-only call too
 module _ (old mid new : Parts) (i : Invocation) (s : BanksState) (sound : AreSound old) (same : mid ≡ old)
     (fits : Fits (command.Invoke i)) (runs : IsTrue (is_running_process (objects_in old) i.process))
     (other : IsNoBankOrder (register_at (objects_in old) i.process i.register) (slice_index i.words 0))
-    (counted : AreCounted old.geometry (objects_in old) s) (geometry : new.geometry ≡ mid.geometry) where
+    (counted : AreCounted old.geometry (objects_in old) s) where
   counted_mid : AreCounted mid.geometry (objects_in mid) s
   counted_mid = subst (λ (p : Parts). AreCounted p.geometry (objects_in p) s) (sym same) counted
 
   pub counted_after : {T E : Type 0} (r : Result T E) → OnOk r (Invokes mid.geometry i (objects_in mid) mid.touched (objects_in new) new.touched) →
-      OnErr r (IsUnchanged mid new) → AreCounted new.geometry (objects_in new) s
-  counted_after (Ok x) invokes unchanged =
+      OnOk r (new.geometry ≡ mid.geometry) → OnErr r (AreSameUnlessFailed mid new) → new.failures ≡ old.failures →
+      AreCounted new.geometry (objects_in new) s
+  counted_after (Ok x) invokes geometry unchanged stayed =
       let frame = invocation_frame mid.geometry (objects_in mid) i invokes.0 (now_sound mid (subst AreSound (sym same) sound)) fits
       (subst (λ (p : Parts). IsTrue (is_running_process (objects_in p) i.process)) (sym same) runs)
       (subst (λ (p : Parts). IsNoBankOrder (register_at (objects_in p) i.process i.register) (slice_index i.words 0)) (sym same) other) invokes.1 in
       subst (λ (X : Type 0). X) (λ k. AreCounted (sym geometry k) (sym invokes.2 k) s) (counted_on frame counted_mid)
-  counted_after (Err e) done unchanged =
-      subst (λ (X : Type 0). X) (λ k. AreCounted (sym geometry k) (objects_of (frames_in (sym unchanged.headers k) (sym unchanged.contents k))) s) counted_mid
+  counted_after (Err e) done geometry unchanged stayed =
+      subst (λ (p : Parts). AreCounted p.geometry (objects_in p) s) (sym (unchanged (stayed ∙ sym (ap (λ (p : Parts). p.failures) same)))) counted_mid
 
 -- an order of the bank that is invoked may be planned
 pub bank_may_ask : (p : Parts) (s : BanksState) (i : Invocation) (caller : Caller) (b : ℕ) (args : Arguments) → AreSound p →

@@ -7,8 +7,8 @@ use Rattle.gate.proofs.Names.{is_running_process, register_at, state_frame, invo
 use Rattle.gate.proofs.Names.{Caller, OrderPlan, Reply, changed, writer_count, writers, Invokes, IsRequested, IsKernelObject, Overfills, result_code, IsPlanned}
 use Rattle.gate.proofs.Names.{answered, arguments_of, finished, ordered_by, state_before, FitsCap, fetched_of, true, false, slice_set, All-map, All-set}
 use Rattle.gate.proofs.Names.{sent_by, NamesItsKind, AreSound, Parts, objects_in, Gate, entered, gate_capability, received, written_through, [], Result, Ok}
-use Rattle.gate.proofs.Names.{Err, OnOk, Contains, IfOk, IsErrOf, OnErr, IsUnchanged, IsUnprepared, Prepares, Renews, frames_of, Invoked, FetchesOrFails}
-use Rattle.gate.proofs.Names.{Failed, IsErr, IsOfGate, Refusal, touched_too, fetched_same, KeepsSoundFrames}
+use Rattle.gate.proofs.Names.{Err, OnOk, Contains, IfOk, IsErrOf, OnErr, AreSameUnlessFailed, IsUnprepared, Prepares, Renews, frames_of, Invoked, FetchesOrFails}
+use Rattle.gate.proofs.Names.{Failed, IsErr, IsOfGate, Refusal, touched_too, KeepsSoundFrames}
 use Rattle.std.proofs.Common.{◌≡◌, ◌↔◌, ◌+◌, ◌++◌, ◌^◌, ◌<◌, ◌≤◌, ◌∙◌, if◌then◌else◌, ◌||◌, ◌∷◌, ◌⊎◌}
 use Rattle.model.specs.declared.command.Command.TheVariants as command
 use Rattle.model.specs.declared.answer.Refusal.TheVariants as refusal
@@ -228,7 +228,7 @@ module _ {S : Type 0} {parts : S → Parts} {Continues : S → S → Type 0} (i 
   module _ (twice : (s t u : S) → Continues s t → Continues t u → Continues s u) {s t : S} (u : S) {T : Type 0} {x : T}
       (only_reads : FetchesOrFails {T = T} parts Continues s t (Ok x)) where
     same : parts t ≡ parts s
-    same = fetched_same only_reads
+    same = only_reads.same
 
     before : (P : Parts → Type 0) → P (parts t) → P (parts s)
     before P p = subst P same p
@@ -254,10 +254,10 @@ module _ {S : Type 0} {parts : S → Parts} {Continues : S → S → Type 0} (i 
       full = before (λ p. IsErrOf r refusal.LogFull → Overfills p.geometry i (objects_in p) p.touched) is.full;
       sound = before (λ p. OnOk r (KeepsSoundFrames p (parts u))) is.sound;
       renews = before (λ p. OnOk r (Renews p (parts u))) is.renews;
-      unchanged = before (λ p. OnErr r (IsUnchanged p (parts u))) is.unchanged;
+      geometry = before (λ p. OnOk r ((parts u).geometry ≡ p.geometry)) is.geometry;
+      same = before (λ p. OnErr r (AreSameUnlessFailed p (parts u))) is.same;
       cause = before (λ p. IsErrOf r refusal.Fault ↔ (p.failures < (parts u).failures)) is.cause;
       later = before (λ p. p.failures ≤ (parts u).failures) is.later;
-      geometry = before (λ p. (parts u).geometry ≡ p.geometry) is.geometry;
       continues = twice s t u only_reads.snapshots.continues is.continues;
     }
 
@@ -287,9 +287,9 @@ module _ {S : Type 0} {parts : S → Parts} {Continues : S → S → Type 0} (i 
               e,
               invoked,
               objects,
-              touched ∙ ap (λ (p : Parts). p.touched) there ∙ ap (touching (parts s).touched) written,
-              subst (λ (ts : List Bool). touched_count ts ≤ (parts s).geometry.log) (sym touched)
-                  (subst (λ (g : Geometry). touched_count (parts m).touched ≤ g.log) (ap (λ (p : Parts). p.geometry) there) replying.within),
+              now_touched ∙ ap (touching (parts s).touched) written,
+              subst (λ (ts : List Bool). touched_count ts ≤ (parts s).geometry.log) (sym now_touched)
+                  (subst (λ (p : Parts). touched_count (touching p.touched ns) ≤ p.geometry.log) same replying.within),
             );
             code = is;
             refusals = tt;
@@ -301,9 +301,12 @@ module _ {S : Type 0} {parts : S → Parts} {Continues : S → S → Type 0} (i 
                 (subst (λ (p : Parts). AreKeepable p.geometry age (frames_of p)) (sym there) sound.keepable)))
                 current;
             renews = renews;
-            unchanged = tt;
+            geometry = geometry ∙ ap (λ (p : Parts). p.geometry) there;
+            same = tt;
             cause = (λ is. cc, λ rose. absurd (omega (arith, rose, all_still)));
             later = omega (arith, all_still);
-            geometry = geometry ∙ ap (λ (p : Parts). p.geometry) there;
             continues = twice s t u only_reads.snapshots.continues (twice t m u replying.continues continues);
           }
+            where
+              now_touched : (parts u).touched ≡ touching (parts s).touched ns
+              now_touched = touched ∙ ap (λ (p : Parts). p.touched) there

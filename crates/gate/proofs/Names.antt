@@ -3,10 +3,10 @@ pub use Rattle.capability.proofs.FrameLists.{annex_used, bank_used, content_ther
 pub use Rattle.capability.proofs.FrameLists.{root_used}
 pub use Rattle.capability.proofs.Keeping.{keepable_count, keepable_later, keepable_roles}
 pub use Rattle.capability.proofs.KindNumbers.{bank_number, node_number, page_number, root_number}
-pub use Rattle.capability.proofs.SnapshotLaws.{fetched_same, keeps_twice, prepared_same}
+pub use Rattle.capability.proofs.SnapshotLaws.{keeps_twice}
 pub use Rattle.capability.specs.Changes.{changed, message_of, outcome_by, target_of, written_of}
 pub use Rattle.capability.specs.Objects.{with_message}
-pub use Rattle.capability.specs.Parts.{AreSound, FetchesOrFails, IsUnchanged, IsUnprepared, OnlyFetches, Parts, Prepares, Renews, frames_of, objects_in}
+pub use Rattle.capability.specs.Parts.{AreSound, AreSameUnlessFailed, FetchesOrFails, IsUnprepared, Parts, Prepares, Renews, frames_of, objects_in}
 pub use Rattle.capability.specs.Parts.{touched_too}
 pub use Rattle.capability.specs.declared.order.BankChange.{BankChange}
 pub use Rattle.capability.specs.declared.order.Caller.{Caller}
@@ -17,7 +17,7 @@ pub use Rattle.device.specs.declared.device.Failed.{Failed}
 unfoldable pub use Rattle.model.specs.Banking.{on_bank}
 pub use Rattle.model.specs.Capability.{named}
 pub use Rattle.model.specs.Frame.{blank_frame, conveyed, current_count, frame_at, header_at, headers, held_at}
-unfoldable pub use Rattle.model.specs.Frame.{frames_in, objects_of}
+unfoldable pub use Rattle.model.specs.Frame.{objects_of}
 pub use Rattle.model.specs.Invoke.{Effect, after_gate, can_start, ordered, sent_by}
 unfoldable pub use Rattle.model.specs.Invoke.{deliver, invoke, on_kernel_object, through_gate}
 pub use Rattle.model.specs.Keepable.{AreCurrent, AreKeepable, IsCount, IsKeptCap, IsNodeNumber, IsSoundFrames, world_at}

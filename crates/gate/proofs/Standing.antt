@@ -7,7 +7,7 @@ use Rattle.gate.proofs.Names.{map_content, IsOfKind, MayBeHeld, object_count, co
 use Rattle.gate.proofs.Names.{root_number, FitsCap, objects_of, IsSoundFrames, world_at, annex_at, register_at, IsNow, nearly_from, AreSound, Prepares}
 use Rattle.gate.proofs.Names.{length_objects, keepable_later, Invocation, IsRequested, slot_at, slice_index, Effect, invoke, IsNoBankOrder, Fits}
 use Rattle.gate.proofs.Names.{invocation_frame, SameFrame, tests_at, Renews, SameAllocations, SameFree, renews_none, Gate, gate_capability, FetchesOrFails}
-use Rattle.gate.proofs.Names.{touched_too, fetched_same, prepared_same}
+use Rattle.gate.proofs.Names.{touched_too}
 use Rattle.std.specs.Prelude.{Ok}
 use Rattle.std.proofs.Common.{◌≡◌, ◌<◌, ◌∷◌, ◌∙◌, ◌^◌, ◌≤◌, ◌+◌, ◌-◌}
 use Rattle.model.specs.declared.command.Command.TheVariants as command
@@ -111,7 +111,7 @@ module _ (p : Parts) (sound : AreSound p) where
 module _ {S : Type 0} {parts : S → Parts} {Continues : S → S → Type 0} {s t u : S} where
   pub announced_same : {T U : Type 0} {x : T} {y : U} {ws : List ℕ} → FetchesOrFails {T = T} parts Continues s t (Ok x) →
       Prepares {T = U} parts Continues t u ws (Ok y) → parts u ≡ touched_too ws (parts s)
-  announced_same {T} {U} {x} {y} {ws} fetched prepared = prepared_same prepared ∙ ap (touched_too ws) (fetched_same fetched)
+  announced_same {T} {U} {x} {y} {ws} fetched prepared = prepared.done ∙ ap (touched_too ws) fetched.same
 
 -- what a process invokes, read after its annex was fetched
 pub requested_by : {old now : Parts} → now ≡ old → (i : Invocation) (annex : ℕ) (invoked : Capability) → annex ≡ annex_at (objects_in old) i.process →

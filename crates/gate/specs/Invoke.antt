@@ -3,7 +3,7 @@ use Rattle.gate.specs.Names.{ℕ, Bool, true, false, List, [], Option, None, Som
 use Rattle.gate.specs.Names.{OnErr, IsErrOf, Capability, Start, Resume, Invocation, Operation, Call, Send, Geometry}
 use Rattle.gate.specs.Names.{Object, ResultCode, Effect, invoke, after_gate, deliver, ordered, IsSoundFrames, touching}
 use Rattle.gate.specs.Names.{touched_count, consume, annex_at, is_running_process, register_at, Caller, Refusal}
-use Rattle.gate.specs.Names.{IsUnchanged, Parts, Renews, frames_of, objects_in, IfErr}
+use Rattle.gate.specs.Names.{AreSameUnlessFailed, Parts, Renews, frames_of, objects_in, IfErr}
 use Rattle.std.specs.Prelude.{◌≡◌, ◌↔◌, ◌+◌, ◌^◌, ◌<◌, ◌≤◌, ◌∷◌, if◌then◌else◌}
 use Rattle.model.specs.declared.answer.Refusal.TheVariants as refusal
 use Rattle.gate.specs.declared.gates.Gate.{Gate}
@@ -64,8 +64,8 @@ TellsState os i (Err refusal.LogFull) = is_running_process os i.process ≡ true
 TellsState os i (Err refusal.Fault) = Unit {0}
 TellsState os i (Err other) = ⊥
 
--- The outcome of an invocation. After a refusal nothing has changed. The parameters are ghost members of a store of
--- present frames.
+-- The outcome of an invocation. After a refusal nothing has changed; nothing is said of the parts after a failure of the
+-- device. The parameters are ghost members of a store of present frames.
 pub record Invoked {S : Type 0} (parts : S → Parts) (Continues : S → S → Type 0) (old new : S) (i : Invocation)
     (result : Result (Option ResultCode) Refusal) : Type 0 where
   pub done : OnOk result
@@ -79,10 +79,10 @@ pub record Invoked {S : Type 0} (parts : S → Parts) (Continues : S → S → T
       (parts old).touched
   pub sound : OnOk result (KeepsSoundFrames (parts old) (parts new))
   pub renews : OnOk result (Renews (parts old) (parts new))
-  pub unchanged : OnErr result (IsUnchanged (parts old) (parts new))
+  pub geometry : OnOk result ((parts new).geometry ≡ (parts old).geometry)
+  pub same : OnErr result (AreSameUnlessFailed (parts old) (parts new))
   pub cause : IsErrOf result refusal.Fault ↔ ((parts old).failures < (parts new).failures)
   pub later : (parts old).failures ≤ (parts new).failures
-  pub geometry : (parts new).geometry ≡ (parts old).geometry
   pub continues : Continues old new
 
 -- the capabilities that a gate receives of those that are sent: with a call the last is the right to answer

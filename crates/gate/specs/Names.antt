@@ -1,6 +1,6 @@
 -- The names of other crates that the definitions here cite.
 pub use Rattle.capability.specs.Changes.{changed, message_of, outcome_by, reply_of_code, written_of}
-pub use Rattle.capability.specs.Parts.{IsUnchanged, Parts, Renews, frames_of, objects_in}
+pub use Rattle.capability.specs.Parts.{AreSameUnlessFailed, Parts, Renews, frames_of, objects_in}
 pub use Rattle.capability.specs.declared.order.Caller.{Caller}
 pub use Rattle.capability.specs.declared.order.Change.{Change}
 pub use Rattle.capability.specs.declared.order.OrderPlan.{OrderPlan}

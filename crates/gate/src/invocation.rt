@@ -1,5 +1,5 @@
 // Invocations.
-ghost use Rattle.std.specs.Prelude.{IsTrue};
+ghost use Rattle.std.specs.Prelude.{◌≡◌, IsTrue};
 ghost use Rattle.model.specs.Invoke.{invoke};
 ghost use Rattle.model.specs.World.{is_process};
 ghost use Rattle.capability.specs.Parts.{AreSound, objects_in};
@@ -22,10 +22,10 @@ use space_bank::Banks;
 /// `banks` keeps the usages of the banks as they are after it. The count of allocations of a number
 /// rises by one if its object is freed.
 ///
-/// A refusal changes nothing. `NotRunning`: the process doesn't run. `Stalled`: the process behind
+/// A refusal but `Fault` changes nothing. `NotRunning`: the process doesn't run. `Stalled`: the process behind
 /// the start capability isn't available. `LogFull`: with what the invocation writes, more numbers
-/// were written since the last checkpoint than half of the log holds. `Fault`: the device failed.
-/// There is no other refusal.
+/// were written since the last checkpoint than half of the log holds. `Fault`: the device failed, and
+/// nothing is said of the objects. There is no other refusal.
 pub fn invoke<F: PresentFrames>(
     store: &mut F,
     banks: &mut Banks,
@@ -38,8 +38,8 @@ pub fn invoke<F: PresentFrames>(
         (objects_in (F.parts store.old)) banks.old }
     ensures state { TellsState (objects_in (F.parts store.old)) invocation.now result }
     ensures invoked { Invoked F.parts F.ContinuesTo store.old store.new invocation.now result }
-    ensures counted { AreCounted (F.parts store.new).geometry
-        (objects_in (F.parts store.new)) banks.new }
+    ensures counted { (F.parts store.new).failures ≡ (F.parts store.old).failures
+        → AreCounted (F.parts store.new).geometry (objects_in (F.parts store.new)) banks.new }
 {
     // Proof only: these two bring in invariants, of the invocation and of the object table.
     invocation.can_be_spelt();

@@ -184,8 +184,8 @@ pub fn invoke_order<F: PresentFrames>(
     requires object { IsKernelObject caller.invoked }
     ensures invoked { Invoked F.parts F.ContinuesTo store.old store.new invocation.now result }
     ensures stalled { IsErrOf result Refusal.Stalled → ⊥ }
-    ensures counted { AreCounted (F.parts store.new).geometry
-        (objects_in (F.parts store.new)) banks.new }
+    ensures counted { (F.parts store.new).failures ≡ (F.parts store.old).failures
+        → AreCounted (F.parts store.new).geometry (objects_in (F.parts store.new)) banks.new }
 {
     let plan = plan_order(store, banks, invocation, caller)?;
     announce_order(store, banks.listed(), caller, plan.change)?;

@@ -3,7 +3,7 @@ pub use Rattle.capability.proofs.FrameLists.{annex_used, known_used, object_past
 pub use Rattle.capability.proofs.Keeping.{keepable_later}
 pub use Rattle.capability.proofs.Mapped.{kind_map, mapped}
 pub use Rattle.capability.proofs.Roles.{role_read}
-pub use Rattle.capability.proofs.SnapshotLaws.{only_reads_twice, only_same, read_same}
+pub use Rattle.capability.proofs.SnapshotLaws.{out_of_memory, read_well, reads_on}
 pub use Rattle.capability.specs.Parts.{AreSound, OnlyReads, Parts, frames_of, objects_in}
 pub use Rattle.capability.specs.Plain.{fresh_cap}
 pub use Rattle.description.proofs.DescribedOnce.{described_once}

@@ -1,73 +1,46 @@
 -- Read-only calls, one after another.
-use Rattle.image_describer.proofs.Names.{HasLooked, List, Object, Parts, arith, ap, subst, sym, ℕ, Capability, Content, IsTrue, content_at, is_annex, is_root}
-use Rattle.image_describer.proofs.Names.{refl, root_in, is_process, annex_at, Root, only_reads_twice, OnlyReads, Refusal, Err, IsErrAnd, Ok, Result, only_same}
-use Rattle.image_describer.proofs.Names.{read_same}
+use Rattle.image_describer.proofs.Names.{HasLooked, List, Object, Parts, subst, sym, ℕ, Capability, Content, IsTrue, content_at, is_annex, is_root}
+use Rattle.image_describer.proofs.Names.{refl, root_in, is_process, annex_at, Root, OnlyReads, Refusal, Err, IsErrAnd, Ok, Result}
+use Rattle.image_describer.proofs.Names.{read_well, out_of_memory, reads_on}
 use Rattle.std.proofs.Common.{◌≡◌, ◌∙◌}
 use Rattle.model.specs.declared.object.Content.TheVariants as content
 use Rattle.model.specs.declared.answer.Refusal.TheVariants as refusal
 
 module _ {S : Type 0} {parts : S → Parts} {Continues : S → S → Type 0} {s t : S} where
-  -- where the device didn't fail the parts are the same
-  pub looked_same : HasLooked parts Continues s t → parts t ≡ parts s
-  looked_same looked = only_same looked.snapshots looked.failures
-
   -- a call that ended well looked, and one that failed is passed on
   pub looked_once : {T : Type 0} {x : T} → OnlyReads parts Continues s t (let r : Result T Refusal = Ok x in r) → HasLooked parts Continues s t
-  looked_once reads = record {
-    snapshots = reads.snapshots;
-    failures = ap (λ (p : Parts). p.failures) (read_same reads);
-  }
+  looked_once reads = record { same = reads.same; continues = reads.snapshots.continues }
 
   pub read_failed : {T U : Type 0} {e : Refusal} (r : Result U Refusal) → IsErrAnd r (λ y. y ≡ e) →
       OnlyReads parts Continues s t (let q : Result T Refusal = Err e in q) → OnlyReads parts Continues s t r
   read_failed (Ok y) same reads = absurd same
   read_failed (Err y) same reads = record {
+    same = tt;
     snapshots = reads.snapshots;
-    later = reads.later;
     refusals = rw same reads.refusals;
     cause = (λ fault. reads.cause.0 (cc), λ failed. let fault = reads.cause.1 failed in cc);
   }
 
   -- a call that does no more ends well, or without memory
-  pub read_well : {T : Type 0} {x : T} → HasLooked parts Continues s t → OnlyReads parts Continues s t (let r : Result T Refusal = Ok x in r)
-  read_well looked = record {
-    snapshots = looked.snapshots;
-    later = omega (arith, looked.failures);
-    refusals = tt;
-    cause = (λ fault. absurd (cc), λ failed. absurd (omega (arith, looked.failures, failed)));
-  }
+  pub looked_well : {T : Type 0} {x : T} → HasLooked parts Continues s t → OnlyReads parts Continues s t (let r : Result T Refusal = Ok x in r)
+  looked_well looked = read_well looked.same looked.continues
 
   pub read_short : {U : Type 0} (r : Result U Refusal) → HasLooked parts Continues s t → IsErrAnd r (λ y. y ≡ refusal.NoMemory) →
       OnlyReads parts Continues s t r
   read_short (Ok y) looked same = absurd same
-  read_short (Err y) looked same = record {
-    snapshots = looked.snapshots;
-    later = omega (arith, looked.failures);
-    refusals = rw same tt;
-    cause = (λ fault. absurd (cc), λ failed. absurd (omega (arith, looked.failures, failed)));
-  }
+  read_short {U} (Err y) looked same =
+      subst (λ (e : Refusal). OnlyReads parts Continues s t (let q : Result U Refusal = Err e in q)) (sym same) (out_of_memory looked.same looked.continues)
 
 module _ {S : Type 0} {parts : S → Parts} {Continues : S → S → Type 0} (twice : (s t u : S) → Continues s t → Continues t u → Continues s u) {s t u : S} where
   pub looked_twice : HasLooked parts Continues s t → HasLooked parts Continues t u → HasLooked parts Continues s u
-  looked_twice one two = record {
-    snapshots = only_reads_twice parts Continues twice s t u one.snapshots two.snapshots;
-    failures = two.failures ∙ one.failures;
-  }
+  looked_twice one two = record { same = two.same ∙ one.same; continues = twice s t u one.continues two.continues }
 
-  pub reads_on : {T : Type 0} {r : Result T Refusal} → HasLooked parts Continues s t → OnlyReads parts Continues t u r → OnlyReads parts Continues s u r
-  reads_on looked reads = record {
-    snapshots = only_reads_twice parts Continues twice s t u looked.snapshots reads.snapshots;
-    later = omega (arith, looked.failures, reads.later);
-    refusals = reads.refusals;
-    cause = (
-      λ fault. let after = reads.cause.0 fault in omega (arith, looked.failures, after),
-      λ failed. reads.cause.1 (omega (arith, looked.failures, failed)),
-    );
-  }
+  pub looked_on : {T : Type 0} {r : Result T Refusal} → HasLooked parts Continues s t → OnlyReads parts Continues t u r → OnlyReads parts Continues s u r
+  looked_on looked reads = reads_on looked.same looked.continues twice reads
 
   pub reads_after : {T U : Type 0} {x : T} {r : Result U Refusal} → OnlyReads parts Continues s t (let q : Result T Refusal = Ok x in q) →
       OnlyReads parts Continues t u r → OnlyReads parts Continues s u r
-  reads_after first second = reads_on (looked_once first) second
+  reads_after first second = looked_on (looked_once first) second
 
 -- the annex of a root that was read
 pub root_annex : (os us : List Object) (n : ℕ) (root : Root Capability) → us ≡ os → content_at os n ≡ content.Root root →

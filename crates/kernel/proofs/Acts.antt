@@ -10,7 +10,9 @@ use Rattle.checkpoint.specs.Snapshots as stage
 use Rattle.model.specs.declared.answer.Answer.TheVariants as answer
 use Rattle.model.specs.declared.answer.Refusal.TheVariants as refusal
 use Rattle.model.specs.declared.command.Command.TheVariants as command
-use Rattle.kernel.proofs.Performing.{AreSame, refused_step}
+use Rattle.kernel.proofs.Performing.{refused_step}
+use Rattle.kernel.proofs.Names.{AreSameUnlessFailed, unrisen}
+use Rattle.checkpoint.specs.Store.{all_untouched}
 use Rattle.kernel.proofs.Machines.{leaves_along, leaves_either, leaves_here, leaves_home, base_moved, renewed_on}
 use Rattle.kernel.proofs.Stages.{acts_sound, begun_sound, committed_sound, frozen_none, frozen_some, moved_sound, next_sound, none_there}
 use Rattle.kernel.proofs.Stages.{same_running, saved_moved, some_left, some_there, stabilized_sound, stays_sound, checkpoint_step, commit_step, evict_refused}
@@ -24,10 +26,10 @@ with_store l s = record { store = s; banks = l.banks; age = l.age; frozen_age = 
 -- The parameters are ghost members and laws of a device and of an object store.
 module _ {D S : Type 0} (disk : D → Disk) (view : S → View D) (parts : S → Parts)
     (only_now : (d : D) (c : Image) → (disk d).left_since (disk d).moment c → (disk d).may_leave c)
-    (sound_holds : (s : S) (c : Image) → (view s).is_sound → (disk (view s).beneath).may_leave c →
+    (sound_holds : (s : S) (c : Image) → (view s).usable → (disk (view s).beneath).may_leave c →
     Holds (disk (view s).beneath).sectors c (view s).snapshots.saved) where
-  -- a store that is sound serves
-  pub is_up : (g : Geometry) (l : Live S) → (view l.store).is_sound → AreSoundTogether g (parts l.store) (view l.store).snapshots l.banks l.age l.frozen_age →
+  -- a store that can be used serves
+  pub is_up : (g : Geometry) (l : Live S) → (view l.store).usable → AreSoundTogether g (parts l.store) (view l.store).snapshots l.banks l.age l.frozen_age →
       IsUp disk view parts g l
   is_up g l store sound = search (arith, nat_tests, leaves_saved)
 
@@ -62,46 +64,57 @@ module _ {D S : Type 0} (disk : D → Disk) (view : S → View D) (parts : S →
         LeavesOne g (disk_at disk view parts l) (disk (view s).beneath) (saved_of (view l.store).snapshots.saved ∷ second (Up (running disk view parts l)) c)
     continues_along g c up = search (arith, nat_tests, leaves_along)
 
-    -- processes act, at an age that doesn't fall
-    pub acted : (banks : BanksState) (age : ℕ) (c : Command) (a : Answer) → l.age ≤ age → Performs l.age (parts l.store) c a age (parts s) →
-        AreCounted (parts s).geometry (objects_in (parts s)) banks →
-        ServesUp disk view parts l c a (record { store = s; banks = banks; age = age; frozen_age = l.frozen_age })
-    acted banks age c a later serves counted g up =
-        let geometry : (parts s).geometry ≡ g = serves.geometry ∙ up.sound.geometry in
-        record {
-          step = λ other.
-              subst (λ (x : Snapshots FrozenFrames). Step g (Up (running disk view parts l)) c a (Up (running_of (parts s) x age l.frozen_age)))
-              (sym continues.snapshots)
-              (subst (λ (h : Geometry). Step h (Up (running disk view parts l)) c a (Up (running_of (parts s) (view l.store).snapshots age l.frozen_age)))
-              up.sound.geometry (subst (λ (rs : List Bool). Step (parts l.store).geometry (Up (running disk view parts l)) c a
-              (Up (record (running_of (parts s) (view l.store).snapshots age l.frozen_age) { renewed = rs })))
-              (renewed_on (base_of (view l.store).snapshots) (parts l.store) (parts s) serves.renews up.sound.risen)
-              (serves.step (renewed_since (base_of (view l.store).snapshots) (frames_of (parts l.store)))
-              (frozen_of l.frozen_age (view l.store).snapshots.frozen) (saved_of (view l.store).snapshots.saved) (view l.store).snapshots.to_move other)));
-          up = λ other. is_up g (record { store = s; banks = banks; age = age; frozen_age = l.frozen_age }) (continues.sound up.store)
-              (acts_sound continues.snapshots later geometry serves.renews
-              (subst (λ (h : Geometry). IsSoundFrames h age (frames_of (parts s))) geometry serves.sound)
-              (subst (λ (h : Geometry). AreCounted h (objects_in (parts s)) banks) geometry counted) up.sound);
-          leaves = continues_along g c up;
-        }
-
-    module _ (same : AreSame (parts l.store) (parts s)) where
-      up_again : (g : Geometry) → IsUp disk view parts g l → IsUp disk view parts g (with_store l s)
-      up_again g up = is_up g (with_store l s) (continues.sound up.store) (stays_sound same continues.snapshots up.sound)
-
-      -- an object was put out
-      pub evicted : (n : ℕ) → n < length (parts l.store).headers → ServesUp disk view parts l (command.Evict n) answer.Done (with_store l s)
-      evicted n within g up = record {
-        step = λ other.
-            subst (λ (r : Running). Step g (Up (running disk view parts l)) (command.Evict n) answer.Done (Up r))
-            (sym (same_running same continues.snapshots l.age l.frozen_age))
-            (evict_step g (running disk view parts l) n (subst (λ (m : ℕ). n < m) (keepable_count g l.age (parts l.store) up.sound.now.keepable) within));
-        up = λ other. up_again g up;
-        leaves = continues_along g (command.Evict n) up;
-      }
-
     pub evict_failed : (n : ℕ) → ServesUp disk view parts l (command.Evict n) (answer.Refused refusal.Fault) (with_store l s)
     evict_failed n = failed l (with_store l s) (command.Evict n) (λ g up. continues_along g (command.Evict n) up)
+
+    module _ (before : (parts l.store).failures ≡ (disk (view l.store).beneath).failures) (after : (parts s).failures ≡ (disk (view s).beneath).failures) where
+      on_disk : (parts s).failures ≡ (parts l.store).failures → (disk (view s).beneath).failures ≡ (disk (view l.store).beneath).failures
+      on_disk stayed = sym after ∙ stayed ∙ before
+
+      -- processes act, at an age that doesn't fall
+      pub acted : (banks : BanksState) (age : ℕ) (c : Command) (a : Answer) → l.age ≤ age → Performs l.age (parts l.store) c a age (parts s) →
+          ((parts s).failures ≡ (parts l.store).failures → AreCounted (parts s).geometry (objects_in (parts s)) banks) →
+          ServesUp disk view parts l c a (record { store = s; banks = banks; age = age; frozen_age = l.frozen_age })
+      acted banks age c a later serves counted g up = record {
+        step = λ other.
+            subst (λ (x : Snapshots FrozenFrames). Step g (Up (running disk view parts l)) c a (Up (running_of (parts s) x age l.frozen_age)))
+            (sym (beside other))
+            (subst (λ (h : Geometry). Step h (Up (running disk view parts l)) c a (Up (running_of (parts s) (view l.store).snapshots age l.frozen_age)))
+            up.sound.geometry (subst (λ (rs : List Bool). Step (parts l.store).geometry (Up (running disk view parts l)) c a
+            (Up (record (running_of (parts s) (view l.store).snapshots age l.frozen_age) { renewed = rs })))
+            (renewed_on (base_of (view l.store).snapshots) (parts l.store) (parts s) (serves.stays other).renews up.sound.risen)
+            (serves.step (renewed_since (base_of (view l.store).snapshots) (frames_of (parts l.store)))
+            (frozen_of l.frozen_age (view l.store).snapshots.frozen) (saved_of (view l.store).snapshots.saved) (view l.store).snapshots.to_move other)));
+        up = λ other.
+            let stays = serves.stays other in
+            let geometry : (parts s).geometry ≡ g = stays.geometry ∙ up.sound.geometry in
+            is_up g (record { store = s; banks = banks; age = age; frozen_age = l.frozen_age }) (continues.usable (on_disk (stayed other)) up.store)
+            (acts_sound (beside other) later geometry stays.renews
+            (subst (λ (h : Geometry). IsSoundFrames h age (frames_of (parts s))) geometry stays.sound)
+            (subst (λ (h : Geometry). AreCounted h (objects_in (parts s)) banks) geometry (counted (stayed other))) up.sound);
+        leaves = continues_along g c up;
+      }
+        where
+          stayed : (a ≡ answer.Refused refusal.Fault → ⊥) → (parts s).failures ≡ (parts l.store).failures
+          stayed other = unrisen (parts l.store).failures (parts s).failures serves.later (λ rose. other (serves.cause.1 rose))
+
+          beside : (a ≡ answer.Refused refusal.Fault → ⊥) → (view s).snapshots ≡ (view l.store).snapshots
+          beside other = continues.snapshots (on_disk (stayed other))
+
+      -- an object was put out
+      pub evicted : parts s ≡ parts l.store → (n : ℕ) → n < length (parts l.store).headers →
+          ServesUp disk view parts l (command.Evict n) answer.Done (with_store l s)
+      evicted same n within g up =
+          let stayed = on_disk (ap (λ (p : Parts). p.failures) same) in
+          let beside = continues.snapshots stayed in
+          record {
+            step = λ other.
+                subst (λ (r : Running). Step g (Up (running disk view parts l)) (command.Evict n) answer.Done (Up r))
+                (sym (same_running same beside l.age l.frozen_age))
+                (evict_step g (running disk view parts l) n (subst (λ (m : ℕ). n < m) (keepable_count g l.age (parts l.store) up.sound.now.keepable) within));
+            up = λ other. is_up g (with_store l s) (continues.usable stayed up.store) (stays_sound same beside up.sound);
+            leaves = continues_along g (command.Evict n) up;
+          }
 
   pub bad_number : (l : Live S) (n : ℕ) → length (parts l.store).headers ≤ n → ServesUp disk view parts l (command.Evict n) (answer.Refused refusal.BadNumber) l
   bad_number l n past = refused l (command.Evict n) refusal.BadNumber
@@ -111,25 +124,27 @@ module _ {D S : Type 0} (disk : D → Disk) (view : S → View D) (parts : S →
 
   -- all was frozen
   pub begun : (l : Live S) (s : S) (n : ℕ) → l.age < 2 ^ 62 → (view l.store).snapshots.frozen ≡ None → (view l.store).snapshots.saved.entries ≡ 0 →
-      frames_of (parts s) ≡ frames_of (parts l.store) → (parts s).touched ≡ untouched (parts l.store).geometry → (parts s).geometry ≡ (parts l.store).geometry →
-      n ≡ touched_count (parts l.store).touched →
+      parts s ≡ all_untouched (parts l.store) → n ≡ touched_count (parts l.store).touched →
       (view s).snapshots ≡ freezing (all_frozen (frames_of (parts l.store)) (touched_count (parts l.store).touched)) (view l.store).snapshots →
-      (view s).beneath ≡ (view l.store).beneath → ((view l.store).is_sound → (view s).is_sound) →
+      (view s).beneath ≡ (view l.store).beneath → (view s).usable →
       ServesUp disk view parts l command.Checkpoint (answer.Frozen n) (record { store = s; banks = l.banks; age = l.age + 1; frozen_age = l.age + 1 })
-  begun l s n young none home frames touched geometry size beside beneath sound g up =
+  begun l s n young none home same size beside beneath usable g up =
       let a = (view l.store).snapshots in
       let before = running disk view parts l in
       record {
         step = λ other.
             subst (λ (X : Type 0). X) (sym (λ i. Step g (Up before) command.Checkpoint (answer.Frozen (size i)) (Up (after g up i))))
             (checkpoint_step g before young (frozen_none a.frozen l.frozen_age none) home);
-        up = λ other. is_up g (record { store = s; banks = l.banks; age = l.age + 1; frozen_age = l.age + 1 }) (sound up.store)
+        up = λ other. is_up g (record { store = s; banks = l.banks; age = l.age + 1; frozen_age = l.age + 1 }) usable
             (subst (λ (x : Snapshots FrozenFrames). AreSoundTogether g (parts s) x l.banks (l.age + 1) (l.age + 1)) (sym beside)
-            (begun_sound up.sound (parts s) (touched_count (parts l.store).touched) geometry frames young));
+            (begun_sound up.sound (parts s) (touched_count (parts l.store).touched) (ap (λ (p : Parts). p.geometry) same) frames young));
         leaves = subst (λ (d : D). LeavesOne g (disk_at disk view parts l) (disk d) (saved_of a.saved ∷ [])) (sym beneath)
             (leaves_here g (disk_at disk view parts l) (saved_of a.saved ∷ []) [] (only_now (view l.store).beneath) up.leaves);
       }
     where
+      frames : frames_of (parts s) ≡ frames_of (parts l.store)
+      frames = ap frames_of same
+
       after : (g : Geometry) (up : IsUp disk view parts g l) → running_of (parts s) (view s).snapshots (l.age + 1) (l.age + 1) ≡ record {
         now = world_at (l.age + 1) (frames_of (parts l.store));
         touched = untouched g;
@@ -144,7 +159,7 @@ module _ {D S : Type 0} (disk : D → Disk) (view : S → View D) (parts : S →
       }
       after g up = λ i. record {
         now = world_at (l.age + 1) (frames i);
-        touched = (touched ∙ ap untouched up.sound.geometry) i;
+        touched = (ap (λ (p : Parts). p.touched) same ∙ ap untouched up.sound.geometry) i;
         renewed = (ap (λ (x : Snapshots FrozenFrames). renewed_since (base_of x) (frames_of (parts s))) beside
             ∙ (ap (renewed_since (frames_of (parts l.store))) frames ∙ none_renewed g (frames_of (parts l.store)) up.sound.now.keepable.count)) i;
         frozen = frozen_of (l.age + 1) (beside i).frozen;
@@ -153,17 +168,18 @@ module _ {D S : Type 0} (disk : D → Disk) (view : S → View D) (parts : S →
       }
 
   -- a stage that writes: what it leaves of the present objects, and what a crash leaves
-  module _ (l : Live S) (s : S) (same : AreSame (parts l.store) (parts s)) (size : (disk (view s).beneath).sectors ≡ (disk (view l.store).beneath).sectors)
+  module _ (l : Live S) (s : S) (size : (disk (view s).beneath).sectors ≡ (disk (view l.store).beneath).sectors)
     where
       -- it came to another state beside the objects
-      came : (g : Geometry) (b : Snapshots FrozenFrames) → (view s).snapshots ≡ b → (view s).is_sound →
+      came : parts s ≡ parts l.store → (g : Geometry) (b : Snapshots FrozenFrames) → (view s).snapshots ≡ b → (view s).usable →
           AreSoundTogether g (parts l.store) b l.banks l.age l.frozen_age → IsUp disk view parts g (with_store l s)
-      came g b beside store sound = is_up g (with_store l s) store (stays_sound same beside sound)
+      came same g b beside store sound = is_up g (with_store l s) store (stays_sound same beside sound)
 
-      stepped : (g : Geometry) (b : Snapshots FrozenFrames) (c : Command) (a : Answer) → (view s).snapshots ≡ b →
+      stepped : parts s ≡ parts l.store → (g : Geometry) (b : Snapshots FrozenFrames) (c : Command) (a : Answer) → (view s).snapshots ≡ b →
           Step g (Up (running disk view parts l)) c a (Up (running_of (parts l.store) b l.age l.frozen_age)) →
           Step g (Up (running disk view parts l)) c a (Up (running disk view parts (with_store l s)))
-      stepped g b c a beside step = search (arith, nat_tests, running, same_running)
+      stepped same g b c a beside step =
+          subst (λ (r : Running). Step g (Up (running disk view parts l)) c a (Up r)) (sym (same_running same beside l.age l.frozen_age)) step
 
       module _ (f : FrozenFrames) (frozen : (view l.store).snapshots.frozen ≡ Some f) where
         now_frozen : Frozen
@@ -174,24 +190,24 @@ module _ {D S : Type 0} (disk : D → Disk) (view : S → View D) (parts : S →
         is_frozen = frozen_some (view l.store).snapshots.frozen f l.frozen_age frozen
 
         -- some more of it is in the log
-        module _ (moments : (view l.store).is_sound → LeavesSaved (disk (view l.store).beneath) (disk (view s).beneath) (view l.store).snapshots.saved) (n : ℕ)
+        module _ (moments : LeavesSaved (disk (view l.store).beneath) (disk (view s).beneath) (view l.store).snapshots.saved) (n : ℕ)
           where
             stabilize_along : (g : Geometry) → IsUp disk view parts g l →
                 LeavesOne g (disk_at disk view parts l) (disk (view s).beneath) (saved_of (view l.store).snapshots.saved ∷ [])
-            stabilize_along g up = leaves_along up.sound.saved size (moments up.store)
+            stabilize_along g up = leaves_along up.sound.saved size moments
 
-            pub stabilize_went : (left : ℕ) → left ≡ f.left - n → (view s).snapshots ≡ stabilized n f (view l.store).snapshots →
-                ((view l.store).is_sound → (view s).is_sound) →
+            pub stabilize_went : parts s ≡ parts l.store → (left : ℕ) → left ≡ f.left - n →
+                (view s).snapshots ≡ stabilized n f (view l.store).snapshots → (view s).usable →
                 ServesUp disk view parts l (command.Stabilize n) (answer.Left left) (with_store l s)
             unfolding now_frozen
-            stabilize_went left reported beside sound g up = record {
+            stabilize_went same left reported beside usable g up = record {
               step = λ other.
-                  stepped g (stabilized n f (view l.store).snapshots) (command.Stabilize n) (answer.Left left) beside
+                  stepped same g (stabilized n f (view l.store).snapshots) (command.Stabilize n) (answer.Left left) beside
                   (subst (λ (X : Type 0). X) (λ i. Step g (Up (running disk view parts l)) (command.Stabilize n) (answer.Left (sym reported i))
                   (Up (record (running_of (parts l.store) (stabilized n f (view l.store).snapshots) l.age l.frozen_age) {
                     renewed = renewed_since (base_frozen (view l.store).snapshots f frozen i) (frames_of (parts l.store));
                   }))) (stabilize_step g (running disk view parts l) n now_frozen is_frozen));
-              up = λ other. came g (stabilized n f (view l.store).snapshots) beside (sound up.store) (stabilized_sound up.sound n f frozen);
+              up = λ other. came same g (stabilized n f (view l.store).snapshots) beside usable (stabilized_sound up.sound n f frozen);
               leaves = stabilize_along g up;
             }
 
@@ -211,18 +227,18 @@ module _ {D S : Type 0} (disk : D → Disk) (view : S → View D) (parts : S →
               (sym (second_of_commit g (running disk view parts l) now_frozen is_frozen stable))
               (leaves_either up.sound.saved (next_sound up.sound f frozen) size moments)
 
-          pub commit_went : (generation : ℕ) → generation ≡ (view l.store).snapshots.saved.generation + 1 →
-              (view s).snapshots ≡ stage.committed whole l.frozen_age f (view l.store).snapshots → (view s).is_sound →
+          pub commit_went : parts s ≡ parts l.store → (generation : ℕ) → generation ≡ (view l.store).snapshots.saved.generation + 1 →
+              (view s).snapshots ≡ stage.committed whole l.frozen_age f (view l.store).snapshots → (view s).usable →
               ServesUp disk view parts l command.Commit (answer.Committed generation) (with_store l s)
           unfolding now_frozen
-          commit_went generation reported beside sound g up = record {
+          commit_went same generation reported beside usable g up = record {
             step = λ other.
-                stepped g (stage.committed whole l.frozen_age f (view l.store).snapshots) command.Commit (answer.Committed generation) beside
+                stepped same g (stage.committed whole l.frozen_age f (view l.store).snapshots) command.Commit (answer.Committed generation) beside
                 (subst (λ (X : Type 0). X) (λ i. Step g (Up (running disk view parts l)) command.Commit (answer.Committed (sym reported i))
                 (Up (record (running_of (parts l.store) (stage.committed whole l.frozen_age f (view l.store).snapshots) l.age l.frozen_age) {
                   renewed = renewed_since (base_frozen (view l.store).snapshots f frozen i) (frames_of (parts l.store));
                 }))) (commit_step g (running disk view parts l) now_frozen is_frozen stable));
-            up = λ other. came g (stage.committed whole l.frozen_age f (view l.store).snapshots) beside sound (committed_sound up.sound f frozen);
+            up = λ other. came same g (stage.committed whole l.frozen_age f (view l.store).snapshots) beside usable (committed_sound up.sound f frozen);
             leaves = commit_along g up;
           }
 
@@ -237,18 +253,18 @@ module _ {D S : Type 0} (disk : D → Disk) (view : S → View D) (parts : S →
             (saved_of (view l.store).snapshots.saved ∷ second (Up (running disk view parts l)) (command.Migrate n))
         migrate_along g up = leaves_home g (disk_at disk view parts l) (disk (view s).beneath) (view l.store).snapshots n up.sound.saved size moments
 
-        pub migrate_went : (left : ℕ) → left ≡ (view l.store).snapshots.to_move - n → (view s).snapshots ≡ stage.moved n (view l.store).snapshots →
-            (view s).is_sound →
+        pub migrate_went : parts s ≡ parts l.store → (left : ℕ) → left ≡ (view l.store).snapshots.to_move - n →
+            (view s).snapshots ≡ stage.moved n (view l.store).snapshots → (view s).usable →
             ServesUp disk view parts l (command.Migrate n) (answer.Left left) (with_store l s)
-        migrate_went left reported beside sound g up = record {
+        migrate_went same left reported beside usable g up = record {
           step = λ other.
-              stepped g (stage.moved n (view l.store).snapshots) (command.Migrate n) (answer.Left left) beside
+              stepped same g (stage.moved n (view l.store).snapshots) (command.Migrate n) (answer.Left left) beside
               (subst (λ (X : Type 0). X) (λ i. Step g (Up (running disk view parts l)) (command.Migrate n) (answer.Left (sym reported i))
               (Up (record (running_of (parts l.store) (stage.moved n (view l.store).snapshots) l.age l.frozen_age) {
                 saved = sym (saved_moved (parts l.store) (view l.store).snapshots l.age l.frozen_age n) i;
                 renewed = renewed_since (sym (base_moved (view l.store).snapshots n) i) (frames_of (parts l.store));
               }))) (migrate_step g (running disk view parts l) n));
-          up = λ other. came g (stage.moved n (view l.store).snapshots) beside sound (moved_sound up.sound n);
+          up = λ other. came same g (stage.moved n (view l.store).snapshots) beside usable (moved_sound up.sound n);
           leaves = migrate_along g up;
         }
 
@@ -271,11 +287,11 @@ module _ {D S : Type 0} (disk : D → Disk) (view : S → View D) (parts : S →
         (frozen_none (view l.store).snapshots.frozen l.frozen_age (none_there (view l.store).snapshots.frozen reported.0)) reported.1)
     freeze_refused why same young reported = absurd reported
 
-    module _ (same : AreSame (parts l.store) (parts s)) (size : (disk (view s).beneath).sectors ≡ (disk (view l.store).beneath).sectors) where
+    module _ (size : (disk (view s).beneath).sectors ≡ (disk (view l.store).beneath).sectors) where
       -- nothing is written to the log, or not all of it
       pub stabilize_refused : (why : Refusal) (n : ℕ) → IsStabilizeAnswer (disk (view l.store).beneath) (disk (view s).beneath)
           (left_in whole (view l.store).snapshots) n (Err why) → (IsRefused {T = ℕ} (Err why) → s ≡ l.store) →
-          ((view l.store).is_sound → LeavesSaved (disk (view l.store).beneath) (disk (view s).beneath) (view l.store).snapshots.saved) →
+          LeavesSaved (disk (view l.store).beneath) (disk (view s).beneath) (view l.store).snapshots.saved →
           ServesUp disk view parts l (command.Stabilize n) (answer.Refused why) (with_store l s)
       stabilize_refused refusal.NoCheckpoint n reported again moments =
           refused_again l s (command.Stabilize n) refusal.NoCheckpoint (again tt) (λ g up. none_to_stabilize g (running disk view parts l) n
@@ -304,7 +320,7 @@ module _ {D S : Type 0} (disk : D → Disk) (view : S → View D) (parts : S →
           above n some none = omega (arith, some, none)
       commit_refused refusal.Fault reported again moments =
           let f = some_left (view l.store).snapshots.frozen 0 (sym reported.1) in
-          commit_failed l s same size f.0 f.1 f.2 (moments f.0 f.1 f.2)
+          commit_failed l s size f.0 f.1 f.2 (moments f.0 f.1 f.2)
       commit_refused why reported again moments = absurd reported
 
 -- who failed is reported where a store refuses
@@ -351,10 +367,25 @@ may_commit disk view parts l up f frozen =
       keepable = λ stable. subst (λ (g : Geometry). AreKeepable g l.frozen_age f.frames) (sym sound.saved.geometry) held.sound.keepable;
     }
 
+-- the count of failures that a store has is that of its device: neither rose
+pub unfailed : {old new p q : ℕ} → p ≡ old → q ≡ new → new ≡ old → q ≡ p
+unfailed before after stayed = after ∙ stayed ∙ sym before
+
+-- what was only read is counted as it was
+pub counted_still : {p q : Parts} {banks : BanksState} → AreSameUnlessFailed p q → AreCounted p.geometry (objects_in p) banks →
+    q.failures ≡ p.failures → AreCounted q.geometry (objects_in q) banks
+counted_still {p} {q} {banks} same counted stayed = subst (λ (r : Parts). AreCounted r.geometry (objects_in r) banks) (sym (same stayed)) counted
+
 -- the device reports who failed
 pub caused : {p q : Parts} {old new : Disk} {c : Command} {age later : ℕ} {a : Answer} → p.failures ≡ old.failures → q.failures ≡ new.failures →
     Performs age p c a later q → IsCaused old new a
-caused {p} {q} {old} {new} {c} {age} {later} {a} before after serves = search (arith, nat_tests)
+caused {p} {q} {old} {new} {c} {age} {later} {a} before after serves = record {
+  later = omega (arith, serves.later, before, after);
+  exact = (
+    λ e. let rose = serves.cause.0 e in omega (arith, rose, before, after),
+    λ rose. serves.cause.1 (omega (arith, rose, before, after)),
+  );
+}
 
 -- the frames of a store that is up are sound
 pub up_sound : {D S : Type 0} (disk : D → Disk) (view : S → View D) (parts : S → Parts) (l : Live S) → ((g : Geometry) × IsUp disk view parts g l) →

@@ -8,7 +8,7 @@ use Rattle.kernel.proofs.Names.{unjournaled, unless, World, content_at, owner_at
 use Rattle.kernel.proofs.Names.{maps_same, Parts, frames_of, objects_in, at_set, frame_in, keepable_count, is_page_now, is_page_role, is_still_saved, Snapshots}
 use Rattle.kernel.proofs.Names.{journaled, FrozenFrames, next_journaled, words_now, BanksState, saved_of, IsSoundSaved, AreSoundTogether, base_of}
 use Rattle.kernel.proofs.Names.{renewed_since, running_of, allocations_at, base_saved, renewed_at, Ok, Err, IsErrOf, Image, Disk, Holds, LeavesOneOf, left_in}
-use Rattle.kernel.proofs.Names.{whole, IsJournalAnswer, IsTurnedAway, View, MakesNoDeviceCall, Live, LeavesOne, IsUp, disk_at, running, IsCaused, ServesUp}
+use Rattle.kernel.proofs.Names.{whole, IsJournalAnswer, IsRefused, IsTurnedAway, View, MakesNoDeviceCall, Live, LeavesOne, IsUp, disk_at, running, IsCaused, ServesUp}
 use Rattle.kernel.proofs.Names.{ltb-false, ltb-true}
 use Rattle.std.proofs.Common.{◌≡◌, ◌+◌, ◌^◌, ◌<◌, ◌≤◌, ◌&&◌, ◌∷◌, ◌∙◌, ◌==◌, ◌⊎◌}
 use Rattle.std.specs.Prelude.{if◌then◌else◌}
@@ -18,7 +18,7 @@ use Rattle.model.specs.declared.command.Command.TheVariants as command
 use Rattle.model.specs.declared.object.Content.TheVariants as content
 use Rattle.model.specs.declared.object.Role.TheVariants as role
 use Rattle.model.specs.Step as machine
-use Rattle.kernel.proofs.Performing.{done_step, AreSame, refused_step}
+use Rattle.kernel.proofs.Performing.{done_step, refused_step}
 use Rattle.kernel.proofs.Machines.{header_in, leaves_along, leaves_either}
 use Rattle.kernel.proofs.Stages.{frames_later, frozen_none, frozen_some, none_there, same_running, some_there, stays_sound}
 use Rattle.kernel.proofs.Acts.{failed, failed_cause, is_up, other_cause, refused, refused_again, with_store}
@@ -259,12 +259,12 @@ next_is age n words o s page saved b none home is_page is_saved = search (arith,
 abbrev pub with_age : {S : Type 0} → Live S → S → ℕ → Live S
 with_age l s age = record { store = s; banks = l.banks; age = age; frozen_age = l.frozen_age }
 
--- what was done left a sound store
-pub sound_done : {P : Type 0} (n : ℕ) → IsErrOf {T = ℕ} (Ok n) refusal.Fault ⊎ P → P
-sound_done n either = search (arith, nat_tests)
+-- what was done left a store that can be used
+pub done_usable : {P : Type 0} (n : ℕ) → IsErrOf {T = ℕ} (Ok n) refusal.Fault ⊎ P → P
+done_usable n either = search (arith, nat_tests)
 
-sound_still : {P : Type 0} → IsErrOf {T = ℕ} (Err (refusal.NotJournaled Renewed)) refusal.Fault ⊎ P → P
-sound_still either = search (arith, nat_tests)
+still_usable : {P : Type 0} → IsErrOf {T = ℕ} (Err (refusal.NotJournaled Renewed)) refusal.Fault ⊎ P → P
+still_usable either = search (arith, nat_tests)
 
 -- where it is refused with no read of an object, the store is the same
 pub unlooked_same : {S : Type 0} (was now : Disk) (left : Option ℕ) (s : SavedFrames) (known page saved : Bool) (why : Refusal) {old new : S} →
@@ -273,7 +273,7 @@ unlooked_same was now left s known paged saved why reported same is = search (ar
 
 module _ {D S : Type 0} (disk : D → Disk) (view : S → View D) (parts : S → Parts)
     (only_now : (d : D) (c : Image) → (disk d).left_since (disk d).moment c → (disk d).may_leave c)
-    (sound_holds : (s : S) (c : Image) → (view s).is_sound → (disk (view s).beneath).may_leave c →
+    (sound_holds : (s : S) (c : Image) → (view s).usable → (disk (view s).beneath).may_leave c →
     Holds (disk (view s).beneath).sectors c (view s).snapshots.saved) where
   pub too_old : (l : Live S) (n : ℕ) → 2 ^ 62 ≤ l.age → ServesUp disk view parts l (command.Journal n) (answer.Refused refusal.Worn) l
   too_old l n old = refused disk view parts only_now sound_holds l (command.Journal n) refusal.Worn (λ g up. journal_worn g (running disk view parts l) n old)
@@ -297,7 +297,7 @@ module _ {D S : Type 0} (disk : D → Disk) (view : S → View D) (parts : S →
         ServesUp disk view parts l (command.Journal n) (answer.Refused why) (with_store l s)
     turned_away why same applies = refused_again disk view parts only_now sound_holds l s (command.Journal n) why same applies
 
-    module _ (same : AreSame (parts l.store) (parts s)) (size : new.sectors ≡ old.sectors)
+    module _ (size : new.sectors ≡ old.sectors)
         (run : LeavesOneOf (disk (view l.store).beneath) (disk (view s).beneath) (view l.store).snapshots.saved
         (next_journaled ((view l.store).snapshots.saved.age + 1) n (words_now (parts l.store) n) (view l.store).snapshots.frozen (view l.store).snapshots.saved
         (is_page_now (parts l.store) n) (is_still_saved (parts l.store) (view l.store).snapshots.saved n)))
@@ -323,10 +323,10 @@ module _ {D S : Type 0} (disk : D → Disk) (view : S → View D) (parts : S →
           (along (is_still_saved (parts l.store) a.saved n) refl)
 
       -- it isn't saved, or was rescinded since
-      pub not_saved : is_still_saved (parts l.store) (view l.store).snapshots.saved n ≡ false → (view s).snapshots ≡ (view l.store).snapshots →
-          (view s).is_sound →
+      pub not_saved : parts s ≡ parts l.store → is_still_saved (parts l.store) (view l.store).snapshots.saved n ≡ false → (view s).snapshots ≡ (view l.store).snapshots →
+          (view s).usable →
           ServesUp disk view parts l (command.Journal n) (answer.Refused (refusal.NotJournaled Renewed)) (with_store l s)
-      not_saved other beside sound g up =
+      not_saved same other beside usable g up =
           let r = running disk view parts l in
           let known = known_now up.sound n none page in
           record {
@@ -335,16 +335,16 @@ module _ {D S : Type 0} (disk : D → Disk) (view : S → View D) (parts : S →
                 (sym (same_running same beside l.age l.frozen_age)) (refused_step g r (command.Journal n) (refusal.NotJournaled Renewed)
                 (journal_renewed g r n young (frozen_none a.frozen l.frozen_age none) home known (page_now up.sound n none page)
                 (sym (saved_is up.sound n none known) ∙ other)));
-            up = λ not_fault. is_up disk view parts only_now sound_holds g (with_store l s) sound (stays_sound same beside up.sound);
+            up = λ not_fault. is_up disk view parts only_now sound_holds g (with_store l s) usable (stays_sound same beside up.sound);
             leaves = along false other g up;
           }
 
       -- it is saved
-      pub journal_went : is_still_saved (parts l.store) (view l.store).snapshots.saved n ≡ true → (generation : ℕ) →
+      pub journal_went : parts s ≡ parts l.store → is_still_saved (parts l.store) (view l.store).snapshots.saved n ≡ true → (generation : ℕ) →
           generation ≡ (view l.store).snapshots.saved.generation + 2 →
-          (view s).snapshots ≡ journaled ((view l.store).snapshots.saved.age + 1) n (words_now (parts l.store) n) (view l.store).snapshots → (view s).is_sound →
+          (view s).snapshots ≡ journaled ((view l.store).snapshots.saved.age + 1) n (words_now (parts l.store) n) (view l.store).snapshots → (view s).usable →
           ServesUp disk view parts l (command.Journal n) (answer.Journaled generation) (with_age l s (l.age + 1))
-      journal_went is generation reported beside sound g up =
+      journal_went same is generation reported beside usable g up =
           let r = running disk view parts l in
           record {
             step = λ not_fault.
@@ -355,40 +355,43 @@ module _ {D S : Type 0} (disk : D → Disk) (view : S → View D) (parts : S →
                 (record r { now = now; saved = machine.journaled r n; to_move = 1 }))) (sym reported)
                 (journal_step g r n young (frozen_none a.frozen l.frozen_age none) home (known_now up.sound n none page)
                 (page_now up.sound n none page) (saved_too up.sound n none page is young)));
-            up = λ not_fault. is_up disk view parts only_now sound_holds g (with_age l s (l.age + 1)) sound
+            up = λ not_fault. is_up disk view parts only_now sound_holds g (with_age l s (l.age + 1)) usable
                 (stays_sound same beside (together_next up.sound n none page is young));
             leaves = along true is g up;
           }
 
     -- it is refused
-    pub journal_refused : (why : Refusal) → AreSame (parts l.store) (parts s) → (disk (view s).beneath).sectors ≡ (disk (view l.store).beneath).sectors →
+    pub journal_refused : (why : Refusal) → (disk (view s).beneath).sectors ≡ (disk (view l.store).beneath).sectors →
         IsJournalAnswer (disk (view l.store).beneath) (disk (view s).beneath) (left_in whole (view l.store).snapshots) (view l.store).snapshots.saved
         (nat_lt n (length (parts l.store).headers)) (is_page_now (parts l.store) n) (is_still_saved (parts l.store) (view l.store).snapshots.saved n)
         (Err why) →
-        (IsTurnedAway (Err why) → s ≡ l.store) → (view s).snapshots ≡ (view l.store).snapshots → (IsErrOf {T = ℕ} (Err why) refusal.Fault ⊎ (view s).is_sound) →
+        (IsTurnedAway (Err why) → s ≡ l.store) → (IsRefused {T = ℕ} (Err why) → (view s).snapshots ≡ (view l.store).snapshots) →
+        ((disk (view s).beneath).failures ≡ (disk (view l.store).beneath).failures → parts s ≡ parts l.store) →
+        (IsErrOf {T = ℕ} (Err why) refusal.Fault ⊎ (view s).usable) →
         LeavesOneOf (disk (view l.store).beneath) (disk (view s).beneath) (view l.store).snapshots.saved
         (next_journaled ((view l.store).snapshots.saved.age + 1) n (words_now (parts l.store) n) (view l.store).snapshots.frozen (view l.store).snapshots.saved
         (is_page_now (parts l.store) n) (is_still_saved (parts l.store) (view l.store).snapshots.saved n)) →
         ServesUp disk view parts l (command.Journal n) (answer.Refused why) (with_store l s)
-    journal_refused refusal.CheckpointRunning same size reported away beside sound run =
+    journal_refused refusal.CheckpointRunning size reported away beside same usable run =
         let f = some_there a.frozen reported.1 in
         turned_away refusal.CheckpointRunning (away tt)
         (λ g up. journal_running g (running disk view parts l) n young _ (frozen_some a.frozen f.0 l.frozen_age f.1))
-    journal_refused refusal.MigrationPending same size reported away beside sound run =
+    journal_refused refusal.MigrationPending size reported away beside same usable run =
         turned_away refusal.MigrationPending (away tt)
         (λ g up. journal_pending g (running disk view parts l) n young (frozen_none a.frozen l.frozen_age (none_there a.frozen reported.1)) reported.2)
-    journal_refused refusal.BadNumber same size reported away beside sound run =
+    journal_refused refusal.BadNumber size reported away beside same usable run =
         turned_away refusal.BadNumber (away tt)
         (λ g up. journal_unknown g (running disk view parts l) n young (frozen_none a.frozen l.frozen_age (none_there a.frozen reported.1)) reported.2
         (subst (λ (m : ℕ). m ≤ n) (keepable_count g l.age (parts l.store) up.sound.now.keepable) (ltb-false n (length (parts l.store).headers) reported.3)))
-    journal_refused (refusal.NotJournaled NotPage) same size reported away beside sound run =
+    journal_refused (refusal.NotJournaled NotPage) size reported away beside same usable run =
         turned_away (refusal.NotJournaled NotPage) (away tt)
         (λ g up. journal_no_page g (running disk view parts l) n young (frozen_none a.frozen l.frozen_age (none_there a.frozen reported.1)) reported.2
         (subst (λ (m : ℕ). n < m) (keepable_count g l.age (parts l.store) up.sound.now.keepable) (ltb-true n (length (parts l.store).headers) reported.3))
         (sym (now_is up.sound n) ∙ reported.4))
-    journal_refused (refusal.NotJournaled Renewed) same size reported away beside sound run = search (arith, nat_tests, not_saved, none_there, sound_still)
-    journal_refused refusal.Fault same size reported away beside sound run = journal_failed same size run (none_there a.frozen reported.1) reported.2 reported.3
-    journal_refused why same size reported away beside sound run = absurd reported
+    journal_refused (refusal.NotJournaled Renewed) size reported away beside same usable run =
+        not_saved size run (none_there a.frozen reported.1) reported.2 reported.3 (same reported.0) reported.4 (beside tt) (still_usable usable)
+    journal_refused refusal.Fault size reported away beside same usable run = journal_failed size run (none_there a.frozen reported.1) reported.2 reported.3
+    journal_refused why size reported away beside same usable run = absurd reported
 
 -- who failed is reported where a store refuses
 pub journal_cause : (old new : Disk) (left : Option ℕ) (s : SavedFrames) (known page saved : Bool) (why : Refusal) →

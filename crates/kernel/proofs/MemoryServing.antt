@@ -2,17 +2,15 @@
 use Rattle.kernel.proofs.Names.{ℕ, Bool, true, [], Option, None, Some, Result, Ok, Err, refl, sym, ap, arith, nat_tests, Answer, MemoryFault, Refusal, Command}
 use Rattle.kernel.proofs.Names.{Geometry, Running, Up, touching, touched_count, Step, refusal_of, carried_out, reached, writable, writing, is_process}
 use Rattle.kernel.proofs.Names.{is_running_process, with_word, IsLoaded, IsEarly, List, subst, IsErrOf, ObjectHeader, Object, header_at, IsSoundFrames, Frozen}
-use Rattle.kernel.proofs.Names.{Saved, Machine, none_in_frame, renewing_none, word_frame, SameFrame, frame_refl, tests_at, IsUnchanged, IsUnprepared}
+use Rattle.kernel.proofs.Names.{Saved, Machine, none_in_frame, renewing_none, word_frame, SameFrame, frame_refl, tests_at, IsUnprepared}
 use Rattle.kernel.proofs.Names.{OnlyFetches, Parts, frames_of, objects_in, IsStored, KeepsSound, OverfillsStore, renews_none, Performs, machine_at, renewed_by}
-use Rattle.kernel.proofs.Names.{FetchesOrFails, ok_no_err, ok_no_failure, AreCounted, BanksState, counted_on, length, IfOk, shown, answer_of, OnlyReads}
-use Rattle.kernel.proofs.Names.{only_same}
-use Rattle.space_bank.proofs.Renewing.{unrisen}
+use Rattle.kernel.proofs.Names.{AreSameUnlessFailed, ok_no_failure, AreCounted, BanksState, counted_on, length, IfOk, shown, answer_of, OnlyReads}
 use Rattle.std.proofs.Common.{◌≡◌, ◌≢◌, ◌%◌, ◌<◌, ◌≤◌, ◌∷◌, ◌∙◌, ◌↔◌}
 use Rattle.model.specs.declared.answer.Answer.TheVariants as answer
 use Rattle.model.specs.declared.answer.Refusal.TheVariants as refusal
 use Rattle.model.specs.declared.command.Command.TheVariants as command
-use Rattle.kernel.proofs.Performing.{done_step, refused_step, AreSame, refused_serves, same_renews, same_sound, standing}
-use Rattle.kernel.proofs.Performing.{still_machine, reported_cause, early_fine, shown_fine, shown_serves, shown_unfailed, unshown_serves}
+use Rattle.kernel.proofs.Performing.{done_step, refused_step, refused_serves, standing, still_sound}
+use Rattle.kernel.proofs.Performing.{still_machine, reported_cause, early_fine, shown_fine, shown_serves, unshown_serves}
 
 -- what a load answers
 abbrev pub loaded_answer : Result ℕ MemoryFault → Answer
@@ -56,15 +54,6 @@ module _ (g : Geometry) (s : Running) (p address word : ℕ) where
     unfolding refusal_of
     store_full_step page is over = search (arith, nat_tests, refused_step)
 
--- what was only read is the same
-pub looked_same : {S : Type 0} {parts : S → Parts} {Continues : S → S → Type 0} {old new : S} → OnlyFetches parts Continues old new →
-    AreSame (parts old) (parts new)
-looked_same snapshots = search (arith, nat_tests)
-
--- and so is what wasn't changed
-unchanged_same : (old new : Parts) → new.geometry ≡ old.geometry → IsUnchanged old new → AreSame old new
-unchanged_same old new geometry unchanged = search (arith, nat_tests)
-
 -- what a store answers
 abbrev pub stored_answer : Result (Unit {0}) MemoryFault → Answer
 stored_answer (Ok done) = answer.Done
@@ -84,38 +73,23 @@ machine_is age new renewed now frozen saved to_move os ts objects touched same =
 -- a process that can't act
 module _ {S : Type 0} {parts : S → Parts} {Continues : S → S → Type 0} {age : ℕ} {old new : S} (p address : ℕ) (why : Refusal)
     (sound : IsSoundFrames (parts old).geometry age (frames_of (parts old))) (early : IsEarly (objects_in (parts old)) p (Some why))
-    (snapshots : OnlyFetches parts Continues old new) (later : (parts old).failures ≤ (parts new).failures)
-    (stayed : (parts old).failures < (parts new).failures → ⊥) where
+    (snapshots : OnlyFetches parts Continues old new) (stayed : (parts old).failures < (parts new).failures → ⊥) where
   why_cause : (why ≡ refusal.Fault) ↔ ((parts old).failures < (parts new).failures)
   why_cause = reported_cause why (early_fine (objects_in (parts old)) p why early) stayed
 
   pub early_load : Performs age (parts old) (command.Load p address) (answer.Refused why) age (parts new)
   early_load =
-      refused_serves (looked_same snapshots) sound later
+      refused_serves snapshots.same sound snapshots.later
       why_cause (λ renewed frozen saved to_move other. load_early (parts old).geometry _ p address why early)
 
   pub early_store : (word : ℕ) → Performs age (parts old) (command.Store p address word) (answer.Refused why) age (parts new)
   early_store word =
-      refused_serves (looked_same snapshots) sound later
+      refused_serves snapshots.same sound snapshots.later
       why_cause (λ renewed frozen saved to_move other. store_early (parts old).geometry _ p address word why early)
 
 -- the answer to a process that runs, after it was read, by the outcome of its load or store
-module _ {S : Type 0} {parts : S → Parts} {Continues : S → S → Type 0} {age : ℕ} {before between : S} (after : S) (p address : ℕ)
-    (sound : IsSoundFrames (parts before).geometry age (frames_of (parts before))) (acts : IsEarly (objects_in (parts before)) p None)
-    (snapshots : OnlyFetches parts Continues before between) (rises : (parts before).failures ≤ (parts between).failures)
-    (stayed : (parts before).failures < (parts between).failures → ⊥) where
-  abbrev old : Parts
-  old = parts before
-
-  abbrev mid : Parts
-  mid = parts between
-
-  abbrev new : Parts
-  new = parts after
-
-  same : mid ≡ old
-  same = only_same snapshots (unrisen old.failures mid.failures rises stayed)
-
+module _ {age : ℕ} {old mid : Parts} (new : Parts) (p address : ℕ) (sound : IsSoundFrames old.geometry age (frames_of old))
+    (acts : IsEarly (objects_in old) p None) (same : mid ≡ old) where
   -- what is answered after the read is answered before it
   back : {c : Command} {a : Answer} → Performs age mid c a age new → Performs age old c a age new
   back {c} {a} performs = subst (λ (q : Parts). Performs age q c a age new) same performs
@@ -129,32 +103,33 @@ module _ {S : Type 0} {parts : S → Parts} {Continues : S → S → Type 0} {ag
   mid_sound : IsSoundFrames mid.geometry age (frames_of mid)
   mid_sound = subst (λ (q : Parts). IsSoundFrames q.geometry age (frames_of q)) (sym same) sound
 
-  refused_then : (c : Command) (why : Refusal) → (why ≡ refusal.Fault → ⊥) → AreSame mid new → mid.failures ≤ new.failures → (mid.failures < new.failures → ⊥) →
-      ((renewed : List Bool) (frozen : Option Frozen) (saved : Saved) (to_move : ℕ) →
-      Step mid.geometry (machine_at age mid renewed frozen saved to_move) c (answer.Refused why) (machine_at age mid renewed frozen saved to_move)) →
-      Performs age old c (answer.Refused why) age new
-  refused_then c why other unchanged later stayed step =
-      back (refused_serves unchanged mid_sound later (reported_cause why other stayed) (λ renewed frozen saved to_move unfailed. step renewed frozen saved to_move))
-
-  load_then : (loaded : Result ℕ MemoryFault) → IsLoaded (objects_in mid) p address loaded → AreSame mid new → mid.failures ≤ new.failures →
-      (mid.failures < new.failures → ⊥) → Performs age old (command.Load p address) (loaded_answer loaded) age new
-  load_then loaded is unchanged later stayed = back (record {
-    step = λ renewed frozen saved to_move other.
-        subst (λ (m : Machine). Step mid.geometry (machine_at age mid renewed frozen saved to_move) (command.Load p address) (loaded_answer loaded) m)
-        (sym (still_machine unchanged age renewed frozen saved to_move)) (load_step mid.geometry _ p address process running loaded is);
-    renews = same_renews unchanged;
-    sound = same_sound unchanged age mid_sound;
-    geometry = unchanged.geometry;
-    later = later;
-    cause = (λ e. absurd (loaded_unfailed loaded e), λ rose. absurd (stayed rose));
-  })
-
-  pub load_answers : (loaded reported : Result ℕ MemoryFault) → loaded ≡ reported → IsLoaded (objects_in mid) p address loaded →
-      FetchesOrFails {T = Result ℕ MemoryFault} parts Continues between after (Ok loaded) →
+  pub load_answers : (loaded reported : Result ℕ MemoryFault) → loaded ≡ reported → IsLoaded (objects_in mid) p address loaded → new ≡ mid →
       Performs age old (command.Load p address) (loaded_answer reported) age new
-  load_answers loaded reported is found fetches = search (arith, nat_tests, load_then, looked_same, ok_no_err)
+  load_answers loaded reported is found read =
+      subst (λ (r : Result ℕ MemoryFault). Performs age old (command.Load p address) (loaded_answer r) age new) is (back (record {
+        step = λ renewed frozen saved to_move other.
+            subst (λ (m : Machine). Step mid.geometry (machine_at age mid renewed frozen saved to_move) (command.Load p address) (loaded_answer loaded) m)
+            (sym (still_machine read age renewed frozen saved to_move)) (load_step mid.geometry _ p address process running loaded found);
+        stays = λ other. still_sound read mid_sound;
+        later = omega (arith, ap (λ (q : Parts). q.failures) read);
+        cause = (λ e. absurd (loaded_unfailed loaded e), λ rose. absurd (omega (arith, rose, ap (λ (q : Parts). q.failures) read)));
+      }))
 
-  -- a store, after which the count of failures may have risen
+  -- a store that isn't carried out
+  pub store_refused : (word : ℕ) (why : Refusal) → IsUnprepared why → AreSameUnlessFailed mid new → mid.failures ≤ new.failures →
+      (let r : Result (Result (Unit {0}) MemoryFault) Refusal = Err why in IsErrOf r refusal.Fault ↔ (mid.failures < new.failures)) →
+      (let r : Result (Result (Unit {0}) MemoryFault) Refusal = Err why in IsErrOf r refusal.LogFull →
+      OverfillsStore mid.geometry.log (objects_in mid) mid.touched p address) →
+      Performs age old (command.Store p address word) (answer.Refused why) age new
+  store_refused word refusal.LogFull of unchanged later cause full =
+      let over = full refl in
+      back (refused_serves unchanged mid_sound later (reported_cause refusal.LogFull (λ e. cc) (λ rose. let failed = cause.1 rose in cc))
+      (λ renewed frozen saved to_move other. store_full_step mid.geometry _ p address word process running over.0 over.1 over.2))
+  store_refused word refusal.Fault of unchanged later cause full =
+      back (refused_serves unchanged mid_sound later (λ e. cause.0 refl, λ rose. refl) (λ renewed frozen saved to_move other. absurd (other refl)))
+  store_refused word c of unchanged later cause full = absurd of
+
+  -- a store
   module _ (word : ℕ) (geometry : new.geometry ≡ mid.geometry) (headers : new.headers ≡ mid.headers) (later : mid.failures ≤ new.failures) where
     -- a store leaves the frame of the objects
     stored_frame : (stored : Result (Unit {0}) MemoryFault) →
@@ -190,34 +165,20 @@ module _ {S : Type 0} {parts : S → Parts} {Continues : S → S → Type 0} {ag
         subst (λ (r : Result (Unit {0}) MemoryFault). Performs age old (command.Store p address word) (stored_answer r) age new) is
         (back (record {
           step = λ renewed frozen saved to_move other. stored_step stored found renewed frozen saved to_move;
-          renews = renews_none mid new (λ n. ap (λ (hs : List ObjectHeader). (header_at hs n).allocations) headers)
-              (λ n used. (tests_at (objects_in mid) (objects_in new) (stored_frame stored found) n).free ∙ used);
-          sound = subst (λ (g : Geometry). IsSoundFrames g age (frames_of new)) (sym geometry) (keeps age mid_sound);
-          geometry = geometry;
+          stays = λ other. record {
+            renews = renews_none mid new (λ n. ap (λ (hs : List ObjectHeader). (header_at hs n).allocations) headers)
+                (λ n used. (tests_at (objects_in mid) (objects_in new) (stored_frame stored found) n).free ∙ used);
+            sound = subst (λ (g : Geometry). IsSoundFrames g age (frames_of new)) (sym geometry) (keeps age mid_sound);
+            geometry = geometry;
+          };
           later = later;
           cause = (λ e. absurd (stored_unfailed stored e), λ rose. absurd (ok_no_failure stored (cause.1 rose)));
         }))
 
-    -- a store that isn't carried out
-    pub store_refused : (why : Refusal) → IsUnprepared why → IsUnchanged mid new →
-        (let r : Result (Result (Unit {0}) MemoryFault) Refusal = Err why in IsErrOf r refusal.Fault ↔ (mid.failures < new.failures)) →
-        (let r : Result (Result (Unit {0}) MemoryFault) Refusal = Err why in IsErrOf r refusal.LogFull →
-        OverfillsStore mid.geometry.log (objects_in mid) mid.touched p address) →
-        Performs age old (command.Store p address word) (answer.Refused why) age new
-    store_refused refusal.LogFull of unchanged cause full =
-        let over = full refl in
-        refused_then (command.Store p address word) refusal.LogFull (λ e. cc) (unchanged_same mid new geometry unchanged) later
-        (λ rose. let failed = cause.1 rose in cc)
-        (λ renewed frozen saved to_move. store_full_step mid.geometry _ p address word process running over.0 over.1 over.2)
-    store_refused refusal.Fault of unchanged cause full =
-        back (refused_serves (unchanged_same mid new geometry unchanged) mid_sound later (λ e. cause.0 refl, λ rose. refl)
-        (λ renewed frozen saved to_move other. absurd (other refl)))
-    store_refused c of unchanged cause full = absurd of
-
 abbrev IsCountedAt : Parts → BanksState → Type 0
 IsCountedAt p s = AreCounted p.geometry (objects_in p) s
 
--- after a store, or a fault
+-- after a store
 pub stored_counted : (before after : Parts) (s : BanksState) (p address word : ℕ) (r : Result (Unit {0}) MemoryFault) → after.geometry ≡ before.geometry →
     IsStored before.geometry.log (objects_in before) before.touched p address word (objects_in after) after.touched r → IsCountedAt before s →
     IsCountedAt after s
@@ -230,11 +191,9 @@ module _ {S : Type 0} {parts : S → Parts} {Continues : S → S → Type 0} (be
   pub shows : (age : ℕ) (r : Result Answer Refusal) → n < length (parts before).headers → IsSoundFrames (parts before).geometry age (frames_of (parts before)) →
       IfOk r (λ a. a ≡ shown (objects_in (parts before)) n) → OnlyReads parts Continues before after r →
       Performs age (parts before) (command.Show n) (answer_of r) age (parts after)
-  shows age (Ok a) known sound reported reads =
-      shown_serves age (parts before) (parts after) n a known (looked_same reads.snapshots) sound reported reads.later
-      (λ rose. shown_unfailed a (reads.cause.1 rose))
+  shows age (Ok a) known sound reported reads = shown_serves age (parts before) (parts after) n a known reads.same sound reported
   shows age (Err why) known sound reported reads =
-      unshown_serves age (parts before) (parts after) n (looked_same reads.snapshots) sound reads.later known why reads.refusals reads.cause
+      unshown_serves age (parts before) (parts after) n reads.snapshots.same sound reads.snapshots.later known why reads.refusals reads.cause
 
 pub shows_fine : (os : List Object) (n : ℕ) (r : Result Answer Refusal) → IfOk r (λ a. a ≡ shown os n) →
     IfOk r (λ a. a ≢ answer.Refused refusal.Fault)

@@ -2,8 +2,7 @@
 pub use Rattle.address_space.specs.References.{IsLoaded, IsStored, KeepsSound, OverfillsStore}
 pub use Rattle.capability.proofs.FrameLists.{at_set, frame_in, headers_in, process_known}
 pub use Rattle.capability.proofs.Keeping.{keepable_count, keepable_later, keepable_roles}
-pub use Rattle.capability.proofs.SnapshotLaws.{only_same, unrisen}
-pub use Rattle.capability.specs.Parts.{FetchesOrFails, IsUnchanged, IsUnprepared, IsUnread, OnlyFetches, OnlyReads, Parts, Renews, frames_of, objects_in}
+pub use Rattle.capability.specs.Parts.{AreSameUnlessFailed, IsUnprepared, IsUnread, OnlyFetches, OnlyReads, Parts, Renews, frames_of, objects_in}
 pub use Rattle.checkpoint.proofs.Lists.{maps_same}
 pub use Rattle.checkpoint.specs.Journal.{is_page_now, is_page_role, is_still_saved, next_journaled, words_now}
 pub use Rattle.checkpoint.specs.Refused.{IsCommitAnswer, IsFreezeAnswer, IsJournalAnswer, IsRefused, IsTurnedAway}
@@ -16,8 +15,8 @@ pub use Rattle.device.specs.Calls.{Only}
 pub use Rattle.device.specs.Disk.{Disk, Image}
 pub use Rattle.device.specs.Moments.{Elapses}
 pub use Rattle.device.specs.declared.device.Failed.{Failed}
-pub use Rattle.gate.proofs.BankStates.{counted_looked, counted_on}
-pub use Rattle.gate.proofs.Effects.{ok_no_err, ok_no_failure}
+pub use Rattle.gate.proofs.BankStates.{counted_on}
+pub use Rattle.gate.proofs.Effects.{ok_no_failure}
 pub use Rattle.gate.proofs.Standing.{annex_known, keepable_most}
 pub use Rattle.gate.specs.Invoke.{Invoked, Invokes, KeepsSoundFrames, TellsState}
 pub use Rattle.layout.specs.declared.open_fault.OpenFault.{OpenFault}
@@ -62,7 +61,7 @@ pub use Rattle.recovery.specs.Live.{AreSoundTogether, IsSomeUp, IsSoundFrozen, I
 unfoldable pub use Rattle.recovery.specs.Live.{renewed_since}
 pub use Rattle.recovery.specs.Recovered.{Recovers, RefusesToOpen}
 pub use Rattle.recovery.specs.declared.live.Live.{Live}
-pub use Rattle.space_bank.proofs.Renewing.{one_all, renews_none}
+pub use Rattle.space_bank.proofs.Renewing.{unrisen, one_all, renews_none}
 pub use Rattle.space_bank.specs.Banks.{AreCounted, BanksState}
 pub use Rattle.std.proofs.Common.{Bool, Err, List, None, Ok, Option, Result, Some, [], ap, append-nil, arith, false, inl, inr, length, length-set, map, not}
 pub use Rattle.std.proofs.Common.{refl, set, subst, sym, true, ℕ, ⊎_elim}

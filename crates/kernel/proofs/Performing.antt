@@ -2,9 +2,10 @@
 use Rattle.kernel.proofs.Names.{ℕ, Bool, true, false, List, Option, None, Some, refl, sym, ap, subst, inl, arith, nat_tests, Answer, Refusal, Command}
 use Rattle.kernel.proofs.Names.{Invocation, Geometry, Object, Effect, invoke, Running, Machine, Up, renewing, touching, touched_count, object_count, Step}
 use Rattle.kernel.proofs.Names.{refusal_of, carried_out, writing, shown, is_process, is_running_process, IsEarly, length, Result, Ok, Err, Frame, ResultCode}
-use Rattle.kernel.proofs.Names.{ObjectHeader, frames_in, header_at, objects_of, IsSoundFrames, Frozen, Saved, is_free, content_at, none_given_up, renewing_none}
+use Rattle.kernel.proofs.Names.{header_at, objects_of, IsSoundFrames, Frozen, Saved, is_free, content_at, none_given_up, renewing_none}
 use Rattle.kernel.proofs.Names.{Parts, Renews, frames_of, objects_in, keepable_count, IsErr, IsErrOf, Invoked, Invokes, KeepsSoundFrames, TellsState, Failed}
-use Rattle.kernel.proofs.Names.{renews_none, Performs, machine_at, renewed_by, IsUnread}
+use Rattle.kernel.proofs.Names.{renews_none, Performs, machine_at, renewed_by, IsUnread, AreSameUnlessFailed, unrisen}
+use Rattle.kernel.specs.Machine.{StaysSound}
 use Rattle.std.proofs.Common.{◌≡◌, ◌+◌, ◌^◌, ◌<◌, ◌≤◌, ◌∙◌, ◌↔◌}
 use Rattle.model.specs.declared.answer.Answer.TheVariants as answer
 use Rattle.model.specs.declared.answer.Refusal.TheVariants as refusal
@@ -74,51 +75,38 @@ early_fine os p why early is = search (arith, nat_tests)
 pub early_none : (os : List Object) (p : ℕ) (o : Option Refusal) → ((why : Refusal) → o ≡ Some why → ⊥) → IsEarly os p o → IsEarly os p None
 early_none os p o other early = search (arith, nat_tests)
 
--- the same parts but for failures
-pub record AreSame (old new : Parts) : Type 0 where
-  pub headers : new.headers ≡ old.headers
-  pub contents : new.contents ≡ old.contents
-  pub touched : new.touched ≡ old.touched
-  pub geometry : new.geometry ≡ old.geometry
+none_renewed : (p : Parts) (renewed : List Bool) → renewed_by renewed p p ≡ renewed
+none_renewed p renewed = search (arith, nat_tests, renewing_none, none_given_up)
 
-module _ {old new : Parts} (same : AreSame old new) where
-  pub same_frames : frames_of new ≡ frames_of old
-  same_frames = ap (λ (hs : List ObjectHeader). frames_in hs new.contents) same.headers ∙ ap (frames_in old.headers) same.contents
-
-  pub same_sound : (age : ℕ) → IsSoundFrames old.geometry age (frames_of old) → IsSoundFrames new.geometry age (frames_of new)
-  same_sound age sound = search (arith, nat_tests, same_frames)
-
-  pub same_machine : (age : ℕ) (renewed : List Bool) (frozen : Option Frozen) (saved : Saved) (to_move : ℕ) →
-      machine_at age new renewed frozen saved to_move ≡ machine_at age old renewed frozen saved to_move
-  same_machine age renewed frozen saved to_move = search (arith, nat_tests, same_frames)
-
-  -- nothing is rescinded
-  pub same_renews : Renews old new
-  same_renews = search (arith, nat_tests, renews_none, same_frames)
-
-  pub same_renewed : (renewed : List Bool) → renewed_by renewed old new ≡ renewed
-  same_renewed renewed = search (arith, nat_tests, renewing_none, none_given_up, same_frames)
-
+-- the same parts
+module _ {old new : Parts} (same : new ≡ old) where
   pub still_machine : (age : ℕ) (renewed : List Bool) (frozen : Option Frozen) (saved : Saved) (to_move : ℕ) →
       machine_at age new (renewed_by renewed old new) frozen saved to_move ≡ machine_at age old renewed frozen saved to_move
-  still_machine age renewed frozen saved to_move = search (arith, nat_tests, same_renewed, same_machine)
+  still_machine age renewed frozen saved to_move =
+      ap (λ (p : Parts). machine_at age p (renewed_by renewed old p) frozen saved to_move) same
+      ∙ ap (λ (rs : List Bool). machine_at age old rs frozen saved to_move) (none_renewed old renewed)
+
+  pub still_sound : {age : ℕ} → IsSoundFrames old.geometry age (frames_of old) → StaysSound old new age
+  still_sound {age} sound = subst (λ (p : Parts). StaysSound old p age) (sym same)
+      (record { renews = renews_none old old (λ n. refl) (λ n used. used); sound = sound; geometry = refl })
 
 -- a refusal that changes nothing
-pub refused_serves : {age : ℕ} {old new : Parts} {c : Command} {why : Refusal} → AreSame old new → IsSoundFrames old.geometry age (frames_of old) →
-    old.failures ≤ new.failures → ((why ≡ refusal.Fault) ↔ (old.failures < new.failures)) →
+pub refused_serves : {age : ℕ} {old new : Parts} {c : Command} {why : Refusal} → AreSameUnlessFailed old new →
+    IsSoundFrames old.geometry age (frames_of old) → old.failures ≤ new.failures → ((why ≡ refusal.Fault) ↔ (old.failures < new.failures)) →
     ((renewed : List Bool) (frozen : Option Frozen) (saved : Saved) (to_move : ℕ) → (why ≡ refusal.Fault → ⊥) →
     Step old.geometry (machine_at age old renewed frozen saved to_move) c (answer.Refused why) (machine_at age old renewed frozen saved to_move)) →
     Performs age old c (answer.Refused why) age new
-refused_serves {age} {old} {new} {c} {why} same sound later cause step = record {
+refused_serves {age} {old} {new} {c} {why} unless sound later cause step = record {
   step = λ renewed frozen saved to_move other.
       subst (λ (m : Machine). Step old.geometry (machine_at age old renewed frozen saved to_move) c (answer.Refused why) m)
-      (sym (still_machine same age renewed frozen saved to_move)) (step renewed frozen saved to_move (λ e. other (ap answer.Refused e)));
-  renews = same_renews same;
-  sound = same_sound same age sound;
-  geometry = same.geometry;
+      (sym (still_machine (same other) age renewed frozen saved to_move)) (step renewed frozen saved to_move (λ e. other (ap answer.Refused e)));
+  stays = λ other. still_sound (same other) sound;
   later = later;
   cause = (λ e. let f : why ≡ refusal.Fault = cc in cause.0 f, λ rose. ap answer.Refused (cause.1 rose));
 }
+  where
+    same : (answer.Refused why ≡ answer.Refused refusal.Fault → ⊥) → new ≡ old
+    same other = unless (unrisen old.failures new.failures later (λ rose. other (ap answer.Refused (cause.1 rose))))
 
 -- a refusal other than for a failure, where the count of failures didn't rise
 pub reported_cause : (why : Refusal) {X : Type 0} → (why ≡ refusal.Fault → ⊥) → (X → ⊥) → (why ≡ refusal.Fault) ↔ X
@@ -138,9 +126,11 @@ done_serves {age} {old} {new} {i} young process running sound invokes keeps rene
       subst (Step old.geometry (machine_at age old renewed frozen saved to_move) (command.Invoke i) answer.Done) (made renewed frozen saved to_move)
       (invoke_step old.geometry _ i process running young invokes.0 invokes.1
       (subst (λ (ts : List Bool). touched_count ts ≤ old.geometry.log) invokes.3 invokes.4));
-  renews = renews;
-  sound = subst (λ (g : Geometry). IsSoundFrames g (age + 1) (frames_of new)) (sym geometry) (keeps age young sound);
-  geometry = geometry;
+  stays = λ other. record {
+    renews = renews;
+    sound = subst (λ (g : Geometry). IsSoundFrames g (age + 1) (frames_of new)) (sym geometry) (keeps age young sound);
+    geometry = geometry;
+  };
   later = later;
   cause = (λ e. cc, λ rose. absurd (stayed rose));
 }
@@ -155,7 +145,7 @@ done_serves {age} {old} {new} {i} young process running sound invokes keeps rene
 pub no_process_serves : (p : Parts) (age : ℕ) (i : Invocation) → IsSoundFrames p.geometry age (frames_of p) → is_process (objects_in p) i.process ≡ false →
     Performs age p (command.Invoke i) (answer.Refused refusal.NoProcess) age p
 no_process_serves p age i sound none =
-    refused_serves (record { headers = refl; contents = refl; touched = refl; geometry = refl }) sound
+    refused_serves (λ stayed. refl) sound
     (omega arith) (reported_cause refusal.NoProcess (λ e. cc) (λ rose. absurd (omega (arith, rose))))
     (λ renewed frozen saved to_move other. early_step p.geometry _ i refusal.NoProcess none)
 
@@ -164,23 +154,22 @@ module _ {S : Type 0} (parts : S → Parts) (Continues : S → S → Type 0) (ag
     (process : is_process (objects_in (parts old)) i.process ≡ true) (sound : IsSoundFrames (parts old).geometry age (frames_of (parts old)))
     (young : age < 2 ^ 62) where
   module _ (f : Refusal) (said : Invoked parts Continues old new i (Err f)) where
-    unchanged : AreSame (parts old) (parts new)
-    unchanged = record { headers = said.unchanged.headers; contents = said.unchanged.contents; touched = said.unchanged.touched; geometry = said.geometry }
-
     refused : (why : Refusal) → ((why ≡ refusal.Fault) ↔ (f ≡ refusal.Fault)) →
         ((renewed : List Bool) (frozen : Option Frozen) (saved : Saved) (to_move : ℕ) → (why ≡ refusal.Fault → ⊥) →
         Step (parts old).geometry (machine_at age (parts old) renewed frozen saved to_move) (command.Invoke i) (answer.Refused why)
         (machine_at age (parts old) renewed frozen saved to_move)) →
         Performs age (parts old) (command.Invoke i) (answer.Refused why) age (parts new)
     refused why same step =
-        refused_serves unchanged sound said.later (
+        refused_serves said.same sound said.later (
           λ e. said.cause.0 (ap (λ (k : Refusal). let r : Result (Option ResultCode) Refusal = Err k in r) (same.0 e)),
           λ rose. let failed = said.cause.1 rose in same.1 cc,
         ) step
 
   pub fault_serves : (f : Refusal) → TellsState (objects_in (parts old)) i (Err f) → Invoked parts Continues old new i (Err f) →
       Performs age (parts old) (command.Invoke i) (answer.Refused f) age (parts new)
-  fault_serves refusal.NotRunning tells said = search (arith, nat_tests, refused, early_step)
+  fault_serves refusal.NotRunning tells said =
+      refused refusal.NotRunning said refusal.NotRunning (λ e. cc, λ e. cc)
+      (λ renewed frozen saved to_move other. early_step (parts old).geometry _ i refusal.NotRunning (process, tells))
   fault_serves refusal.Stalled tells said =
       refused refusal.Stalled said refusal.Stalled (λ e. cc, λ e. cc)
       (λ renewed frozen saved to_move other. stalled_step (parts old).geometry _ i process tells young (said.stalled refl))
@@ -188,7 +177,8 @@ module _ {S : Type 0} (parts : S → Parts) (Continues : S → S → Type 0) (ag
       let over = said.full refl in
       refused refusal.LogFull said refusal.LogFull (λ e. cc, λ e. cc)
       (λ renewed frozen saved to_move other. full_step (parts old).geometry _ i process tells young over.0 over.1 over.2)
-  fault_serves refusal.Fault tells said = search (arith, nat_tests, refused)
+  fault_serves refusal.Fault tells said =
+      refused refusal.Fault said refusal.Fault (λ e. cc, λ e. cc) (λ renewed frozen saved to_move other. absurd (other refl))
   fault_serves c tells said = absurd tells
 
   -- and to one that was
@@ -198,22 +188,22 @@ module _ {S : Type 0} (parts : S → Parts) (Continues : S → S → Type 0) (ag
       done_serves young process runs sound said.done said.sound said.renews said.geometry said.later (λ rose. let failed = said.cause.1 rose in cc)
 
 -- what is shown of an object
-pub shown_serves : (age : ℕ) (old new : Parts) (n : ℕ) (a : Answer) → n < length old.headers → AreSame old new →
-    IsSoundFrames old.geometry age (frames_of old) →
-    a ≡ shown (objects_in old) n → old.failures ≤ new.failures → (old.failures < new.failures → ⊥) → Performs age old (command.Show n) a age new
-shown_serves age old new n a known same sound reported later stayed = record {
+pub shown_serves : (age : ℕ) (old new : Parts) (n : ℕ) (a : Answer) → n < length old.headers → new ≡ old →
+    IsSoundFrames old.geometry age (frames_of old) → a ≡ shown (objects_in old) n → Performs age old (command.Show n) a age new
+shown_serves age old new n a known same sound reported = record {
   step = λ renewed frozen saved to_move other.
       subst (λ (m : Machine). Step old.geometry (machine_at age old renewed frozen saved to_move) (command.Show n) a m)
       (sym (still_machine same age renewed frozen saved to_move))
       (show_step old.geometry _ n (subst (λ (m : ℕ). n < m) (keepable_count old.geometry age old sound.keepable) known) a reported);
-  renews = same_renews same;
-  sound = same_sound same age sound;
-  geometry = same.geometry;
-  later = later;
-  cause = (λ e. let d : shown (objects_in old) n ≡ answer.Refused refusal.Fault = sym reported ∙ e in cc, λ rose. absurd (stayed rose));
+  stays = λ other. still_sound same sound;
+  later = omega (arith, ap (λ (p : Parts). p.failures) same);
+  cause = (
+    λ e. let d : shown (objects_in old) n ≡ answer.Refused refusal.Fault = sym reported ∙ e in cc,
+    λ rose. absurd (omega (arith, rose, ap (λ (p : Parts). p.failures) same)),
+  );
 }
 
-module _ (age : ℕ) (old new : Parts) (n : ℕ) (same : AreSame old new) (sound : IsSoundFrames old.geometry age (frames_of old))
+module _ (age : ℕ) (old new : Parts) (n : ℕ) (same : AreSameUnlessFailed old new) (sound : IsSoundFrames old.geometry age (frames_of old))
     (later : old.failures ≤ new.failures) where
   pub bad_number_serves : length old.headers ≤ n → (old.failures < new.failures → ⊥) → Performs age old (command.Show n) (answer.Refused refusal.BadNumber) age
       new
@@ -232,11 +222,10 @@ module _ (age : ℕ) (old new : Parts) (n : ℕ) (same : AreSame old new) (sound
   pub unshown_serves : n < length old.headers → (why : Refusal) → IsUnread why →
       (let r : Result Answer Refusal = Err why in IsErrOf r refusal.Fault ↔ (old.failures < new.failures)) →
       Performs age old (command.Show n) (answer.Refused why) age new
-  unshown_serves known why of cause = search (arith, nat_tests, show_no_memory_serves, refused_serves)
-
--- what a read isn't
-pub shown_unfailed : (a : Answer) → (let r : Result Answer Refusal = Ok a in IsErrOf r refusal.Fault) → ⊥
-shown_unfailed a e = cc
+  unshown_serves known refusal.NoMemory of cause = show_no_memory_serves known (λ rose. let failed = cause.1 rose in cc)
+  unshown_serves known refusal.Fault of cause =
+      refused_serves same sound later (λ e. cause.0 refl, λ rose. refl) (λ renewed frozen saved to_move other. absurd (other refl))
+  unshown_serves known why of cause = absurd of
 
 -- where a call succeeds no count rises
 pub ok_stayed : {X : Type 0} (early : Option Refusal) → (let r : Result (Option Refusal) Failed = Ok early in IsErr r ↔ X) → X → ⊥

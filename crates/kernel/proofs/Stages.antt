@@ -1,9 +1,9 @@
 -- Steps of the machine: evictions, the stages of a checkpoint, and what opens it. What is sound stays sound through each stage.
 use Rattle.kernel.proofs.Names.{ℕ, Bool, true, Option, None, Some, List, [], refl, sym, ap, subst, arith, nat_tests, Geometry, Frozen, Saved, Running, Up}
-use Rattle.kernel.proofs.Names.{touched_count, untouched, object_count, Step, carried_out, committed, refusal_of, second, World, option_map, Frame, frames_in}
+use Rattle.kernel.proofs.Names.{touched_count, untouched, object_count, Step, carried_out, committed, refusal_of, second, World, option_map, Frame}
 use Rattle.kernel.proofs.Names.{objects_of, AreKeepable, IsSoundFrames, world_at, IsSound, Snapshots, freezing, moved_saved, next_saved, all_frozen, whole}
 use Rattle.kernel.proofs.Names.{at_home, Parts, Renews, frames_of, objects_in, keepable_later, most, SavedFrames, home_saved, FrozenFrames, stabilized}
-use Rattle.kernel.proofs.Names.{AreCounted, BanksState, saved_of, IsSoundSaved, AreSoundTogether, IsSoundFrozen, base_of, frozen_of, renewed_since, running_of}
+use Rattle.kernel.proofs.Names.{AreCounted, BanksState, saved_of, IsSoundSaved, AreSoundTogether, IsSoundFrozen, base_of, frozen_of, running_of}
 use Rattle.kernel.proofs.Names.{allocations_at, base_frozen}
 use Rattle.model.specs.Step.{moved}
 use Rattle.std.proofs.Common.{◌≡◌, ◌+◌, ◌-◌, ◌^◌, ◌<◌, ◌≤◌, ◌∷◌, ◌∙◌}
@@ -13,7 +13,7 @@ use Rattle.model.specs.declared.answer.Refusal.TheVariants as refusal
 use Rattle.model.specs.declared.command.Command.TheVariants as command
 use Rattle.checkpoint.specs.Snapshots as stage
 use Rattle.model.specs.Step as machine
-use Rattle.kernel.proofs.Performing.{done_step, AreSame, same_frames}
+use Rattle.kernel.proofs.Performing.{done_step}
 use Rattle.kernel.proofs.Machines.{base_moved, risen_on}
 
 module _ (g : Geometry) (s : Running) where
@@ -101,31 +101,13 @@ keepable_most g p age same f = search (arith, nat_tests, most, keepable_later)
 
 -- ---- the same objects
 
-pub frames_again : (p q : Parts) → q.headers ≡ p.headers → q.contents ≡ p.contents → frames_of q ≡ frames_of p
-frames_again p q headers contents = ap (λ hs. frames_in hs q.contents) headers ∙ ap (frames_in p.headers) contents
-
-module _ {p q : Parts} (same : AreSame p q) {a b : Snapshots FrozenFrames} (beside : b ≡ a) where
+module _ {p q : Parts} (same : q ≡ p) {a b : Snapshots FrozenFrames} (beside : b ≡ a) where
   pub same_running : (age frozen_age : ℕ) → running_of q b age frozen_age ≡ running_of p a age frozen_age
-  same_running age frozen_age = λ k. record {
-    now = world_at age (same_frames same k);
-    touched = same.touched k;
-    renewed = renewed_since (base_of (beside k)) (same_frames same k);
-    frozen = frozen_of frozen_age (beside k).frozen;
-    saved = saved_of (beside k).saved;
-    to_move = (beside k).to_move;
-  }
+  same_running age frozen_age = λ k. running_of (same k) (beside k) age frozen_age
 
   pub stays_sound : {g : Geometry} {banks : BanksState} {age frozen_age : ℕ} → AreSoundTogether g p a banks age frozen_age →
       AreSoundTogether g q b banks age frozen_age
-  stays_sound {g} {banks} {age} {frozen_age} s = subst (λ (x : Snapshots FrozenFrames). AreSoundTogether g q x banks age frozen_age) (sym beside) (record {
-    geometry = same.geometry ∙ s.geometry;
-    now = subst (λ (fs : List Frame). IsSoundFrames g age fs) (sym (same_frames same)) s.now;
-    counted = subst (λ (fs : List Frame). AreCounted g (objects_of fs) banks) (sym (same_frames same)) s.counted;
-    frozen = s.frozen;
-    saved = s.saved;
-    order = s.order;
-    risen = λ n. subst (λ (fs : List Frame). allocations_at (base_of a) n ≤ allocations_at fs n) (sym (same_frames same)) (s.risen n);
-  })
+  stays_sound {g} {banks} {age} {frozen_age} s = subst (λ (X : Type 0). X) (λ k. AreSoundTogether g (sym same k) (sym beside k) banks age frozen_age) s
 
 -- other objects, at an age that didn't fall
 pub acts_sound : {g : Geometry} {p q : Parts} {a b : Snapshots FrozenFrames} {old_banks banks : BanksState} {old_age age frozen_age : ℕ} → b ≡ a →

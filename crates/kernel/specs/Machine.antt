@@ -50,16 +50,20 @@ abbrev pub MakesNoDeviceCall : Answer → Type 0
 MakesNoDeviceCall (answer.Refused why) = NeedsNoDeviceCall why
 MakesNoDeviceCall _ = ⊥
 
+-- sound frames at an age, in the same geometry, where allocations are counted on
+pub record StaysSound (old new : Parts) (age : ℕ) : Type 0 where
+  pub renews : Renews old new
+  pub sound : IsSoundFrames new.geometry age (frames_of new)
+  pub geometry : new.geometry ≡ old.geometry
+
 -- from parts at an age to parts at an age a command is answered as the machine answers it, whatever was renewed and is
--- frozen and saved, unless the device fails: then the machine is down
+-- frozen and saved, unless the device fails: then the machine is down, and nothing is said of the parts
 pub record Performs (old_age : ℕ) (old : Parts) (c : Command) (a : Answer) (new_age : ℕ) (new : Parts) : Type 0 where
   pub step : (renewed : List Bool) (frozen : Option Frozen) (saved : Saved) (to_move : ℕ) →
       (a ≡ answer.Refused refusal.Fault → ⊥) →
       Step old.geometry (machine_at old_age old renewed frozen saved to_move) c a
       (machine_at new_age new (renewed_by renewed old new) frozen saved to_move)
-  pub renews : Renews old new
-  pub sound : IsSoundFrames new.geometry new_age (frames_of new)
-  pub geometry : new.geometry ≡ old.geometry
+  pub stays : (a ≡ answer.Refused refusal.Fault → ⊥) → StaysSound old new new_age
   pub later : old.failures ≤ new.failures
   pub cause : (a ≡ answer.Refused refusal.Fault) ↔ (old.failures < new.failures)
 

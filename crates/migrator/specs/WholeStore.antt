@@ -14,4 +14,4 @@ pub record AreObjectsOf (p : Parts) (os : AllObjects) : Type 0 where
 pub record IsOver {D : Type 0} (disk : D → Disk) (v : View D) (d : DurableState D) : Type 0 where
   pub beneath : v.beneath ≡ d.beneath
   pub saved : v.snapshots.saved ≡ (stored_of disk d).saved
-  pub sound : v.is_sound → is_sound disk d
+  pub sound : v.usable → is_sound disk d

@@ -3,7 +3,14 @@ use Rattle.object_cache.proofs.Names.{Result, Ok, Err, OnOk, OnErr, IsErrAnd, is
 use Rattle.object_cache.proofs.Names.{StoreState, GoesOnIn, IsFetchedIn, AreKeepable, IsKeepable, parts_of, stored_of, header_at, held_at, frames_in, on_device}
 use Rattle.object_cache.proofs.Names.{on_device_with, List, Bool, readied, AreKeepableIn, IsKeepableIn, OnlyFetches, false, true≢false, ContinuesIn, Held}
 use Rattle.object_cache.proofs.Names.{released, Some, None, arith}
-use Rattle.std.proofs.Common.{◌≡◌, ◌∙◌}
+use Rattle.object_cache.proofs.Names.{Refusal, IsErrOf, cases_lt, counted_ok, touched_count, touching, untouched}
+use Rattle.checkpoint.specs.Refused.{IsRefused}
+use Rattle.checkpoint.specs.Store.{all_untouched}
+use Rattle.capability.specs.Parts.{AreSameUnlessFailed, IsUnprepared, Prepares}
+use Rattle.model.specs.declared.answer.Refusal.TheVariants as refusal
+use Rattle.model.specs.declared.geometry.Geometry.{Geometry}
+use Rattle.std.proofs.Common.{◌≡◌, ◌∙◌, ◌<◌, ◌≤◌, ◌↔◌, ⊎_elim}
+use Rattle.std.specs.Prelude.{IfErr}
 
 -- an error says nothing of success
 pub no_ok : {T E : Type 0} (r : Result T E) (P : Type 0) (Q : E → Type 0) → IsErrAnd r Q → OnOk r P
@@ -61,6 +68,24 @@ module _ {D : Type 0} where
 pub released_own : (h : Held) → released h.number (Some h) ≡ None
 released_own h = search arith
 
+-- a count that neither fell nor rose is the same
+unrisen : (m n : ℕ) → m ≤ n → (m < n → ⊥) → n ≡ m
+unrisen m n later stayed = ⊎_elim (λ (rose : m < n). absurd (stayed rose)) (λ (within : n ≤ m). omega arith) (cases_lt m n)
+
+-- the parts are the same, unless the device failed
+module _ {D : Type 0} (disk : D → Disk) (s t : StoreState D) where
+  pub same_parts : t.headers ≡ s.headers → t.contents ≡ s.contents → t.touched ≡ s.touched →
+      (stored_of disk t.durable).saved.geometry ≡ (stored_of disk s.durable).saved.geometry → AreSameUnlessFailed (parts_of disk s) (parts_of disk t)
+  same_parts headers contents touched geometry failures =
+      λ k. record { geometry = geometry k; headers = headers k; contents = contents k; touched = touched k; failures = failures k }
+
+  -- and as a checkpoint begins, no number was written since
+  pub frozen_parts : t.headers ≡ s.headers → t.contents ≡ s.contents → (stored_of disk t.durable).saved.geometry ≡ (stored_of disk s.durable).saved.geometry →
+      (disk t.durable.beneath).failures ≡ (disk s.durable.beneath).failures → t.touched ≡ untouched (stored_of disk s.durable).saved.geometry →
+      parts_of disk t ≡ all_untouched (parts_of disk s)
+  frozen_parts headers contents geometry failures touched =
+      λ k. record { geometry = geometry k; headers = headers k; contents = contents k; touched = touched k; failures = failures k }
+
 -- a store that doesn't keep all bodies
 module _ {D : Type 0} {disk : D → Disk} {s t : StoreState D} {all : Bool} (some : all ≡ false) where
   pub continues_some : GoesOnIn disk s t → ContinuesIn all disk s t
@@ -68,9 +93,58 @@ module _ {D : Type 0} {disk : D → Disk} {s t : StoreState D} {all : Bool} (som
 
   pub fetches_only : t ≡ on_device_with s t → GoesOnIn disk s t → OnlyFetches (parts_of disk) (ContinuesIn all disk) s t
   fetches_only rest goes = record {
-    headers = ap (λ x. x.headers) rest;
-    contents = ap (λ x. x.contents) rest;
+    same = same_parts disk s t (ap (λ x. x.headers) rest) (ap (λ x. x.contents) rest) (ap (λ x. x.touched) rest) (ap (λ a. a.saved.geometry) goes.snapshots);
     touched = ap (λ x. x.touched) rest;
-    geometry = ap (λ a. a.saved.geometry) goes.snapshots;
+    later = goes.later;
     continues = continues_some goes;
   }
+
+-- numbers were announced, or not
+module _ {D : Type 0} {disk : D → Disk} {s t : StoreState D} {all : Bool} (headers : t.headers ≡ s.headers) (contents : t.contents ≡ s.contents)
+    (goes : GoesOnIn disk s t) (continues : ContinuesIn all disk s t) where
+  pub prepares_by : {T : Type 0} (r : Result T Refusal) {ws : List ℕ} → OnOk r (t.touched ≡ touching s.touched ws) → OnErr r (t.touched ≡ s.touched) →
+      touched_count s.touched ≤ (stored_of disk s.durable).saved.geometry.log → touched_count t.touched ≤ (stored_of disk t.durable).saved.geometry.log →
+      IfErr r IsUnprepared →
+      (IsErrOf r refusal.LogFull → (stored_of disk s.durable).saved.geometry.log < touched_count (touching s.touched ws)) →
+      (IsErrOf r refusal.Fault ↔ ((disk s.durable.beneath).failures < (disk t.durable.beneath).failures)) →
+      Prepares (parts_of disk) (ContinuesIn all disk) s t ws r
+  prepares_by (Ok x) {ws} touched untouched before within refusals full cause =
+      let geometry = ap (λ a. a.saved.geometry) goes.snapshots in
+      record {
+        before = before;
+        done = λ k. record {
+          geometry = geometry k;
+          headers = headers k;
+          contents = contents k;
+          touched = touched k;
+          failures = unrisen _ _ goes.later (λ rose. let never = cause.1 rose in cc) k;
+        };
+        within = subst (λ ts. touched_count ts ≤ (stored_of disk s.durable).saved.geometry.log) touched
+            (subst (λ (g : Geometry). touched_count t.touched ≤ g.log) geometry within);
+        same = tt;
+        full = full;
+        refusals = tt;
+        cause = cause;
+        later = goes.later;
+        continues = continues;
+      }
+  prepares_by (Err e) touched untouched before within refusals full cause = record {
+    before = before;
+    done = tt;
+    within = tt;
+    same = same_parts disk s t headers contents untouched (ap (λ a. a.saved.geometry) goes.snapshots);
+    full = full;
+    refusals = refusals;
+    cause = cause;
+    later = goes.later;
+    continues = continues;
+  }
+
+-- a call that succeeds counts no failure
+pub counts_same : {T E : Type 0} {old new : Disk} (r : Result T E) → Counts old new r → OnOk r (new.failures ≡ old.failures)
+counts_same (Ok x) counts = counted_ok counts
+counts_same (Err e) counts = tt
+
+pub refused_of : {T : Type 0} (r : Result T Refusal) {P : Type 0} → OnErr r P → IsRefused r → P
+refused_of (Ok x) stays is = absurd is
+refused_of (Err e) stays is = stays

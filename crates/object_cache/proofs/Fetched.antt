@@ -1,14 +1,14 @@
 -- Objects are brought into memory: those used last stay there.
 use Rattle.object_cache.proofs.Names.{inl, inr, ℕ, zero, suc, true, false, true≢false, List, [], length, take, Result, refl, sym, ap, subst, arith, OnOk, OnErr}
-use Rattle.object_cache.proofs.Names.{slice_index_or, cases_eq, cases_lt, eq-eqb, is_member, Disk, DurableState, stored_of, Memory, without, StoreState}
+use Rattle.object_cache.proofs.Names.{slice_index_or, cases_eq, eq-eqb, is_member, Disk, DurableState, stored_of, Memory, without, StoreState}
 use Rattle.object_cache.proofs.Names.{IsCache, IsFetchedIn, ne_eqb, cache_of, cached_at, with_cached, on_device, on_device_with, take-take, used_in_turn}
-use Rattle.object_cache.proofs.Names.{IsBounded, UsesSome, take_all, length_without, in_either, in_front, one_more, used_anew, used_front, without_absent}
+use Rattle.object_cache.proofs.Names.{IsBounded, take_all, length_without, in_front, one_more, used_anew, without_absent}
 use Rattle.object_cache.proofs.Names.{without_here, without_tail, length-take, Held, None, header_at, held_at, put_at, ReadsStore, below_at, newest, masked}
 use Rattle.object_cache.proofs.Names.{in_staging, put_body, present_body, newest_body, contents_in, GoesOnIn, frozen_seen, Some, Cap, Content, option_map}
 use Rattle.object_cache.proofs.Names.{same_Some, Stored, entry_at, mark_at, below_body, content_at, frozen_at, frozen_states_in, either_of, member_head}
 use Rattle.object_cache.proofs.Names.{member_tail, in_tail, list_any-from_Contains, nat_eq_equiv, All, All-contains, Contains, Frame, ObjectHeader}
 use Rattle.object_cache.proofs.Names.{EntriesState, Option, with_new}
-use Rattle.std.proofs.Common.{◌≡◌, ◌≢◌, ◌+◌, ◌<◌, ◌≤◌, ◌∷◌, ◌∙◌, ◌-◌, ◌++◌}
+use Rattle.std.proofs.Common.{◌≡◌, ◌≢◌, ◌+◌, ◌<◌, ◌≤◌, ◌∷◌, ◌∙◌, ◌-◌}
 use Rattle.object_cache.proofs.Marking.{marked_within}
 use Rattle.object_cache.proofs.Objects.{Alike, clean_alike, content_in, contents_alike, frozen_alike, keepable_alike, stored_next, unwritten_alike}
 use Rattle.object_cache.proofs.Objects.{with_objects}
@@ -126,34 +126,9 @@ pub used_more : (most i : ℕ) (ns s t u : List ℕ) → i < length ns → t ≡
     u ≡ take most (slice_index_or ns i 0 ∷ without (slice_index_or ns i 0) t) → u ≡ take most (used_in_turn (take (i + 1) ns) s)
 used_more most i ns s t u below before is = search (arith, use_keeps_front, one_more)
 
-pub stopped_at : (most i j : ℕ) (ns s t u : List ℕ) → t ≡ take most (used_in_turn (take i ns) s) → most ≤ j + 1 → u ≡ take j t → UsesSome most ns s u
-stopped_at most i j ns s t u before enough is = search (arith, cases_lt, in_front, take-take, front_least)
-
--- none was used, and none went
-pub uses_none : (most : ℕ) (ns s u : List ℕ) → u ≡ s → UsesSome most ns s u
-uses_none most ns s u same = record {
-  used = [];
-  listed = λ n is. absurd (true≢false (sym is));
-  count = length s + most;
-  enough = omega arith;
-  order = same_front (length s + most) s u same (omega arith);
-}
-
 -- the first of them were used before
 pub used_then : (most k : ℕ) (ns s t u : List ℕ) → t ≡ used_in_turn (take k ns) s → u ≡ take most (used_in_turn ns t) → u ≡ take most (used_in_turn ns s)
 used_then most k ns s t u first is = is ∙ ap (λ ks. take most (used_in_turn ns ks)) first ∙ ap (take most) (used_anew ns (take k ns) s (in_front k ns))
-
-pub some_then : (most k : ℕ) (ns s t u : List ℕ) → t ≡ used_in_turn (take k ns) s → UsesSome most ns t u → UsesSome most ns s u
-some_then most k ns s t u first later = record {
-  used = take k ns ++ later.used;
-  listed = λ n has. elim (in_either (take k ns) later.used n has) [ inl front ↦ in_front k ns n front | inr there ↦ later.listed n there ];
-  count = later.count;
-  enough = later.enough;
-  order = later.order ∙ ap (λ ks. take later.count (used_in_turn later.used ks)) first ∙ ap (take later.count) (sym (used_front (take k ns) later.used s));
-}
-
-pub stops_none : (most : ℕ) (xs ys : List ℕ) → ys ≡ xs → (j : ℕ) × (most ≤ j + 1) × (ys ≡ take j xs)
-stops_none most xs ys same = (length xs + most, omega arith, same_front (length xs + most) xs ys same (omega arith))
 
 -- ---- bodies are read from the device: nothing that is seen is another
 

@@ -96,5 +96,5 @@ module _ {D : Type 0} (disk : D → Disk) {d : DurableState D} {m : Memory} {lef
 pub evicted : {D T E : Type 0} (r : Result T E) (s u : StoreState D) (n : ℕ) → IsLeast s n → OnOk r (u ≡ without_cached n (on_device s u)) →
     OnErr r (u ≡ on_device s u) →
     OnOk r (length u.order < u.capacity) × ((k : ℕ) → cached_at s.cached k ≡ false → cached_at u.cached k ≡ false) ×
-    OnOk r (u.order ≡ take (s.capacity - 1) s.order) × OnErr r (u.order ≡ s.order)
+    OnOk r (u.order ≡ take (s.capacity - 1) s.order)
 evicted {D} {T} {E} r s u n least away stays = search (arith, still_uncached)

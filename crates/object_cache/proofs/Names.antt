@@ -1,9 +1,9 @@
 -- The names that the proofs here cite: of other crates, and of the definitions of this one.
-pub use Rattle.cache_entries.proofs.Orders.{either_of, in_either, in_front, in_tail, length_without, listed_member, member_head, member_tail, without_here}
+pub use Rattle.cache_entries.proofs.Orders.{either_of, in_front, in_tail, length_without, listed_member, member_head, member_tail, without_here}
 pub use Rattle.cache_entries.proofs.Orders.{without_tail}
 pub use Rattle.cache_entries.proofs.Recent.{front_stays}
 pub use Rattle.cache_entries.proofs.Stored.{some_map, some_within}
-pub use Rattle.cache_entries.proofs.Turns.{one_more, used_anew, used_front, without_absent}
+pub use Rattle.cache_entries.proofs.Turns.{one_more, used_anew, without_absent}
 pub use Rattle.cache_entries.specs.Entries.{Entry, changing, entry_at, kept_of, new_entry, present_of, with_entry}
 pub use Rattle.cache_entries.specs.Order.{AreOrdered, EntriesState, used_in_turn, used_longest_ago, used_now, with_entry_of, with_new, without}
 pub use Rattle.capability.proofs.FrameLists.{frame_in, length_in}
@@ -72,7 +72,7 @@ pub use Rattle.object_cache.specs.Memory.{Apart, FrozenState, Held, Memory, Noth
 pub use Rattle.object_cache.specs.Memory.{frozen_frame, frozen_state_by, frozen_state_in_memory, frozen_state_of, held_behind, in_staging, mark_at, masked}
 pub use Rattle.object_cache.specs.Memory.{memory_of, newest_body, own_body, own_body_of, own_frame, present_at, present_body, put_body, released}
 unfoldable pub use Rattle.object_cache.specs.Memory.{contents_in, frozen_in, frozen_states_in}
-pub use Rattle.object_cache.specs.Prepared.{UsesSome, on_device_with, readied}
+pub use Rattle.object_cache.specs.Prepared.{on_device_with, readied}
 pub use Rattle.object_cache.specs.PresentLaws.{continues_same, goes_on_same, goes_on_twice}
 pub use Rattle.object_cache.specs.StoreState.{AreAll, AreFrozen, AreInserted, AreKeepableIn, AreTaken, ContinuesIn, GoesOnIn, HaveRoom, HoldBodies}
 pub use Rattle.object_cache.specs.StoreState.{IsAnnouncedIn, IsBounded, IsCache, IsFetchedIn, IsJustOpened, IsKeepableIn, IsOpenOver, IsUnkept, IsWhole}

@@ -1,6 +1,6 @@
 -- The names of other crates that the definitions here cite.
 pub use Rattle.cache_entries.specs.Entries.{Entry, changing, entry_at, new_entry}
-pub use Rattle.cache_entries.specs.Order.{AllDiffer, EntriesState, used_in_turn, with_entry_of, without}
+pub use Rattle.cache_entries.specs.Order.{AllDiffer, EntriesState, with_entry_of, without}
 pub use Rattle.capability.specs.Parts.{HaveTheirRoles, Parts, frames_of}
 pub use Rattle.checkpoint.specs.Journal.{is_page_role, is_same_page, next_journaled}
 pub use Rattle.checkpoint.specs.Refused.{IsJournalAnswer, IsTurnedAway}
@@ -36,4 +36,4 @@ pub use Rattle.std.proofs.Common.{ap, arith, refl}
 pub use Rattle.std.specs.List.{range_with_len}
 pub use Rattle.std.specs.Prelude.{Bool, IfOk, IsErrOf, IsSome, List, None, OnErr, OnOk, Option, Result, Some, count_by}
 pub use Rattle.std.specs.Prelude.{false, is_some, length, map, nat_le, option_map, replicate, slice_index_or, slice_set}
-pub use Rattle.std.specs.Prelude.{take, true, ℕ}
+pub use Rattle.std.specs.Prelude.{true, ℕ}

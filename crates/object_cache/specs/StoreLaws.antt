@@ -5,10 +5,10 @@ use Rattle.object_cache.specs.StoreState.{StoreState, GoesOnIn, view_of}
 module _ {D : Type 0} (disk : D → Disk) where
   pub continues_by : (s t : StoreState D) → GoesOnIn disk s t → Continues disk (view_of disk s) (view_of disk t)
   continues_by s t goes = record {
-    snapshots = goes.snapshots;
+    snapshots = λ stayed. goes.snapshots;
+    usable = λ stayed. goes.goes_on.sound;
     size = goes.goes_on.size;
     later = goes.later;
-    sound = goes.goes_on.sound;
     any_moment = goes.goes_on.any_moment;
   }
 

@@ -72,7 +72,7 @@ module _ {D : Type 0} (disk : D → Disk) where
   }
 
   abbrev pub view_of : StoreState D → View D
-  view_of s = record { beneath = s.durable.beneath; snapshots = snapshots_of s; is_sound = is_sound disk s.durable }
+  view_of s = record { beneath = s.durable.beneath; snapshots = snapshots_of s; usable = is_sound disk s.durable }
 
   -- only present objects change: the saved and frozen frames stay, and the device was only read if nothing is touched
   -- and nothing frozen

@@ -371,7 +371,6 @@ impl<D: Device> Cache<D> {
         ensures uncached { (n : ℕ) → cached_at self.old.cached n ≡ false
             → cached_at self.new.cached n ≡ false }
         ensures least { OnOk result (self.new.order ≡ take (self.old.capacity - 1) self.old.order) }
-        ensures stays { OnErr result (self.new.order ≡ self.old.order) }
         ensures unchanged { length self.old.order < self.old.capacity → self.new ≡ self.old }
         ensures rest { self.new ≡ on_device_with self.old self.new }
         ensures empty { self.old.staging ≡ None → self.new.staging ≡ None }
@@ -397,7 +396,6 @@ impl<D: Device> Cache<D> {
         ensures away { OnOk result (cached_at self.old.cached number ≡ true
             → self.new ≡ without_cached number (on_device self.old self.new)) }
         ensures none { cached_at self.old.cached number ≡ false → self.new ≡ self.old }
-        ensures stays { OnErr result (self.new ≡ on_device self.old self.new) }
         ensures continues { GoesOnIn D.disk self.old self.new }
         ensures cause { Counts (D.disk self.old.durable.beneath) (D.disk self.new.durable.beneath) result }
     {

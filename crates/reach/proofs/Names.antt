@@ -1,6 +1,6 @@
 -- The names that the proofs here cite: of other crates, and of the definitions of this one.
 pub use Rattle.capability.proofs.FrameLists.{length_objects}
-pub use Rattle.capability.specs.Parts.{OnlyFetches, objects_in}
+pub use Rattle.capability.specs.Parts.{objects_in}
 pub use Rattle.collections.specs.Marks.{is_marked}
 pub use Rattle.confinement.proofs.TrustedRuns.{run_confined}
 pub use Rattle.confinement.specs.Trusted.{IsClosedBut, IsConfinedBut, StaysBut}

@@ -3,7 +3,7 @@ pub use Rattle.capability.proofs.FrameLists.{frame_in, headers_in, length_in}
 pub use Rattle.capability.proofs.Keeping.{keepable_roles}
 pub use Rattle.capability.proofs.Mapped.{kind_map, mapped}
 pub use Rattle.capability.proofs.References.{not_annex, not_node, not_root}
-pub use Rattle.capability.proofs.SnapshotLaws.{only_reads_twice, read_same}
+pub use Rattle.capability.proofs.SnapshotLaws.{only_reads_twice}
 pub use Rattle.capability.proofs.Untouched.{untouched_count}
 pub use Rattle.capability.specs.Consistency.{AreBanked, AreLimited, AreNamed, AreOwned, AreWholeProcesses, IsNamed, IsRootOf, NamesItsRole, annex_in}
 pub use Rattle.capability.specs.Consistency.{is_waiting_root, owner_of, role_at}
@@ -31,7 +31,7 @@ pub use Rattle.layout.specs.declared.open_fault.OpenFault.{OpenFault}
 unfoldable pub use Rattle.model.specs.Bank.{chain, usage}
 pub use Rattle.model.specs.Capability.{IsWellFormed}
 pub use Rattle.model.specs.Frame.{blank_frame, conveyed, current_count, frame_at, header_at, headers, held_at, object_of, void_held}
-unfoldable pub use Rattle.model.specs.Frame.{frames_in, objects_of}
+unfoldable pub use Rattle.model.specs.Frame.{objects_of}
 pub use Rattle.model.specs.Keepable.{AreKeepable, Follows, IsKeepable, IsKeptCap, IsSoundFrames, MayBeKept, caps_in}
 pub use Rattle.model.specs.Machine.{Saved, opened, touched_count}
 unfoldable pub use Rattle.model.specs.Machine.{untouched}

@@ -1,5 +1,5 @@
 -- A device that was opened, and one that was refused.
-use Rattle.recovery.proofs.Names.{nat_tests, ℕ, None, List, refl, sym, ap, subst, inr, arith, Result, Ok, Err, IsErrOf, Frame, ObjectHeader, frames_in}
+use Rattle.recovery.proofs.Names.{nat_tests, ℕ, None, List, refl, sym, ap, subst, inr, arith, Result, Err, IsErrOf, Frame, Geometry}
 use Rattle.recovery.proofs.Names.{IsSoundFrames, opened, touched_count, Only, Image, Disk, Peeks, CountsNow, ends, BadImage, OpenFault, OnlyReads, Holds}
 use Rattle.recovery.proofs.Names.{OnlyFetches, Parts, frames_of, objects_in, untouched_count, Snapshots, FrozenFrames, Continues, OpensStore, View, unrisen}
 use Rattle.recovery.proofs.Names.{AreCounted, BanksState, IsInconsistent, Live, saved_of, IsSoundSaved, IsWhy, Recovers, RefusesToOpen, AreSoundTogether}
@@ -22,14 +22,11 @@ durable_on mid new durable peeks counts_now seen_left c left i =
 
 module _ {D S : Type 0} (disk : D → Disk) (view : S → View D) (parts : S → Parts)
     (counts_now : (d : D) (t : ℕ) (c : Image) → t ≤ (disk d).moment → (disk d).may_leave c → (disk d).left_since t c)
-    (seen_left : (d : D) → (disk d).may_leave (disk d).seen) (sound_holds : (s : S) (c : Image) → (view s).is_sound → (disk (view s).beneath).may_leave c →
+    (seen_left : (d : D) → (disk d).may_leave (disk d).seen) (sound_holds : (s : S) (c : Image) → (view s).usable → (disk (view s).beneath).may_leave c →
     Holds (disk (view s).beneath).sectors c (view s).snapshots.saved) (geometry_is : (s : S) → (parts s).geometry ≡ (view s).snapshots.saved.geometry)
     (device : D) (s t : S) (opens : OpensStore disk device (parts s) (view s)) {Goes : S → S → Type 0} (same : OnlyFetches parts Goes s t)
     (continues : Continues disk (view s) (view t))
     (peeks : touched_count (parts t).touched ≡ 0 → (view s).snapshots.frozen ≡ None → Peeks (disk (view s).beneath) (disk (view t).beneath)) where
-  same_frames : frames_of (parts t) ≡ frames_of (parts s)
-  same_frames = ap (λ (hs : List ObjectHeader). frames_in hs (parts t).contents) same.headers ∙ ap (frames_in (parts s).headers) same.contents
-
   still_untouched : touched_count (parts t).touched ≡ 0
   still_untouched = ap touched_count (same.touched ∙ opens.touched) ∙ untouched_count (view s).snapshots.saved.geometry
 
@@ -60,26 +57,30 @@ module _ {D S : Type 0} (disk : D → Disk) (view : S → View D) (parts : S →
       )
 
   -- it was opened
-  module _ (banks : BanksState) (age : ℕ) (age_is : age ≡ (view s).snapshots.saved.age)
+  module _ (banks : BanksState) (age : ℕ) (age_is : age ≡ (view s).snapshots.saved.age) (now : parts t ≡ parts s)
       (failures : (disk (view t).beneath).failures ≡ (disk (view s).beneath).failures)
       (sound : IsSoundFrames (parts s).geometry age (frames_of (parts s))) (counted : AreCounted (parts s).geometry (objects_in (parts s)) banks) where
     live : Live S
     live = record { store = t; banks = banks; age = age; frozen_age = age }
 
+    snapshots : (view t).snapshots ≡ (view s).snapshots
+    snapshots = continues.snapshots failures
+
     geometry : (parts s).geometry ≡ (view t).snapshots.saved.geometry
-    geometry = sym same.geometry ∙ geometry_is t
+    geometry = ap (λ (p : Parts). p.geometry) (sym now) ∙ geometry_is t
 
     frames : frames_of (parts t) ≡ (view t).snapshots.saved.frames
-    frames = same_frames ∙ opens.frames ∙ ap (λ (a : Snapshots FrozenFrames). a.saved.frames) (sym continues.snapshots)
+    frames = ap frames_of now ∙ opens.frames ∙ ap (λ (a : Snapshots FrozenFrames). a.saved.frames) (sym snapshots)
 
     age_saved : age ≡ (view t).snapshots.saved.age
-    age_saved = age_is ∙ ap (λ (a : Snapshots FrozenFrames). a.saved.age) (sym continues.snapshots)
+    age_saved = age_is ∙ ap (λ (a : Snapshots FrozenFrames). a.saved.age) (sym snapshots)
 
     frozen : (view t).snapshots.frozen ≡ None
-    frozen = ap (λ (a : Snapshots FrozenFrames). a.frozen) continues.snapshots ∙ opens.frozen
+    frozen = ap (λ (a : Snapshots FrozenFrames). a.frozen) snapshots ∙ opens.frozen
 
     now_sound : IsSoundFrames (view t).snapshots.saved.geometry age (frames_of (parts t))
-    now_sound = subst (λ (X : Type 0). X) (λ k. IsSoundFrames (geometry k) age (sym same_frames k)) sound
+    now_sound = subst (λ (g : Geometry). IsSoundFrames g age (frames_of (parts t))) geometry
+        (subst (λ (p : Parts). IsSoundFrames (parts s).geometry age (frames_of p)) (sym now) sound)
 
     saved_sound : IsSoundSaved (view t).snapshots.saved.geometry (view t).snapshots.saved
     saved_sound = grind (arith, nat_tests, age_saved, frames, now_sound)
@@ -88,7 +89,7 @@ module _ {D S : Type 0} (disk : D → Disk) (view : S → View D) (parts : S →
     base_is = base_saved (view t).snapshots frozen ∙ sym frames
 
     is_sound : AreSoundTogether (view t).snapshots.saved.geometry (parts t) (view t).snapshots banks age age
-    is_sound = grind (arith, nat_tests, now_sound, geometry, same_frames, frozen, saved_sound, age_saved, base_is)
+    is_sound = grind (arith, nat_tests, now_sound, geometry, now, frozen, saved_sound, age_saved, base_is)
 
     at_saved : running disk view parts live ≡ opened (view t).snapshots.saved.geometry (saved_of (view t).snapshots.saved)
     unfolding live
@@ -97,12 +98,12 @@ module _ {D S : Type 0} (disk : D → Disk) (view : S → View D) (parts : S →
     pub recovers : Recovers disk view parts device (record { store = t; banks = banks; age = age; frozen_age = age })
     unfolding live
     recovers = record {
-      holds = subst (λ (a : Snapshots FrozenFrames). Holds (disk device).sectors (disk device).seen a.saved) (sym continues.snapshots) opens.holds;
+      holds = subst (λ (a : Snapshots FrozenFrames). Holds (disk device).sectors (disk device).seen a.saved) (sym snapshots) opens.holds;
       up = record {
-        store = continues.sound opens.sound;
+        store = continues.usable failures opens.usable;
         sound = is_sound;
         leaves = leaves_saved (view t).snapshots.saved.geometry (disk (view t).beneath) (view t).snapshots.saved saved_sound
-            (λ c left. sound_holds t c (continues.sound opens.sound) left);
+            (λ c left. sound_holds t c (continues.usable failures opens.usable) left);
       };
       frames = frames;
       at_saved = at_saved;
@@ -118,9 +119,8 @@ module _ (p q : Parts) (old new : Disk) (before : p.failures ≡ old.failures) (
   pub risen_later : p.failures ≤ q.failures → old.failures ≤ new.failures
   risen_later later = omega (arith, later, before, after)
 
-  pub found_still : {T : Type 0} (found : T) → p.failures ≤ q.failures →
-      ((let r : Result T OpenFault = Ok found in IsErrOf r fault.Failed) ↔ (p.failures < q.failures)) → new.failures ≡ old.failures
-  found_still found later cause = sym after ∙ unrisen p.failures q.failures later (λ rose. let never = cause.1 rose in cc) ∙ before
+  pub found_still : q ≡ p → new.failures ≡ old.failures
+  found_still same = sym after ∙ ap (λ (r : Parts). r.failures) same ∙ before
 
   pub refused_cause : {T : Type 0} (why : OpenFault) → ((let r : Result T OpenFault = Err why in IsErrOf r fault.Failed) ↔ (p.failures < q.failures)) →
       (why ≡ fault.Failed) ↔ (old.failures < new.failures)

@@ -60,7 +60,7 @@ module _ {D S : Type 0} (disk : D → Disk) (view : S → View D) (parts : S →
 
   -- a store that serves: a crash leaves what is saved
   pub record IsUp (g : Geometry) (l : Live S) : Type 0 where
-    pub store : (view l.store).is_sound
+    pub store : (view l.store).usable
     pub sound : AreSoundTogether g (parts l.store) (view l.store).snapshots l.banks l.age l.frozen_age
     pub leaves : Leaves g (disk_at l) (saved_of (view l.store).snapshots.saved ∷ [])
 

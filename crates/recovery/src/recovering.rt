@@ -1,5 +1,5 @@
 // Opening a device.
-ghost use Rattle.std.specs.Prelude.{◌↔◌, ◌<◌, ◌≤◌, ◌^◌, IfOk, IfErr, OnOk, IsErrOf};
+ghost use Rattle.std.specs.Prelude.{◌≡◌, ◌↔◌, ◌<◌, ◌≤◌, ◌^◌, IfOk, IfErr, OnOk, IsErrOf};
 ghost use Rattle.model.specs.Keepable.{AreKeepable, IsSoundFrames};
 ghost use Rattle.capability.specs.Parts.{OnlyFetches, frames_of, objects_in};
 ghost use Rattle.space_bank.specs.Banks.{AreCounted};
@@ -26,8 +26,8 @@ fn examine<F: Frames>(alloc: Global, store: &mut F, age: u64) -> Result<Banks, O
         (objects_in (F.parts store.old))) }
     ensures bad { (why : BadImage) → IsErrOf result (OpenFault.Bad why)
         → IsInconsistent (frames_of (F.parts store.old)) why }
+    ensures same { OnOk result (F.parts store.new ≡ F.parts store.old) }
     ensures snapshots { OnlyFetches F.parts F.ContinuesTo store.old store.new }
-    ensures later { (F.parts store.old).failures ≤ (F.parts store.new).failures }
     ensures cause { IsErrOf result OpenFault.Failed
         ↔ ((F.parts store.old).failures < (F.parts store.new).failures) }
 {

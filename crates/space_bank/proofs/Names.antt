@@ -4,9 +4,9 @@ pub use Rattle.capability.proofs.Keeping.{keepable_at, keepable_count, keepable_
 pub use Rattle.capability.proofs.KindNumbers.{bank_number, root_number}
 pub use Rattle.capability.proofs.Mapped.{mapped}
 pub use Rattle.capability.proofs.Roles.{role_free, role_read, role_used}
-pub use Rattle.capability.proofs.SnapshotLaws.{keeps_twice, only_reads_twice}
+pub use Rattle.capability.proofs.SnapshotLaws.{keeps_twice}
 pub use Rattle.capability.specs.Changes.{bank_changed, reply_of_code}
-pub use Rattle.capability.specs.Parts.{AreGivenUp, FreshFits, HaveTheirRoles, IsFreshAt, IsOnce, KeepsRest, OnlyFetches, Parts, Renews, frames_of}
+pub use Rattle.capability.specs.Parts.{AreGivenUp, FreshFits, HaveTheirRoles, IsFreshAt, IsOnce, KeepsRest, Parts, Renews, frames_of}
 pub use Rattle.capability.specs.Parts.{fresh_content, objects_in}
 pub use Rattle.capability.specs.declared.order.BankChange.{BankChange}
 pub use Rattle.capability.specs.declared.order.BankChange.TheVariants.{GiveUp, MakeProcess}

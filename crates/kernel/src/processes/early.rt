@@ -1,7 +1,7 @@
 // Why a process can't act.
-ghost use Rattle.std.specs.Prelude.{ℕ, ◌≡◌, ◌↔◌, ◌<◌, ◌≤◌, IfOk, IfSome, IsErr};
+ghost use Rattle.std.specs.Prelude.{ℕ, ◌≡◌, IfOk, IfSome};
 ghost use Rattle.model.specs.Keepable.{IsSoundFrames};
-ghost use Rattle.capability.specs.Parts.{OnlyFetches, frames_of, objects_in};
+ghost use Rattle.capability.specs.Parts.{FetchesOrFails, frames_of, objects_in};
 ghost use Rattle.kernel.specs.Machine.{IsEarly, NeedsNoDeviceCall};
 
 use capability::{Frames, roots};
@@ -16,9 +16,7 @@ pub fn early<F: Frames>(store: &mut F, process: u64) -> Result<Option<Refusal>, 
     ensures why { IfOk result (λ why. IsEarly (objects_in (F.parts store.old)) process why) }
     ensures untouched { IfOk result (λ why. IfSome why (λ reported. NeedsNoDeviceCall reported
         → store.new ≡ store.old)) }
-    ensures snapshots { OnlyFetches F.parts F.ContinuesTo store.old store.new }
-    ensures later { (F.parts store.old).failures ≤ (F.parts store.new).failures }
-    ensures cause { IsErr result ↔ ((F.parts store.old).failures < (F.parts store.new).failures) }
+    ensures fetches { FetchesOrFails F.parts F.ContinuesTo store.old store.new result }
 {
     if !roots::is_process(store, process) {
         return Ok(Some(Refusal::NoProcess));

@@ -36,12 +36,11 @@ fn refuse_worn<F: Frames>(store: &mut F, invocation: &Invocation) -> Refusal
 /// Carries out an invocation by a process. If it is done, `age` rises by one, and the result is the
 /// result code of the order, or none through a gate.
 ///
-/// A refusal changes nothing: the first that applies of `NoProcess`, `NotRunning`, `Worn` at the
+/// A refusal but `Fault` changes nothing: the first that applies of `NoProcess`, `NotRunning`, `Worn` at the
 /// greatest age, `Stalled` and `LogFull`. `NoProcess` leaves the store untouched. `banks` keeps the
 /// usages of the banks as they are afterwards.
 ///
-/// `Fault`: the device failed, and nothing has changed.
-#[tactic(auto, using(gate::proofs::BankStates::counted_looked))]
+/// `Fault`: the device failed, and nothing is said of the objects.
 pub fn invoke<F: PresentFrames>(
     store: &mut F,
     banks: &mut Banks,
@@ -58,8 +57,8 @@ pub fn invoke<F: PresentFrames>(
     ensures code { IfOk result
         (λ code. code ≡ code_with (F.parts store.old).geometry (objects_in (F.parts store.old)) invocation.now Done) }
     ensures later { age.old ≤ age.new }
-    ensures counted { AreCounted (F.parts store.new).geometry
-        (objects_in (F.parts store.new)) banks.new }
+    ensures counted { (F.parts store.new).failures ≡ (F.parts store.old).failures
+        → AreCounted (F.parts store.new).geometry (objects_in (F.parts store.new)) banks.new }
     ensures continues { F.ContinuesTo store.old store.new }
 {
     if is_worn(*age) {

@@ -13,8 +13,8 @@ use model::{Answer, Refusal};
 /// Reads the word at an address in the address space of a process. The age stays.
 ///
 /// The answer is `Value`, or `MemoryFault` where the walk stops. It is refused by the first that
-/// applies of `NoProcess` and `NotRunning`. `Fault` exactly if the device failed. Nothing is changed,
-/// and at `NoProcess` the store isn't touched.
+/// applies of `NoProcess` and `NotRunning`, and nothing is changed; at `NoProcess` the store isn't
+/// touched. `Fault` exactly if the device failed; nothing is said of the objects then.
 pub fn load<F: Frames>(store: &mut F, process: u64, address: u64) -> Result<Answer, Refusal>
     requires { (age : ℕ) × IsSoundFrames (F.parts store.old).geometry age (frames_of (F.parts store.old)) }
     ensures serves { (age : ℕ) → IsSoundFrames (F.parts store.old).geometry age (frames_of (F.parts store.old))
@@ -36,9 +36,8 @@ pub fn load<F: Frames>(store: &mut F, process: u64, address: u64) -> Result<Answ
 ///
 /// The answer is `Done`, or `MemoryFault` if the walk stops or the page is read-only; a memory fault
 /// precedes `LogFull`. A refusal changes nothing: the first that applies of `NoProcess` (the store is
-/// untouched), `NotRunning` and `LogFull`. `Fault` exactly if the device failed. The counts of
-/// `Banks` stay right.
-#[tactic(auto, using(gate::proofs::BankStates::counted_looked))]
+/// untouched), `NotRunning` and `LogFull`. The counts of `Banks` stay right. `Fault` exactly if the
+/// device failed; nothing is said of the objects then.
 pub fn store<F: PresentFrames>(
     store: &mut F,
     process: u64,
@@ -51,10 +50,10 @@ pub fn store<F: PresentFrames>(
         (F.parts store.new) }
     ensures untouched { MakesNoDeviceCall (answer_of result) → store.new ≡ store.old }
     ensures no_fault { IfOk result (λ answer. answer ≢ Answer.Refused Refusal.Fault) }
-    ensures counted { (banks : BanksState) → AreCounted (F.parts store.old).geometry
-        (objects_in (F.parts store.old)) banks
-        → AreCounted (F.parts store.new).geometry
-        (objects_in (F.parts store.new)) banks }
+    ensures counted { (banks : BanksState)
+        → AreCounted (F.parts store.old).geometry (objects_in (F.parts store.old)) banks
+        → (F.parts store.new).failures ≡ (F.parts store.old).failures
+        → AreCounted (F.parts store.new).geometry (objects_in (F.parts store.new)) banks }
     ensures continues { F.ContinuesTo store.old store.new }
 {
     if let Some(why) = early(store, process)? {

@@ -9,7 +9,7 @@ ghost use Rattle.object_cache.specs.Memory.{masked};
 ghost use Rattle.checkpoint.specs.Saved.{most};
 ghost use Rattle.object_cache.specs.StoreState.{GoesOnIn, IsFetchedIn, cached_at, with_cached, AreKeepableIn};
 ghost use Rattle.object_cache.specs.StoreState.{IsWithinLog};
-ghost use Rattle.object_cache.specs.Prepared.{UsesSome, on_device_with};
+ghost use Rattle.object_cache.specs.Prepared.{on_device_with};
 
 use crate::cache::Cache;
 use crate::frozen::mask;
@@ -64,8 +64,6 @@ impl<D: Device> Cache<D> {
         requires empty { self.old.staging ≡ None }
         requires keepable { AreKeepableIn D.disk self.old }
         ensures order { OnOk result (self.new.order ≡ take self.old.capacity (number ∷ self.old.order)) }
-        ensures stopped { OnErr result ((j : ℕ) × (self.old.capacity ≤ j + 1)
-            × (self.new.order ≡ take j self.old.order)) }
         ensures rest { self.new ≡ on_device_with self.old self.new }
         ensures empty { self.new.staging ≡ None }
         ensures continues { GoesOnIn D.disk self.old self.new }
@@ -82,8 +80,6 @@ impl<D: Device> Cache<D> {
         requires keepable { AreKeepableIn D.disk self.old }
         ensures order { OnOk result (self.new.order
             ≡ take self.old.capacity (number ∷ without number self.old.order)) }
-        ensures stopped { OnErr result ((j : ℕ) × (self.old.capacity ≤ j + 1)
-            × (self.new.order ≡ take j self.old.order)) }
         ensures rest { self.new ≡ on_device_with self.old self.new }
         ensures empty { self.new.staging ≡ None }
         ensures continues { GoesOnIn D.disk self.old self.new }
@@ -119,7 +115,6 @@ impl<D: Device> Cache<D> {
         requires keepable { AreKeepableIn D.disk self.old }
         ensures order { OnOk result (self.new.order
             ≡ take self.old.capacity (used_in_turn fetched.now self.old.order)) }
-        ensures stopped { OnErr result (UsesSome self.old.capacity fetched.now self.old.order self.new.order) }
         ensures rest { self.new ≡ on_device_with self.old self.new }
         ensures continues { GoesOnIn D.disk self.old self.new }
         ensures cause { Counts (D.disk self.old.durable.beneath) (D.disk self.new.durable.beneath) result }
@@ -132,7 +127,7 @@ impl<D: Device> Cache<D> {
     }
 
     /// Brings the bodies of up to 8 objects into memory, in turn, and evicts those used longest ago for which there is
-    /// no room. Fails exactly if the device fails; then some of them were fetched.
+    /// no room. Fails exactly if the device fails.
     pub fn fetch(&mut self, fetched: &[u64]) -> Result<(), Failed>
         requires few { length fetched.now ≤ MAX_FETCHED }
         requires known { All (λ n. n < length self.old.headers) fetched.now }
@@ -141,7 +136,6 @@ impl<D: Device> Cache<D> {
         ensures within { IsWithinLog D.disk self.old }
         ensures order { OnOk result (self.new.order
             ≡ take self.old.capacity (used_in_turn fetched.now self.old.order)) }
-        ensures stopped { OnErr result (UsesSome self.old.capacity fetched.now self.old.order self.new.order) }
         ensures rest { self.new ≡ on_device_with self.old self.new }
         ensures continues { GoesOnIn D.disk self.old self.new }
         ensures cause { Counts (D.disk self.old.durable.beneath) (D.disk self.new.durable.beneath) result }

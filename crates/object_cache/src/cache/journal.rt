@@ -188,7 +188,7 @@ impl<D: Device> Cache<D> {
     pub fn journal(&mut self, number: u64, age: u64) -> Result<u64, Refusal>
         requires keepable { AreKeepable (parts_of D.disk self.old).geometry u64.MAX
             (frames_of (parts_of D.disk self.old)) }
-        requires sound { (view_of D.disk self.old).is_sound }
+        requires usable { (view_of D.disk self.old).usable }
         requires later { (view_of D.disk self.old).snapshots.saved.age < age }
         requires most { age ≤ 2 ^ 62 }
         ensures answer { IsJournalAnswer (D.disk self.old.durable.beneath) (D.disk self.new.durable.beneath)
@@ -202,7 +202,7 @@ impl<D: Device> Cache<D> {
         ensures snapshots { OnOk result ((view_of D.disk self.new).snapshots ≡ journaled age number
             (words_now (parts_of D.disk self.old) number) (view_of D.disk self.old).snapshots) }
         ensures unchanged { OnErr result ((view_of D.disk self.new).snapshots ≡ (view_of D.disk self.old).snapshots) }
-        ensures sound { IsErrOf result Refusal.Fault ⊎ (view_of D.disk self.new).is_sound }
+        ensures usable { IsErrOf result Refusal.Fault ⊎ (view_of D.disk self.new).usable }
         ensures size { (D.disk self.new.durable.beneath).sectors ≡ (D.disk self.old.durable.beneath).sectors }
         ensures any_moment { LeavesOneOf (D.disk self.old.durable.beneath) (D.disk self.new.durable.beneath)
             (view_of D.disk self.old).snapshots.saved (next_journaled age number

@@ -7,7 +7,7 @@ ghost use Rattle.migrator.specs.Durable.{stored_of};
 ghost use Rattle.object_cache.specs.Memory.{Shared};
 ghost use Rattle.object_cache.specs.StoreState.{GoesOnIn, IsAnnouncedIn, IsFetchedIn, frozen_state_at, AreKeepableIn};
 ghost use Rattle.object_cache.specs.StoreState.{IsWithinLog};
-ghost use Rattle.object_cache.specs.Prepared.{UsesSome, on_device_with, readied};
+ghost use Rattle.object_cache.specs.Prepared.{on_device_with, readied};
 ghost use Rattle.cache_entries.specs.Order.{used_in_turn};
 
 use crate::cache::Cache;
@@ -132,7 +132,6 @@ impl<D: Device> Cache<D> {
         ensures before { IsWithinLog D.disk self.old }
         ensures order { OnOk result (self.new.order
             ≡ take self.old.capacity (used_in_turn fetched.now self.old.order)) }
-        ensures stopped { OnErr result (UsesSome self.old.capacity fetched.now self.old.order self.new.order) }
         ensures rest { self.new ≡ record (on_device_with self.old self.new) { touched = self.new.touched } }
         ensures refusals { IfErr result IsUnprepared }
         ensures full { IsErrOf result Refusal.LogFull

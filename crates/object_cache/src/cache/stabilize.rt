@@ -96,8 +96,9 @@ impl<D: Device> Cache<D> {
     /// eviction wrote before its turn is counted until its turn.
     ///
     /// It is refused by `NoCheckpoint` exactly if none is frozen, and then changes nothing. It returns `Fault` exactly
-    /// if the device failed; then `left` fell by at most `count`. It takes no memory.
+    /// if the device failed. It takes no memory.
     pub fn stabilize(&mut self, count: u64) -> Result<u64, Refusal>
+        requires usable { (view_of D.disk self.old).usable }
         ensures answer { IsStabilizeAnswer (D.disk self.old.durable.beneath) (D.disk self.new.durable.beneath)
             (left_in whole (view_of D.disk self.old).snapshots) count result }
         ensures unchanged { IsRefused result → self.new ≡ self.old }
@@ -106,13 +107,9 @@ impl<D: Device> Cache<D> {
         ensures snapshots { (f : FrozenFrames) → (view_of D.disk self.old).snapshots.frozen ≡ Some f
             → OnOk result ((view_of D.disk self.new).snapshots
             ≡ stabilized count f (view_of D.disk self.old).snapshots) }
-        ensures stopped { (f : FrozenFrames) → (view_of D.disk self.old).snapshots.frozen ≡ Some f
-            → OnErr result ((k : ℕ) × (k ≤ count)
-            × ((view_of D.disk self.new).snapshots ≡ stabilized k f (view_of D.disk self.old).snapshots)) }
-        ensures sound { (view_of D.disk self.old).is_sound → (view_of D.disk self.new).is_sound }
+        ensures usable { OnOk result ((view_of D.disk self.new).usable) }
         ensures size { (D.disk self.new.durable.beneath).sectors ≡ (D.disk self.old.durable.beneath).sectors }
-        ensures any_moment { (view_of D.disk self.old).is_sound
-            → LeavesSaved (D.disk self.old.durable.beneath) (D.disk self.new.durable.beneath)
+        ensures any_moment { LeavesSaved (D.disk self.old.durable.beneath) (D.disk self.new.durable.beneath)
             (view_of D.disk self.old).snapshots.saved }
     {
         let Some(left) = self.left() else {

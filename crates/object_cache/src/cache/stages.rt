@@ -139,7 +139,7 @@ impl<D: Device> Cache<D> {
     /// none is frozen, else by `NotStable(left)` exactly if `stabilize` has yet to reach `left` of its objects. A
     /// refusal changes nothing.
     pub fn commit(&mut self, age: u64) -> Result<u64, Refusal>
-        requires sound { (view_of D.disk self.old).is_sound }
+        requires usable { (view_of D.disk self.old).usable }
         requires ready { (f : FrozenFrames) → (view_of D.disk self.old).snapshots.frozen ≡ Some f
             → MayCommit whole age f (view_of D.disk self.old).snapshots.saved }
         ensures answer { IsCommitAnswer (D.disk self.old.durable.beneath) (D.disk self.new.durable.beneath)
@@ -151,7 +151,7 @@ impl<D: Device> Cache<D> {
         ensures snapshots { (f : FrozenFrames) → (view_of D.disk self.old).snapshots.frozen ≡ Some f
             → OnOk result ((view_of D.disk self.new).snapshots
             ≡ committed whole age f (view_of D.disk self.old).snapshots) }
-        ensures sound { OnOk result ((view_of D.disk self.new).is_sound) }
+        ensures usable { OnOk result ((view_of D.disk self.new).usable) }
         ensures size { (D.disk self.new.durable.beneath).sectors ≡ (D.disk self.old.durable.beneath).sectors }
         ensures any_moment { (f : FrozenFrames) → (view_of D.disk self.old).snapshots.frozen ≡ Some f → f.left ≡ 0
             → LeavesEither (D.disk self.old.durable.beneath) (D.disk self.new.durable.beneath)
@@ -173,6 +173,7 @@ impl<D: Device> Cache<D> {
     /// device. It is refused by `CheckpointRunning` exactly if one is frozen, else by `MigrationPending` exactly if a
     /// saved frame isn't home. A refusal changes nothing.
     pub fn freeze(&mut self) -> Result<u64, Refusal>
+        requires usable { (view_of D.disk self.old).usable }
         requires keepable { AreKeepableIn D.disk self.old }
         ensures answer { IsFreezeAnswer (left_in whole (view_of D.disk self.old).snapshots)
             (view_of D.disk self.old).snapshots.saved.entries result }
@@ -189,7 +190,7 @@ impl<D: Device> Cache<D> {
             (view_of D.disk self.old).snapshots) }
         ensures saved { (view_of D.disk self.new).snapshots.saved ≡ (view_of D.disk self.old).snapshots.saved }
         ensures beneath { self.new.durable.beneath ≡ self.old.durable.beneath }
-        ensures sound { (view_of D.disk self.old).is_sound → (view_of D.disk self.new).is_sound }
+        ensures usable { OnOk result ((view_of D.disk self.new).usable) }
     {
         let size = self.touched_count;
         self.durable.freeze(size)?;
@@ -208,13 +209,13 @@ impl<D: Device> Cache<D> {
     /// Copies `count` of the saved frames home, and returns how many are left. If all are home already, it makes no
     /// call of the device.
     pub fn migrate(&mut self, count: u64) -> Result<u64, Failed>
-        requires sound { (view_of D.disk self.old).is_sound }
+        requires usable { (view_of D.disk self.old).usable }
         ensures rest { self.new ≡ record self.old { durable = self.new.durable } }
         ensures left { IfOk result (λ n. n ≡ (view_of D.disk self.old).snapshots.to_move - count) }
         ensures snapshots { OnOk result ((view_of D.disk self.new).snapshots
             ≡ moved count (view_of D.disk self.old).snapshots) }
         ensures untouched { (view_of D.disk self.old).snapshots.saved.entries ≡ 0 → self.new ≡ self.old }
-        ensures sound { OnOk result ((view_of D.disk self.new).is_sound) }
+        ensures usable { OnOk result ((view_of D.disk self.new).usable) }
         ensures geometry { (stored_of D.disk self.new.durable).saved.geometry
             ≡ (stored_of D.disk self.old.durable).saved.geometry }
         ensures size { (D.disk self.new.durable.beneath).sectors ≡ (D.disk self.old.durable.beneath).sectors }

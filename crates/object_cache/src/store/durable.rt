@@ -1,6 +1,6 @@
 // A store of objects over a device.
-ghost use Rattle.std.specs.Prelude.{◌≡◌, ◌<◌, true, false, length, IfOk, IfErr, OnOk, OnErr};
-ghost use Rattle.capability.specs.Parts.{frames_of};
+ghost use Rattle.std.specs.Prelude.{◌≡◌, ◌<◌, true, false, length, IfOk, IfErr, OnOk};
+ghost use Rattle.capability.specs.Parts.{AreSameUnlessFailed, frames_of};
 ghost use Rattle.checkpoint.specs.Opened.{Refuses};
 ghost use Rattle.checkpoint.specs.Saved.{most};
 ghost use Rattle.device.specs.Calls.{Counts};
@@ -77,7 +77,7 @@ impl<D: Device, P: Policy> ObjectStore<D> for Store<D, P> {
     }
 
     /// Removes an object's entry, unless the policy keeps every body. First writes what the log lacks of it. `Ok` also
-    /// if it has no entry. Fails exactly if the device fails; the entry then stays.
+    /// if it has no entry. Fails exactly if the device fails.
     fn evict(&mut self, number: u64) -> Result<(), Failed>
         requires known { number < length self.old.headers }
         requires keepable { AreKeepable (parts_of D.disk self.old).geometry most
@@ -90,8 +90,8 @@ impl<D: Device, P: Policy> ObjectStore<D> for Store<D, P> {
         ensures away { OnOk result (P.KEEPS_ALL ≡ false → cached_at self.old.cached number ≡ true
             → self.new ≡ without_cached number (on_device self.old self.new)) }
         ensures none { cached_at self.old.cached number ≡ false → self.new ≡ self.old }
-        ensures stays { OnErr result (self.new ≡ on_device self.old self.new) }
         ensures all { P.KEEPS_ALL ≡ true → self.new ≡ self.old }
+        ensures same { AreSameUnlessFailed (parts_of D.disk self.old) (parts_of D.disk self.new) }
         ensures continues { ContinuesIn P.KEEPS_ALL D.disk self.old self.new }
         ensures cause { Counts (D.disk self.old.durable.beneath) (D.disk self.new.durable.beneath) result }
     {

@@ -1,12 +1,9 @@
 // The objects of a store as they are now.
-ghost use Rattle.std.specs.Prelude.{◌≡◌, ◌↔◌, ◌<◌, ◌≤◌, ℕ, true, false, length, take, IfErr, OnOk, OnErr, IsErr};
-ghost use Rattle.std.specs.Prelude.{IsErrOf};
+ghost use Rattle.std.specs.Prelude.{◌≡◌, ◌↔◌, ◌<◌, ◌≤◌, ℕ, true, false, length, take, OnOk, IsErr};
 ghost use Rattle.std.specs.List.{All, Contains};
 ghost use Rattle.cache_entries.specs.Order.{used_in_turn};
-ghost use Rattle.capability.specs.Parts.{IsUnprepared, OnlyFetches, frames_of};
+ghost use Rattle.capability.specs.Parts.{OnlyFetches, Prepares, frames_of};
 ghost use Rattle.model.specs.Keepable.{AreKeepable};
-ghost use Rattle.model.specs.Machine.{touched_count, touching};
-ghost use Rattle.object_cache.specs.Prepared.{UsesSome};
 ghost use Rattle.object_cache.specs.StoreState.{ContinuesIn, IsAnnouncedIn, IsFetchedIn, parts_of};
 
 use crate::policy::Policy;
@@ -40,11 +37,10 @@ impl<D: Device, P: Policy> Frames for Store<D, P> {
         ensures fetched { OnOk result ((n : ℕ) → Contains numbers.now n → IsFetchedIn self.new n) }
         ensures order { P.KEEPS_ALL ≡ false → OnOk result (self.new.order
             ≡ take self.old.capacity (used_in_turn numbers.now self.old.order)) }
-        ensures stopped { OnErr result (UsesSome self.old.capacity numbers.now self.old.order self.new.order) }
         ensures all { P.KEEPS_ALL ≡ true → self.new ≡ self.old }
+        ensures same { OnOk result (parts_of D.disk self.new ≡ parts_of D.disk self.old) }
         ensures cause { IsErr result
             ↔ ((parts_of D.disk self.old).failures < (parts_of D.disk self.new).failures) }
-        ensures later { (parts_of D.disk self.old).failures ≤ (parts_of D.disk self.new).failures }
         ensures snapshots { OnlyFetches (parts_of D.disk) (ContinuesIn P.KEEPS_ALL D.disk) self.old self.new }
     {
         // Proof only: brings in the invariant.
@@ -85,22 +81,8 @@ impl<D: Device, P: Policy> PresentFrames for Store<D, P> {
         ensures announced { OnOk result ((n : ℕ) → Contains written.now n → IsAnnouncedIn self.new n) }
         ensures order { P.KEEPS_ALL ≡ false → OnOk result (self.new.order
             ≡ take self.old.capacity (used_in_turn fetched.now self.old.order)) }
-        ensures stopped { OnErr result (UsesSome self.old.capacity fetched.now self.old.order self.new.order) }
         ensures all { P.KEEPS_ALL ≡ true → self.new.order ≡ self.old.order }
-        ensures touched { OnOk result (self.new.touched ≡ touching self.old.touched written.now) }
-        ensures within { touched_count self.new.touched ≤ (parts_of D.disk self.new).geometry.log }
-        ensures before { touched_count self.old.touched ≤ (parts_of D.disk self.old).geometry.log }
-        ensures headers { self.new.headers ≡ self.old.headers }
-        ensures contents { self.new.contents ≡ self.old.contents }
-        ensures geometry { (parts_of D.disk self.new).geometry ≡ (parts_of D.disk self.old).geometry }
-        ensures untouched { OnErr result (self.new.touched ≡ self.old.touched) }
-        ensures refusals { IfErr result IsUnprepared }
-        ensures full { IsErrOf result Refusal.LogFull → (parts_of D.disk self.old).geometry.log
-            < touched_count (touching self.old.touched written.now) }
-        ensures cause { IsErrOf result Refusal.Fault
-            ↔ ((parts_of D.disk self.old).failures < (parts_of D.disk self.new).failures) }
-        ensures later { (parts_of D.disk self.old).failures ≤ (parts_of D.disk self.new).failures }
-        ensures continues { ContinuesIn P.KEEPS_ALL D.disk self.old self.new }
+        ensures prepares { Prepares (parts_of D.disk) (ContinuesIn P.KEEPS_ALL D.disk) self.old self.new written.now result }
     {
         if P::KEEPS_ALL {
             return self.cache.make_writable(written);

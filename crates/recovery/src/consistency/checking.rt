@@ -49,8 +49,8 @@ pub fn check<F: Frames>(alloc: Global, store: &mut F, age: u64) -> Result<(), Op
         (frames_of (F.parts store.old))) }
     ensures inconsistent { (why : BadImage) → IsErrOf result (OpenFault.Bad why)
         → IsInconsistent (frames_of (F.parts store.old)) why }
+    ensures same { OnOk result (F.parts store.new ≡ F.parts store.old) }
     ensures snapshots { OnlyFetches F.parts F.ContinuesTo store.old store.new }
-    ensures later { (F.parts store.old).failures ≤ (F.parts store.new).failures }
     ensures cause { IsErrOf result OpenFault.Failed
         ↔ ((F.parts store.old).failures < (F.parts store.new).failures) }
 {

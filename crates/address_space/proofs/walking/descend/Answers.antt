@@ -1,7 +1,7 @@
 use Rattle.address_space.proofs.Names.{nat_tests, sym, subst, arith, List, Object, MayBeHeld, Space, objects_in}
 use Rattle.std.proofs.Common.{◌∙◌}
 use Rattle.address_space.proofs.Paths.{goes_on, union_access, at_early_page, at_hole, at_other, at_other_tree, at_page}
-use Rattle.address_space.proofs.Known.{fetches_on, read_there, same_objects}
+use Rattle.address_space.proofs.Known.{read_there, same_objects}
 use Rattle.address_space.proofs.walking.descend.Goals as goal
 
 pub returns-in-Void-clause-reached : goal.returns-in-Void-clause-reached
@@ -34,10 +34,9 @@ loop-object-preserved g c =
     let looked = c.in_ok-next_slot.ensures.fetches in
     let held = subst (λ (us : List Object). MayBeHeld us (Space c.in-Space.object c.in-Space.height c.in-Space.access)) (same_objects so_far)
     (subst (MayBeHeld (objects_in (g.F.Frames.parts c.loop-object.frames))) c.in-Space.is c.in_ok-next_slot.ensures.held) in
-    let further = fetches_on so_far g.met.F.Frames.continues_twice c.in_ok-next_slot.field-0 c.in_ok-next_slot.field-0 looked in
     rw (c.at-at.ensures, c.union-in-Space.ensures) (record {
-      snapshots = further.snapshots;
-      failures = grind (arith, nat_tests, further.later, further.cause);
+      same = looked.same ∙ so_far.same;
+      continues = g.met.F.Frames.continues_twice _ _ _ so_far.continues looked.snapshots.continues;
       held = ((held.0.0, held.0.1, union_access at.access c.in-Space.access so_far.held.0.2 held.0.2), held.1);
       way = so_far.way ∙ goes_on old c.requires.sound.1.sound.slots at.node at.height c.args.index at.access c.in_ok-next_slot.field-0 so_far.held.0.0
           (read_there so_far _ _ c.in_ok-next_slot.ensures.slot)

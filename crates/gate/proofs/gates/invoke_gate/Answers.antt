@@ -1,5 +1,5 @@
 use Rattle.gate.proofs.Names.{ℕ, true, List, None, sym, ap, subst, All, slice_index, err_from_is_err_and, Capability, can_start, IsNoBankOrder, is_process}
-use Rattle.gate.proofs.Names.{objects_in, entered, length, received, written_through, FitsCap, Parts, process_known, AreSound, fetched_same}
+use Rattle.gate.proofs.Names.{objects_in, entered, length, received, written_through, FitsCap, Parts, process_known, AreSound}
 use Rattle.std.proofs.Common.{◌≡◌, ◌<◌, ◌||◌, ◌∙◌}
 use Rattle.gate.proofs.Effects.{effect_through, gate_code, gate_invoked, gate_process, gate_stalled, received_fits, carried_out, found_stalled, unannounced}
 use Rattle.gate.proofs.Standing.{announced_same, running_process, gate_no_bank, renews_invoked, annex_there, requested_annex, calls_below, few_objects}
@@ -20,14 +20,14 @@ fetch_process-requires-clause-annex g c =
 
 pub can_enter-requires-clause-process : goal.can_enter-requires-clause-process
 can_enter-requires-clause-process g c =
-    subst (λ (p : Parts). is_process (objects_in p) c.args.gate.process ≡ true) (sym (fetched_same c.in_ok-annex.ensures.fetches))
+    subst (λ (p : Parts). is_process (objects_in p) c.args.gate.process ≡ true) (sym c.in_ok-annex.ensures.fetches.same)
     (gate_process (g.F.Frames.parts c.args.store.now) c.requires.sound c.args.gate c.requires.requested c.requires.gate)
 
 pub announce_gate-requires : goal.announce_gate-requires
 announce_gate-requires g c =
     let old = g.F.Frames.parts c.args.store.now in
     let now = g.F.Frames.parts c.fetch_process.new.store in
-    let same : old ≡ now = sym (fetched_same c.in_ok-annex.ensures.fetches) in
+    let same : old ≡ now = sym c.in_ok-annex.ensures.fetches.same in
     let process = gate_process old c.requires.sound c.args.gate c.requires.requested c.requires.gate in
     let i = c.args.invocation.now in
     let there : (n : ℕ) → n < length old.headers → n < length now.headers = λ n known. subst (λ (p : Parts). n < length p.headers) same known in
@@ -65,7 +65,7 @@ returns-then-not-can_enter g c =
     found_stalled i g.met.F.Frames.continues_twice c.fetch_process.new.store c.in_ok-annex.ensures.fetches
     (gate_stalled old.geometry (objects_in old) i c.args.caller c.args.gate c.requires.requested c.requires.gate
     (sym (c.if-not-can_enter.ensures ∙ ap (λ (p : Parts). c.args.gate.is_resume || can_start (objects_in p) i c.args.gate.process)
-    (fetched_same c.in_ok-annex.ensures.fetches))))
+    c.in_ok-annex.ensures.fetches.same)))
 
 pub returns-in_err-announce_gate : goal.returns-in_err-announce_gate
 returns-in_err-announce_gate g c =
@@ -73,7 +73,7 @@ returns-in_err-announce_gate g c =
     let i = c.args.invocation.now in
     let os = objects_in old in
     let can = sym (c.if-not-can_enter.ensures ∙ ap (λ (p : Parts). c.args.gate.is_resume || can_start (objects_in p) i c.args.gate.process)
-    (fetched_same c.in_ok-annex.ensures.fetches)) in
+    c.in_ok-annex.ensures.fetches.same) in
     let p = err_from_is_err_and c.from_residual-in_err-announce_gate.result c.from_residual-in_err-announce_gate.ensures.1 in
     rw (p.1, p.2) (unannounced i g.met.F.Frames.continues_twice c.announce_gate.new.store c.in_ok-annex.ensures.fetches
     _ (effect_through os i c.args.gate) (gate_invoked old.geometry os i c.args.caller c.args.gate c.requires.requested c.requires.gate c.requires.key can)
@@ -87,7 +87,7 @@ returns g c =
     let i = c.args.invocation.now in
     let os = objects_in old in
     let can = sym (c.if-not-can_enter.ensures ∙ ap (λ (p : Parts). c.args.gate.is_resume || can_start (objects_in p) i c.args.gate.process)
-    (fetched_same c.in_ok-annex.ensures.fetches)) in
+    c.in_ok-annex.ensures.fetches.same) in
     let invoked = gate_invoked old.geometry os i c.args.caller c.args.gate c.requires.requested c.requires.gate c.requires.key can in
     let effect = effect_through os i c.args.gate in
     let snapshots = c.enter.ensures.snapshots in

@@ -1,4 +1,4 @@
-use Rattle.gate.proofs.Names.{rules, fetched_same}
+use Rattle.gate.proofs.Names.{rules}
 use Rattle.gate.proofs.BankStates.{counted_after}
 use Rattle.gate.proofs.Effects.{invoked_looked}
 use Rattle.gate.proofs.Standing.{gate_no_bank, keepable_most, requested_by}
@@ -8,7 +8,7 @@ pub fetch_process-requires-clause-keepable : goal.fetch_process-requires-clause-
 fetch_process-requires-clause-keepable g c = keepable_most (g.F.Frames.parts c.args.store.now) c.requires.sound
 
 pub returns-in-Some-clause-counted : goal.returns-in-Some-clause-counted
-returns-in-Some-clause-counted g c = search (rules, fetched_same, counted_after, gate_no_bank)
+returns-in-Some-clause-counted g c = search (rules, counted_after, gate_no_bank)
 
 pub returns-in-Some-clause-invoked : goal.returns-in-Some-clause-invoked
 returns-in-Some-clause-invoked g c =
@@ -21,7 +21,7 @@ returns-in-None-clause-invoked g c =
     c.invoke_order.ensures.invoked
 
 pub invoke_gate-requires-clause-requested : goal.invoke_gate-requires-clause-requested
-invoke_gate-requires-clause-requested g c = search (rules, requested_by, fetched_same)
+invoke_gate-requires-clause-requested g c = search (rules, requested_by)
 
 pub invoke_order-requires-clause-requested : goal.invoke_order-requires-clause-requested
-invoke_order-requires-clause-requested g c = search (rules, requested_by, fetched_same)
+invoke_order-requires-clause-requested g c = search (rules, requested_by)

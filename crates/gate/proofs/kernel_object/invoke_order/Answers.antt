@@ -1,6 +1,6 @@
 use Rattle.gate.proofs.Names.{ℕ, List, Some, drop, length, sym, ap, subst, IsTrue, All, err_from_is_err_and, annex_at, on_kernel_object, is_running_process}
 use Rattle.gate.proofs.Names.{IsNow, objects_in, process_known, writer_count, IsPlanned, finished, ordered_by, FitsCap, counted_listed, AreCounted, AreSound}
-use Rattle.gate.proofs.Names.{Parts, Renews, fetched_same}
+use Rattle.gate.proofs.Names.{Parts, Renews}
 use Rattle.std.proofs.Common.{◌≡◌, ◌<◌, ◌∙◌}
 use Rattle.gate.proofs.Effects.{fetched_known, listed_known, object_invoked, order_after, order_code, order_fits, order_objects, order_written, carried_out}
 use Rattle.gate.proofs.Effects.{unannounced}
@@ -11,7 +11,7 @@ pub announce_order-requires : goal.announce_order-requires
 announce_order-requires g c =
     let old = g.F.Frames.parts c.args.store.now in
     let now = g.F.Frames.parts c.plan_order.new.store in
-    let same : old ≡ now = sym (fetched_same c.in_ok-plan.ensures.fetches) in
+    let same : old ≡ now = sym c.in_ok-plan.ensures.fetches.same in
     let os = objects_in old in
     let i = c.args.invocation.now in
     let caller = c.args.caller in

@@ -1,20 +1,20 @@
-use Rattle.image_describer.proofs.Names.{AreSound, Parts, objects_in, on_ok_weaker, subst, sym, TellAll, TellsNode, TellsPage, TellsProcess, read_same}
+use Rattle.image_describer.proofs.Names.{AreSound, Parts, objects_in, on_ok_weaker, subst, sym, TellAll, TellsNode, TellsPage, TellsProcess}
 use Rattle.std.proofs.Common.{◌∙◌}
 use Rattle.model.specs.declared.object.Role.TheVariants as role
 use Rattle.image_describer.proofs.ReadOnly.{read_failed, reads_after}
 use Rattle.image_describer.proofs.describing.tell_objects.Goals as goal
 
 pub tell_all-requires-2-clause-sound : goal.tell_all-requires-2-clause-sound
-tell_all-requires-2-clause-sound g c = subst AreSound (sym (read_same c.in_ok-tell_all.ensures.only_reads)) c.requires.sound
+tell_all-requires-2-clause-sound g c = subst AreSound (sym c.in_ok-tell_all.ensures.only_reads.same) c.requires.sound
 
 pub tell_all-requires-3-clause-sound : goal.tell_all-requires-3-clause-sound
 tell_all-requires-3-clause-sound g c =
-    subst AreSound (sym (read_same c.in_ok-tell_all-2.ensures.only_reads ∙ read_same c.in_ok-tell_all.ensures.only_reads)) c.requires.sound
+    subst AreSound (sym (c.in_ok-tell_all-2.ensures.only_reads.same ∙ c.in_ok-tell_all.ensures.only_reads.same)) c.requires.sound
 
 pub tell_all-requires-4-clause-sound : goal.tell_all-requires-4-clause-sound
 tell_all-requires-4-clause-sound g c =
-    subst AreSound (sym (read_same c.in_ok-tell_all-3.ensures.only_reads ∙ read_same c.in_ok-tell_all-2.ensures.only_reads
-    ∙ read_same c.in_ok-tell_all.ensures.only_reads)) c.requires.sound
+    subst AreSound (sym (c.in_ok-tell_all-3.ensures.only_reads.same ∙ c.in_ok-tell_all-2.ensures.only_reads.same
+    ∙ c.in_ok-tell_all.ensures.only_reads.same)) c.requires.sound
 
 pub returns-in_err-tell_all-clause-only_reads : goal.returns-in_err-tell_all-clause-only_reads
 returns-in_err-tell_all-clause-only_reads g c = read_failed c.from_residual.result c.from_residual.ensures.1 c.in_err-tell_all.ensures.only_reads
@@ -38,9 +38,9 @@ returns-clause-only_reads g c =
 
 pub returns-clause-entry_of : goal.returns-clause-entry_of
 returns-clause-entry_of g c =
-    let one = read_same c.in_ok-tell_all.ensures.only_reads in
-    let two = read_same c.in_ok-tell_all-2.ensures.only_reads ∙ one in
-    let three = read_same c.in_ok-tell_all-3.ensures.only_reads ∙ two in
+    let one = c.in_ok-tell_all.ensures.only_reads.same in
+    let two = c.in_ok-tell_all-2.ensures.only_reads.same ∙ one in
+    let three = c.in_ok-tell_all-3.ensures.only_reads.same ∙ two in
     on_ok_weaker c.tell_all-4.result (λ last. record {
       banks = c.in_ok-tell_all.ensures.entry_of;
       processes = subst (λ (q : Parts). TellAll (λ p. p.root) (TellsProcess (objects_in q)) role.Root (objects_in q) c.tell_all-2.new.entries.items) one

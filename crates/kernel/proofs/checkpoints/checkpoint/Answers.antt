@@ -2,7 +2,7 @@ use Rattle.kernel.proofs.Names.{err_from_is_err_and, left_in, whole, ap, running
 use Rattle.model.specs.declared.answer.Refusal.TheVariants as refusal
 use Rattle.model.specs.declared.command.Command.TheVariants as command
 use Rattle.kernel.proofs.Acts.{begun, freeze_cause, freeze_looks, freeze_refused, refused}
-use Rattle.kernel.proofs.Stages.{frames_again, keepable_most, none_there, worn}
+use Rattle.kernel.proofs.Stages.{keepable_most, none_there, worn}
 use Rattle.kernel.proofs.checkpoints.checkpoint.Goals as goal
 
 pub returns-then-is_worn-clause-serves : goal.returns-then-is_worn-clause-serves
@@ -13,15 +13,17 @@ returns-then-is_worn-clause-serves g c =
 pub freeze-requires : goal.freeze-requires
 freeze-requires g c =
     let up = c.requires in
-    record { keepable = keepable_most up.0 (g.S.Frames.parts c.args.live.now.store) c.args.live.now.age up.1.sound.geometry up.1.sound.now }
+    record {
+      usable = up.1.store;
+      keepable = keepable_most up.0 (g.S.Frames.parts c.args.live.now.store) c.args.live.now.age up.1.sound.geometry up.1.sound.now;
+    }
 
 pub returns-clause-serves : goal.returns-clause-serves
 returns-clause-serves g c =
     let said = c.in_ok-size.ensures in
     begun _ _ _ g.met.D.Device.only_now g.met.S.ObjectStore.sound_holds c.args.live.now c.freeze.new.self c.in_ok-size.size
     (c.is_worn.ensures.young c.if-is_worn.false) (none_there (g.S.ObjectStore.view c.args.live.now.store).snapshots.frozen said.answer.0) said.answer.1
-    (frames_again (g.S.Frames.parts c.args.live.now.store) (g.S.Frames.parts c.freeze.new.self) said.headers said.contents)
-    said.touched said.geometry said.size said.snapshots said.beneath said.sound
+    said.same said.size said.snapshots said.beneath said.usable
 
 pub returns-in_err-size : goal.returns-in_err-size
 returns-in_err-size g c =

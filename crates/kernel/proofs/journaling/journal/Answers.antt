@@ -1,5 +1,6 @@
 use Rattle.kernel.proofs.Names.{err_from_is_err_and, left_in, whole, ap, length, nat_lt, is_page_now, is_still_saved}
-use Rattle.kernel.proofs.Journals.{journal_cause, journal_refused, journal_went, sound_done, too_old, unlooked_same}
+use Rattle.kernel.proofs.Acts.{unfailed}
+use Rattle.kernel.proofs.Journals.{journal_cause, journal_refused, journal_went, done_usable, too_old, unlooked_same}
 use Rattle.kernel.proofs.Stages.{keepable_most, none_there}
 use Rattle.kernel.proofs.journaling.journal.Goals as goal
 
@@ -17,11 +18,11 @@ returns-clause-serves g c =
     let snapshots = (g.S.ObjectStore.view c.args.live.now.store).snapshots in
     let said = c.in_ok-generation.ensures in
     let reported = said.answer in
+    let stayed = unfailed (g.met.S.ObjectStore.failures_are c.args.live.now.store) (g.met.S.ObjectStore.failures_are c.journal.new.self) reported.0 in
     journal_went _ _ _ g.met.D.Device.only_now g.met.S.ObjectStore.sound_holds c.args.live.now c.journal.new.self c.args.number
-    (c.is_worn.ensures.young c.if-is_worn.false) (record { headers = said.headers; contents = said.contents; touched = said.touched; geometry = said.geometry })
-    said.size (rw c.saved-age.ensures.age at said.any_moment) (none_there snapshots.frozen reported.1) reported.2 reported.3 reported.4
-    c.in_ok-generation.generation
-    reported.5 (rw c.saved-age.ensures.age at said.snapshots) (sound_done c.in_ok-generation.generation said.sound)
+    (c.is_worn.ensures.young c.if-is_worn.false) said.size (rw c.saved-age.ensures.age at said.any_moment) (none_there snapshots.frozen reported.1)
+    reported.2 reported.3 (said.same stayed) reported.4
+    c.in_ok-generation.generation reported.5 (rw c.saved-age.ensures.age at said.snapshots) (done_usable c.in_ok-generation.generation said.usable)
 
 pub returns-in_err-generation : goal.returns-in_err-generation
 returns-in_err-generation g c =
@@ -34,13 +35,10 @@ returns-in_err-generation g c =
     let said = c.in_err-generation.ensures in
     rw (failed.1, failed.2) (record {
       serves = journal_refused _ _ _ g.met.D.Device.only_now g.met.S.ObjectStore.sound_holds c.args.live.now c.journal.new.self n
-          (c.is_worn.ensures.young c.if-is_worn.false) _ (record {
-            headers = said.headers;
-            contents = said.contents;
-            touched = said.touched;
-            geometry = said.geometry;
-          })
-          said.size said.answer said.turned_away said.unchanged said.sound (rw c.saved-age.ensures.age at said.any_moment);
+          (c.is_worn.ensures.young c.if-is_worn.false) _
+          said.size said.answer said.turned_away said.refused
+          (λ stayed. said.same (unfailed (g.met.S.ObjectStore.failures_are c.args.live.now.store) (g.met.S.ObjectStore.failures_are c.journal.new.self) stayed))
+          said.usable (rw c.saved-age.ensures.age at said.any_moment);
       cause = journal_cause old new (left_in whole snapshots) snapshots.saved (nat_lt n (length p.headers)) (is_page_now p n)
           (is_still_saved p snapshots.saved n) _ said.answer;
       untouched = λ is. ap (λ s. (g.S.ObjectStore.view s).beneath) (unlooked_same old new (left_in whole snapshots) snapshots.saved

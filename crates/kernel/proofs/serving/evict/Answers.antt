@@ -1,5 +1,6 @@
 use Rattle.kernel.proofs.Names.{err_from_is_err_and, length, ap, arith}
-use Rattle.kernel.proofs.Acts.{bad_number, evict_failed, evicted}
+use Rattle.device.proofs.Moments.{counted_ok}
+use Rattle.kernel.proofs.Acts.{bad_number, evict_failed, evicted, unfailed}
 use Rattle.kernel.proofs.Stages.{keepable_most}
 use Rattle.kernel.proofs.serving.evict.Goals as goal
 
@@ -16,9 +17,11 @@ evict-requires-clause-keepable g c =
 pub returns-clause-serves : goal.returns-clause-serves
 returns-clause-serves g c =
     let said = c.in_ok-evict.ensures in
+    let before = g.met.S.ObjectStore.failures_are c.args.live.now.store in
+    let after = g.met.S.ObjectStore.failures_are c.evict.new.self in
     evicted _ _ _ g.met.D.Device.only_now g.met.S.ObjectStore.sound_holds c.args.live.now c.evict.new.self
     (g.met.S.ObjectStore.continues c.args.live.now.store c.evict.new.self said.continues)
-    (record { headers = said.headers; contents = said.contents; touched = said.touched; geometry = said.geometry }) c.args.number
+    before after (said.same (unfailed before after (counted_ok said.cause))) c.args.number
     (omega (arith, c.if-number-count.false, c.count.ensures, ap length c.table.ensures))
 
 pub returns-in_err-evict-clause-serves : goal.returns-in_err-evict-clause-serves

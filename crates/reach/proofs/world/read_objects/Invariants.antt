@@ -1,4 +1,4 @@
-use Rattle.reach.proofs.Names.{take, OnlyFetches, objects_in}
+use Rattle.reach.proofs.Names.{take, objects_in}
 use Rattle.std.proofs.Common.{◌≡◌}
 use Rattle.reach.proofs.world.read_objects.Given as goal
 
@@ -7,6 +7,6 @@ invariant-loop-number g l =
     let parts = g.F.Frames.parts in
     record {
       read : l.objects.items ≡ take l.number (objects_in (parts l.initial.store));
-      snapshots : OnlyFetches parts g.F.Frames.ContinuesTo l.initial.store l.store;
-      failures : (parts l.store).failures ≡ (parts l.initial.store).failures;
+      same : parts l.store ≡ parts l.initial.store;
+      continues : g.F.Frames.ContinuesTo l.initial.store l.store;
     }

@@ -1,5 +1,4 @@
 use Rattle.space_bank.proofs.Names.{arith}
-use Rattle.capability.proofs.SnapshotLaws.{fetched_same}
 use Rattle.std.proofs.Common.{◌∙◌}
 use Rattle.space_bank.proofs.Missing.{numbers_more}
 use Rattle.space_bank.proofs.counting.read_numbers.Goals as goal
@@ -14,6 +13,6 @@ loop-number-preserved g c =
           c.loop-number.kept.items c.push_reserved.new.self.items inv.same ok.kept inv.kept c.push_reserved.ensures.items;
       size = omega (arith, inv.size, c.push_reserved.ensures.len);
       room = omega (arith, inv.room, c.push_reserved.ensures.capacity);
-      same = fetched_same ok.fetches ∙ inv.same;
+      same = ok.fetches.same ∙ inv.same;
       continues = g.met.F.Frames.continues_twice c.args.store.now c.loop-number.store c.read_number.new.store inv.continues ok.fetches.snapshots.continues;
     }

@@ -1,5 +1,6 @@
 use Rattle.kernel.proofs.Names.{err_from_is_err_and, sym, keepable_roles}
 use Rattle.std.proofs.Common.{◌∙◌}
+use Rattle.kernel.proofs.Acts.{counted_still}
 use Rattle.kernel.proofs.Performing.{fault_serves, invoked_serves, no_process_serves}
 use Rattle.kernel.proofs.processes.invocation.invoke.Goals as goal
 
@@ -24,6 +25,9 @@ returns-in_err-code-clause-serves g c =
 pub returns-then-is_worn-clause-serves : goal.returns-then-is_worn-clause-serves
 returns-then-is_worn-clause-serves g c =
     c.refuse_worn.ensures.serves c.args.age.now c.requires.sound (c.is_worn.ensures.worn c.if-is_worn.true)
+
+pub returns-then-is_worn-clause-counted : goal.returns-then-is_worn-clause-counted
+returns-then-is_worn-clause-counted g c stayed = counted_still c.refuse_worn.ensures.snapshots.same c.requires.counted stayed
 
 pub is_process-requires : goal.is_process-requires
 is_process-requires g c = keepable_roles _ c.args.age.now _ c.requires.sound.keepable

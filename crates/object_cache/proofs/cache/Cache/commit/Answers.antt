@@ -10,7 +10,7 @@ commit-requires g c =
     let f = ready_of c.args.self.now.frozen (stored_of g.D.Device.disk c.args.self.now.durable).saved c.args.age c.in-Some.left
     (sym c.left.ensures ∙ c.in-Some.is) none c.requires.ready in
     record {
-      sound = subst (λ t. is_sound g.D.Device.disk t.durable) (sym c.self.view_is) c.requires.sound;
+      sound = subst (λ t. is_sound g.D.Device.disk t.durable) (sym c.self.view_is) c.requires.usable;
       ready = save_ready g.D.Device.disk c.self.view_is c.self.invariant f.0 f.1 f.2 c.args.age f.3;
     }
 
@@ -43,7 +43,7 @@ returns g c =
       rest = (next f.0 f.1).0.view;
       geometry = search rules;
       snapshots = λ h is. (next h is).1;
-      sound = search rules;
+      usable = search rules;
       size = search rules;
       any_moment = λ h is none_left.
           subst (λ x. LeavesEither (disk x.durable.beneath) (disk t.beneath) (stored_of disk s.durable).saved

@@ -25,7 +25,6 @@ returns-then-holds g c = record {
   none =
       let there = fetched_by g.D.Device.disk c.self.view_is c.self.invariant c.args.number c.requires.known (sym c.holds.ensures ∙ c.if-holds.true) in
       λ none. absurd (true≢false (sym there.cached ∙ none));
-  stays = c.write_and_evict.ensures.stays;
   continues = c.write_and_evict.ensures.continues;
   cause = c.write_and_evict.ensures.cause;
 }
@@ -38,7 +37,6 @@ returns g c =
       rest = search rules;
       away = λ some. absurd (true≢false (sym some ∙ none));
       none = search rules;
-      stays = search rules;
       continues = search rules;
       cause = search rules;
     }

@@ -1,6 +1,6 @@
-use Rattle.object_cache.proofs.Names.{on_err_weaker, on_ok_weaker, UsesSome, ap, arith, length, subst, take, used_in_turn, counts_on, goes_on_twice, ok_counts}
+use Rattle.object_cache.proofs.Names.{on_ok_weaker, ap, arith, length, take, used_in_turn, counts_on, goes_on_twice, ok_counts}
 use Rattle.std.proofs.Common.{◌∙◌}
-use Rattle.object_cache.proofs.Fetched.{same_front, some_then, used_then, all_fetched}
+use Rattle.object_cache.proofs.Fetched.{same_front, used_then, all_fetched}
 use Rattle.object_cache.proofs.Exits.{all_keepable, used_rest}
 use Rattle.object_cache.proofs.Fetched.{rest_on}
 use Rattle.object_cache.proofs.cache.Cache.fetch.Goals as goal
@@ -18,14 +18,6 @@ returns g c = record {
       on_ok_weaker c.read_all_in-read.result (λ is.
       used_then s.capacity first.0 c.args.fetched.now s.order t.order c.read_all_in-read.new.self.order first.1
       (is ∙ ap (λ x. take x.capacity (used_in_turn c.args.fetched.now t.order)) c.use_again.ensures.rest)) c.read_all_in-read.ensures.order;
-  stopped =
-      let s = c.args.self.now in
-      let t = c.use_again.new.self in
-      let u = c.read_all_in-read.new.self in
-      let first = c.use_again.ensures.prefix in
-      on_err_weaker c.read_all_in-read.result (λ some.
-      some_then s.capacity first.0 c.args.fetched.now s.order t.order u.order first.1
-      (subst (λ x. UsesSome x.capacity c.args.fetched.now t.order u.order) c.use_again.ensures.rest some)) c.read_all_in-read.ensures.stopped;
   within = c.use_again.ensures.within;
   rest =
       let s = c.args.self.now in
@@ -49,7 +41,6 @@ returns-then-use_again g c = record {
   rest = used_rest c.args.self.now c.use_again.new.self c.use_again.ensures.rest;
   continues = c.use_again.ensures.continues;
   cause = ok_counts (ap (λ t. (g.D.Device.disk t.durable.beneath).failures) c.use_again.ensures.rest);
-  stopped = tt;
 }
 
 pub read_all_in-read-requires-clause-bounded : goal.read_all_in-read-requires-clause-bounded

@@ -1,4 +1,4 @@
-use Rattle.object_cache.proofs.Names.{on_err_weaker, on_ok_weaker, sym, ap, subst, without, GoesOnIn, goes_on_same, arith, take, Counts, on_device_with}
+use Rattle.object_cache.proofs.Names.{on_ok_weaker, sym, ap, subst, without, GoesOnIn, goes_on_same, take, Counts, on_device_with}
 use Rattle.object_cache.proofs.Names.{ok_counts, AreKeepableIn}
 use Rattle.std.proofs.Common.{◌∷◌, ◌∙◌, ◌≡◌}
 use Rattle.object_cache.proofs.Fetched.{brought_order, used_order}
@@ -16,15 +16,6 @@ returns-then-use_now-clause-continues g c =
 pub returns-then-use_now-clause-order : goal.returns-then-use_now-clause-order
 returns-then-use_now-clause-order g c = rw (c.use_now.ensures.used c.if-use_now.true)
     (used_order c.args.self.now c.args.number c.use_now.ensures.bounded (c.use_now.ensures.fetched c.if-use_now.true))
-
-pub returns-clause-stopped : goal.returns-clause-stopped
-returns-clause-stopped g c =
-    let same = c.use_now.ensures.unchanged c.if-use_now.false in
-    on_err_weaker c.read_in.result (λ stop. (
-      stop.0,
-      omega (arith, stop.1, ap (λ t. t.capacity) same),
-      stop.2 ∙ ap (λ t. take stop.0 t.order) same,
-    )) c.read_in.ensures.stopped
 
 pub returns-clause-order : goal.returns-clause-order
 returns-clause-order g c =

@@ -28,5 +28,5 @@ returns-clause-snapshots g c =
     (freeze_snapshots g.D.Device.disk c.self.view_is c.self.invariant c.freeze.new.self c.in_ok-freeze.ensures.answer.0 c.in_ok-freeze.ensures.frozen
     c.take_written.new.frozen_headers c.take_written.ensures.count c.take_written.ensures.marked c.requires.keepable)
 
-pub returns-clause-sound : goal.returns-clause-sound
-returns-clause-sound g c = λ sound. c.freeze.ensures.sound (subst (λ t. is_sound g.D.Device.disk t.durable) (sym c.self.view_is) sound)
+pub returns-clause-usable : goal.returns-clause-usable
+returns-clause-usable g c = c.freeze.ensures.sound (subst (λ t. is_sound g.D.Device.disk t.durable) (sym c.self.view_is) c.requires.usable)

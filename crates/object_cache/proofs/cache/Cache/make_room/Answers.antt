@@ -46,7 +46,6 @@ returns-then-is_full g c =
       room = now.0;
       uncached = now.1;
       least = now.2;
-      stays = now.3;
       unchanged = λ less. absurd (omega (arith, full, less));
       rest = away_rest r c.args.self.now u c.in-Some.oldest away stays;
       empty = subst (λ t. t.staging ≡ None → u.staging ≡ None) seen said.empty;

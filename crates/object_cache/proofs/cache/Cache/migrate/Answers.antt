@@ -14,4 +14,4 @@ returns g c =
     search (rules, next.0.view, next.1)
 
 pub migrate-requires : goal.migrate-requires
-migrate-requires g c = record { sound = subst (λ t. is_sound g.D.Device.disk t.durable) (sym c.self.view_is) c.requires.sound }
+migrate-requires g c = record { sound = subst (λ t. is_sound g.D.Device.disk t.durable) (sym c.self.view_is) c.requires.usable }

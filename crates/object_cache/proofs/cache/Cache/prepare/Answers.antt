@@ -14,14 +14,6 @@ returns g c = record {
   within = c.make_writable.ensures.within;
   before = c.fetch.ensures.within;
   order = on_ok c.make_writable.result (ap (λ t. t.order) c.make_writable.ensures.rest ∙ c.in_ok-fetch.ensures.order);
-  stopped =
-      on_err c.make_writable.result (record {
-        used = c.args.fetched.now;
-        listed = λ n has. has;
-        count = c.args.self.now.capacity;
-        enough = omega arith;
-        order = ap (λ t. t.order) c.make_writable.ensures.rest ∙ c.in_ok-fetch.ensures.order;
-      });
   rest = prepared_on c.args.self.now c.fetch.new.self c.make_writable.new.self c.fetch.ensures.rest c.make_writable.ensures.rest;
   refusals = c.make_writable.ensures.refusals;
   full =
@@ -69,9 +61,6 @@ returns-in_err-fetch-clause-within g c =
     subst (λ k. touched_count c.fetch.new.self.touched ≤ k) (ap (λ a. a.saved.geometry.log) (sym c.fetch.ensures.continues.snapshots))
     (subst (λ t. touched_count t.touched ≤ (stored_of g.D.Device.disk c.args.self.now.durable).saved.geometry.log) (sym c.fetch.ensures.rest)
     c.fetch.ensures.within)
-
-pub returns-in_err-fetch-clause-stopped : goal.returns-in_err-fetch-clause-stopped
-returns-in_err-fetch-clause-stopped g c = on_err c.from_residual.result c.in_err-fetch.ensures.stopped
 
 pub returns-in_err-fetch-clause-rest : goal.returns-in_err-fetch-clause-rest
 returns-in_err-fetch-clause-rest g c = with_marks c.args.self.now c.fetch.new.self c.fetch.ensures.rest

@@ -1,6 +1,6 @@
-use Rattle.object_cache.proofs.Names.{arith, counted_ok, counts_on, goes_on_twice, ap, slice_index_or, take, without, on_err, ok_counts}
+use Rattle.object_cache.proofs.Names.{counted_ok, counts_on, goes_on_twice, ap, slice_index_or, take, without, ok_counts}
 use Rattle.std.proofs.Common.{◌∙◌, ◌∷◌}
-use Rattle.object_cache.proofs.Fetched.{rest_on, stopped_at, used_more, same_front, rest_of, uses_none}
+use Rattle.object_cache.proofs.Fetched.{rest_on, used_more, same_front, rest_of}
 use Rattle.object_cache.proofs.Exits.{no_ok, counts_as, all_keepable}
 use Rattle.object_cache.proofs.cache.Cache.read_all_in.Goals as goal
 
@@ -18,10 +18,6 @@ loop-number-init g c =
 
 pub returns-in_err-empty_staging : goal.returns-in_err-empty_staging
 returns-in_err-empty_staging g c = record {
-  stopped =
-      let s = c.args.self.now in
-      on_err c.from_residual.result (uses_none s.capacity c.args.fetched.now s.order c.empty_staging.new.self.order
-      (ap (λ t. t.order) c.empty_staging.ensures.put));
   order = no_ok c.from_residual.result _ _ c.from_residual.ensures.1;
   rest = rest_of c.args.self.now c.empty_staging.new.self c.empty_staging.ensures.put;
   continues = c.empty_staging.ensures.continues;
@@ -33,13 +29,6 @@ returns-in_err-fetch_one g c = record {
   continues =
       goes_on_twice g.D.Device.disk g.met.D.Device.counts_now c.args.self.now c.loop-number.self c.fetch_one.new.self c.loop-number.invariant.2
       c.fetch_one.ensures.continues;
-  stopped =
-      let s = c.args.self.now in
-      let before = c.loop-number.invariant in
-      let stop = c.in_err-fetch_one.ensures.stopped in
-      on_err c.from_residual-in_err-fetch_one.result
-      (stopped_at s.capacity c.loop-number.number-index stop.0 c.args.fetched.now s.order c.loop-number.self.order c.fetch_one.new.self.order before.4
-      (omega (arith, stop.1, before.2.capacity)) stop.2);
   order = no_ok c.from_residual-in_err-fetch_one.result _ _ c.from_residual-in_err-fetch_one.ensures.1;
   rest = rest_on c.args.self.now c.loop-number.self c.fetch_one.new.self c.loop-number.invariant.0 c.fetch_one.ensures.rest;
   cause =

@@ -1,6 +1,6 @@
-use Rattle.object_cache.proofs.Names.{on_err_weaker, on_ok_weaker, goes_on_twice, counted_ok, counts_on, ap, arith, on_err, length}
-use Rattle.std.proofs.Common.{◌∙◌, ◌∷◌, ◌-◌}
-use Rattle.object_cache.proofs.Fetched.{rest_on, read_rest, read_staging, pushed_to_front, stops_none}
+use Rattle.object_cache.proofs.Names.{on_ok_weaker, goes_on_twice, counted_ok, counts_on, ap, arith, length}
+use Rattle.std.proofs.Common.{◌∙◌, ◌∷◌}
+use Rattle.object_cache.proofs.Fetched.{rest_on, read_rest, read_staging, pushed_to_front}
 use Rattle.object_cache.proofs.Exits.{no_ok, counts_as}
 use Rattle.object_cache.proofs.cache.Cache.read_in.Goals as goal
 
@@ -13,9 +13,6 @@ returns g c = record {
       ap (λ t. t.order) is
       ∙ ap (λ ns. c.args.number ∷ ns) room.least
       ∙ pushed_to_front s.capacity c.args.number s.order (omega (arith, room.room, c.make_room.ensures.continues.capacity))) c.read.ensures.cached;
-  stopped =
-      let s = c.args.self.now in
-      on_err_weaker c.read.result (λ is. (s.capacity - 1, omega arith, ap (λ t. t.order) is ∙ c.in_ok-make_room.ensures.least)) c.read.ensures.unread;
   rest =
       rest_on c.args.self.now c.make_room.new.self c.read.new.self c.make_room.ensures.rest
       (read_rest c.read.result c.make_room.new.self c.read.new.self c.args.number c.read.ensures.cached c.read.ensures.unread);
@@ -30,8 +27,6 @@ returns g c = record {
 
 pub returns-in_err-make_room : goal.returns-in_err-make_room
 returns-in_err-make_room g c = record {
-  stopped = on_err c.from_residual.result (stops_none c.args.self.now.capacity c.args.self.now.order
-      c.make_room.new.self.order c.in_err-make_room.ensures.stays);
   order = no_ok c.from_residual.result _ _ c.from_residual.ensures.1;
   rest = c.make_room.ensures.rest;
   empty = c.make_room.ensures.empty c.requires.empty;

@@ -1,4 +1,4 @@
-use Rattle.recovery.proofs.Names.{rules, ℕ, List, ap, length, slice_index, subst, sym, MatchOption, Parts, frames_of, IsAboveLimit, role_at, read_same}
+use Rattle.recovery.proofs.Names.{rules, ℕ, List, ap, length, slice_index, subst, sym, MatchOption, Parts, frames_of, IsAboveLimit, role_at}
 use Rattle.std.proofs.Common.{◌≡◌, ◌≤◌, ◌^◌, ◌-◌, ◌∙◌}
 use Rattle.model.specs.declared.object.Role.TheVariants as role
 use Rattle.recovery.proofs.Trees.{bank_counted, count_all, limited, limits_count, owned_tree}
@@ -20,7 +20,7 @@ find_above_limit-requires-clause-limits g c =
     ∙ limits_count p.geometry (2 ^ 64 - 1) p c.requires c.table.result.now c.count-count.result c.table.ensures c.count-count.ensures
     c.in_ok-usages-in-None.usages.items c.in_ok-limits-in-None.limits.items c.in_ok-usages-in-None.ensures.counted c.in_ok-limits-in-None.ensures.limits
     ∙ all
-    ∙ sym (ap (λ (q : Parts). length q.headers) (read_same c.in_ok-limits-in-None.ensures.only_reads))
+    ∙ sym (ap (λ (q : Parts). length q.headers) c.in_ok-limits-in-None.ensures.only_reads.same)
 
 pub returns-in_ok-limits-in-None-clause-found : goal.returns-in_ok-limits-in-None-clause-found
 returns-in_ok-limits-in-None-clause-found g c =
@@ -32,4 +32,4 @@ returns-in_ok-limits-in-None-clause-found g c =
     (c.deref-in-None.ensures.value ∙ c.in_ok-limits-in-None.ensures.limits)
     (rw c.in-None.is at c.find_unowned.ensures) c.find_above_limit.result
     (subst (λ (q : Parts). MatchOption c.find_above_limit.result ((b : ℕ) → role_at (frames_of q) b ≡ role.Bank → slice_index usages b ≤ slice_index limits b)
-    (λ why. IsAboveLimit (frames_of q) usages limits why)) (read_same c.in_ok-limits-in-None.ensures.only_reads) c.find_above_limit.ensures)
+    (λ why. IsAboveLimit (frames_of q) usages limits why)) c.in_ok-limits-in-None.ensures.only_reads.same c.find_above_limit.ensures)

@@ -1,6 +1,8 @@
-use Rattle.object_cache.proofs.Names.{on_ok_weaker, ok_counts, refl, false, true≢false, sym, subst, Counts, GoesOnIn, OnOk, OnErr, continues_same, cached_at}
+use Rattle.object_cache.proofs.Names.{on_ok_weaker, ok_counts, refl, false, true≢false, sym, subst, Counts, GoesOnIn, OnOk, parts_of, continues_same, cached_at}
 use Rattle.object_cache.proofs.Names.{on_device, on_device_with, without_cached, true, AreKeepableIn}
 use Rattle.std.proofs.Common.{◌≡◌, ◌∙◌}
+use Rattle.capability.specs.Parts.{AreSameUnlessFailed}
+use Rattle.object_cache.proofs.Exits.{fetches_only}
 use Rattle.object_cache.proofs.store.durable.StoreObjectStore.evict.Goals as goal
 
 pub evict-requires-clause-keepable : goal.evict-requires-clause-keepable
@@ -17,8 +19,8 @@ returns-then-KEEPS_ALL g c =
       rest = refl;
       away = λ some. absurd (true≢false (sym all ∙ some));
       none = λ none. refl;
-      stays = tt;
       all = λ all. refl;
+      same = λ stayed. refl;
       continues = continues_same g.D.Device.disk g.P.Policy.KEEPS_ALL g.met.D.Device.only_now c.args.self.now;
       cause = ok_counts refl;
     }
@@ -36,8 +38,9 @@ returns g c =
       away = on_ok_weaker r (λ away some. away)
           (subst (λ t. OnOk r (cached_at t.cached c.args.number ≡ true → u ≡ without_cached c.args.number (on_device t u))) seen said.away);
       none = subst (λ t. cached_at t.cached c.args.number ≡ false → u ≡ t) seen said.none;
-      stays = subst (λ t. OnErr r (u ≡ on_device t u)) seen said.stays;
       all = λ all. absurd (true≢false (sym all ∙ some));
+      same = subst (λ t. AreSameUnlessFailed (parts_of g.D.Device.disk t) (parts_of g.D.Device.disk u)) seen
+          (fetches_only some said.rest said.continues).same;
       continues = record {
         goes_on = subst (λ t. GoesOnIn g.D.Device.disk t u) seen said.continues;
         still = λ all. absurd (true≢false (sym all ∙ some));

@@ -1,10 +1,15 @@
+use Rattle.object_cache.proofs.Names.{ap, subst, parts_of}
+use Rattle.capability.specs.Parts.{AreSameUnlessFailed}
+use Rattle.object_cache.proofs.Exits.{same_parts}
 use Rattle.object_cache.proofs.store.durable.StoreObjectStore.stabilize.Goals as goal
 
-pub returns-clause-stopped : goal.returns-clause-stopped
-returns-clause-stopped g c = rw c.self.view_is at c.stabilize.ensures.stopped
-
-pub returns-clause-sound : goal.returns-clause-sound
-returns-clause-sound g c = rw c.self.view_is at c.stabilize.ensures.sound
+pub returns-clause-same : goal.returns-clause-same
+returns-clause-same g c =
+    let disk = g.D.Device.disk in
+    let u = c.stabilize.new.self in
+    let said = c.stabilize.ensures in
+    subst (λ t. AreSameUnlessFailed (parts_of disk t) (parts_of disk u)) c.self.view_is (same_parts disk c.self.inside.cache u
+    (ap (λ x. x.headers) said.rest) (ap (λ x. x.contents) said.rest) (ap (λ x. x.touched) said.rest) said.geometry)
 
 pub returns-clause-any_moment : goal.returns-clause-any_moment
 returns-clause-any_moment g c = rw c.self.view_is at c.stabilize.ensures.any_moment

@@ -1,8 +1,8 @@
-use Rattle.object_cache.proofs.Names.{OnOk, OnErr, UsesSome, true≢false, sym, subst, take, used_in_turn, parts_of, ContinuesIn, OnlyFetches, IsErr}
+use Rattle.object_cache.proofs.Names.{OnOk, on_ok_weaker, true≢false, sym, subst, take, used_in_turn, parts_of, ContinuesIn, OnlyFetches, IsErr}
 use Rattle.object_cache.proofs.Names.{AreKeepableIn}
-use Rattle.std.proofs.Common.{◌≡◌, ◌∙◌, ◌<◌, ◌≤◌}
+use Rattle.std.proofs.Common.{◌≡◌, ◌∙◌, ◌<◌}
 use Rattle.std.specs.Prelude.{◌↔◌}
-use Rattle.object_cache.proofs.Exits.{fetches_only}
+use Rattle.object_cache.proofs.Exits.{counts_same, fetches_only}
 use Rattle.object_cache.proofs.store.present.StoreFrames.fetch.Goals as goal
 
 pub fetch-requires-clause-keepable : goal.fetch-requires-clause-keepable
@@ -16,13 +16,12 @@ returns g c =
     let u = c.fetch.new.self in
     let said = c.fetch.ensures in
     let seen = c.self.view_is in
+    let only : OnlyFetches (parts_of disk) (ContinuesIn g.P.Policy.KEEPS_ALL disk) c.self.inside.cache u = fetches_only some said.rest said.continues in
     record {
       fetched = said.fetched;
       order = λ some. subst (λ t. OnOk r (u.order ≡ take t.capacity (used_in_turn c.args.numbers.now t.order))) seen said.order;
-      stopped = subst (λ t. OnErr r (UsesSome t.capacity c.args.numbers.now t.order u.order)) seen said.stopped;
       all = λ all. absurd (true≢false (sym all ∙ some));
       cause = subst (λ t. IsErr r ↔ ((disk t.durable.beneath).failures < (disk u.durable.beneath).failures)) seen said.cause.cause;
-      later = subst (λ t. (disk t.durable.beneath).failures ≤ (disk u.durable.beneath).failures) seen said.cause.never_falls;
-      snapshots =
-          subst (λ t. OnlyFetches (parts_of disk) (ContinuesIn g.P.Policy.KEEPS_ALL disk) t u) seen (fetches_only some said.rest said.continues);
+      same = subst (λ t. OnOk r (parts_of disk u ≡ parts_of disk t)) seen (on_ok_weaker r only.same (counts_same r said.cause));
+      snapshots = subst (λ t. OnlyFetches (parts_of disk) (ContinuesIn g.P.Policy.KEEPS_ALL disk) t u) seen only;
     }
