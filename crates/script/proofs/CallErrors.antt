@@ -1,5 +1,6 @@
 -- The errors of calls, one call after another.
-use Rattle.script.proofs.Names.{ℕ, Option, None, Some, Result, Ok, Err, option_map, refl, arith, nat_tests, inl, inr, CallErrors, more_errors, NoneFailed, OneFailed, HasCause, ap}
+use Rattle.script.proofs.Names.{ℕ, Option, None, Some, Result, Ok, Err, option_map, refl, arith, nat_tests, inl, inr, CallErrors, more_errors, NoneFailed}
+use Rattle.script.proofs.Names.{OneFailed, HasCause, ap}
 use Rattle.std.proofs.Common.{◌≡◌, ◌+◌, ◌-◌, ◌^◌, ◌≤◌, ◌∙◌}
 
 -- errors and then more

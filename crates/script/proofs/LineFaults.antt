@@ -2,7 +2,7 @@
 use Rattle.script.proofs.Names.{ℕ, zero, suc, Bool, true, false, List, [], None, Some, length, take, get_or, decimal, codes, refl, sym, ap, subst, arith}
 use Rattle.script.proofs.Names.{append_assoc, append-nil, map, slice_get, All, nat_tests, take_all, IsInRange, decimal_digit, digits_more, digit_value_digit}
 use Rattle.script.proofs.Names.{AllDigits, digits_value, Command, Fits, Says, command_words, spelling_from_words, Keyword, LineFault, keyword_name, AreOperands}
-use Rattle.script.proofs.Names.{HasWord, IsFaultOf, IsOperand, IsWordFault, Names, are_registers, Words, number_at, nil_from_length}
+use Rattle.script.proofs.Names.{HasOperand, HasWord, IsFaultOf, IsOperand, IsWordFault, Names, are_registers, Words, number_at, nil_from_length}
 use Rattle.std.proofs.Common.{◌≡◌, ◌≢◌, ◌+◌, ◌<◌, ◌≤◌, ◌^◌, if◌then◌else◌, ◌==◌, ◌∷◌, ◌++◌, ◌∙◌}
 use Rattle.model.specs.declared.command.Command.TheVariants as command
 use Rattle.model.specs.declared.line.Line.TheVariants as line
@@ -113,19 +113,24 @@ word_is_fault k all left rest count place word why lt taken is at faulty line na
   here : HasWord line place word
   here = has_word line k taken.0 rest word place (names ∙ ap (λ (l : Words). keyword_name k ∷ l) split) (omega (arith, at, taken.2))
 
+  found : slice_get all count ≡ Some word
+  found = ap (λ (l : Words). slice_get l count) split ∙ subst (λ (i : ℕ). slice_get (taken.0 ++ word ∷ rest) i ≡ Some word) taken.2 (at_length taken.0 word rest)
+
+  operand : (p : ℕ) → p ≡ place → HasOperand line p word
+  operand p same = (k, all, names, count, same ∙ at, lt, found)
+
   go : (f : LineFault) → IsWordFault word place (get_or (are_registers k) count false) f → IsFaultOf line f
   go (fault.EmptyWord p) is = subst (λ (n : ℕ). HasWord line n []) (sym is.0) (subst (HasWord line place) is.1 here)
-  go (fault.NoNumber p) is = (word, subst (λ (n : ℕ). HasWord line n word) (sym is.0) here, is.1)
-  go (fault.LeadingZero p) is = (word, subst (λ (n : ℕ). HasWord line n word) (sym is.0) here, is.1, is.2)
-  go (fault.Great p) is = (word, subst (λ (n : ℕ). HasWord line n word) (sym is.0) here, is.1, is.2)
+  go (fault.NoNumber p) is = (word, operand p is.0, is.1)
+  go (fault.LeadingZero p) is = (word, operand p is.0, is.1, is.2)
+  go (fault.Great p) is = (word, operand p is.0, is.1, is.2)
   go (fault.NoRegister n) is = (
     k,
     all,
     names,
     count,
     register_at (are_registers k) count lt is.0,
-    ap (λ (l : Words). slice_get l count) split ∙ subst (λ (i : ℕ). slice_get (taken.0 ++ word ∷ rest) i ≡ Some word) taken.2 (at_length taken.0 word rest) ∙
-        ap Some is.1,
+    found ∙ ap Some is.1,
     is.2,
   )
   go other is = absurd is

@@ -43,25 +43,25 @@ pub use Rattle.std.proofs.lemmas.Str.Parse.{IsNumeralModel, digit_at, digits_val
 unfoldable pub use Rattle.std.specs.Fmt.{digits}
 pub use Rattle.std.specs.Int.{IsInRange}
 pub use Rattle.std.specs.Io.KnownBytes.{Appends, Keeps}
+pub use Rattle.std.specs.IoError.{error_kind}
 pub use Rattle.std.specs.List.{All, enumerate_from, flat_map, list_all, position}
 pub use Rattle.std.specs.Prelude.{IfNone, IfSome, IsSome, slice_get}
 pub use Rattle.std.specs.Str.{bytes_eq}
 pub use Rattle.std.specs.Str.Parse.{AllDigits, digits_value}
+pub use Rattle.std.specs.declared.io.ErrorKind.TheVariants.{Interrupted}
+pub use Rattle.script.specs.CallErrors.{CallErrors, HasCause, NoneFailed, OneFailed, more_errors}
+pub use Rattle.script.specs.Counted.{written_by}
 pub use Rattle.script.specs.Keywords.{keyword_name}
-pub use Rattle.script.specs.LineFaults.{AreOperands, HasWord, IsFaultOf, IsOperand, IsWordFault, Names, are_registers}
+pub use Rattle.script.specs.LineFaults.{AreOperands, HasOperand, HasWord, IsFaultOf, IsOperand, IsWordFault, Names, are_registers}
 pub use Rattle.script.specs.Named.{access_words, kind_name, object_of}
 unfoldable pub use Rattle.script.specs.Named.{access_at, access_in, capability_at, capability_words, height_at, key_at}
 pub use Rattle.script.specs.Reading.{Gives, Words, first_end, first_word, words_left, words_of}
 unfoldable pub use Rattle.script.specs.Reading.{arguments_at, invocation_at, number_at, number_in, numbers_at, register_at, registers_at}
-pub use Rattle.script.specs.Counted.{written_by}
-pub use Rattle.script.specs.declared.counted.CountedWriter.{CountedWriter}
-pub use Rattle.script.specs.CallErrors.{CallErrors, HasCause, NoneFailed, OneFailed, more_errors}
 pub use Rattle.script.specs.Writing.{AppendsFront, Writes, Written, Wrote, WroteFront}
+pub use Rattle.script.specs.declared.counted.CountedWriter.{CountedWriter}
 pub use Rattle.script.specs.declared.fault.RunFault.{RunFault}
 pub use Rattle.script.specs.declared.keyword.Keyword.{Keyword}
 pub use Rattle.script.specs.declared.keyword.Keyword.TheVariants.{Invoke}
 pub use Rattle.script.specs.declared.line_fault.LineFault.{LineFault}
 pub use Rattle.script.specs.declared.named.Kind.{Kind}
 pub use Rattle.script.specs.declared.named.Kind.TheVariants.{Bank, Discrim, Node, Number, Page, Process, Resume, Space, Start}
-pub use Rattle.std.specs.IoError.{error_kind}
-pub use Rattle.std.specs.declared.io.ErrorKind.TheVariants.{Interrupted}

@@ -1,7 +1,7 @@
 -- Why a line is bad.
 use Rattle.script.specs.Names.{ℕ, suc, Bool, true, false, Some, List, [], length, codes, decimal, get_or, slice_get}
 use Rattle.script.specs.Names.{AllDigits, digits_value, spaced}
-use Rattle.std.specs.Prelude.{◌≡◌, ◌<◌, ◌≤◌, ◌^◌, if◌then◌else◌, ◌∷◌, ◌++◌}
+use Rattle.std.specs.Prelude.{◌≡◌, ◌+◌, ◌<◌, ◌≤◌, ◌^◌, if◌then◌else◌, ◌∷◌, ◌++◌}
 use Rattle.script.specs.declared.keyword.Keyword.{Keyword}
 use Rattle.script.specs.declared.keyword.Keyword.TheVariants as keyword
 use Rattle.script.specs.declared.line_fault.LineFault.{LineFault}
@@ -29,6 +29,11 @@ abbrev pub HasWord : List ℕ → ℕ → List ℕ → Type 0
 HasWord line place word = (before : Words) × (after : Words) × (words_of line ≡ before ++ word ∷ after) ×
     (place ≡ suc (length before))
 
+-- the word at a place of the line is an operand of a keyword, with which the line begins
+abbrev pub HasOperand : List ℕ → ℕ → List ℕ → Type 0
+HasOperand line place word = (k : Keyword) × (words : Words) × Names line k words
+    × (i : ℕ) × (place ≡ i + 2) × (i < length (are_registers k)) × (slice_get words i ≡ Some word)
+
 -- the fault is one of the line
 abbrev pub IsFaultOf : List ℕ → LineFault → Type 0
 IsFaultOf line fault.Long = 256 < length line
@@ -40,10 +45,10 @@ IsFaultOf line (fault.FewWords count) = (k : Keyword) × (words : Words) × Name
     (count ≡ suc (length (are_registers k))) × (length words < length (are_registers k))
 IsFaultOf line (fault.ManyWords count) = (k : Keyword) × (words : Words) × Names line k words ×
     (count ≡ suc (length (are_registers k))) × (length (are_registers k) < length words)
-IsFaultOf line (fault.NoNumber place) = (word : List ℕ) × HasWord line place word × (AllDigits 10 word → ⊥)
-IsFaultOf line (fault.LeadingZero place) = (word : List ℕ) × HasWord line place word × (get_or word 0 0 ≡ 48) ×
+IsFaultOf line (fault.NoNumber place) = (word : List ℕ) × HasOperand line place word × (AllDigits 10 word → ⊥)
+IsFaultOf line (fault.LeadingZero place) = (word : List ℕ) × HasOperand line place word × (get_or word 0 0 ≡ 48) ×
     (1 < length word)
-IsFaultOf line (fault.Great place) = (word : List ℕ) × HasWord line place word × AllDigits 10 word ×
+IsFaultOf line (fault.Great place) = (word : List ℕ) × HasOperand line place word × AllDigits 10 word ×
     (2 ^ 64 ≤ digits_value 10 word)
 IsFaultOf line (fault.NoRegister number) =
     (k : Keyword) × (words : Words) × Names line k words
