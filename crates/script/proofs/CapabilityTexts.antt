@@ -2,7 +2,7 @@
 use Rattle.script.proofs.Names.{not, list_all, access_text, nat_tests, ℕ, Bool, true, false, List, [], length, codes, decimal, refl, sym, ap, arith, flat_map}
 use Rattle.script.proofs.Names.{same_Some, All-nil, All-cons, All-weaker, AllPass-from_list_all, join_with_byte-slice_split, Access, Capability, spaced}
 use Rattle.script.proofs.Names.{capability_text, IsSpaceless, split_spaced, decimal_is_word, access_words, capability_words, kind_name, words_of}
-use Rattle.std.proofs.Common.{◌≡◌, ◌≢◌, ◌<◌, ◌^◌, ◌==◌, if◌then◌else◌, ◌∷◌, ◌++◌, ◌∙◌, All}
+use Rattle.std.proofs.Common.{◌≡◌, ◌≢◌, ◌<◌, ◌^◌, ◌==◌, ◌∷◌, ◌++◌, ◌∙◌, All}
 use Rattle.model.specs.declared.capability.Capability.TheVariants as capability
 use Rattle.script.proofs.CapabilityWords.{HasText, arguments_are, capability_again, kind_for}
 use Rattle.script.proofs.Texts.{spaced_more}

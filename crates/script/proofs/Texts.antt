@@ -1,7 +1,7 @@
 -- The lines of an object, one for each of its parts.
-use Rattle.script.proofs.Names.{nat_tests, Option, ℕ, add-one, List, [], map, length, get_or, take, drop, codes, decimal, refl, sym, ap, append_assoc}
-use Rattle.script.proofs.Names.{append-nil, arith, flat_map, enumerate_from, decimal_digit, decimal_step, flat_map-append, take-append-drop, take_all}
-use Rattle.script.proofs.Names.{div_below, flat_map-map, take-suc, Capability, Void, Object, Root, spaced, headed, line_of, word_lines, state_text}
+use Rattle.script.proofs.Names.{nat_tests, Option, ℕ, List, [], map, codes, decimal, refl, sym, ap, append_assoc}
+use Rattle.script.proofs.Names.{append-nil, arith, flat_map, decimal_digit, decimal_step, flat_map-append}
+use Rattle.script.proofs.Names.{div_below, flat_map-map, Capability, Void, Object, Root, spaced, headed, line_of, word_lines, state_text}
 use Rattle.script.proofs.Names.{registers_of, object_text, capability_text, capability_line, capability_lines}
 use Rattle.std.proofs.Common.{◌≡◌, ◌≢◌, ◌+◌, ◌/◌, ◌%◌, ◌<◌, ◌≤◌, ◌∷◌, ◌++◌, ◌∙◌}
 use Rattle.model.specs.declared.object.Content.TheVariants as content
