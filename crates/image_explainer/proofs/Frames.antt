@@ -1,7 +1,7 @@
 -- Slots and frames.
 use Rattle.image_explainer.proofs.Names.{nat_tests, ℕ, nat_le, List, Option, Some, take, drop, refl, sym, ap, subst, arith, Image, Cap, Geometry, IsKeptCap}
 use Rattle.image_explainer.proofs.Names.{Entry, CheckpointHeader, Shape, capability_bytes, shape_of, HasDirectory, HasHeader, HasPlan, frame_in, frame_sector}
-use Rattle.image_explainer.proofs.Names.{sectors_from, shaped_at, shape_bytes, Plan, FramePart, HoldsCap, IsFault, FitsOr}
+use Rattle.image_explainer.proofs.Names.{sectors_from, shaped_at, shape_bytes, Plan, FramePart, HoldsCap, IsFault, FitsOr, IsWholeFrame}
 use Rattle.std.proofs.Common.{◌≡◌, ◌+◌, ◌-◌, ◌*◌, ◌<◌, ◌∙◌}
 use Rattle.layout.specs.declared.shape.Shape.TheVariants as shape
 use Rattle.image_explainer.specs.declared.sectors.fault.SectorFault.TheVariants as fault
@@ -29,8 +29,8 @@ module _ (size : ℕ) (image : Image) (p : Plan) (h : CheckpointHeader) (es : Li
   frame_there : shaped_at image at form ≡ frame_in image p h.generation es n
   frame_there = ap (λ (s : ℕ). shaped_at image s form) there ∙ ap (λ (s : Shape). shaped_at image (frame_sector p h.generation es n) s) as_is
 
-  pub frame_fault : (part : FramePart) → HasPlan image size p → HasHeader image p h → HasDirectory image p h es → n < p.geometry.nodes + p.geometry.pages
+  pub frame_fault : (part : FramePart) → ((m : ℕ) → m < n → IsWholeFrame image p h es m) → HasPlan image size p → HasHeader image p h → HasDirectory image p h es → n < p.geometry.nodes + p.geometry.pages
       → FitsOr p.geometry h.age n (shaped_at image at form) (Some part) → IsFault size image (fault.Frame n (nat_le p.geometry.nodes n) part)
-  frame_fault part plan header directory inside broken =
+  frame_fault part before plan header directory inside broken =
       let b = subst (λ (b : List ℕ). FitsOr p.geometry h.age n b (Some part)) frame_there broken in
-      ((p, h, es, plan, header, directory, (n, inside, b.0)), (p, h, es, plan, header, directory, inside, refl, b.0, b.1))
+      ((p, h, es, plan, header, directory, (n, inside, b.0)), (p, h, es, plan, header, directory, inside, refl, before, b.0, b.1))

@@ -3,7 +3,7 @@ use Rattle.image_explainer.proofs.Names.{nat_tests, ℕ, List, length, replicate
 use Rattle.image_explainer.proofs.Names.{arith, codes, length-replicate, Image, HomeRange, half_number, number, zeros, HasPlan, IsTooSmall, HasMark, IsPlan}
 use Rattle.image_explainer.proofs.Names.{Plan, ranges_bytes, superblock_bytes, unused, version_number, total_reported, length-number, length-half}
 use Rattle.image_explainer.proofs.Names.{length-ranges}
-use Rattle.std.proofs.Common.{◌≡◌, ◌-◌, ◌*◌, ◌∷◌, ◌++◌, ◌∙◌}
+use Rattle.std.proofs.Common.{◌≡◌, ◌-◌, ◌++◌, ◌∙◌}
 
 deep : (a b c d e f g h i j z : List ℕ) →
     a ++ b ++ c ++ d ++ e ++ f ++ g ++ h ++ i ++ j ++ z ≡ a ++ (b ++ (c ++ (d ++ (e ++ (f ++ (g ++ (h ++ (i ++ (j ++ z)))))))))

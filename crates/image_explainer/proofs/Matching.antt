@@ -1,6 +1,6 @@
 -- Roots and annexes that don't belong together.
 use Rattle.image_explainer.proofs.Names.{nat_tests, ℕ, List, Option, None, length, inl, inr, arith, cases_lt, Frame, Noted, AreWholeProcesses, AreNoted}
-use Rattle.image_explainer.proofs.Names.{none_noted, HasRoot, IsMatched, MatchesOr, Unmatched, IsUnmatched, IfNone, IfSome, get_or_past}
+use Rattle.image_explainer.proofs.Names.{none_noted, HasRoot, IsMatched, MatchesOr, Unmatched, IsFirstUnmatched, IsUnmatched, IfNone, IfSome, get_or_past}
 use Rattle.std.proofs.Common.{◌+◌, ◌<◌, ◌≤◌}
 
 -- past the notes there is no root
@@ -31,5 +31,5 @@ whole_of_matched fs matched rooted = record {
 
 -- what was found of roots, and then of annexes
 pub matches : (fs : List Frame) (found : Option Unmatched) → ((p : ℕ) → IsMatched fs p) → IfSome found (IsUnmatched fs) →
-    IfNone found ((a : ℕ) → HasRoot fs a) → MatchesOr fs found
-matches fs found matched is rooted = grind (arith, nat_tests, whole_of_matched)
+    IfSome found (λ u. ((p : ℕ) → IsMatched fs p) → IsFirstUnmatched fs u) → IfNone found ((a : ℕ) → HasRoot fs a) → MatchesOr fs found
+matches fs found matched is first rooted = grind (arith, nat_tests, whole_of_matched)

@@ -1,7 +1,7 @@
 -- The names that the proofs here cite: of other crates, and of the definitions of this one.
 pub use Rattle.byteorder.specs.Endian.{little_number}
 pub use Rattle.capability.proofs.References.{not_annex, not_node, not_root}
-pub use Rattle.capability.specs.Consistency.{AreWholeProcesses, IsNamed}
+pub use Rattle.capability.specs.Consistency.{AreNamed, AreWholeProcesses, IsNamed}
 pub use Rattle.capability.specs.Parts.{Parts, frames_of}
 pub use Rattle.checkpoint.specs.Opened.{OnlyReads, Refuses}
 pub use Rattle.checkpoint.specs.Saved.{Holds, SavedFrames}
@@ -24,6 +24,7 @@ unfoldable pub use Rattle.layout.specs.Capability.{capability_bytes}
 pub use Rattle.layout.specs.Directory.{AllFitting, IsDirectory, entry_at}
 unfoldable pub use Rattle.layout.specs.Directory.{directory_bytes}
 pub use Rattle.layout.specs.Fault.{CountsOpen}
+pub use Rattle.layout.specs.Frame.{cap_at}
 pub use Rattle.layout.specs.Header.{IsHeader}
 unfoldable pub use Rattle.layout.specs.Header.{header_bytes}
 pub use Rattle.layout.specs.Homes.{shape_of}
@@ -42,7 +43,7 @@ pub use Rattle.layout.specs.declared.header.CheckpointHeader.{CheckpointHeader}
 pub use Rattle.layout.specs.declared.open_fault.OpenFault.{OpenFault}
 pub use Rattle.layout.specs.declared.shape.Shape.{Shape}
 pub use Rattle.migrator.specs.Durable.{DurableState}
-pub use Rattle.model.specs.Frame.{content_behind, current_count, frame_at, header_at}
+pub use Rattle.model.specs.Frame.{content_behind, current_count, frame_at, header_at, void_held}
 pub use Rattle.model.specs.Keepable.{AreKeepable, IsKeptCap, caps_in}
 pub use Rattle.model.specs.declared.capability.Cap.{Cap}
 pub use Rattle.model.specs.declared.frame.Frame.{Frame}
@@ -62,6 +63,7 @@ pub use Rattle.recovery.specs.Denotes.{saved_of}
 pub use Rattle.recovery.specs.Laws.{AreBadForOneReason}
 pub use Rattle.recovery.specs.Noted.{AreNoted}
 pub use Rattle.recovery.specs.declared.consistency.processes.Noted.{Noted}
+pub use Rattle.recovery.specs.declared.consistency.reason.Unbanked.{Unbanked}
 pub use Rattle.std.proofs.Common.{Bool, ControlFlow, Err, List, None, Ok, Option, Result, Some, [], ap, append-nil, append_assoc, arith, drop, drop_at, false}
 pub use Rattle.std.proofs.Common.{inl, inr, length, length-append, nat_le, refl, replicate, slice_index_or, subst, suc, sym, take, take-add, take_at, true}
 pub use Rattle.std.proofs.Common.{zero, ℕ, ⊎_elim}
@@ -71,12 +73,11 @@ pub use Rattle.std.proofs.lemmas.List.{drop-drop, get_or_default, get_or_past, l
 pub use Rattle.std.specs.ControlFlow.{MatchControlFlow}
 pub use Rattle.std.specs.List.{All}
 pub use Rattle.std.specs.Prelude.{IfNone, IfSome, codes, decimal, ⊤}
-pub use Rattle.image_explainer.specs.Breaking.{BreaksFrames, IsMisnamed, IsUnmatched, reason_of}
+pub use Rattle.image_explainer.specs.Breaking.{BreaksFrames, HasRoot, IsFirstUnmatched, IsMatched, IsMisnamed, IsUnmatched, reason_of}
 pub use Rattle.image_explainer.specs.Explained.{Explains, IsExplainedBy}
-pub use Rattle.image_explainer.specs.Finding.{HasRoot, IsConsistentOr, IsMatched, MatchesOr, annex_noted}
-pub use Rattle.image_explainer.specs.SectorBreaking.{BreaksDirectory, HoldsCap, IsFault}
-pub use Rattle.image_explainer.specs.SectorFinding.{BreaksSector, FitsOr, HasHeaderIn, HasNoneIn, IsAmong, IsCopy, IsWhole, IsWholeFrame, RefusesHeader, picked}
-pub use Rattle.image_explainer.specs.SectorFinding.{slot_of}
+pub use Rattle.image_explainer.specs.Finding.{IsConsistentOr, MatchesOr, annex_noted}
+pub use Rattle.image_explainer.specs.SectorBreaking.{BreaksDirectory, HoldsCap, IsAmong, IsFault, IsFirstEntry}
+pub use Rattle.image_explainer.specs.SectorFinding.{BreaksSector, FitsOr, HasHeaderIn, HasNoneIn, IsCopy, IsWhole, IsWholeFrame, RefusesHeader, picked, slot_of}
 pub use Rattle.image_explainer.specs.Text.{directory_part_text, frame_part_text, header_part_text, not_counted_text, place_text}
 unfoldable pub use Rattle.image_explainer.specs.Text.{fault_text}
 pub use Rattle.image_explainer.specs.declared.fault.ImageFault.{ImageFault}

@@ -1,7 +1,7 @@
 -- Capabilities that name what they can't.
 use Rattle.image_explainer.proofs.Names.{nat_tests, ℕ, List, [], Option, length, slice_index_or, sym, ap, subst, arith, IfNone, All, get_or_default, Cap, Frame}
 use Rattle.image_explainer.proofs.Names.{ObjectHeader, Content, current_count, frame_at, header_at, caps_in, Parts, frames_of, IsNamed, header_read, table_read}
-use Rattle.image_explainer.proofs.Names.{Misnamed, IsMisnamed}
+use Rattle.image_explainer.proofs.Names.{Misnamed, IsMisnamed, cap_at, void_held}
 use Rattle.std.proofs.Common.{◌≡◌, ◌<◌, ◌∙◌}
 
 -- the capability of an index, which was read with the table
@@ -11,6 +11,12 @@ pub misnamed_here : (p : Parts) (n i : ℕ) (held : List Cap) (d : Cap) (hs ks :
     (IsNamed (frames_of p) (slice_index_or held i d) → ⊥)
     → IsMisnamed (frames_of p) (record { holder = n; role = h.role; index = i; held = slice_index_or held i d; current = current })
 misnamed_here p n i held d hs ks h current all inside table is other reported broken = grind (arith, nat_tests, get_or_default, header_read, table_read)
+
+-- those before it are named
+pub named_before : (fs : List Frame) (n i : ℕ) (held : List Cap) → held ≡ caps_in (frame_at fs n).content →
+    ((k : ℕ) (d : Cap) → k < i → IsNamed fs (slice_index_or held k d)) →
+    (k : ℕ) → k < i → IsNamed fs (cap_at (caps_in (frame_at fs n).content) k)
+named_before fs n i held all before k lt = subst (λ (cs : List Cap). IsNamed fs (cap_at cs k)) all (before k void_held lt)
 
 -- what an object holds
 module _ (fs : List Frame) (c : Content Cap) (n : ℕ) (is : c ≡ (frame_at fs n).content) where

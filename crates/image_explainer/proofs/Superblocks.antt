@@ -2,7 +2,6 @@
 use Rattle.image_explainer.proofs.Names.{nat_tests, ℕ, List, ControlFlow, arith, MatchControlFlow, Image, HasPlan, total_in, IsPlan, Plan, superblock_bytes}
 use Rattle.image_explainer.proofs.Names.{total_reported, SectorFault, IsFault, BreaksSector, ⊤}
 use Rattle.std.proofs.Common.{◌≡◌, ◌<◌, ◌≤◌}
-use Rattle.std.specs.Prelude.{if◌then◌else◌}
 use Rattle.image_explainer.specs.declared.sectors.fault.SectorFault.TheVariants as fault
 
 module _ (size : ℕ) (image : Image) (sector : List ℕ) (is : sector ≡ image 0) (least : 5 ≤ size) where

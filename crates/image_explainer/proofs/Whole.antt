@@ -1,7 +1,7 @@
 -- Where the directory lies, and images with nothing wrong in their sectors.
 use Rattle.image_explainer.proofs.Names.{nat_tests, ℕ, List, ControlFlow, length, take, arith, MatchControlFlow, Image, Entry, CheckpointHeader, AllFitting}
 use Rattle.image_explainer.proofs.Names.{directory_bytes, HasHeader, HasPlan, directory_in, directory_sector, sectors_from, slot_sector, IsPlan, Plan}
-use Rattle.image_explainer.proofs.Names.{half_within, DirectoryPart, BreaksDirectory, IsFault}
+use Rattle.image_explainer.proofs.Names.{half_within, DirectoryPart, BreaksDirectory, IsFault, IsFirstEntry}
 use Rattle.std.proofs.Common.{◌≡◌, ◌+◌, ◌-◌, ◌*◌, ◌/◌, ◌≤◌, ◌∙◌}
 use Rattle.image_explainer.specs.declared.sectors.fault.SectorFault.TheVariants as fault
 use Rattle.image_explainer.proofs.Directories.{no_spelling}
@@ -27,8 +27,8 @@ module _ (image : Image) (size : ℕ) (p : Plan) (h : CheckpointHeader) (es : Li
   spelt_there = grind (arith, nat_tests)
 
   pub directory_fault : (part : DirectoryPart) → HasPlan image size p → HasHeader image p h → length es ≡ n → AllFitting es →
-      BreaksDirectory p.geometry es part → IsFault size image (fault.Directory sector part)
-  directory_fault part plan header len fits broken = (
+      BreaksDirectory p.geometry es part → IsFirstEntry p.geometry es part → IsFault size image (fault.Directory sector part)
+  directory_fault part plan header len fits broken first = (
     (
       p,
       h,
@@ -37,7 +37,7 @@ module _ (image : Image) (size : ℕ) (p : Plan) (h : CheckpointHeader) (es : Li
       λ ds is_directory same_count same. no_spelling p.geometry es part (directory_in image p h.generation h.entries) fits spelt_there broken
           ds is_directory same,
     ),
-    (p, h, es, plan, header, place, len ∙ count, fits, spelt_there, broken),
+    (p, h, es, plan, header, place, len ∙ count, fits, spelt_there, broken, first),
   )
 
 -- what is so where it goes on

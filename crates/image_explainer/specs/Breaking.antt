@@ -1,5 +1,6 @@
 -- What is wrong with an image: the reason that holds for what a fault names, in the sectors or in their frames.
 use Rattle.std.specs.Prelude.{◌≡◌, ◌≢◌, ◌<◌, ℕ, length, List}
+use Rattle.std.specs.List.{All}
 use Rattle.device.specs.Disk.{Image}
 use Rattle.model.specs.declared.frame.Frame.{Frame}
 use Rattle.model.specs.declared.object.Role.TheVariants as role
@@ -34,6 +35,20 @@ pub record IsMisnamed (fs : List Frame) (m : Misnamed) : Type 0 where
   pub current : m.current ≡ current_count (headers fs) m.held.what
   pub broken : IsNamed fs m.held → ⊥
 
+-- it is the first, by holder and index
+pub record IsFirstMisnamed (fs : List Frame) (m : Misnamed) : Type 0 where
+  pub misnamed : IsMisnamed fs m
+  pub here : (k : ℕ) → k < m.index → IsNamed fs (cap_at (caps_in (frame_at fs m.holder).content) k)
+  pub before : (n : ℕ) → n < m.holder → All (IsNamed fs) (caps_in (frame_at fs n).content)
+
+-- where a number is a root, its annex is one for it, and no root behind it has that
+abbrev pub IsMatched : List Frame → ℕ → Type 0
+IsMatched fs p = (a : ℕ) → IsRootOf fs p a → IsAnnexFor fs p a × ((q : ℕ) → p < q → IsRootOf fs q a → ⊥)
+
+-- where a number is an annex, a root has it
+abbrev pub HasRoot : List Frame → ℕ → Type 0
+HasRoot fs a = role_at fs a ≡ role.Annex → (p : ℕ) × IsRootOf fs p a
+
 -- reason 9: a root and an annex that don't belong together
 abbrev pub IsUnmatched : List Frame → Unmatched → Type 0
 IsUnmatched fs (unmatched.Annex root annex) = IsRootOf fs root annex × (IsAnnexFor fs root annex → ⊥)
@@ -41,11 +56,19 @@ IsUnmatched fs (unmatched.Shared first second annex) = IsRootOf fs first annex �
     (first ≢ second)
 IsUnmatched fs (unmatched.Rootless annex) = (role_at fs annex ≡ role.Annex) × ((p : ℕ) → IsRootOf fs p annex → ⊥)
 
--- the reason of a fault holds for what it names among frames, and no lesser reason holds
+-- it is the first: roots come by number, and behind them annexes
+abbrev pub IsFirstUnmatched : List Frame → Unmatched → Type 0
+IsFirstUnmatched fs (unmatched.Annex root annex) = (p : ℕ) → p < root → IsMatched fs p
+IsFirstUnmatched fs (unmatched.Shared first second annex) =
+    ((p : ℕ) → p < first → IsMatched fs p) × IsAnnexFor fs first annex × (first < second) ×
+    ((q : ℕ) → first < q → q < second → IsRootOf fs q annex → ⊥)
+IsFirstUnmatched fs (unmatched.Rootless annex) = ((p : ℕ) → IsMatched fs p) × ((a : ℕ) → a < annex → HasRoot fs a)
+
+-- the reason of a fault holds for what it names among frames, which is the first, and no lesser reason holds
 abbrev pub BreaksFrames : List Frame → ImageFault → Type 0
 BreaksFrames fs (fault.Sectors f) = ⊥
-BreaksFrames fs (fault.Capability m) = IsMisnamed fs m
-BreaksFrames fs (fault.Process u) = AreNamed fs × IsUnmatched fs u
+BreaksFrames fs (fault.Capability m) = IsFirstMisnamed fs m
+BreaksFrames fs (fault.Process u) = AreNamed fs × IsUnmatched fs u × IsFirstUnmatched fs u
 BreaksFrames fs (fault.Bank u) = AreNamed fs × AreWholeProcesses fs × IsUnbanked fs u
 
 -- the reason of a fault holds for what it names, in `size` sectors of an image or in the frames that they hold

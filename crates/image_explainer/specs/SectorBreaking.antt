@@ -1,6 +1,6 @@
 -- What is wrong in the sectors of an image: the part for which one of the reasons 1 to 7 to refuse it holds.
 use Rattle.std.specs.Prelude.{◌≡◌, ◌≢◌, ◌⊎◌, ◌+◌, ◌-◌, ◌*◌, ◌%◌, ◌^◌, ◌<◌, ◌≤◌, ◌==◌, nat_le, nat_lt, if◌then◌else◌}
-use Rattle.std.specs.Prelude.{false, ℕ, codes, drop, length, take, List, Some}
+use Rattle.std.specs.Prelude.{false, true, ℕ, codes, drop, length, take, List, Some}
 use Rattle.device.specs.Disk.{Image}
 use Rattle.model.specs.declared.capability.Cap.{Cap}
 use Rattle.model.specs.declared.frame.Frame.{Frame}
@@ -13,7 +13,7 @@ use Rattle.layout.specs.declared.header.CheckpointHeader.{CheckpointHeader}
 use Rattle.layout.specs.declared.version.Version.{Version}
 use Rattle.layout.specs.Bytes.{half_number, number_from, zeros}
 use Rattle.layout.specs.Capability.{capability_bytes}
-use Rattle.layout.specs.Directory.{AllFitting, directory_bytes, entry_at}
+use Rattle.layout.specs.Directory.{AllFitting, IsEntry, directory_bytes, entry_at}
 use Rattle.layout.specs.Frame.{IsFrameOf}
 use Rattle.layout.specs.Gate.{is_open}
 use Rattle.layout.specs.Header.{IsHeader, header_bytes}
@@ -49,11 +49,14 @@ sector_reason (fault.Frame number is_page part) = bad.BadFrame
 abbrev pub number_at : List ℕ → ℕ → ℕ
 number_at bytes at = number_from (drop at bytes)
 
--- reason 2: sector 0 has another magic, another version, or something else than zeros at its end
+-- reason 2: the first that is wrong in sector 0: the magic, the version, or the zeros at its end
 abbrev pub BreaksMark : List ℕ → SuperblockPart → Type 0
 BreaksMark bytes superblock.Magic = take 8 bytes ≡ codes "EROSCKPT" → ⊥
-BreaksMark bytes superblock.Version = (v : Version) → take 4 (drop 8 bytes) ≡ half_number (version_number v) → ⊥
-BreaksMark bytes superblock.Tail = drop 256 bytes ≡ zeros 256 → ⊥
+BreaksMark bytes superblock.Version =
+    (take 8 bytes ≡ codes "EROSCKPT") × ((v : Version) → take 4 (drop 8 bytes) ≡ half_number (version_number v) → ⊥)
+BreaksMark bytes superblock.Tail =
+    (take 8 bytes ≡ codes "EROSCKPT") × ((v : Version) × (take 4 (drop 8 bytes) ≡ half_number (version_number v))) ×
+    (drop 256 bytes ≡ zeros 256 → ⊥)
 
 -- a number isn't in a range
 abbrev pub IsOutside : ℕ → ℕ → ℕ → Type 0
@@ -62,12 +65,18 @@ IsOutside least most n = (n < least) ⊎ (most < n)
 abbrev pub geometry_in : List ℕ → Geometry
 geometry_in bytes = record { nodes = number_at bytes 16; pages = number_at bytes 24; log = number_at bytes 32 }
 
--- reason 3: a number is outside its limits; or none is, and the places aren't those of a superblock
+abbrev pub IsWithin : ℕ → ℕ → ℕ → Type 0
+IsWithin least most n = (least ≤ n) × (n ≤ most)
+
+-- reason 3: the first number outside its limits; or none is, and the places aren't those of a superblock
 abbrev pub BreaksGeometry : List ℕ → GeometryPart → Type 0
 BreaksGeometry bytes (geometry.Nodes n) = (n ≡ number_at bytes 16) × IsOutside 16 4096 n
-BreaksGeometry bytes (geometry.Pages n) = (n ≡ number_at bytes 24) × IsOutside 1 4096 n
-BreaksGeometry bytes (geometry.Log n) = (n ≡ number_at bytes 32) × IsOutside 16 4096 n
-BreaksGeometry bytes (geometry.Total n) = (n ≡ number_at bytes 56) × (131072 < n)
+BreaksGeometry bytes (geometry.Pages n) =
+    IsWithin 16 4096 (number_at bytes 16) × (n ≡ number_at bytes 24) × IsOutside 1 4096 n
+BreaksGeometry bytes (geometry.Log n) =
+    IsWithin 16 4096 (number_at bytes 16) × IsWithin 1 4096 (number_at bytes 24) × (n ≡ number_at bytes 32) ×
+    IsOutside 16 4096 n
+BreaksGeometry bytes (geometry.Total n) = IsGeometry (geometry_in bytes) × (n ≡ number_at bytes 56) × (131072 < n)
 BreaksGeometry bytes geometry.Places =
     IsGeometry (geometry_in bytes) × (number_at bytes 56 ≤ 131072) ×
     ((p : Plan) → IsPlan p → bytes ≡ superblock_bytes p → ⊥)
@@ -75,7 +84,8 @@ BreaksGeometry bytes geometry.Places =
 -- reason 4: why the header of a slot doesn't count
 abbrev pub IsNotCounted : List ℕ → List ℕ → ℕ → NotCounted → Type 0
 IsNotCounted header gate slot uncounted.Closed = is_open gate ≡ false
-IsNotCounted header gate slot (uncounted.Misplaced sequence) = (sequence ≡ sequence_in header) × (sequence % 2 ≢ slot)
+IsNotCounted header gate slot (uncounted.Misplaced sequence) =
+    (is_open gate ≡ true) × (sequence ≡ sequence_in header) × (sequence % 2 ≢ slot)
 
 abbrev pub header_in : List ℕ → CheckpointHeader
 header_in bytes = record {
@@ -85,14 +95,18 @@ header_in bytes = record {
   age = number_at bytes 32;
 }
 
--- reason 5: a field is above its limit; or none is, and another byte is wrong
+-- reason 5: the first field above its limit, in the order of entries, age, generation and sequence; or none is, and
+-- another byte is wrong
 abbrev pub BreaksHeader : ℕ → List ℕ → HeaderPart → Type 0
 BreaksHeader log bytes (header.Entries entries slots) = (entries ≡ number_at bytes 24) × (slots ≡ log) ×
     (slots < entries)
-BreaksHeader log bytes (header.Age age) = (age ≡ number_at bytes 32) × (2 ^ 62 < age)
-BreaksHeader log bytes (header.Generation generation age) = (generation ≡ number_at bytes 16) ×
-    (age ≡ number_at bytes 32) × (2 * age < generation)
+BreaksHeader log bytes (header.Age age) =
+    (number_at bytes 24 ≤ log) × (age ≡ number_at bytes 32) × (2 ^ 62 < age)
+BreaksHeader log bytes (header.Generation generation age) =
+    (number_at bytes 24 ≤ log) × (age ≤ 2 ^ 62) × (generation ≡ number_at bytes 16) × (age ≡ number_at bytes 32) ×
+    (2 * age < generation)
 BreaksHeader log bytes (header.Sequence sequence age) =
+    (number_at bytes 24 ≤ log) × (age ≤ 2 ^ 62) × (number_at bytes 16 ≤ 2 * age) ×
     (sequence ≡ number_at bytes 8) × (age ≡ number_at bytes 32) ×
     (2 * age + (if number_at bytes 24 == 0 then 1 else 0) < sequence)
 BreaksHeader log bytes header.Bytes = IsHeader log (header_in bytes) × (bytes ≡ header_bytes (header_in bytes) → ⊥)
@@ -109,18 +123,43 @@ BreaksDirectory g es (entry.Order k object before) =
 BreaksDirectory g es (entry.Shared j k slot) = (j < k) × (k < length es) × ((entry_at es j).slot ≡ slot) ×
     ((entry_at es k).slot ≡ slot)
 
+-- an entry is as it must be, and so it stands behind those before it
+pub record IsAmong (g : Geometry) (es : List Entry) (k : ℕ) : Type 0 where
+  pub own : IsEntry g (entry_at es k)
+  pub rises : 1 ≤ k → (entry_at es (k - 1)).object < (entry_at es k).object
+  pub apart : (j : ℕ) → j < k → (entry_at es j).slot ≡ (entry_at es k).slot → ⊥
+
+abbrev pub entry_of : DirectoryPart → ℕ
+entry_of (entry.Object k object) = k
+entry_of (entry.Slot k slot) = k
+entry_of (entry.Order k object before) = k
+entry_of (entry.Shared j k slot) = k
+
+-- the entry is the first with which something is wrong
+abbrev pub IsFirstEntry : Geometry → List Entry → DirectoryPart → Type 0
+IsFirstEntry g es part = (j : ℕ) → j < entry_of part → IsAmong g es j
+
 -- slot k of a node's frame has a capability that can be kept
 abbrev pub HoldsCap : Geometry → ℕ → List ℕ → ℕ → Type 0
 HoldsCap g age bytes k = (c : Cap) × IsKeptCap g age c × (take 24 (drop (32 + 24 * k) bytes) ≡ capability_bytes c)
 
--- reason 7: a count is above the age, a slot has no capability, or none of this is so and the frame can't be kept
+-- the first slot of a node's frame that has none
+abbrev pub IsBadSlot : Geometry → ℕ → List ℕ → ℕ → Type 0
+IsBadSlot g age bytes slot =
+    (slot < 32) × (HoldsCap g age bytes slot → ⊥) × ((k : ℕ) → k < slot → HoldsCap g age bytes k)
+
+-- reason 7: the first that is wrong: a count is above the age, a slot has no capability, or none of this is so and the
+-- frame can't be kept
 abbrev pub BreaksFrame : Geometry → ℕ → ℕ → List ℕ → FramePart → Type 0
 BreaksFrame g age n bytes (frame.Allocations count most) = (count ≡ number_at bytes 8) × (most ≡ age) × (most < count)
-BreaksFrame g age n bytes (frame.Calls count most) = (count ≡ number_at bytes 16) × (most ≡ age) × (most < count)
+BreaksFrame g age n bytes (frame.Calls count most) =
+    (number_at bytes 8 ≤ age) × (count ≡ number_at bytes 16) × (most ≡ age) × (most < count)
 BreaksFrame g age n bytes (frame.Count slot count most) =
-    (n < g.nodes) × (slot < 32) × (HoldsCap g age bytes slot → ⊥) × (count ≡ number_at bytes (48 + 24 * slot)) ×
-    (most ≡ age) × (most < count)
-BreaksFrame g age n bytes (frame.Slot slot) = (n < g.nodes) × (slot < 32) × (HoldsCap g age bytes slot → ⊥)
+    (number_at bytes 8 ≤ age) × (number_at bytes 16 ≤ age) × (n < g.nodes) × IsBadSlot g age bytes slot ×
+    (count ≡ number_at bytes (48 + 24 * slot)) × (most ≡ age) × (most < count)
+BreaksFrame g age n bytes (frame.Slot slot) =
+    (number_at bytes 8 ≤ age) × (number_at bytes 16 ≤ age) × (n < g.nodes) × IsBadSlot g age bytes slot ×
+    (number_at bytes (48 + 24 * slot) ≤ age)
 BreaksFrame g age n bytes frame.Body =
     (number_at bytes 8 ≤ age) × (number_at bytes 16 ≤ age) × (n < g.nodes → (k : ℕ) → k < 32 → HoldsCap g age bytes k)
 
@@ -139,10 +178,11 @@ BreaksSectors size c (fault.Directory sector part) =
     (p : Plan) × (h : CheckpointHeader) × (es : List Entry) × HasPlan c size p × HasHeader c p h ×
     (sector ≡ directory_sector p h.generation)
     × (length es ≡ h.entries) × AllFitting es × (directory_in c p h.generation h.entries ≡ directory_bytes es) ×
-    BreaksDirectory p.geometry es part
+    BreaksDirectory p.geometry es part × IsFirstEntry p.geometry es part
 BreaksSectors size c (fault.Frame number is_page part) =
     (p : Plan) × (h : CheckpointHeader) × (es : List Entry) × HasPlan c size p × HasHeader c p h × HasDirectory c p h es
     × (number < p.geometry.nodes + p.geometry.pages) × (is_page ≡ nat_le p.geometry.nodes number)
+    × ((m : ℕ) → m < number → (f : Frame) × IsFrameOf p.geometry h.age m (frame_in c p h.generation es m) f)
     × ((f : Frame) → IsFrameOf p.geometry h.age number (frame_in c p h.generation es number) f → ⊥)
     × BreaksFrame p.geometry h.age number (frame_in c p h.generation es number) part
 

@@ -1,12 +1,12 @@
 -- What the searches for a fault find on their way.
-use Rattle.std.specs.Prelude.{◌≡◌, ℕ, ◌+◌, ◌-◌, ◌*◌, ◌<◌, ◌≤◌, ◌==◌, if◌then◌else◌, length, List, Option, None, Some}
+use Rattle.std.specs.Prelude.{◌≡◌, ℕ, ◌+◌, ◌*◌, ◌<◌, ◌≤◌, ◌==◌, if◌then◌else◌, length, List, Option, None, Some}
 use Rattle.device.specs.Disk.{Image}
 use Rattle.device.specs.Calls.{AreSectors}
 use Rattle.model.specs.declared.frame.Frame.{Frame}
 use Rattle.model.specs.declared.geometry.Geometry.{Geometry}
 use Rattle.layout.specs.declared.directory.Entry.{Entry}
 use Rattle.layout.specs.declared.header.CheckpointHeader.{CheckpointHeader}
-use Rattle.layout.specs.Directory.{IsEntry, entry_at}
+use Rattle.layout.specs.Directory.{entry_at}
 use Rattle.layout.specs.Frame.{IsFrameOf}
 use Rattle.layout.specs.Header.{IsHeader, header_bytes}
 use Rattle.layout.specs.Image.{HasDirectory, HasHeader, HasPlan, committed_of, does_count, frame_in, sequence_in}
@@ -16,7 +16,7 @@ use Rattle.image_explainer.specs.declared.sectors.fault.FramePart.TheVariants as
 use Rattle.image_explainer.specs.declared.sectors.fault.SectorFault.{SectorFault}
 use Rattle.image_explainer.specs.declared.sectors.fault.SectorFault.TheVariants as fault
 use Rattle.image_explainer.specs.SectorBreaking.{BreaksFrame, BreaksGeometry, BreaksHeader, BreaksMark, HoldsCap}
-use Rattle.image_explainer.specs.SectorBreaking.{IsNotCounted}
+use Rattle.image_explainer.specs.SectorBreaking.{IsBadSlot, IsNotCounted}
 use Rattle.image_explainer.specs.SectorBreaking.{number_at}
 
 -- bytes are a copy of the sectors of an image, as many as they have
@@ -73,18 +73,11 @@ HasNoneIn log first first_gate second second_gate f =
 abbrev pub IsSlotOf : List Entry → ℕ → Type 0
 IsSlotOf es slot = (k : ℕ) × (k < length es) × ((entry_at es k).slot ≡ slot)
 
--- an entry is as it must be, and so it stands behind those before it
-pub record IsAmong (g : Geometry) (es : List Entry) (k : ℕ) : Type 0 where
-  pub own : IsEntry g (entry_at es k)
-  pub rises : 1 ≤ k → (entry_at es (k - 1)).object < (entry_at es k).object
-  pub apart : (j : ℕ) → j < k → (entry_at es j).slot ≡ (entry_at es k).slot → ⊥
-
 -- what is wrong with the slots of a node's frame, or that nothing is
 abbrev pub BreaksSlots : Geometry → ℕ → List ℕ → FramePart → Type 0
 BreaksSlots g age bytes (frame.Count slot count most) =
-    (slot < 32) × (HoldsCap g age bytes slot → ⊥) × (count ≡ number_at bytes (48 + 24 * slot)) × (most ≡ age) ×
-    (most < count)
-BreaksSlots g age bytes (frame.Slot slot) = (slot < 32) × (HoldsCap g age bytes slot → ⊥)
+    IsBadSlot g age bytes slot × (count ≡ number_at bytes (48 + 24 * slot)) × (most ≡ age) × (most < count)
+BreaksSlots g age bytes (frame.Slot slot) = IsBadSlot g age bytes slot × (number_at bytes (48 + 24 * slot) ≤ age)
 BreaksSlots g age bytes frame.Body = (k : ℕ) → k < 32 → HoldsCap g age bytes k
 BreaksSlots g age bytes _ = ⊥
 

@@ -7,7 +7,7 @@ ghost use Rattle.capability.specs.Parts.{OnlyReads, frames_of};
 ghost use Rattle.capability.specs.Consistency.{IsNamed};
 ghost use Rattle.recovery.specs.Noted.{AreNoted};
 ghost use Rattle.image_explainer.specs.Breaking.{IsMisnamed};
-ghost use Rattle.image_explainer.specs.Finding.{NamesOr};
+ghost use Rattle.image_explainer.specs.Finding.{IsFirstOf, NamesOr};
 
 use crate::fault::Misnamed;
 use capability::Frames;
@@ -24,6 +24,7 @@ fn find_in<F: Frames>(
     requires notes { AreNoted (frames_of (F.parts store.now)) notes.now }
     requires held { held.now ≡ caps_in (frame_at (frames_of (F.parts store.now)) number).content }
     ensures found { IfSome result (IsMisnamed (frames_of (F.parts store.now))) }
+    ensures first { IfSome result (IsFirstOf (frames_of (F.parts store.now)) number) }
     ensures none { IfNone result (All (IsNamed (frames_of (F.parts store.now))) held.now) }
 {
     for (index, capability) in held.iter().enumerate() {
@@ -45,6 +46,7 @@ fn find_there<F: Frames>(store: &F, notes: &[Option<Noted>], number: u64) -> Opt
     requires fetched { F.IsFetched store.now number }
     requires notes { AreNoted (frames_of (F.parts store.now)) notes.now }
     ensures found { IfSome result (IsMisnamed (frames_of (F.parts store.now))) }
+    ensures first { IfSome result (IsFirstOf (frames_of (F.parts store.now)) number) }
     ensures none { let frames = frames_of (F.parts store.now) in
         IfNone result (All (IsNamed frames) (caps_in (frame_at frames number).content)) }
 {
@@ -67,6 +69,7 @@ fn find_at<F: Frames>(
         (frames_of (F.parts store.old)) }
     requires notes { AreNoted (frames_of (F.parts store.old)) notes.now }
     ensures found { IfOk result (λ found. IfSome found (IsMisnamed (frames_of (F.parts store.old)))) }
+    ensures first { IfOk result (λ found. IfSome found (IsFirstOf (frames_of (F.parts store.old)) number)) }
     ensures none { let frames = frames_of (F.parts store.old) in IfOk result (λ found.
         IfNone found (All (IsNamed frames) (caps_in (frame_at frames number).content))) }
     ensures only_reads { OnlyReads F.parts F.ContinuesTo store.old store.new result }

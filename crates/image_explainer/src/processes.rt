@@ -1,9 +1,9 @@
 // Which root and annex don't belong together.
-ghost use Rattle.std.specs.Prelude.{◌≡◌, ℕ, ◌≤◌, Some, IfNone, IfSome};
+ghost use Rattle.std.specs.Prelude.{◌≡◌, ℕ, ◌<◌, ◌≤◌, Some, IfNone, IfSome};
 ghost use Rattle.capability.specs.Parts.{frames_of};
 ghost use Rattle.recovery.specs.Noted.{AreNoted};
-ghost use Rattle.image_explainer.specs.Breaking.{IsUnmatched};
-ghost use Rattle.image_explainer.specs.Finding.{HasRoot, IsMatched, MatchesOr, annex_noted};
+ghost use Rattle.image_explainer.specs.Breaking.{HasRoot, IsFirstUnmatched, IsMatched, IsUnmatched};
+ghost use Rattle.image_explainer.specs.Finding.{MatchesOr, annex_noted};
 
 use crate::fault::Unmatched;
 use capability::Frames;
@@ -23,6 +23,7 @@ fn annex_of(notes: &[Option<Noted>], number: usize) -> Option<u64>
 // The first root with this annex from a number on.
 fn root_of(notes: &[Option<Noted>], from: usize, annex: u64) -> Option<usize>
     ensures some { IfSome result (λ root. (from ≤ root) × (annex_noted notes.now root ≡ Some annex)) }
+    ensures first { IfSome result (λ root. (p : ℕ) → from ≤ p → p < root → annex_noted notes.now p ≡ Some annex → ⊥) }
     ensures none { IfNone result ((p : ℕ) → from ≤ p → annex_noted notes.now p ≡ Some annex → ⊥) }
 {
     for root in from..notes.len() {
@@ -33,10 +34,12 @@ fn root_of(notes: &[Option<Noted>], from: usize, annex: u64) -> Option<usize>
     None
 }
 
-// What a root has to do with its annex, and with another root of that.
+// What is wrong with a root and its annex, or with another root of that. It is the first flaw if no root before it has one.
 fn flaw_of_root<F: Frames>(store: &F, notes: &[Option<Noted>], root: usize) -> Option<Unmatched>
     requires { AreNoted (frames_of (F.parts store.now)) notes.now }
     ensures found { IfSome result (IsUnmatched (frames_of (F.parts store.now))) }
+    ensures first { let frames = frames_of (F.parts store.now) in
+        IfSome result (λ u. ((p : ℕ) → p < root → IsMatched frames p) → IsFirstUnmatched frames u) }
     ensures none { IfNone result (IsMatched (frames_of (F.parts store.now)) root) }
 {
     let annex = annex_of(notes, root)?;
@@ -60,6 +63,7 @@ fn flaw_of_root<F: Frames>(store: &F, notes: &[Option<Noted>], root: usize) -> O
 fn find_root<F: Frames>(store: &F, notes: &[Option<Noted>]) -> Option<Unmatched>
     requires { AreNoted (frames_of (F.parts store.now)) notes.now }
     ensures found { IfSome result (IsUnmatched (frames_of (F.parts store.now))) }
+    ensures first { IfSome result (IsFirstUnmatched (frames_of (F.parts store.now))) }
     ensures none { IfNone result ((p : ℕ) → IsMatched (frames_of (F.parts store.now)) p) }
 {
     for root in 0..notes.len() {
@@ -75,6 +79,7 @@ fn find_root<F: Frames>(store: &F, notes: &[Option<Noted>]) -> Option<Unmatched>
 fn flaw_of_annex<F: Frames>(store: &F, notes: &[Option<Noted>], annex: u64) -> Option<Unmatched>
     requires { AreNoted (frames_of (F.parts store.now)) notes.now }
     ensures found { IfSome result (IsUnmatched (frames_of (F.parts store.now))) }
+    ensures rootless { IfSome result (λ u. u ≡ Unmatched.Rootless annex) }
     ensures none { IfNone result (HasRoot (frames_of (F.parts store.now)) annex) }
 {
     if !has_role(store, annex, Role::Annex) {
@@ -90,6 +95,8 @@ fn flaw_of_annex<F: Frames>(store: &F, notes: &[Option<Noted>], annex: u64) -> O
 fn find_annex<F: Frames>(store: &F, notes: &[Option<Noted>]) -> Option<Unmatched>
     requires { AreNoted (frames_of (F.parts store.now)) notes.now }
     ensures found { IfSome result (IsUnmatched (frames_of (F.parts store.now))) }
+    ensures first { let frames = frames_of (F.parts store.now) in
+        IfSome result (λ u. ((p : ℕ) → IsMatched frames p) → IsFirstUnmatched frames u) }
     ensures none { IfNone result ((a : ℕ) → HasRoot (frames_of (F.parts store.now)) a) }
 {
     for annex in 0..store.table().count() {
@@ -101,7 +108,7 @@ fn find_annex<F: Frames>(store: &F, notes: &[Option<Noted>]) -> Option<Unmatched
     None
 }
 
-/// A root and an annex that don't belong together: roots come first, by number, and then annexes.
+/// The first root and annex that don't belong together: roots come first, by number, and then annexes.
 #[tactic(auto, using(crate::proofs::Matching::matches))]
 pub(crate) fn find_unmatched<F: Frames>(store: &F, notes: &[Option<Noted>]) -> Option<Unmatched>
     requires { AreNoted (frames_of (F.parts store.now)) notes.now }

@@ -1,8 +1,7 @@
 // What is wrong with a directory.
 ghost use Rattle.std.specs.Prelude.{◌≡◌, ℕ, ◌+◌, ◌*◌, ◌<◌, ◌≤◌, length, IfNone, IfSome};
 ghost use Rattle.layout.specs.Directory.{AllFitting, IsDirectory, directory_bytes, entry_at};
-ghost use Rattle.image_explainer.specs.SectorBreaking.{BreaksDirectory};
-ghost use Rattle.image_explainer.specs.SectorFinding.{IsAmong};
+ghost use Rattle.image_explainer.specs.SectorBreaking.{BreaksDirectory, IsAmong, IsFirstEntry, entry_of};
 
 use crate::sectors::fault::DirectoryPart;
 use crate::sectors::reading::number_at;
@@ -45,6 +44,7 @@ fn entry_part(geometry: Geometry, entries: &[Entry], index: usize) -> Option<Dir
     requires fits { AllFitting entries.now }
     requires few { geometry.nodes + geometry.pages ≤ 8192 }
     ensures some { IfSome result (BreaksDirectory geometry entries.now) }
+    ensures own { IfSome result (λ part. entry_of part ≡ index) }
     ensures none { IfNone result (IsAmong geometry entries.now index) }
 {
     let Entry { object, slot } = entries[index];
@@ -77,6 +77,7 @@ pub(crate) fn find_entry(geometry: Geometry, entries: &[Entry]) -> Option<Direct
     requires fits { AllFitting entries.now }
     requires few { geometry.nodes + geometry.pages ≤ 8192 }
     ensures some { IfSome result (BreaksDirectory geometry entries.now) }
+    ensures first { IfSome result (IsFirstEntry geometry entries.now) }
     ensures none { IfNone result (IsDirectory geometry entries.now) }
 {
     for index in 0..entries.len() {

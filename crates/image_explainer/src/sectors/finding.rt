@@ -130,7 +130,8 @@ fn find_at(
     }
 }
 
-// Breaks with what is wrong with the saved frame of an object, if anything is.
+// Breaks with what is wrong with the saved frame of an object, if anything is. It is the image's fault if no frame
+// before it is wrong.
 fn find_frame(
     bytes: &[u8],
     size: u64,
@@ -148,7 +149,8 @@ fn find_frame(
         → HasHeader image superblock.now header → HasDirectory image superblock.now header entries.now
         → MatchControlFlow result
         (λ _. IsWholeFrame image superblock.now header entries.now number)
-        (IsFault size image) }
+        (λ fault. ((m : ℕ) → m < number → IsWholeFrame image superblock.now header entries.now m)
+        → IsFault size image fault) }
 {
     let sector = frame_sector(superblock, header, entries, number);
     let geometry = superblock.geometry();

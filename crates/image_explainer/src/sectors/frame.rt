@@ -5,7 +5,7 @@ ghost use Rattle.model.specs.declared.frame.Frame.{Frame};
 ghost use Rattle.model.specs.Keepable.{IsKeptCap};
 ghost use Rattle.layout.specs.Capability.{capability_bytes};
 ghost use Rattle.layout.specs.Frame.{IsFrameOf, frame_length};
-ghost use Rattle.image_explainer.specs.SectorBreaking.{BreaksFrame, HoldsCap};
+ghost use Rattle.image_explainer.specs.SectorBreaking.{BreaksFrame, HoldsCap, IsBadSlot};
 ghost use Rattle.image_explainer.specs.SectorFinding.{BreaksSlots, FitsOr};
 
 use crate::sectors::fault::FramePart;
@@ -19,7 +19,7 @@ const SLOTS_AT: usize = 32;
 // The first slot of the frame of a node's number that has no capability which can be kept.
 fn find_slot(bytes: &[u8], geometry: Geometry, age: u64) -> Option<u64>
     requires { length bytes.now ≡ 1024 }
-    ensures some { IfSome result (λ k. (k < 32) × (HoldsCap geometry age bytes.now k → ⊥)) }
+    ensures some { IfSome result (IsBadSlot geometry age bytes.now) }
     ensures none { IfNone result ((k : ℕ) → k < 32 → HoldsCap geometry age bytes.now k) }
 {
     for k in 0..32 {
@@ -32,7 +32,7 @@ fn find_slot(bytes: &[u8], geometry: Geometry, age: u64) -> Option<u64>
     None
 }
 
-// What a node's number adds: a slot without a capability, or the body.
+// What a node's number adds: the first slot without a capability, or the body.
 fn slots_part(bytes: &[u8], geometry: Geometry, age: u64) -> FramePart
     requires { length bytes.now ≡ 1024 }
     ensures { BreaksSlots geometry age bytes.now result }

@@ -1,4 +1,4 @@
-use Rattle.image_explainer.proofs.Names.{nat_tests, length, refl, subst, arith, Geometry, slot_sector, Plan, BreaksDirectory}
+use Rattle.image_explainer.proofs.Names.{nat_tests, length, refl, subst, arith, Geometry, slot_sector, Plan, BreaksDirectory, IsFirstEntry}
 use Rattle.std.proofs.Common.{◌≡◌, ◌+◌, ◌-◌}
 use Rattle.image_explainer.proofs.Whole.{directory_fault, directory_inside}
 use Rattle.image_explainer.proofs.sectors.finding.find_directory.Goals as goal
@@ -25,3 +25,4 @@ returns-in-Some-clause-found c = λ image copy plan header.
     c.read_entries.ensures.bytes
     c.in-Some.part plan header c.read_entries.ensures.size c.read_entries.ensures.fits
     (subst (λ (g : Geometry). BreaksDirectory g c.read_entries.new.into c.in-Some.part) c.geometry-geometry.ensures.value c.in-Some.ensures.some)
+    (subst (λ (g : Geometry). IsFirstEntry g c.read_entries.new.into c.in-Some.part) c.geometry-geometry.ensures.value c.in-Some.ensures.first)
