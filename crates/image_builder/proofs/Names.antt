@@ -22,7 +22,6 @@ pub use Rattle.device.proofs.Moments.{OnlyNow, leaves_weaker, started}
 pub use Rattle.device.specs.Calls.{Agrees, Elsewhere}
 pub use Rattle.device.specs.Disk.{Disk, Image}
 pub use Rattle.device.specs.Moments.{LeavesOnly}
-pub use Rattle.home_ranges.specs.Laid.{laid_again}
 pub use Rattle.image_writer.proofs.OldImages.{kept_holds_the_same, none_is_held}
 pub use Rattle.image_writer.specs.Written.{IsLeftWriting, first_saved, first_state, state_of}
 pub use Rattle.layout.specs.Directory.{IsDirectory, entry_at}
@@ -32,7 +31,6 @@ pub use Rattle.layout.specs.declared.bad_image.BadImage.{BadImage}
 pub use Rattle.layout.specs.declared.bad_image.BadImage.TheVariants.{BadBank, BadCapability, BadProcess}
 pub use Rattle.layout.specs.declared.directory.Entry.{Entry}
 pub use Rattle.layout.specs.declared.open_fault.OpenFault.{OpenFault}
-pub use Rattle.layout.specs.declared.version.Version.TheVariants.{Two}
 pub use Rattle.migrator.specs.Durable.{DurableState, saved_by}
 unfoldable pub use Rattle.model.specs.Frame.{frames_in}
 pub use Rattle.model.specs.Keepable.{IsSoundFrames}
@@ -54,6 +52,7 @@ pub use Rattle.toml.specs.View.{table_view}
 pub use Rattle.image_builder.specs.Built.{Builds, BuildsFrom, IsLeftOf}
 pub use Rattle.image_builder.specs.Checked.{IsLeftBuilding, IsRefusedEarly, IsSoundDescription}
 pub use Rattle.image_builder.specs.Names.{EndInZeros, SavedState, []}
-pub use Rattle.image_builder.specs.Upgraded.{IsLeftUpgrading, IsNotUpgraded, IsOnlyRead, IsOpenedFrom, IsWhole, Upgrades, WritesUpgraded, upgraded}
+pub use Rattle.image_builder.specs.Upgraded.{IsLeftUpgrading, IsNotUpgraded, IsOnlyRead, IsOpenedFrom, IsWhole, Upgrades, WritesUpgraded, new_plan, upgraded}
 unfoldable pub use Rattle.image_builder.specs.Upgraded.{numbered}
+pub use Rattle.image_builder.specs.declared.new_layout.NewLayout.{NewLayout}
 pub use Rattle.image_builder.specs.declared.upgrade_fault.UpgradeFault.{UpgradeFault}

@@ -1,8 +1,8 @@
 -- What a device saves, written to another.
 use Rattle.image_builder.proofs.Names.{ℕ, List, length, ap, inl, inr, refl, subst, sym, arith, Result, Ok, Err, IfErr, IsErrOf, OnOk, Frame, Disk, Image}
-use Rattle.image_builder.proofs.Names.{Agrees, Elsewhere, LeavesOnly, agrees_is, OnlyNow, leaves_weaker, started, Entry, Two, IsDirectory, Encodes, Plan}
-use Rattle.image_builder.proofs.Names.{OpenFault, OnlyReads, kept_of, laid_again, IsLeftWriting, state_of, kept_holds_the_same, none_is_held, IsSoundSaved}
-use Rattle.image_builder.proofs.Names.{UpgradeFault, IsLeftUpgrading, IsNotUpgraded, IsOnlyRead, Upgrades, numbered, upgraded, IfOk, holds_one, EndInZeros}
+use Rattle.image_builder.proofs.Names.{Agrees, Elsewhere, LeavesOnly, agrees_is, OnlyNow, leaves_weaker, started, Entry, IsDirectory, Encodes, Plan}
+use Rattle.image_builder.proofs.Names.{OpenFault, OnlyReads, kept_of, new_plan, IsLeftWriting, state_of, kept_holds_the_same, none_is_held, IsSoundSaved}
+use Rattle.image_builder.proofs.Names.{NewLayout, UpgradeFault, IsLeftUpgrading, IsNotUpgraded, IsOnlyRead, Upgrades, numbered, upgraded, IfOk, holds_one, EndInZeros}
 use Rattle.layout.specs.Image.{SavedState}
 use Rattle.std.proofs.Common.{◌≡◌, ◌<◌, ◌≤◌, ◌∙◌}
 use Rattle.std.specs.Prelude.{◌≢◌}
@@ -23,41 +23,41 @@ module _ (image : Image) (size : ℕ) (s : SavedState) (is : Encodes image size 
   directory_count = length_numbered 0 s.directory ∙ is.directory.count
 
 -- it has the same state but for the places
-pub same_state : (s : SavedState) (p : Plan) (generation entries age : ℕ) (es : List Entry) (fs : List Frame) → p ≡ laid_again Two s.plan →
+pub same_state : (l : NewLayout) (s : SavedState) (p : Plan) (generation entries age : ℕ) (es : List Entry) (fs : List Frame) → p ≡ new_plan l s.plan →
     generation ≡ s.header.generation → entries ≡ s.header.entries → age ≡ s.header.age
     → es ≡ numbered 0 s.directory → fs ≡ s.frames → state_of p (record { sequence = 0; generation = generation; entries = entries; age = age }) es fs ≡ upgraded
-    s
-same_state s p generation entries age es fs plan_is generation_is entries_is age_is directory_is frames_is =
+    l s
+same_state l s p generation entries age es fs plan_is generation_is entries_is age_is directory_is frames_is =
     ap (λ (q : Plan). state_of q (record { sequence = 0; generation = generation; entries = entries; age = age }) es fs) plan_is
-    ∙ ap (λ (n : ℕ). state_of (laid_again Two s.plan) (record { sequence = 0; generation = n; entries = entries; age = age }) es fs) generation_is
-    ∙ ap (λ (n : ℕ). state_of (laid_again Two s.plan) (record { sequence = 0; generation = s.header.generation; entries = n; age = age }) es fs) entries_is
-    ∙ ap (λ (n : ℕ). state_of (laid_again Two s.plan) (record { sequence = 0; generation = s.header.generation; entries = s.header.entries; age = n }) es fs)
+    ∙ ap (λ (n : ℕ). state_of (new_plan l s.plan) (record { sequence = 0; generation = n; entries = entries; age = age }) es fs) generation_is
+    ∙ ap (λ (n : ℕ). state_of (new_plan l s.plan) (record { sequence = 0; generation = s.header.generation; entries = n; age = age }) es fs) entries_is
+    ∙ ap (λ (n : ℕ). state_of (new_plan l s.plan) (record { sequence = 0; generation = s.header.generation; entries = s.header.entries; age = n }) es fs)
     age_is
-    ∙ ap (λ (xs : List Entry). state_of (laid_again Two s.plan) (record s.header { sequence = 0 }) xs fs) directory_is
-    ∙ ap (λ (xs : List Frame). state_of (laid_again Two s.plan) (record s.header { sequence = 0 }) (numbered 0 s.directory) xs) frames_is
+    ∙ ap (λ (xs : List Entry). state_of (new_plan l s.plan) (record s.header { sequence = 0 }) xs fs) directory_is
+    ∙ ap (λ (xs : List Frame). state_of (new_plan l s.plan) (record s.header { sequence = 0 }) (numbered 0 s.directory) xs) frames_is
 
 -- ---- what is reported of it
 
-pub counted : (result : Result ℕ UpgradeFault) (old before new : Disk) (s : SavedState) → Encodes old.seen old.sectors s →
-    IsSoundSaved s.plan.geometry (kept_of s) → IfOk result (λ total. total ≡ (laid_again Two s.plan).total)
-    → OnOk result (Encodes new.seen new.sectors (upgraded s)) → OnOk result ((c : Image) → new.may_leave c → Encodes c new.sectors (upgraded s)) →
-    OnOk result ((c : Image) → new.may_leave c → EndInZeros (laid_again Two s.plan) s.header.generation (numbered 0 s.directory) c) →
-    OnOk result (Elsewhere 0 (laid_again Two s.plan).total before.seen new.seen)
-    → IfOk result (λ total. (done : Upgrades old before new) × (total ≡ (laid_again Two done.state.plan).total))
-counted (Ok total) old before new s was sound reported encodes crash zeros elsewhere =
+pub counted : (l : NewLayout) (result : Result ℕ UpgradeFault) (old before new : Disk) (s : SavedState) → Encodes old.seen old.sectors s →
+    IsSoundSaved s.plan.geometry (kept_of s) → IfOk result (λ total. total ≡ (new_plan l s.plan).total)
+    → OnOk result (Encodes new.seen new.sectors (upgraded l s)) → OnOk result ((c : Image) → new.may_leave c → Encodes c new.sectors (upgraded l s)) →
+    OnOk result ((c : Image) → new.may_leave c → EndInZeros (new_plan l s.plan) s.header.generation (numbered 0 s.directory) c) →
+    OnOk result (Elsewhere 0 (new_plan l s.plan).total before.seen new.seen)
+    → IfOk result (λ total. (done : Upgrades l old before new) × (total ≡ (new_plan l done.state.plan).total))
+counted l (Ok total) old before new s was sound reported encodes crash zeros elsewhere =
     (record { state = s; was = was; sound = sound; encodes = encodes; crash = crash; zeros = zeros; elsewhere = elsewhere }, reported)
-counted (Err fault) old before new s was sound reported encodes crash zeros elsewhere = tt
+counted l (Err fault) old before new s was sound reported encodes crash zeros elsewhere = tt
 
 -- and of why it isn't written
-pub not_upgraded : {D : Type 0} (result : Result ℕ UpgradeFault) (disk : D → Disk) (old : D) (sectors : ℕ) (s : SavedState) →
+pub not_upgraded : {D : Type 0} (l : NewLayout) (result : Result ℕ UpgradeFault) (disk : D → Disk) (old : D) (sectors : ℕ) (s : SavedState) →
     Encodes (disk old).seen (disk old).sectors s → IsSoundSaved s.plan.geometry (kept_of s)
-    → (IsErrOf result fault.Small → sectors < (laid_again Two s.plan).total) → IfErr result (λ why. (opening : OpenFault) → why ≢ fault.Old opening) →
-    IfErr result (λ why. IsNotUpgraded disk old sectors why)
-not_upgraded (Ok total) disk old sectors s was sound small opened = tt
-not_upgraded (Err (fault.Old why)) disk old sectors s was sound small opened = absurd (opened why refl)
-not_upgraded (Err fault.Small) disk old sectors s was sound small opened = (s, was, sound, small refl)
-not_upgraded (Err fault.Failed) disk old sectors s was sound small opened = tt
-not_upgraded (Err fault.NoMemory) disk old sectors s was sound small opened = tt
+    → (IsErrOf result fault.Small → sectors < (new_plan l s.plan).total) → IfErr result (λ why. (opening : OpenFault) → why ≢ fault.Old opening) →
+    IfErr result (λ why. IsNotUpgraded l disk old sectors why)
+not_upgraded l (Ok total) disk old sectors s was sound small opened = tt
+not_upgraded l (Err (fault.Old why)) disk old sectors s was sound small opened = absurd (opened why refl)
+not_upgraded l (Err fault.Small) disk old sectors s was sound small opened = (s, was, sound, small refl)
+not_upgraded l (Err fault.Failed) disk old sectors s was sound small opened = tt
+not_upgraded l (Err fault.NoMemory) disk old sectors s was sound small opened = tt
 
 -- ---- what is done to the old device
 

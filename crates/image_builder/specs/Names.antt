@@ -14,9 +14,10 @@ pub use Rattle.device.specs.Moments.{LeavesOnly}
 pub use Rattle.home_ranges.specs.Laid.{laid_again}
 pub use Rattle.image_writer.specs.Written.{EndInZeros, IsLeftWriting, first_saved, first_state}
 pub use Rattle.layout.specs.Image.{Encodes, SavedState}
+pub use Rattle.layout.specs.Superblock.{Plan}
 pub use Rattle.layout.specs.declared.directory.Entry.{Entry}
 pub use Rattle.layout.specs.declared.open_fault.OpenFault.{OpenFault}
-pub use Rattle.layout.specs.declared.version.Version.TheVariants.{Two}
+pub use Rattle.layout.specs.declared.version.Version.{Version}
 pub use Rattle.migrator.specs.Durable.{DurableState, saved_by}
 pub use Rattle.model.specs.Keepable.{IsSoundFrames}
 pub use Rattle.model.specs.declared.frame.Frame.{Frame}

@@ -1,10 +1,12 @@
--- What `upgrade` writes, and why it doesn't.
-use Rattle.image_builder.specs.Names.{ℕ, List, [], Disk, Image, Elsewhere, LeavesOnly, Entry, Two, Encodes, SavedState}
+-- What `upgrade` writes in a new layout, and why it doesn't.
+use Rattle.image_builder.specs.Names.{ℕ, List, [], Disk, Image, Elsewhere, LeavesOnly, Entry, Plan, Version, Encodes, SavedState}
 use Rattle.image_builder.specs.Names.{OnlyReads, Holds, SavedFrames, kept_of, frames_of, Parts, DurableState, saved_by}
 use Rattle.image_builder.specs.Names.{laid_again, IsLeftWriting, IsSoundSaved, OpenFault, RefusesToOpen, Result, IfErr}
 use Rattle.image_builder.specs.Names.{IfOk, IsErrOf, OnOk, EndInZeros}
 use Rattle.std.specs.Prelude.{◌≡◌, ◌≢◌, ◌⊎◌, ◌↔◌, ◌+◌, ◌<◌, ◌≤◌, ◌∷◌}
 use Rattle.layout.specs.declared.open_fault.OpenFault.TheVariants as opening
+use Rattle.image_builder.specs.declared.new_layout.NewLayout.{NewLayout}
+use Rattle.image_builder.specs.declared.new_layout.NewLayout.TheVariants as layout
 use Rattle.image_builder.specs.declared.upgrade_fault.UpgradeFault.{UpgradeFault}
 use Rattle.image_builder.specs.declared.upgrade_fault.UpgradeFault.TheVariants as fault
 
@@ -13,10 +15,19 @@ unfoldable pub numbered : ℕ → List Entry → List Entry
 numbered at [] = []
 numbered at (e ∷ es) = record { object = e.object; slot = at } ∷ numbered (at + 1) es
 
--- the same checkpoint by version 2 of the layout: ranges from sector 5 on, slots in order, the sequence number 0
-abbrev pub upgraded : SavedState → SavedState
-upgraded s = record {
-  plan = laid_again Two s.plan;
+-- the version by which a new image is written, where the old one has this plan
+abbrev pub version_in : NewLayout → Plan → Version
+version_in (layout.Of version) p = version
+version_in layout.Kept p = p.version
+
+-- where the parts of the new image lie: the ranges from sector 5 on, in their order
+abbrev pub new_plan : NewLayout → Plan → Plan
+new_plan l p = laid_again (version_in l p) p
+
+-- the same checkpoint in a new layout: slots in order, the sequence number 0
+abbrev pub upgraded : NewLayout → SavedState → SavedState
+upgraded l s = record {
+  plan = new_plan l s.plan;
   header = record s.header { sequence = 0 };
   directory = numbered 0 s.directory;
   frames = s.frames;
@@ -24,26 +35,26 @@ upgraded s = record {
 
 -- what an old device saves, which stands for a sound world, is written over what a new one held, and zeros behind the
 -- frames of each cluster; a crash leaves the same
-pub record Upgrades (old before new : Disk) : Type 0 where
+pub record Upgrades (l : NewLayout) (old before new : Disk) : Type 0 where
   pub state : SavedState
   pub was : Encodes old.seen old.sectors state
   pub sound : IsSoundSaved state.plan.geometry (kept_of state)
-  pub encodes : Encodes new.seen new.sectors (upgraded state)
-  pub crash : (c : Image) → new.may_leave c → Encodes c new.sectors (upgraded state)
+  pub encodes : Encodes new.seen new.sectors (upgraded l state)
+  pub crash : (c : Image) → new.may_leave c → Encodes c new.sectors (upgraded l state)
   pub zeros : (c : Image) → new.may_leave c →
-      EndInZeros (laid_again Two state.plan) state.header.generation (numbered 0 state.directory) c
-  pub elsewhere : Elsewhere 0 (laid_again Two state.plan).total before.seen new.seen
+      EndInZeros (new_plan l state.plan) state.header.generation (numbered 0 state.directory) c
+  pub elsewhere : Elsewhere 0 (new_plan l state.plan).total before.seen new.seen
 
--- a saved state was written over what a new device held, by version 2 of the layout; or why not
-pub record WritesUpgraded {E : Type 0} (disk : E → Disk) (s : SavedState) (old new : E)
+-- a saved state was written over what a new device held, in a new layout; or why not
+pub record WritesUpgraded {E : Type 0} (l : NewLayout) (disk : E → Disk) (s : SavedState) (old new : E)
     (result : Result ℕ UpgradeFault) : Type 0 where
-  pub total : IfOk result (λ total. total ≡ (laid_again Two s.plan).total)
-  pub encodes : OnOk result (Encodes (disk new).seen (disk new).sectors (upgraded s))
-  pub crash : OnOk result ((c : Image) → (disk new).may_leave c → Encodes c (disk new).sectors (upgraded s))
+  pub total : IfOk result (λ total. total ≡ (new_plan l s.plan).total)
+  pub encodes : OnOk result (Encodes (disk new).seen (disk new).sectors (upgraded l s))
+  pub crash : OnOk result ((c : Image) → (disk new).may_leave c → Encodes c (disk new).sectors (upgraded l s))
   pub zeros : OnOk result ((c : Image) → (disk new).may_leave c →
-      EndInZeros (laid_again Two s.plan) s.header.generation (numbered 0 s.directory) c)
-  pub elsewhere : OnOk result (Elsewhere 0 (laid_again Two s.plan).total (disk old).seen (disk new).seen)
-  pub small : IsErrOf result fault.Small → (disk old).sectors < (laid_again Two s.plan).total
+      EndInZeros (new_plan l s.plan) s.header.generation (numbered 0 s.directory) c)
+  pub elsewhere : OnOk result (Elsewhere 0 (new_plan l s.plan).total (disk old).seen (disk new).seen)
+  pub small : IsErrOf result fault.Small → (disk old).sectors < (new_plan l s.plan).total
   pub opened : IfErr result (λ why. (of_old : OpenFault) → why ≢ fault.Old of_old)
   pub untouched : IfErr result (λ why. why ≢ fault.Failed → new ≡ old)
   pub any_moment : LeavesOnly (disk old) (disk new) (λ c. IsLeftWriting (disk old) (kept_of s) c)
@@ -56,18 +67,18 @@ abbrev pub IsNotOpened : {D : Type 0} → (D → Disk) → D → OpenFault → T
 IsNotOpened disk old opening.NoMemory = ⊥
 IsNotOpened {D} disk old why = (back : D) × RefusesToOpen disk old back why
 
--- an old device saves what stands for a sound world, and needs more sectors
-abbrev pub NeedsMore : Disk → ℕ → Type 0
-NeedsMore old sectors =
+-- an old device saves what stands for a sound world, and needs more sectors in the new layout
+abbrev pub NeedsMore : NewLayout → Disk → ℕ → Type 0
+NeedsMore l old sectors =
     (state : SavedState) × Encodes old.seen old.sectors state × IsSoundSaved state.plan.geometry (kept_of state)
-    × (sectors < (laid_again Two state.plan).total)
+    × (sectors < (new_plan l state.plan).total)
 
 -- why nothing is upgraded, on a new device with this count of sectors; the last two aren't faults of the images
-abbrev pub IsNotUpgraded : {D : Type 0} → (D → Disk) → D → ℕ → UpgradeFault → Type 0
-IsNotUpgraded disk old sectors (fault.Old why) = IsNotOpened disk old why
-IsNotUpgraded disk old sectors fault.Small = NeedsMore (disk old) sectors
-IsNotUpgraded disk old sectors fault.Failed = Unit {0}
-IsNotUpgraded disk old sectors fault.NoMemory = Unit {0}
+abbrev pub IsNotUpgraded : {D : Type 0} → NewLayout → (D → Disk) → D → ℕ → UpgradeFault → Type 0
+IsNotUpgraded l disk old sectors (fault.Old why) = IsNotOpened disk old why
+IsNotUpgraded l disk old sectors fault.Small = NeedsMore l (disk old) sectors
+IsNotUpgraded l disk old sectors fault.Failed = Unit {0}
+IsNotUpgraded l disk old sectors fault.NoMemory = Unit {0}
 
 -- why the image on an old device isn't opened to be upgraded
 abbrev pub IsRefusedAsOld : {D : Type 0} → (D → Disk) → D → UpgradeFault → Type 0

@@ -1,15 +1,13 @@
-// Writing what an image saves to another, by version 2 of the layout.
+// Writing what an image saves to another, in a new layout.
 ghost use Rattle.std.specs.Prelude.{◌≡◌, ◌≢◌, ◌<◌, ◌≤◌, ◌↔◌, ℕ, length, IfOk, IfErr, IsErrOf, OnErr, OnOk};
 ghost use Rattle.device.specs.Disk.{Image};
 ghost use Rattle.device.specs.Calls.{Elsewhere};
 ghost use Rattle.device.specs.Moments.{LeavesOnly};
-ghost use Rattle.layout.specs.declared.version.Version.TheVariants.{Two};
 ghost use Rattle.layout.specs.Image.{Encodes, HasPlan};
 ghost use Rattle.layout.specs.Superblock.{Plan};
 ghost use Rattle.layout.specs.Calls.{ReadsOnly};
 ghost use Rattle.layout.specs.Fault.{CountsOpen};
 ghost use Rattle.checkpoint.specs.Saved.{kept_of};
-ghost use Rattle.home_ranges.specs.Laid.{laid_again};
 ghost use Rattle.image_writer.specs.Written.{IsLeftWriting};
 ghost use Rattle.recovery.specs.Denotes.{IsSoundSaved};
 ghost use Rattle.migrator.specs.Opened.{IsUnplanned};
@@ -17,37 +15,37 @@ ghost use Rattle.migrator.specs.Durable.{saved_by};
 ghost use Rattle.model.specs.Frame.{frames_in};
 ghost use Rattle.capability.specs.Parts.{frames_of};
 ghost use Rattle.image_builder.specs.Upgraded.{IsLeftUpgrading, IsNotUpgraded, IsOpenedFrom, IsRefusedAsOld};
-ghost use Rattle.image_builder.specs.Upgraded.{ReadsAndCloses, Upgrades, WritesUpgraded, numbered};
+ghost use Rattle.image_builder.specs.Upgraded.{ReadsAndCloses, Upgrades, WritesUpgraded, new_plan, numbered};
 
 use crate::closable::ClosableDevice;
+use crate::new_layout::NewLayout;
 use crate::upgrade_fault::UpgradeFault;
 use checkpoint::{OpenFault, OpenRefused};
 use device::Device;
-use home_ranges::lay_out_again;
 use image_writer::write_saved;
-use layout::{CheckpointHeader, Entry, Version};
+use layout::{CheckpointHeader, Entry};
 use migrator::{Durable, WholeStore, read_superblock};
 use model::{Cap, Content, ObjectHeader};
 use recovery::recover;
 use std::alloc::{AllocError, Global};
 use std::marker::{Model, PhantomData};
 
-/// How many sectors a device needs for what the image on another saves, by version 2 of the layout.
-/// It reads the superblock alone.
+/// How many sectors a device needs for what the image on another saves, in a new layout. It reads the
+/// superblock alone.
 ///
 /// `Failed` exactly where the device failed, and else the least of the reasons 1 to 3 to refuse an
 /// image. It takes no memory.
-pub fn upgraded_sectors<D: Device>(device: &mut D) -> Result<u64, OpenFault>
+pub fn upgraded_sectors<D: Device>(device: &mut D, layout: NewLayout) -> Result<u64, OpenFault>
     ensures reported { IfOk result (λ sectors. (p : Plan)
         × HasPlan (D.disk device.old).seen (D.disk device.old).sectors p
-        × (sectors ≡ (laid_again Two p).total)) }
+        × (sectors ≡ (new_plan layout p).total)) }
     ensures refused { IfErr result (λ why.
         IsUnplanned (D.disk device.old).seen (D.disk device.old).sectors why) }
     ensures reads { ReadsOnly (D.disk device.old) (D.disk device.new) }
     ensures cause { CountsOpen (D.disk device.old) (D.disk device.new) result }
 {
     match read_superblock(device) {
-        Ok(superblock) => Ok(lay_out_again(Version::Two, &superblock).total()),
+        Ok(superblock) => Ok(layout.lay_out(&superblock).total()),
         Err(why) => Err(why),
     }
 }
@@ -67,9 +65,10 @@ fn in_order(alloc: Global, entries: &[Entry]) -> Result<Vec<Entry>, AllocError>
     Ok(found)
 }
 
-// Writes what is saved, with these entries in place of its own and the frames that these headers and
-// contents are, and answers how many sectors the image has.
+// Writes what is saved in a new layout, with these entries in place of its own and the frames that these
+// headers and contents are, and answers how many sectors the image has.
 fn write_over<D: Device, E: Device>(
+    layout: NewLayout,
     saved: &Durable<D>,
     entries: &[Entry],
     headers: &[ObjectHeader],
@@ -84,9 +83,9 @@ fn write_over<D: Device, E: Device>(
     requires contents { length contents.now ≡ length headers.now }
     requires frames { frames_in headers.now contents.now
         ≡ (saved_by D.disk saved.now).frames }
-    ensures { WritesUpgraded E.disk (saved_by D.disk saved.now) new.old new.new result }
+    ensures { WritesUpgraded layout E.disk (saved_by D.disk saved.now) new.old new.new result }
 {
-    let superblock = lay_out_again(Version::Two, saved.superblock());
+    let superblock = layout.lay_out(saved.superblock());
     let sectors = new.sectors();
     if sectors < superblock.total() {
         return Err(UpgradeFault::Small);
@@ -104,10 +103,11 @@ fn write_over<D: Device, E: Device>(
     }
 }
 
-// Writes what a store has of its device's checkpoint, which is all in memory; answers how many sectors the
-// image has, and gives the store's device back.
+// Writes what a store has of its device's checkpoint, which is all in memory, in a new layout; answers how many
+// sectors the image has, and gives the store's device back.
 fn write_store<D: Device, E: Device, S: WholeStore<D>>(
     alloc: Global,
+    layout: NewLayout,
     store: S,
     new: &mut E,
 ) -> (Result<u64, UpgradeFault>, D)
@@ -115,7 +115,7 @@ fn write_store<D: Device, E: Device, S: WholeStore<D>>(
     requires sound { let state = saved_by D.disk (S.durable store) in
         IsSoundSaved state.plan.geometry (kept_of state) }
     requires frames { frames_of (S.parts store) ≡ (saved_by D.disk (S.durable store)).frames }
-    ensures writes { WritesUpgraded E.disk (saved_by D.disk (S.durable store)) new.old new.new result.0 }
+    ensures writes { WritesUpgraded layout E.disk (saved_by D.disk (S.durable store)) new.old new.new result.0 }
     ensures device { result.1 ≡ (S.durable store).beneath }
 {
     let (saved, objects) = store.into_parts(alloc);
@@ -124,7 +124,8 @@ fn write_store<D: Device, E: Device, S: WholeStore<D>>(
     };
     match in_order(alloc, saved.directory()) {
         Ok(entries) => {
-            let written = write_over(&saved, &entries, &objects.headers, &objects.contents, new);
+            let (headers, contents) = (&objects.headers, &objects.contents);
+            let written = write_over(layout, &saved, &entries, headers, contents, new);
             (written, saved.into_device())
         }
         Err(_) => (Err(UpgradeFault::NoMemory), saved.into_device()),
@@ -142,8 +143,8 @@ fn of_old(why: OpenFault) -> UpgradeFault
     }
 }
 
-/// An old image that was opened and read whole, to be written to a new device by version 2 of the
-/// layout. Nothing has been written to the old device.
+/// An old image that was opened and read whole, to be written to a new device. Nothing has been written
+/// to the old device.
 #[derive(Drop)]
 pub struct OldImage<D: Device, S: WholeStore<D>> {
     store: S,
@@ -186,21 +187,26 @@ impl<D: ClosableDevice, S: WholeStore<D>> OldImage<D, S> {
         }
     }
 
-    /// How many sectors a device needs for what the image saves, by version 2 of the layout.
-    pub fn sectors(&self) -> u64
-        ensures { result ≡ (laid_again Two (saved_by D.disk self.now).plan).total }
+    /// How many sectors a device needs for what the image saves, in a new layout.
+    pub fn sectors(&self, layout: NewLayout) -> u64
+        ensures { result ≡ (new_plan layout (saved_by D.disk self.now).plan).total }
     {
-        lay_out_again(Version::Two, self.store.superblock()).total()
+        layout.lay_out(self.store.superblock()).total()
     }
 
     /// Writes what the image saves over whatever a new device holds, as `upgrade` does, with its
     /// faults but `Old`; answers how many sectors the new image has, and closes the old device.
-    pub fn write_to<E: Device>(self, alloc: Global, new: &mut E) -> Result<u64, UpgradeFault>
+    pub fn write_to<E: Device>(
+        self,
+        alloc: Global,
+        layout: NewLayout,
+        new: &mut E,
+    ) -> Result<u64, UpgradeFault>
         ensures upgraded { (old : D) → IsOpenedFrom D.disk old self → IfOk result (λ total.
-            (done : Upgrades (D.disk old) (E.disk new.old) (E.disk new.new))
-            × (total ≡ (laid_again Two done.state.plan).total)) }
+            (done : Upgrades layout (D.disk old) (E.disk new.old) (E.disk new.new))
+            × (total ≡ (new_plan layout done.state.plan).total)) }
         ensures refused { (old : D) → IsOpenedFrom D.disk old self → IfErr result (λ fault.
-            IsNotUpgraded D.disk old (E.disk new.old).sectors fault) }
+            IsNotUpgraded layout D.disk old (E.disk new.old).sectors fault) }
         ensures untouched { IfErr result (λ fault. fault ≢ UpgradeFault.Failed → new.new ≡ new.old) }
         ensures any_moment { (old : D) → IsOpenedFrom D.disk old self
             → LeavesOnly (E.disk new.old) (E.disk new.new)
@@ -213,26 +219,26 @@ impl<D: ClosableDevice, S: WholeStore<D>> OldImage<D, S> {
             → ReadsAndCloses D.disk D.was_closed old
             (IsErrOf result (UpgradeFault.Old OpenFault.Failed)) }
     {
-        let (written, old) = write_store(alloc, self.store, new);
+        let (written, old) = write_store(alloc, layout, self.store, new);
         old.close();
         written
     }
 }
 
 /// Opens an old device as a kernel does, and writes what its image saves over whatever a new one
-/// holds, by version 2 of the layout; answers how many sectors the new image has. Apart from that it
-/// is `upgrade`.
+/// holds, in a new layout; answers how many sectors the new image has. Apart from that it is `upgrade`.
 pub fn upgrade_and_count<D: ClosableDevice, E: Device, S: WholeStore<D>>(
     alloc: Global,
     old: D,
     setting: S::Setting,
+    layout: NewLayout,
     new: &mut E,
 ) -> Result<u64, UpgradeFault>
     ensures upgraded { IfOk result (λ total.
-        (done : Upgrades (D.disk old) (E.disk new.old) (E.disk new.new))
-        × (total ≡ (laid_again Two done.state.plan).total)) }
+        (done : Upgrades layout (D.disk old) (E.disk new.old) (E.disk new.new))
+        × (total ≡ (new_plan layout done.state.plan).total)) }
     ensures refused { IfErr result (λ fault.
-        IsNotUpgraded D.disk old (E.disk new.old).sectors fault) }
+        IsNotUpgraded layout D.disk old (E.disk new.old).sectors fault) }
     ensures untouched { IfErr result (λ fault. fault ≢ UpgradeFault.Failed → new.new ≡ new.old) }
     ensures any_moment { LeavesOnly (E.disk new.old) (E.disk new.new)
         (λ c. IsLeftUpgrading (D.disk old) (E.disk new.old) c) }
@@ -244,15 +250,15 @@ pub fn upgrade_and_count<D: ClosableDevice, E: Device, S: WholeStore<D>>(
         (IsErrOf result (UpgradeFault.Old OpenFault.Failed)) }
 {
     match OldImage::<D, S>::open(alloc, old, setting) {
-        Ok(image) => image.write_to(alloc, new),
+        Ok(image) => image.write_to(alloc, layout, new),
         Err(fault) => Err(fault),
     }
 }
 
 /// Opens an old device as a kernel does, and writes what its image saves over whatever a new one
-/// holds, by version 2 of the layout: the same frames, generation, entries and age, with the sequence
-/// number 0, the same home ranges from sector 5 on, and the slots of the log in order. From `Ok` on a
-/// read of the new device gives that, and so does each crash. An old image of version 2 is taken too.
+/// holds, in a new layout: the same frames, generation, entries and age, with the sequence number 0, the
+/// same home ranges from sector 5 on, and the slots of the log in order. From `Ok` on a read of the new
+/// device gives that, and so does each crash. An old image of the version to be written is taken too.
 ///
 /// `Old` exactly where a kernel doesn't open the old device, with its reason, but for want of memory;
 /// `Small` where the new device has fewer sectors than `upgraded_sectors` says of the old one;
@@ -267,11 +273,12 @@ pub fn upgrade<D: ClosableDevice, E: Device, S: WholeStore<D>>(
     alloc: Global,
     old: D,
     setting: S::Setting,
+    layout: NewLayout,
     new: &mut E,
 ) -> Result<(), UpgradeFault>
-    ensures upgraded { OnOk result (Upgrades (D.disk old) (E.disk new.old) (E.disk new.new)) }
+    ensures upgraded { OnOk result (Upgrades layout (D.disk old) (E.disk new.old) (E.disk new.new)) }
     ensures refused { IfErr result (λ fault.
-        IsNotUpgraded D.disk old (E.disk new.old).sectors fault) }
+        IsNotUpgraded layout D.disk old (E.disk new.old).sectors fault) }
     ensures untouched { IfErr result (λ fault. fault ≢ UpgradeFault.Failed → new.new ≡ new.old) }
     ensures any_moment { LeavesOnly (E.disk new.old) (E.disk new.new)
         (λ c. IsLeftUpgrading (D.disk old) (E.disk new.old) c) }
@@ -282,7 +289,7 @@ pub fn upgrade<D: ClosableDevice, E: Device, S: WholeStore<D>>(
     ensures reads { ReadsAndCloses D.disk D.was_closed old
         (IsErrOf result (UpgradeFault.Old OpenFault.Failed)) }
 {
-    match upgrade_and_count::<D, E, S>(alloc, old, setting, new) {
+    match upgrade_and_count::<D, E, S>(alloc, old, setting, layout, new) {
         Ok(_total) => Ok(()),
         Err(fault) => Err(fault),
     }

@@ -1,5 +1,5 @@
-use Rattle.image_builder.proofs.Names.{rules, List, length, ap, subst, sym, Geometry, frames_in, LeavesOnly, Entry, Two, IsDirectory, Encodes, Plan}
-use Rattle.image_builder.proofs.Names.{SavedFrames, kept_of, laid_again, IsLeftWriting, saved_by, numbered, EndInZeros, SavedState}
+use Rattle.image_builder.proofs.Names.{rules, List, length, ap, subst, sym, Geometry, frames_in, LeavesOnly, Entry, IsDirectory, Encodes, Plan}
+use Rattle.image_builder.proofs.Names.{SavedFrames, kept_of, new_plan, IsLeftWriting, saved_by, numbered, EndInZeros, SavedState}
 use Rattle.std.proofs.Common.{◌≡◌, ◌∙◌}
 use Rattle.image_builder.proofs.Upgrades.{directory_count, directory_fits, same_state}
 use Rattle.image_builder.proofs.upgrading.write_over.Goals as goal
@@ -7,7 +7,7 @@ use Rattle.image_builder.proofs.upgrading.write_over.Goals as goal
 pub write_saved-requires-clause-directory : goal.write_saved-requires-clause-directory
 write_saved-requires-clause-directory g c =
     let s = saved_by g.D.Device.disk c.args.saved.now in
-    let laid : c.lay_out_again-superblock.result ≡ laid_again Two s.plan = search rules in
+    let laid : c.lay_out-superblock.result ≡ new_plan c.args.layout s.plan = search rules in
     let entries : c.args.entries.now ≡ numbered 0 s.directory = c.requires.entries in
     subst (λ (geometry : Geometry). IsDirectory geometry c.args.entries.now) (sym (ap (λ (p : Plan). p.geometry) laid))
     (subst (λ (es : List Entry). IsDirectory s.plan.geometry es) (sym entries)
@@ -23,13 +23,13 @@ write_saved-requires-clause-count g c =
 pub returns-in-Ok : goal.returns-in-Ok
 returns-in-Ok g c =
     let s = saved_by g.D.Device.disk c.args.saved.now in
-    let laid : c.lay_out_again-superblock.result ≡ laid_again Two s.plan = search rules in
+    let laid : c.lay_out-superblock.result ≡ new_plan c.args.layout s.plan = search rules in
     let entries : c.args.entries.now ≡ numbered 0 s.directory = c.requires.entries in
     let generation : c.saved-checkpoint.result.generation ≡ s.header.generation = search rules in
     let count : c.saved-checkpoint.result.entries ≡ s.header.entries = search rules in
     let age : c.saved-checkpoint.result.age ≡ s.header.age = search rules in
     let frames : frames_in c.args.headers.now c.args.contents.now ≡ s.frames = c.requires.frames in
-    let same = same_state s _ _ _ _ _ _ laid generation count age entries frames in
+    let same = same_state c.args.layout s _ _ _ _ _ _ laid generation count age entries frames in
     record {
       total = search rules;
       encodes = subst (Encodes (g.E.Device.disk c.write_saved.new.device).seen (g.E.Device.disk c.write_saved.new.device).sectors) same c.in-Ok.ensures.denotes;
@@ -49,7 +49,7 @@ returns-in-Ok g c =
 pub returns-in-Err : goal.returns-in-Err
 returns-in-Err g c =
     let s = saved_by g.D.Device.disk c.args.saved.now in
-    let laid : c.lay_out_again-superblock.result ≡ laid_again Two s.plan = search rules in
+    let laid : c.lay_out-superblock.result ≡ new_plan c.args.layout s.plan = search rules in
     let entries : c.args.entries.now ≡ numbered 0 s.directory = c.requires.entries in
     let generation : c.saved-checkpoint.result.generation ≡ s.header.generation = search rules in
     let count : c.saved-checkpoint.result.entries ≡ s.header.entries = search rules in
@@ -66,7 +66,7 @@ returns-in-Err g c =
       untouched = search rules;
       any_moment = subst (λ (saved : SavedFrames). LeavesOnly (g.E.Device.disk c.args.new.now) (g.E.Device.disk c.write_saved.new.device)
           (λ x. IsLeftWriting (g.E.Device.disk c.args.new.now) saved x))
-          (ap kept_of (same_state s _ _ _ _ _ _ laid generation count age entries frames)) c.write_saved.ensures.any_moment;
+          (ap kept_of (same_state c.args.layout s _ _ _ _ _ _ laid generation count age entries frames)) c.write_saved.ensures.any_moment;
       size = search rules;
       later = search rules;
       cause = search rules;
