@@ -1,4 +1,4 @@
--- Words that the command takes name a job, unless they are an upgrade of one word to itself.
+-- Words that the command takes name a job, unless they are an upgrade or a copy of one word to itself.
 use Rattle.command_line.proofs.Names.{nat_tests, is_some, not, suc, arith, length, option_map, refl, sym, subst, ap, List, [], Bool, drop, true, false, Option}
 use Rattle.command_line.proofs.Names.{Some, None, true≢false, codes, list_any, option_map_or, bytes_eq, eqb-true, bytes_eq-Decides, answers_to, is_empty}
 use Rattle.command_line.proofs.Names.{nothing_held, stop_after, Command, ArgMatches, HasMatchesOf, Shape, app_of, built, entered, is_simple, label_of, names_of}
@@ -66,7 +66,7 @@ entered_named (Some p) some well passes none = go (subcommand_named p.0) refl so
     go None is some level none = absurd (true≢false (sym some))
     go (Some s) is some level none = shape_named p well s is level none
 
--- words that the command takes name a job, unless they are an upgrade of one word to itself
+-- words that the command takes name a job, unless they are an upgrade or a copy of one word to itself
 pub takes_named : (words : List Text) → takes eros_app words ≡ true → NamesNone (subcommand_of eros_app words) → AsksForSame (subcommand_of eros_app words)
 takes_named words taken none =
     let parts = both (is_simple eros_app) _ taken in

@@ -4,7 +4,7 @@ use Rattle.command_line.proofs.Names.{true≢false, inl, inr, codes, ⊤, cond, 
 use Rattle.command_line.proofs.Names.{slice_index_or, option_map_or, bytes_eq, eqb-true, AllPass-from_list_all, bytes_eq-Decides, parser_of_value, Shape, built}
 use Rattle.command_line.proofs.Names.{label_of, values_pass, accepts, answers_to, arg_by_id, is_empty, IsUnsignedIn, Row, Rule, Text, all_of, first_of}
 use Rattle.command_line.proofs.Names.{ValueParser, Unsigned, accepts-Accepts, both, GivesNoNumber, has_all, is_whole, subcommand_named, subcommand_name}
-use Rattle.command_line.proofs.Names.{subcommands, eros_app, IsNoJob, IsSameTwice, Found, Bor, first_value, rows_of, drop}
+use Rattle.command_line.proofs.Names.{subcommands, eros_app, IsNoJob, IsSameOf, IsSameTwice, Found, Bor, first_value, rows_of, drop}
 use Rattle.std.proofs.Common.{◌≡◌, ◌≢◌, ◌<◌, ◌∙◌, ◌&&◌, ◌||◌, ◌⊎◌, ◌∷◌}
 use Rattle.command_line.specs.declared.subcommands.Subcommand.TheVariants as sub
 use Rattle.command_line.proofs.Getters.{missing}
@@ -89,10 +89,10 @@ module _ (name id : Text) (rows : List Row) where
           (AllPass-from_list_all (accepts all.0 (Unsigned least most)) words
           (subst (λ vs. list_all (accepts all.0 (Unsigned least most)) vs ≡ true) same all.1) k d lt))
 
--- an upgrade whose two words are equal
-pub same_twice : (rows : List Row) (one other : Text) → first_of (codes "OLD") rows ≡ Some one → first_of (codes "NEW") rows ≡ Some other → one ≡ other
-    → IsNoJob (codes "upgrade") rows
-same_twice rows one other one_is other_is same has = inr (refl, one, one_is, other_is ∙ ap Some (sym same))
+-- an upgrade or a copy whose two words are equal
+pub same_twice : (command id : Text) (rows : List Row) (one other : Text) → first_of id rows ≡ Some one → first_of (codes "NEW") rows ≡ Some other
+    → one ≡ other → IsSameOf command id command rows
+same_twice command id rows one other one_is other_is same = (refl, one, one_is, other_is ∙ ap Some (sym same))
 
 -- the name is none of these
 abbrev DiffersFrom : Text → List Shape → Type 0
@@ -114,13 +114,13 @@ not_found name (s ∷ rest) differs plain = go (bytes_eq s.name name) refl s.ali
 pub unknown : (name : Text) (rows : List Row) → All (λ s. name ≢ subcommand_name s) subcommands → IsNoJob name rows
 unknown name rows each has = go (bytes_eq name (codes "help")) refl
   where
-    at : (i : ℕ) → i < 10 → name ≢ subcommand_name (slice_index_or subcommands i sub.Build)
+    at : (i : ℕ) → i < 11 → name ≢ subcommand_name (slice_index_or subcommands i sub.Build)
     at i inside = each i sub.Build inside
 
     differs : (name ≡ codes "help" → ⊥) → DiffersFrom name (built eros_app).subs
     differs help =
         let shapes : List Shape = (built eros_app).subs in
-        let last : DiffersFrom name (drop 7 shapes) = (at 7 (omega arith), (at 8 (omega arith), (at 9 (omega arith), (help, tt)))) in
+        let last : DiffersFrom name (drop 7 shapes) = (at 7 (omega arith), (at 8 (omega arith), (at 9 (omega arith), (at 10 (omega arith), (help, tt))))) in
         let more : DiffersFrom name (drop 4 shapes) = (at 4 (omega arith), (at 5 (omega arith), (at 6 (omega arith), last))) in
         (at 0 (omega arith), (at 1 (omega arith), (at 2 (omega arith), (at 3 (omega arith), more))))
 

@@ -49,7 +49,7 @@ pub use Rattle.command_line.specs.Arguments.{AreNumbersIfAny, GivesNoNumber, Giv
 pub use Rattle.command_line.specs.Arguments.{is_whole, number_of, subcommand_named, texts_of}
 pub use Rattle.command_line.specs.Commands.{IsCommand, argument_rule, bare_app, eros_app, greatest_number, subcommand_app, subcommand_name, subcommands}
 pub use Rattle.command_line.specs.Commands.{with_rules, with_subcommands}
-pub use Rattle.command_line.specs.Jobs.{AreSizes, IsCache, IsNoJob, IsSameTwice, NamesLine, NamesNone}
+pub use Rattle.command_line.specs.Jobs.{AreSizes, IsCache, IsNoJob, IsSameOf, IsSameTwice, NamesLine, NamesNone}
 pub use Rattle.command_line.specs.Refusals.{AsksForSame, IsFaultOf, IsRefused}
 unfoldable pub use Rattle.command_line.specs.Refusals.{Explains}
 pub use Rattle.command_line.specs.declared.fault.JobFault.{JobFault}

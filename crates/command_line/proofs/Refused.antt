@@ -31,7 +31,7 @@ pub nothing_against : (words : List Text) (command : Command) → app_of command
     → (is_simple_and_free (app_of command) ≡ true → fault_of (app_of command) words ≡ []) → fault_of eros_app words ≡ []
 nothing_against words command is none = subst (λ (a : App). is_simple_and_free a ≡ true → fault_of a words ≡ []) is none refl
 
--- a bad value explains why words name no job that clap has nothing against, where these are an upgrade of one word to itself
+-- a bad value explains why words name no job that clap has nothing against, where these are an upgrade or a copy of one word to itself
 pub value_refused : (words : List Text) (e : Error) → kind_of e ≡ ValueValidation → fault_of eros_app words ≡ []
     → (takes eros_app words ≡ true → AsksForSame (subcommand_of eros_app words)) → (kind_of e ≡ OutOfMemory) ⊎ Explains words e
 unfolding Explains

@@ -69,6 +69,7 @@ subcommand_name sub.Explain = codes "explain"
 subcommand_name sub.Info = codes "info"
 subcommand_name sub.Reach = codes "reach"
 subcommand_name sub.Upgrade = codes "upgrade"
+subcommand_name sub.Copy = codes "copy"
 subcommand_name sub.Describe = codes "describe"
 subcommand_name sub.Draw = codes "draw"
 
@@ -85,6 +86,7 @@ rules_of sub.Info = file_rule (codes "IMAGE") ∷ cause_rule ∷ []
 rules_of sub.Reach = file_rule (codes "IMAGE") ∷ processes_rule ∷ number_rule (codes "shows") ∷ number_rule (codes "to")
     ∷ numbers_rule (codes "trust") ∷ cause_rule ∷ []
 rules_of sub.Upgrade = file_rule (codes "OLD") ∷ file_rule (codes "NEW") ∷ cause_rule ∷ []
+rules_of sub.Copy = file_rule (codes "IMAGE") ∷ file_rule (codes "NEW") ∷ cause_rule ∷ []
 rules_of sub.Describe = file_rule (codes "IMAGE") ∷ number_rule (codes "nodes") ∷ number_rule (codes "pages")
     ∷ number_rule (codes "log") ∷ cause_rule ∷ []
 rules_of sub.Draw = file_rule (codes "IMAGE") ∷ number_rule (codes "from") ∷ number_rule (codes "to") ∷ cause_rule ∷ []
@@ -107,7 +109,7 @@ with_subcommands app (s ∷ rest) = with_subcommands (with_subcommand app (subco
 abbrev pub subcommands : List Subcommand
 subcommands =
     sub.Build ∷ sub.Run ∷ sub.Shell ∷ sub.Check ∷ sub.Explain ∷ sub.Info ∷ sub.Reach ∷ sub.Upgrade
-    ∷ sub.Describe ∷ sub.Draw ∷ []
+    ∷ sub.Copy ∷ sub.Describe ∷ sub.Draw ∷ []
 
 -- the name alone, which has a version, and wants a subcommand
 abbrev pub bare_app : App

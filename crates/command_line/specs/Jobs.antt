@@ -42,6 +42,8 @@ IsJob name rows (job.Reach image processes shows to trusted) = (name ≡ codes "
     × IsNumberOption rows (codes "to") to × AreNumbersIfAny rows (codes "trust") trusted.items
 IsJob name rows (job.Upgrade old new) = (name ≡ codes "upgrade")
     × IsGiven rows (codes "OLD") old.now × IsGiven rows (codes "NEW") new.now × (old.now ≢ new.now)
+IsJob name rows (job.Copy image new) = (name ≡ codes "copy")
+    × IsGiven rows (codes "IMAGE") image.now × IsGiven rows (codes "NEW") new.now × (image.now ≢ new.now)
 IsJob name rows (job.Describe image sizes) = (name ≡ codes "describe") × IsGiven rows (codes "IMAGE") image.now ×
     AreSizes rows sizes
 IsJob name rows (job.Draw image from to) = (name ≡ codes "draw") × IsGiven rows (codes "IMAGE") image.now
@@ -56,12 +58,17 @@ abbrev pub NamesLine : Option (Text × List Row) → CommandLine → Type 0
 NamesLine None line = ⊥
 NamesLine (Some met) line = IsLine met.0 met.1 line
 
--- it is an upgrade whose two words are equal
-abbrev pub IsSameTwice : Text → List Row → Type 0
-IsSameTwice name rows = (name ≡ codes "upgrade") × (word : Text) × IsGiven rows (codes "OLD") word × IsGiven rows
+-- it is this subcommand, and its image and the new one are one word
+abbrev pub IsSameOf : Text → Text → Text → List Row → Type 0
+IsSameOf command image name rows = (name ≡ command) × (word : Text) × IsGiven rows image word × IsGiven rows
     (codes "NEW") word
 
--- the subcommand doesn't have what it takes, or is that for help, or an upgrade whose two words are equal
+-- it is an upgrade or a copy whose two words are equal
+abbrev pub IsSameTwice : Text → List Row → Type 0
+IsSameTwice name rows = IsSameOf (codes "upgrade") (codes "OLD") name rows ⊎ IsSameOf (codes "copy") (codes "IMAGE")
+    name rows
+
+-- the subcommand doesn't have what it takes, or is that for help, or an upgrade or a copy whose two words are equal
 abbrev pub IsNoJob : Text → List Row → Type 0
 IsNoJob name rows = has_all name rows ≡ true → (name ≡ codes "help") ⊎ IsSameTwice name rows
 

@@ -14,13 +14,13 @@ abbrev pub IsFaultOf : Error → JobFault → Type 0
 IsFaultOf e (fault.BadWords why) = (why ≡ e) × (kind_of e ≢ OutOfMemory)
 IsFaultOf e fault.NoMemory = kind_of e ≡ OutOfMemory
 
--- the words request an upgrade of one word to itself
+-- the words request an upgrade or a copy of one word to itself
 abbrev pub AsksForSame : Option (Text × List Row) → Type 0
 AsksForSame None = ⊥
 AsksForSame (Some met) = IsSameTwice met.0 met.1
 
 -- The kind of an error that refuses words. It is one that clap gives for them; or clap has nothing against them, they
--- request an upgrade of one word to itself, and it is that of a bad value.
+-- request an upgrade or a copy of one word to itself, and it is that of a bad value.
 unfoldable pub Explains : List Text → Error → Type 0
 Explains words e =
     ((takes eros_app words ≡ false) × IsAmong (kind_of e) (fault_of eros_app words))

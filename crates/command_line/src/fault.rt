@@ -12,7 +12,7 @@ use std::alloc::{AllocError, Global};
 /// Why words name no job.
 #[derive(Drop)]
 pub enum JobFault {
-    /// The command doesn't take them, they ask for help, or an upgrade has one word twice. This is clap's message.
+    /// The command doesn't take them, they ask for help, or an upgrade or a copy has one word twice. This is clap's message.
     BadWords(Error),
     /// Memory ran out.
     NoMemory,

@@ -99,6 +99,11 @@ pub enum Job<'a> {
         old: &'a str,
         new: &'a str,
     },
+    /// Writes what an image saves to a new image, of the same version of the layout. The two names differ.
+    Copy {
+        image: &'a str,
+        new: &'a str,
+    },
     /// Describes what an image saves.
     Describe {
         image: &'a str,
@@ -294,6 +299,19 @@ fn upgrade_of<'a>(inner: &ArgMatches<'a>) -> Option<Job<'a>>
     Some(Job::Upgrade { old, new })
 }
 
+// The copy that the matches name, or `None` where a word is missing or both are one.
+fn copy_of<'a>(inner: &ArgMatches<'a>) -> Option<Job<'a>>
+    ensures named { IfSome result (IsJob (codes "copy") (rows_of (found_of inner.now))) }
+    ensures none { IsNone result → IsNoJob (codes "copy") (rows_of (found_of inner.now)) }
+{
+    let image = inner.get_str(IMAGE)?;
+    let new = inner.get_str(NEW)?;
+    if image == new {
+        return None;
+    }
+    Some(Job::Copy { image, new })
+}
+
 // The sizes that the matches give, or `None` where one is no number.
 fn sizes_of(inner: &ArgMatches<'_>) -> Option<Sizes>
     ensures named { IfSome result (AreSizes (rows_of (found_of inner.now))) }
@@ -345,6 +363,7 @@ fn job_of<'a>(
         Subcommand::Info => Ok(info_of(inner)),
         Subcommand::Reach => reach_of(alloc, inner),
         Subcommand::Upgrade => Ok(upgrade_of(inner)),
+        Subcommand::Copy => Ok(copy_of(inner)),
         Subcommand::Describe => Ok(describe_of(inner)),
         Subcommand::Draw => Ok(draw_of(inner)),
     }
@@ -398,8 +417,8 @@ fn requested<'a>(
 }
 
 // What the words request. Fails with what clap says of words that the command doesn't take, also where
-// they ask for help, with a `ValueValidation` where an upgrade has one word twice, and with `OutOfMemory`
-// where memory runs out.
+// they ask for help, with a `ValueValidation` where an upgrade or a copy has one word twice, and with
+// `OutOfMemory` where memory runs out.
 pub(crate) fn read_line<'a, S: AsStr>(
     alloc: Global,
     command: &mut Command<'a>,
@@ -413,7 +432,7 @@ pub(crate) fn read_line<'a, S: AsStr>(
     let matches = command.try_get_matches_from_mut(words)?;
     match requested(alloc, matches)? {
         Some(line) => Ok(line),
-        // The command takes such words only where an upgrade has one word twice.
-        None => Err(command.error(ErrorKind::ValueValidation, "OLD and NEW are the same file")?),
+        // The command takes such words only where an upgrade or a copy has one word twice.
+        None => Err(command.error(ErrorKind::ValueValidation, "both files are the same")?),
     }
 }

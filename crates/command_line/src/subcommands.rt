@@ -227,6 +227,12 @@ const UPGRADE: &[Argument<'static>] = &[
     CAUSE,
 ];
 
+const COPY: &[Argument<'static>] = &[
+    READ,
+    Argument::File(NEW, "The new image file; an old one is replaced"),
+    CAUSE,
+];
+
 const DESCRIBE: &[Argument<'static>] = &[
     READ,
     Argument::Number(
@@ -273,6 +279,7 @@ pub(crate) enum Subcommand {
     Info,
     Reach,
     Upgrade,
+    Copy,
     Describe,
     Draw,
 }
@@ -303,6 +310,7 @@ impl Subcommand {
             Subcommand::Info => "info",
             Subcommand::Reach => "reach",
             Subcommand::Upgrade => "upgrade",
+            Subcommand::Copy => "copy",
             Subcommand::Describe => "describe",
             Subcommand::Draw => "draw",
         }
@@ -332,6 +340,9 @@ impl Subcommand {
             Subcommand::Upgrade => {
                 "Writes what an image saves to a new image of layout version 2, where nodes take less space"
             }
+            Subcommand::Copy => {
+                "Writes what an image saves to a new image of the same layout version, as a backup"
+            }
             Subcommand::Describe => "Prints the description of what an image saves, in TOML",
             Subcommand::Draw => {
                 "Prints what an image saves as a graph, in DOT: who owns what, and who holds which capability"
@@ -351,6 +362,7 @@ impl Subcommand {
             Subcommand::Explain => EXPLAIN,
             Subcommand::Reach => REACH,
             Subcommand::Upgrade => UPGRADE,
+            Subcommand::Copy => COPY,
             Subcommand::Describe => DESCRIBE,
             Subcommand::Draw => DRAW,
         }
@@ -378,6 +390,7 @@ const SUBCOMMANDS: &[Subcommand] = &[
     Subcommand::Info,
     Subcommand::Reach,
     Subcommand::Upgrade,
+    Subcommand::Copy,
     Subcommand::Describe,
     Subcommand::Draw,
 ];
@@ -399,6 +412,7 @@ fn bare<'a>(alloc: Global) -> Result<Command<'a>, AllocError>
              eros run --trace first.image examples/journal.eros  also writes the result of each line\n  \
              eros shell first.image                              reads commands from the terminal\n  \
              eros upgrade first.image second.image               prints: upgraded 399 sectors\n  \
+             eros copy first.image backup.image                  prints: copied 399 sectors\n  \
              eros describe first.image                           prints the description of what it saves\n  \
              eros describe --nodes 64 first.image                prints it for an image of 64 nodes\n  \
              eros draw first.image                               prints a graph of what it saves\n  \

@@ -1,4 +1,4 @@
-use Rattle.command_line.proofs.Names.{rules, codes, refl, found_of, rows_of}
+use Rattle.command_line.proofs.Names.{rules, codes, inl, inr, refl, found_of, rows_of}
 use Rattle.command_line.proofs.Getters.{given}
 use Rattle.command_line.proofs.Lacking.{lacking, same_twice}
 use Rattle.command_line.proofs.requested.upgrade_of.Goals as goal
@@ -10,10 +10,11 @@ pub returns-in_err-new-clause-none : goal.returns-in_err-new-clause-none
 returns-in_err-new-clause-none c = λ _. lacking (codes "upgrade") (codes "NEW") (found_of c.args.inner.now) _ refl c.get_str-2.ensures (search rules)
 
 pub returns-then-eq-clause-none : goal.returns-then-eq-clause-none
-returns-then-eq-clause-none c = λ _. same_twice (rows_of (found_of c.args.inner.now)) c.in_ok-old.old.now c.in_ok-new.new.now
+returns-then-eq-clause-none c = λ _ has. inr (inl (same_twice (codes "upgrade") (codes "OLD") (rows_of (found_of c.args.inner.now))
+    c.in_ok-old.old.now c.in_ok-new.new.now
     (given (found_of c.args.inner.now) (codes "OLD") c.get_str.result c.in_ok-old.old c.get_str.ensures (search rules))
     (given (found_of c.args.inner.now) (codes "NEW") c.get_str-2.result c.in_ok-new.new c.get_str-2.ensures (search rules))
-    (search rules)
+    (search rules)))
 
 pub returns-clause-named : goal.returns-clause-named
 returns-clause-named c = (
