@@ -8,13 +8,12 @@ pub use Rattle.description.specs.declared.entry.Description.{Description}
 pub use Rattle.description.specs.declared.fault.BuildFault.{BuildFault}
 pub use Rattle.description.specs.declared.fault.BuildFault.TheVariants.{Failed}
 pub use Rattle.device.specs.Disk.{Disk}
-pub use Rattle.home_ranges.specs.Laid.{laid_again}
 pub use Rattle.image_builder.specs.Built.{BuildsFrom}
-pub use Rattle.image_builder.specs.Upgraded.{ReadsAndCloses, Upgrades}
+pub use Rattle.image_builder.specs.Upgraded.{ReadsAndCloses, Upgrades, new_plan}
+pub use Rattle.image_builder.specs.declared.new_layout.NewLayout.{NewLayout}
 pub use Rattle.image_builder.specs.declared.upgrade_fault.UpgradeFault.{UpgradeFault}
 pub use Rattle.image_writer.specs.Written.{first_saved}
 pub use Rattle.layout.specs.declared.open_fault.OpenFault.{OpenFault}
-pub use Rattle.layout.specs.declared.version.Version.TheVariants.{Two}
 pub use Rattle.model.specs.Machine.{Up, opened}
 pub use Rattle.model.specs.Run.{Turn}
 pub use Rattle.model.specs.Text.{line_of}

@@ -1,5 +1,5 @@
--- The outcome of the command that upgrades.
-use Rattle.jobs.proofs.Names.{Written, Wrote, ℕ, Ok, Err, ap, subst, sym, IfErr, IsErrOf, OnErr, OnOk, line_of, Disk, Two, laid_again, UpgradeFault}
+-- The outcome of the commands that write an image to a new one.
+use Rattle.jobs.proofs.Names.{Written, Wrote, ℕ, Ok, Err, ap, subst, sym, IfErr, IsErrOf, OnErr, OnOk, line_of, Disk, NewLayout, new_plan, UpgradeFault}
 use Rattle.jobs.proofs.Names.{ReadsAndCloses, Upgrades, WroteFront, Fault, UpgradesImage, old_failed, upgraded_text, UpgradesAndTells}
 use Rattle.std.specs.Prelude.{Result, ◌↔◌, List}
 use Rattle.std.proofs.Common.{◌≡◌, ◌∙◌}
@@ -10,15 +10,15 @@ use Rattle.jobs.specs.declared.fault.Fault.TheVariants as fault
 pub upgrade_cause : (why : UpgradeFault) (P : Type 0) → ((let r : Result ℕ UpgradeFault = Err why in IsErrOf r upgrade.Failed) ↔ P) → (why ≡ upgrade.Failed) ↔ P
 upgrade_cause why P caused = (λ is. caused.0 (ap (λ (f : UpgradeFault). Err f) is), λ rose. let is = caused.1 rose in cc)
 
-module _ {D E : Type 0} (disk : D → Disk) (new_disk : E → Disk) (old : D) (before new : E) (output output_left : Written) (total : ℕ)
-    (done : (upgrades : Upgrades (disk old) (new_disk before) (new_disk new)) × (total ≡ (laid_again Two upgrades.state.plan).total)) where
-  told_of : (Reported : List ℕ → Type 0) → Reported (line_of (upgraded_text total)) → UpgradesAndTells disk new_disk old before new Reported
-  told_of Reported told = (done.0, subst (λ (n : ℕ). Reported (line_of (upgraded_text n))) done.1 told)
+module _ {D E : Type 0} (l : NewLayout) (disk : D → Disk) (new_disk : E → Disk) (old : D) (before new : E) (output output_left : Written) (total : ℕ)
+    (done : (upgrades : Upgrades l (disk old) (new_disk before) (new_disk new)) × (total ≡ (new_plan l upgrades.state.plan).total)) where
+  told_of : (Reported : List ℕ → Type 0) → Reported (line_of (upgraded_text l total)) → UpgradesAndTells l disk new_disk old before new Reported
+  told_of Reported told = (done.0, subst (λ (n : ℕ). Reported (line_of (upgraded_text l n))) done.1 told)
 
   -- the total was reported, or couldn't be
-  pub total_reported : (result : Result (Unit {0}) Fault) → OnOk result (Wrote output output_left (line_of (upgraded_text total))) →
-      OnErr result (WroteFront output output_left (line_of (upgraded_text total)))
-      → IfErr result (λ f. f ≡ fault.CannotWriteOutput) → UpgradesImage disk new_disk old before new output output_left result
+  pub total_reported : (result : Result (Unit {0}) Fault) → OnOk result (Wrote output output_left (line_of (upgraded_text l total))) →
+      OnErr result (WroteFront output output_left (line_of (upgraded_text l total)))
+      → IfErr result (λ f. f ≡ fault.CannotWriteOutput) → UpgradesImage l disk new_disk old before new output output_left result
   total_reported (Ok a) reported front is = told_of (Wrote output output_left) reported
   total_reported (Err f) reported front is = rw is (told_of (WroteFront output output_left) front)
 

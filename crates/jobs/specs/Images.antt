@@ -1,12 +1,13 @@
 -- What the commands do with images.
 use Rattle.jobs.specs.Names.{Written, Wrote, ℕ, List, [], codes, decimal, Bool, Option, Result, Ok, Err, Members}
-use Rattle.jobs.specs.Names.{Geometry, Saved, Turn, line_of, spaced, Disk, Two, OnlyReads, OpenFault, laid_again, Parts}
+use Rattle.jobs.specs.Names.{Geometry, Saved, Turn, line_of, spaced, Disk, NewLayout, OnlyReads, OpenFault, new_plan, Parts}
 use Rattle.jobs.specs.Names.{View, Power, RefusesToOpen, Opens, Denotes, IsDeviceOf, Description, IsDescription}
 use Rattle.jobs.specs.Names.{BuildsFrom, Refuses, plan_for, IsNotUpgraded, Upgrades, Stop, RunsOver, RunsSeen, RunFault}
 use Rattle.jobs.specs.Names.{WroteFront}
 use Rattle.std.specs.Prelude.{◌≡◌, ◌≢◌, ◌↔◌, ◌<◌, ◌∷◌}
 use Rattle.layout.specs.declared.open_fault.OpenFault.TheVariants as opening
 use Rattle.description.specs.declared.fault.BuildFault.TheVariants as build
+use Rattle.image_builder.specs.declared.new_layout.NewLayout.TheVariants as layout
 use Rattle.image_builder.specs.declared.upgrade_fault.UpgradeFault.TheVariants as upgrade
 use Rattle.script.specs.declared.fault.RunFault.TheVariants as run
 use Rattle.jobs.specs.declared.fault.Fault.{Fault}
@@ -38,26 +39,28 @@ BuildsImage disk ms old new output output_left (Err (fault.Build why)) =
     ((why ≡ build.Failed) ↔ ((disk old).failures < (disk new).failures)) × (output_left ≡ output)
 BuildsImage disk ms old new output output_left (Err _) = ⊥
 
--- the total of an image that was upgraded is written
-abbrev pub upgraded_text : ℕ → List ℕ
-upgraded_text total = spaced (codes "upgraded" ∷ decimal total ∷ codes "sectors" ∷ [])
+-- the line for an image that was written in a new layout: it is a copy if the version is kept
+abbrev pub upgraded_text : NewLayout → ℕ → List ℕ
+upgraded_text (layout.Of version) total = spaced (codes "upgraded" ∷ decimal total ∷ codes "sectors" ∷ [])
+upgraded_text layout.Kept total = spaced (codes "copied" ∷ decimal total ∷ codes "sectors" ∷ [])
 
-abbrev pub UpgradesAndTells : {D E : Type 0} → (D → Disk) → (E → Disk) → D → E → E → (List ℕ → Type 0) → Type 0
-UpgradesAndTells disk new_disk old before new Reported =
-    (done : Upgrades (disk old) (new_disk before) (new_disk new)) × Reported
-    (line_of (upgraded_text (laid_again Two done.state.plan).total))
+-- the total of such an image is written
+abbrev pub UpgradesAndTells : {D E : Type 0} → NewLayout → (D → Disk) → (E → Disk) → D → E → E → (List ℕ → Type 0) → Type 0
+UpgradesAndTells l disk new_disk old before new Reported =
+    (done : Upgrades l (disk old) (new_disk before) (new_disk new)) × Reported
+    (line_of (upgraded_text l (new_plan l done.state.plan).total))
 
--- an image was upgraded and its total written; or the total couldn't be written whole; or no image was upgraded
-abbrev pub UpgradesImage : {D E : Type 0} → (D → Disk) → (E → Disk) → D → E → E → Written → Written →
+-- an image was written in a new layout, and its total; or the total couldn't be written whole; or no image was
+abbrev pub UpgradesImage : {D E : Type 0} → NewLayout → (D → Disk) → (E → Disk) → D → E → E → Written → Written →
     Result (Unit {0}) Fault → Type 0
-UpgradesImage disk new_disk old before new output output_left (Ok a) = UpgradesAndTells disk new_disk old before new
+UpgradesImage l disk new_disk old before new output output_left (Ok a) = UpgradesAndTells l disk new_disk old before new
     (Wrote output output_left)
-UpgradesImage disk new_disk old before new output output_left (Err fault.CannotWriteOutput) = UpgradesAndTells disk
+UpgradesImage l disk new_disk old before new output output_left (Err fault.CannotWriteOutput) = UpgradesAndTells l disk
     new_disk old before new (WroteFront output output_left)
-UpgradesImage disk new_disk old before new output output_left (Err (fault.Upgrade why)) =
-    IsNotUpgraded disk old (new_disk before).sectors why × (why ≢ upgrade.Failed → new ≡ before)
+UpgradesImage l disk new_disk old before new output output_left (Err (fault.Upgrade why)) =
+    IsNotUpgraded l disk old (new_disk before).sectors why × (why ≢ upgrade.Failed → new ≡ before)
     × ((why ≡ upgrade.Failed) ↔ ((new_disk before).failures < (new_disk new).failures)) × (output_left ≡ output)
-UpgradesImage disk new_disk old before new output output_left (Err _) = ⊥
+UpgradesImage l disk new_disk old before new output output_left (Err _) = ⊥
 
 -- the fault where the old device failed
 abbrev pub old_failed : Fault

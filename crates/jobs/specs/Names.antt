@@ -10,9 +10,9 @@ pub use Rattle.description.specs.declared.entry.Description.{Description}
 pub use Rattle.description.specs.declared.fault.BuildFault.{BuildFault}
 pub use Rattle.description.specs.declared.sizes.GrowthFault.{GrowthFault}
 pub use Rattle.device.specs.Disk.{Disk, Image}
-pub use Rattle.home_ranges.specs.Laid.{laid_again}
 pub use Rattle.image_builder.specs.Built.{BuildsFrom}
-pub use Rattle.image_builder.specs.Upgraded.{IsNotUpgraded, Upgrades}
+pub use Rattle.image_builder.specs.Upgraded.{IsNotUpgraded, Upgrades, new_plan}
+pub use Rattle.image_builder.specs.declared.new_layout.NewLayout.{NewLayout}
 pub use Rattle.image_builder.specs.declared.upgrade_fault.UpgradeFault.{UpgradeFault}
 pub use Rattle.image_writer.specs.Written.{first_saved}
 pub use Rattle.kernel.specs.Opening.{Opens}
@@ -20,7 +20,6 @@ pub use Rattle.kernel.specs.Power.{Power}
 pub use Rattle.kernel.specs.Standing.{IsDeviceOf}
 pub use Rattle.layout.specs.Reason.{reason_number}
 pub use Rattle.layout.specs.declared.open_fault.OpenFault.{OpenFault}
-pub use Rattle.layout.specs.declared.version.Version.TheVariants.{Two}
 pub use Rattle.model.specs.Keepable.{IsSoundFrames, world_at}
 pub use Rattle.model.specs.Machine.{Saved}
 pub use Rattle.model.specs.Run.{Turn}

@@ -1,5 +1,5 @@
-// The command that upgrades an image.
-ghost use Rattle.std.specs.Prelude.{◌≡◌, IfErr, IsErrOf, OnErr, OnOk};
+// The commands that write an image to a new one.
+ghost use Rattle.std.specs.Prelude.{◌≡◌, ◌≤◌, length, IfErr, IsErrOf, OnErr, OnOk};
 ghost use Rattle.model.specs.Text.{line_of};
 ghost use Rattle.device.specs.Moments.{LeavesOnly};
 ghost use Rattle.image_builder.specs.Upgraded.{IsLeftUpgrading, IsOpenedFrom, ReadsAndCloses};
@@ -9,33 +9,45 @@ ghost use Rattle.jobs.specs.Images.{UpgradesImage, old_failed, upgraded_text};
 
 use crate::fault::{Fault, of_write, status};
 use device::Device;
-use image_builder::{ClosableDevice, OldImage};
+use image_builder::{ClosableDevice, NewLayout, OldImage};
 use migrator::WholeStore;
 use script::{LineText, Output};
 use std::alloc::Global;
 
-// Writes how many sectors an upgraded image has.
-fn tell_total<W: Output>(total: u64, writer: &mut W) -> Result<(), Fault>
-    ensures reported { OnOk result (Wrote (W.written writer.old) (W.written writer.new)
-        (line_of (upgraded_text total))) }
-    ensures front { OnErr result (WroteFront (W.written writer.old) (W.written writer.new)
-        (line_of (upgraded_text total))) }
-    ensures fault { IfErr result (λ fault. fault ≡ Fault.CannotWriteOutput) }
+// The line for a new image with this count of sectors.
+fn total_line(layout: NewLayout, total: u64) -> LineText
+    ensures text { result ≡ upgraded_text layout total }
+    ensures short { length result ≤ 60 }
 {
-    let mut line = LineText::numbered(b"upgraded", total);
+    let mut line = match layout {
+        NewLayout::Of(_) => LineText::numbered(b"upgraded", total),
+        NewLayout::Kept => LineText::numbered(b"copied", total),
+    };
     line.word(b"sectors");
-    of_write(line.write_to(writer))
+    line
 }
 
-// Writes what an old image saves to a new device, and reports how many sectors the new image has.
+// Writes how many sectors a new image has.
+fn tell_total<W: Output>(layout: NewLayout, total: u64, writer: &mut W) -> Result<(), Fault>
+    ensures reported { OnOk result (Wrote (W.written writer.old) (W.written writer.new)
+        (line_of (upgraded_text layout total))) }
+    ensures front { OnErr result (WroteFront (W.written writer.old) (W.written writer.new)
+        (line_of (upgraded_text layout total))) }
+    ensures fault { IfErr result (λ fault. fault ≡ Fault.CannotWriteOutput) }
+{
+    of_write(total_line(layout, total).write_to(writer))
+}
+
+// Writes what an old image saves to a new device in a new layout, and reports how many sectors the new image has.
 fn write_and_tell<D: ClosableDevice, S: WholeStore<D>, E: Device, W: Output>(
     alloc: Global,
     image: OldImage<D, S>,
+    layout: NewLayout,
     new: &mut E,
     writer: &mut W,
 ) -> Result<(), Fault>
     ensures upgraded { (old : D) → IsOpenedFrom D.disk old image
-        → UpgradesImage D.disk E.disk old new.old new.new
+        → UpgradesImage layout D.disk E.disk old new.old new.new
         (W.written writer.old) (W.written writer.new) result }
     ensures any_moment { (old : D) → IsOpenedFrom D.disk old image
         → LeavesOnly (E.disk new.old) (E.disk new.new)
@@ -43,14 +55,14 @@ fn write_and_tell<D: ClosableDevice, S: WholeStore<D>, E: Device, W: Output>(
     ensures reads { (old : D) → IsOpenedFrom D.disk old image
         → ReadsAndCloses D.disk D.was_closed old (IsErrOf result old_failed) }
 {
-    match image.write_to(alloc, new) {
-        Ok(total) => tell_total(total, writer),
+    match image.write_to(alloc, layout, new) {
+        Ok(total) => tell_total(layout, total, writer),
         Err(fault) => Err(Fault::Upgrade(fault)),
     }
 }
 
-/// Writes what an opened old image saves over a new device, by version 2 of the layout. Then it closes the
-/// old device, and writes `upgraded T sectors`, of the new image.
+/// Writes what an opened old image saves over a new device, in a new layout. Then it closes the old device, and
+/// writes `upgraded T sectors`, of the new image, or `copied T sectors` if the version of the layout is kept.
 ///
 /// A fault is returned after one line was written to `errors`:
 /// - `cannot write image` if the new device is too small;
@@ -62,13 +74,14 @@ fn write_and_tell<D: ClosableDevice, S: WholeStore<D>, E: Device, W: Output>(
 pub fn upgrade_opened<D: ClosableDevice, S: WholeStore<D>, E: Device, W: Output, V: Output>(
     alloc: Global,
     image: OldImage<D, S>,
+    layout: NewLayout,
     new: &mut E,
     writer: &mut W,
     errors: &mut V,
 ) -> Result<(), Fault>
     ensures reported { IsReported result (V.written errors.old) (V.written errors.new) }
     ensures upgraded { (old : D) → IsOpenedFrom D.disk old image
-        → UpgradesImage D.disk E.disk old new.old new.new
+        → UpgradesImage layout D.disk E.disk old new.old new.new
         (W.written writer.old) (W.written writer.new) result }
     ensures reads { (old : D) → IsOpenedFrom D.disk old image
         → ReadsAndCloses D.disk D.was_closed old (IsErrOf result old_failed) }
@@ -76,7 +89,7 @@ pub fn upgrade_opened<D: ClosableDevice, S: WholeStore<D>, E: Device, W: Output,
         → LeavesOnly (E.disk new.old) (E.disk new.new)
         (λ c. IsLeftUpgrading (D.disk old) (E.disk new.old) c) }
 {
-    let outcome = write_and_tell(alloc, image, new, writer);
+    let outcome = write_and_tell(alloc, image, layout, new, writer);
     let _status = status(outcome, errors);
     outcome
 }

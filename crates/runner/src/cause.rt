@@ -84,7 +84,7 @@ fn description_of<'j>(job: &Job<'j>) -> Option<&'j str> {
 fn made_by<'j>(job: &Job<'j>) -> Option<&'j str> {
     match job {
         Job::Build { image, .. } => Some(*image),
-        Job::Upgrade { new, .. } => Some(*new),
+        Job::Upgrade { new, .. } | Job::Copy { new, .. } => Some(*new),
         _ => None,
     }
 }
@@ -97,6 +97,7 @@ fn opened_by<'j>(job: &Job<'j>) -> Option<&'j str> {
         | Job::Check { image }
         | Job::Info { image }
         | Job::Reach { image, .. }
+        | Job::Copy { image, .. }
         | Job::Describe { image, .. }
         | Job::Draw { image, .. } => Some(*image),
         Job::Upgrade { old, .. } => Some(*old),

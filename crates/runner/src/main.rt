@@ -13,7 +13,9 @@ use command_line::{CommandLine, Job, JobFault, Script, command_line};
 use description::Sizes;
 use device::Device;
 use devices::{FileDevice, FileFault, Fuse};
+use image_builder::NewLayout;
 use jobs::{Done, Fault, check_image, finish, run_and_save, run_image, run_shell, run_traced};
+use layout::Version;
 use object_cache::{Capacity, KeepAll, KeepRecent, PlainStore, Policy, Store};
 use queries::{Focus, ReachQuestion, explain_description};
 use runs::{ScriptReader, TraceOptions, Tracer};
@@ -407,6 +409,11 @@ fn sizes_of(sizes: &command_line::Sizes) -> Sizes {
     }
 }
 
+// The query of `upgrade` and of `copy`.
+fn writing<'a>(old: &'a str, new: &'a str, layout: NewLayout) -> Query<'a> {
+    Query::Upgrade { old, new, layout }
+}
+
 // The query of `draw`.
 fn drawing(from: Option<u64>, to: Option<u64>) -> Query<'static> {
     Query::Draw(Focus { from, to })
@@ -457,7 +464,8 @@ fn serve(rt: &HostRuntime, job: &Job<'_>, stdio: &mut Stdio) -> Result<End, Refu
         }
         Job::Check { image } => return check(rt, image, stdio),
         Job::Explain { file } => return explain(rt, file, stdio),
-        Job::Upgrade { old, new } => (*old, Query::Upgrade { old, new }),
+        Job::Upgrade { old, new } => (*old, writing(old, new, NewLayout::Of(Version::Two))),
+        Job::Copy { image, new } => (*image, writing(image, new, NewLayout::Kept)),
         Job::Describe { image, sizes } => (*image, Query::Describe(sizes_of(sizes))),
         Job::Draw { image, from, to } => (*image, drawing(*from, *to)),
         Job::Info { image } => (*image, Query::Info),

@@ -4,7 +4,7 @@ use crate::making::create;
 use crate::{End, Streams};
 use description::Sizes;
 use device::Device;
-use image_builder::OldImage;
+use image_builder::{NewLayout, OldImage};
 use jobs::{Fault, upgrade_opened};
 use migrator::WholeStore;
 use queries::{
@@ -29,10 +29,11 @@ pub(crate) enum Query<'w> {
         trusted: &'w [u64],
         question: ReachQuestion,
     },
-    /// What it saves, in a new image by version 2 of the layout.
+    /// What it saves, in a new image.
     Upgrade {
         old: &'w str,
         new: &'w str,
+        layout: NewLayout,
     },
 }
 
@@ -44,6 +45,7 @@ fn upgrade<D: Device, S: WholeStore<D>, W: Output, V: Output>(
     setting: S::Setting,
     old: &str,
     new: &str,
+    layout: NewLayout,
     output: &mut W,
     errors: &mut V,
 ) -> Result<End, Refusal> {
@@ -51,8 +53,8 @@ fn upgrade<D: Device, S: WholeStore<D>, W: Output, V: Output>(
         Ok(image) => image,
         Err(fault) => return Err(Refusal::from(Fault::Upgrade(fault))),
     };
-    let mut upgraded = create(rt, image.sectors(), old, new)?;
-    let outcome = upgrade_opened(rt.alloc(), image, &mut upgraded, output, errors);
+    let mut upgraded = create(rt, image.sectors(layout), old, new)?;
+    let outcome = upgrade_opened(rt.alloc(), image, layout, &mut upgraded, output, errors);
     Ok(End::of_outcome(outcome))
 }
 
@@ -83,8 +85,8 @@ impl<'w> Query<'w> {
             } => reach_image::<_, S, _, _>(
                 alloc, device, setting, processes, trusted, question, output, errors,
             ),
-            Query::Upgrade { old, new } => {
-                return upgrade::<_, S, _, _>(rt, device, setting, old, new, output, errors);
+            Query::Upgrade { old, new, layout } => {
+                return upgrade::<_, S, _, _>(rt, device, setting, old, new, layout, output, errors);
             }
         };
         Ok(End::of_done(done))

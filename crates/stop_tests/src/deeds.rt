@@ -2,20 +2,29 @@
 use crate::task::{Deed, Task, outcome_of};
 use device::Device;
 use devices::Outcome;
+use image_builder::NewLayout;
 use object_cache::{BoundedCache, PlainStore};
 use std::io::Write;
 
 impl Task<'_> {
-    // Upgrades the image of a device to a device that holds the sectors in `script` and passes some calls.
+    // Writes the image of a device to a device that holds the sectors in `script` and passes some calls.
     fn upgrade_to<D: Device>(
         &self,
         old: D,
+        layout: NewLayout,
         calls: u64,
         outcome: Outcome,
         reported: &mut Vec<u8>,
     ) -> anyhow::Result<bool> {
         let new = self.device_with(self.script, outcome, calls)?;
-        Ok(self.run_upgrade::<_, _, PlainStore<_>, PlainStore<_>>(old, new, (), (), reported)?)
+        Ok(self.run_upgrade::<_, _, PlainStore<_>, PlainStore<_>>(
+            old,
+            layout,
+            new,
+            (),
+            (),
+            reported,
+        )?)
     }
 
     // Does a deed once, over a device with the image, and answers whether a device stopped. A new device
@@ -43,8 +52,10 @@ impl Task<'_> {
                 calls,
                 reported,
             ),
-            Deed::StopOld => self.upgrade_to(device, u64::MAX, outcome, reported),
-            Deed::StopNew => self.upgrade_to(device, calls, outcome, reported),
+            Deed::StopOld(layout) => {
+                self.upgrade_to(device, *layout, u64::MAX, outcome, reported)
+            }
+            Deed::StopNew(layout) => self.upgrade_to(device, *layout, calls, outcome, reported),
         }
     }
 
@@ -58,8 +69,8 @@ impl Task<'_> {
     ) -> anyhow::Result<bool> {
         let (first_calls, first_outcome) = match deed {
             Deed::Run(_) => (calls, outcome),
-            Deed::StopOld => (calls, Outcome::Drop),
-            Deed::StopNew => (u64::MAX, Outcome::Drop),
+            Deed::StopOld(_) => (calls, Outcome::Drop),
+            Deed::StopNew(_) => (u64::MAX, Outcome::Drop),
         };
         let device = self.device_with(self.image, first_outcome, first_calls)?;
         self.do_over(deed, device, calls, outcome, reported)

@@ -1,6 +1,6 @@
 //! Runs a script over an image in memory, whole, or again and again with a device that stops at
 //! each of its calls in turn, and prints what was answered and what a power cut then leaves; and
-//! upgrades an image so. It expects nothing: `checks/stops` and `checks/upgrades` do.
+//! upgrades or copies an image so. It expects nothing: `checks/stops` and `checks/upgrades` do.
 #![tactic(auto)]
 
 mod deeds;
@@ -10,15 +10,24 @@ mod task;
 mod upgrades;
 
 use devices::Outcome;
+use image_builder::NewLayout;
+use layout::Version;
 use object_cache::Capacity;
 use std::fs;
 use std::io::Write;
 use task::{Deed, Task};
 
 const USAGE: &str =
-    "usage: stop_tests IMAGE SCRIPT TAIL LAST CAPACITY [OUTCOME ..], or upgrade OLD NEW LAST [OUTCOME ..]";
+    "usage: stop_tests IMAGE SCRIPT TAIL LAST CAPACITY [OUTCOME ..], or upgrade|copy OLD NEW LAST [OUTCOME ..]";
 
-const UPGRADE: &str = "upgrade";
+// The layout that a command writes, or `None` if the word names no such command.
+fn layout_of(word: &str) -> Option<NewLayout> {
+    match word {
+        "upgrade" => Some(NewLayout::Of(Version::Two)),
+        "copy" => Some(NewLayout::Kept),
+        _ => None,
+    }
+}
 
 // What these files have.
 fn read_all(rt: &HostRuntime, files: &[String]) -> anyhow::Result<Vec<Vec<u8>>> {
@@ -69,10 +78,11 @@ fn run_script<W: Write>(
     task.try_outcomes(&deed, outcomes, writer)
 }
 
-// Upgrades the image that words name, with a stop at each call of the old device, and with each
+// Writes the image that words name to a new device, with a stop at each call of the old device, and with each
 // outcome at each of the new one.
 fn run_upgrades<W: Write>(
     rt: &HostRuntime,
+    layout: NewLayout,
     files: &[String],
     outcomes: &[String],
     writer: &mut W,
@@ -80,18 +90,19 @@ fn run_upgrades<W: Write>(
     let texts = read_all(rt, files)?;
     let task = task_of(rt, &texts)?;
     writeln!(writer, "= old")?;
-    task.stop_at_each(&Deed::StopOld, Outcome::Drop, writer)?;
-    task.try_outcomes(&Deed::StopNew, outcomes, writer)
+    task.stop_at_each(&Deed::StopOld(layout), Outcome::Drop, writer)?;
+    task.try_outcomes(&Deed::StopNew(layout), outcomes, writer)
 }
 
 // Does what words ask. The first four may be files.
 fn work(rt: &HostRuntime, files: &[String], settings: &[String]) -> anyhow::Result<()> {
     let mut writer = rt.stdout();
-    match files.split_first() {
-        Some((first, others)) if first.as_str() == UPGRADE => {
-            run_upgrades(rt, others, settings, &mut writer)
-        }
-        _ => run_script(rt, files, settings, &mut writer),
+    let Some((first, others)) = files.split_first() else {
+        anyhow::bail!(USAGE);
+    };
+    match layout_of(first.as_str()) {
+        Some(layout) => run_upgrades(rt, layout, others, settings, &mut writer),
+        None => run_script(rt, files, settings, &mut writer),
     }
 }
 

@@ -1,5 +1,6 @@
 // What a run of the program is to do.
 use devices::Outcome;
+use image_builder::NewLayout;
 use object_cache::Capacity;
 use std::alloc::Global;
 
@@ -8,10 +9,10 @@ use std::alloc::Global;
 pub(crate) enum Deed {
     /// The script is run, with all objects in memory or with a cache.
     Run(Option<Capacity>),
-    /// The image is upgraded, and the old device stops.
-    StopOld,
-    /// It is upgraded, and the new device stops.
-    StopNew,
+    /// The image is written to a new device, and the old one stops.
+    StopOld(NewLayout),
+    /// The same, and the new device stops.
+    StopNew(NewLayout),
 }
 
 /// What it is done with.
