@@ -1,8 +1,8 @@
 -- What a device saves, written to another.
 use Rattle.image_builder.proofs.Names.{ℕ, List, length, ap, inl, inr, refl, subst, sym, arith, Result, Ok, Err, IfErr, IsErrOf, OnOk, Frame, Disk, Image}
-use Rattle.image_builder.proofs.Names.{Agrees, Elsewhere, LeavesOnly, agrees_is, OnlyNow, leaves_weaker, started, Entry, IsDirectory, Encodes, Plan}
-use Rattle.image_builder.proofs.Names.{OpenFault, OnlyReads, kept_of, new_plan, IsLeftWriting, state_of, kept_holds_the_same, none_is_held, IsSoundSaved}
-use Rattle.image_builder.proofs.Names.{NewLayout, UpgradeFault, IsLeftUpgrading, IsNotUpgraded, IsOnlyRead, Upgrades, numbered, upgraded, IfOk, holds_one, EndInZeros}
+use Rattle.image_builder.proofs.Names.{Agrees, Elsewhere, LeavesOnly, agrees_is, OnlyNow, leaves_weaker, started, Entry, IsDirectory, Encodes, Plan, OpenFault}
+use Rattle.image_builder.proofs.Names.{OnlyReads, kept_of, new_plan, IsLeftWriting, state_of, kept_holds_the_same, none_is_held, IsSoundSaved, NewLayout}
+use Rattle.image_builder.proofs.Names.{UpgradeFault, IsLeftUpgrading, IsNotUpgraded, IsOnlyRead, Upgrades, numbered, upgraded, IfOk, holds_one, EndInZeros}
 use Rattle.layout.specs.Image.{SavedState}
 use Rattle.std.proofs.Common.{◌≡◌, ◌<◌, ◌≤◌, ◌∙◌}
 use Rattle.std.specs.Prelude.{◌≢◌}

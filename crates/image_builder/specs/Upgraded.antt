@@ -1,8 +1,8 @@
 -- What `upgrade` writes in a new layout, and why it doesn't.
-use Rattle.image_builder.specs.Names.{ℕ, List, [], Disk, Image, Elsewhere, LeavesOnly, Entry, Plan, Version, Encodes, SavedState}
-use Rattle.image_builder.specs.Names.{OnlyReads, Holds, SavedFrames, kept_of, frames_of, Parts, DurableState, saved_by}
-use Rattle.image_builder.specs.Names.{laid_again, IsLeftWriting, IsSoundSaved, OpenFault, RefusesToOpen, Result, IfErr}
-use Rattle.image_builder.specs.Names.{IfOk, IsErrOf, OnOk, EndInZeros}
+use Rattle.image_builder.specs.Names.{ℕ, List, [], Disk, Image, Elsewhere, LeavesOnly, Entry, Plan, Version, Encodes}
+use Rattle.image_builder.specs.Names.{SavedState, OnlyReads, Holds, SavedFrames, kept_of, frames_of, Parts}
+use Rattle.image_builder.specs.Names.{DurableState, saved_by, laid_again, IsLeftWriting, IsSoundSaved, OpenFault}
+use Rattle.image_builder.specs.Names.{RefusesToOpen, Result, IfErr, IfOk, IsErrOf, OnOk, EndInZeros}
 use Rattle.std.specs.Prelude.{◌≡◌, ◌≢◌, ◌⊎◌, ◌↔◌, ◌+◌, ◌<◌, ◌≤◌, ◌∷◌}
 use Rattle.layout.specs.declared.open_fault.OpenFault.TheVariants as opening
 use Rattle.image_builder.specs.declared.new_layout.NewLayout.{NewLayout}

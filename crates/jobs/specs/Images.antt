@@ -1,7 +1,7 @@
 -- What the commands do with images.
 use Rattle.jobs.specs.Names.{Written, Wrote, ℕ, List, [], codes, decimal, Bool, Option, Result, Ok, Err, Members}
-use Rattle.jobs.specs.Names.{Geometry, Saved, Turn, line_of, spaced, Disk, NewLayout, OnlyReads, OpenFault, new_plan, Parts}
-use Rattle.jobs.specs.Names.{View, Power, RefusesToOpen, Opens, Denotes, IsDeviceOf, Description, IsDescription}
+use Rattle.jobs.specs.Names.{Geometry, Saved, Turn, line_of, spaced, Disk, NewLayout, OnlyReads, OpenFault, new_plan}
+use Rattle.jobs.specs.Names.{Parts, View, Power, RefusesToOpen, Opens, Denotes, IsDeviceOf, Description, IsDescription}
 use Rattle.jobs.specs.Names.{BuildsFrom, Refuses, plan_for, IsNotUpgraded, Upgrades, Stop, RunsOver, RunsSeen, RunFault}
 use Rattle.jobs.specs.Names.{WroteFront}
 use Rattle.std.specs.Prelude.{◌≡◌, ◌≢◌, ◌↔◌, ◌<◌, ◌∷◌}
@@ -45,7 +45,8 @@ upgraded_text (layout.Of version) total = spaced (codes "upgraded" ∷ decimal t
 upgraded_text layout.Kept total = spaced (codes "copied" ∷ decimal total ∷ codes "sectors" ∷ [])
 
 -- the total of such an image is written
-abbrev pub UpgradesAndTells : {D E : Type 0} → NewLayout → (D → Disk) → (E → Disk) → D → E → E → (List ℕ → Type 0) → Type 0
+abbrev pub UpgradesAndTells : {D E : Type 0} → NewLayout → (D → Disk) → (E → Disk) → D → E → E → (List ℕ → Type 0) →
+    Type 0
 UpgradesAndTells l disk new_disk old before new Reported =
     (done : Upgrades l (disk old) (new_disk before) (new_disk new)) × Reported
     (line_of (upgraded_text l (new_plan l done.state.plan).total))

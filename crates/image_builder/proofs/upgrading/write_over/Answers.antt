@@ -1,5 +1,5 @@
-use Rattle.image_builder.proofs.Names.{rules, List, length, ap, subst, sym, Geometry, frames_in, LeavesOnly, Entry, IsDirectory, Encodes, Plan}
-use Rattle.image_builder.proofs.Names.{SavedFrames, kept_of, new_plan, IsLeftWriting, saved_by, numbered, EndInZeros, SavedState}
+use Rattle.image_builder.proofs.Names.{rules, List, length, ap, subst, sym, Geometry, frames_in, LeavesOnly, Entry, IsDirectory, Encodes, Plan, SavedFrames}
+use Rattle.image_builder.proofs.Names.{kept_of, new_plan, IsLeftWriting, saved_by, numbered, EndInZeros, SavedState}
 use Rattle.std.proofs.Common.{◌≡◌, ◌∙◌}
 use Rattle.image_builder.proofs.Upgrades.{directory_count, directory_fits, same_state}
 use Rattle.image_builder.proofs.upgrading.write_over.Goals as goal
