@@ -1,6 +1,6 @@
 -- Rows that lack an argument, or have a wrong one, name no job.
 use Rattle.command_line.proofs.Names.{nat_tests, ap, refl, subst, sym, Bool, ℕ, suc, arith, not, Option, Some, None, List, [], length, option_map, true, false}
-use Rattle.command_line.proofs.Names.{true≢false, inl, inr, codes, ⊤, cond, find, nat_lt, option_and_then, slice_get, unwrap_or, All, list_all, list_any}
+use Rattle.command_line.proofs.Names.{true≢false, inl, codes, ⊤, cond, find, nat_lt, option_and_then, slice_get, unwrap_or, All, list_all, list_any}
 use Rattle.command_line.proofs.Names.{slice_index_or, option_map_or, bytes_eq, eqb-true, AllPass-from_list_all, bytes_eq-Decides, parser_of_value, Shape, built}
 use Rattle.command_line.proofs.Names.{label_of, values_pass, accepts, answers_to, arg_by_id, is_empty, IsUnsignedIn, Row, Rule, Text, all_of, first_of}
 use Rattle.command_line.proofs.Names.{ValueParser, Unsigned, accepts-Accepts, both, GivesNoNumber, has_all, is_whole, subcommand_named, subcommand_name}

@@ -1,4 +1,4 @@
-use Rattle.command_line.proofs.Names.{rules, codes, inl, inr, refl, found_of, rows_of}
+use Rattle.command_line.proofs.Names.{rules, codes, inr, refl, found_of, rows_of}
 use Rattle.command_line.proofs.Getters.{given}
 use Rattle.command_line.proofs.Lacking.{lacking, same_twice}
 use Rattle.command_line.proofs.requested.copy_of.Goals as goal
