@@ -2,7 +2,7 @@
 use Rattle.image_builder.specs.Names.{List, Members, Frame, IsSoundFrames, Disk, Image, Elsewhere, Encodes, Holds}
 use Rattle.image_builder.specs.Names.{SavedFrames, first_saved, first_state, Description, IsDescription, IsDescribed}
 use Rattle.image_builder.specs.Names.{EndInZeros, IsAccepted, [], plan_for}
-use Rattle.std.specs.Prelude.{◌≡◌, ◌⊎◌}
+use Rattle.std.specs.Prelude.{◌≡◌, ◌⊎◌, if◌then◌else◌}
 
 -- an image of a description is built over what a device held: it has the described frames, which stand for a sound
 -- world, at the described age, and one checkpoint of generation 0 with nothing in the log, and zeros behind the frames

@@ -1,5 +1,6 @@
 -- What is built can be run.
 use Rattle.jobs.specs.Names.{ℕ, List, Frame, IsSoundFrames, world_at, Image, Holds, first_saved, Denotes, Description}
+use Rattle.std.specs.Prelude.{◌≡◌, ◌≤◌}
 
 -- what holds the frames of a built image denotes the world that they stand for, of generation 0 and with nothing in the
 -- log: none of the ten reasons to refuse it holds
