@@ -1,0 +1,7 @@
+mod Names
+mod ReadEdits
+mod ReadBanks
+mod ReadOrders
+mod ReadGates
+pub mod ReadRuns
+mod ReadWorlds

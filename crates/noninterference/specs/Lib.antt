@@ -1,0 +1,4 @@
+pub mod Names
+pub mod Reads
+pub mod Noninterference
+pub mod WorkedReads
