@@ -1,4 +1,4 @@
-"""What processes can ever change, by a description."""
+"""What processes can ever change or read, by a description."""
 
 PULLING = ("process", "start", "resume", "bank")
 
@@ -27,8 +27,8 @@ class Objects:
         self.owner[number], self.kind[number] = owner, kind
         self.rest[number] = {key: value for key, value in row.items() if key not in ("slots", "registers", "space")}
 
-    def steps(self, number, trusted=()):
-        """What an object has authority over in one step, with the line of each such step. A capability to start a trusted process has none."""
+    def steps(self, number, trusted=(), reads=False):
+        """What an object lets change in one step, or read, with the line of each such step. A capability to start a trusted process has none."""
         name = f"{self.kind[number]} {number}"
         if self.kind[number] == "bank":
             yield from ((it, f"{name} owns {self.kind[it]} {it}") for it, owner in self.owner.items() if owner == number)
@@ -36,7 +36,7 @@ class Objects:
             yield self.annex[number], f"{name} has annex {self.annex[number]}"
         for holder in (number, self.annex.get(number, number))[: 1 + (number in self.annex)]:
             for place, index, text in self.held[holder]:
-                target = conveyed(text, trusted)
+                target = conveyed(text, trusted, reads)
                 if target is not None:
                     yield target, f"{name}, space: {text}" if place == "space" else f"{name}, {place} {index}: {text}"
 
@@ -52,19 +52,19 @@ class Objects:
         return {it for it in range(self.total) if it not in self.kind}
 
 
-def conveyed(text, trusted):
-    """The object that a capability has authority over, beyond reading weakly and starting a trusted process."""
+def conveyed(text, trusted, reads):
+    """The object that a capability lets change, or read if it is weak too, but not by starting a trusted process."""
     kind, *words = text.split()
-    if kind in ("void", "number", "discrim") or words[-1] == "weak" or (kind == "start" and int(words[0]) in trusted):
+    if kind in ("void", "number", "discrim") or (words[-1] == "weak" and not reads) or (kind == "start" and int(words[0]) in trusted):
         return None
     return int(words[0])
 
 
-def least_closed(objects, processes, trusted=()):
-    """The least set closed but for trusted processes, as a fixed point over all objects."""
+def least_closed(objects, processes, trusted=(), reads=False):
+    """The least set closed but for trusted processes, as a fixed point over all objects. With `reads` it is closed for reading."""
     inside = set(processes)
     while True:
-        more = inside | {it for number in inside for it, _ in objects.steps(number, trusted)}
+        more = inside | {it for number in inside for it, _ in objects.steps(number, trusted, reads)}
         if more == inside:
             return inside
         inside = more

@@ -83,13 +83,14 @@ rules_of sub.Shell = file_rule (codes "IMAGE") ∷ cache_rule ∷ cause_rule ∷
 rules_of sub.Check = file_rule (codes "IMAGE") ∷ cause_rule ∷ []
 rules_of sub.Explain = file_rule (codes "FILE") ∷ cause_rule ∷ []
 rules_of sub.Info = file_rule (codes "IMAGE") ∷ cause_rule ∷ []
-rules_of sub.Reach = file_rule (codes "IMAGE") ∷ processes_rule ∷ number_rule (codes "shows") ∷ number_rule (codes "to")
-    ∷ numbers_rule (codes "trust") ∷ cause_rule ∷ []
+rules_of sub.Reach = file_rule (codes "IMAGE") ∷ processes_rule ∷ flag_rule (codes "reads") ∷ number_rule (codes "shows")
+    ∷ number_rule (codes "to") ∷ numbers_rule (codes "trust") ∷ cause_rule ∷ []
 rules_of sub.Upgrade = file_rule (codes "OLD") ∷ file_rule (codes "NEW") ∷ cause_rule ∷ []
 rules_of sub.Copy = file_rule (codes "IMAGE") ∷ file_rule (codes "NEW") ∷ cause_rule ∷ []
 rules_of sub.Describe = file_rule (codes "IMAGE") ∷ number_rule (codes "nodes") ∷ number_rule (codes "pages")
     ∷ number_rule (codes "log") ∷ cause_rule ∷ []
-rules_of sub.Draw = file_rule (codes "IMAGE") ∷ number_rule (codes "from") ∷ number_rule (codes "to") ∷ cause_rule ∷ []
+rules_of sub.Draw = file_rule (codes "IMAGE") ∷ number_rule (codes "from") ∷ flag_rule (codes "reads")
+    ∷ number_rule (codes "to") ∷ cause_rule ∷ []
 
 -- a command with arguments more
 abbrev pub with_rules : App → List Rule → App

@@ -37,8 +37,9 @@ IsJob name rows (job.Shell image cache) = (name ≡ codes "shell") × IsCache ro
 IsJob name rows (job.Check image) = (name ≡ codes "check") × IsGiven rows (codes "IMAGE") image.now
 IsJob name rows (job.Explain file) = (name ≡ codes "explain") × IsGiven rows (codes "FILE") file.now
 IsJob name rows (job.Info image) = (name ≡ codes "info") × IsGiven rows (codes "IMAGE") image.now
-IsJob name rows (job.Reach image processes shows to trusted) = (name ≡ codes "reach") × IsGiven rows (codes "IMAGE") image.now
-    × AreNumbersIfAny rows (codes "P") processes.items × IsNumberOption rows (codes "shows") shows
+IsJob name rows (job.Reach image processes reads shows to trusted) = (name ≡ codes "reach") × IsGiven rows (codes "IMAGE") image.now
+    × AreNumbersIfAny rows (codes "P") processes.items × IsFlag rows (codes "reads") reads
+    × IsNumberOption rows (codes "shows") shows
     × IsNumberOption rows (codes "to") to × AreNumbersIfAny rows (codes "trust") trusted.items
 IsJob name rows (job.Upgrade old new) = (name ≡ codes "upgrade")
     × IsGiven rows (codes "OLD") old.now × IsGiven rows (codes "NEW") new.now × (old.now ≢ new.now)
@@ -46,8 +47,9 @@ IsJob name rows (job.Copy image new) = (name ≡ codes "copy")
     × IsGiven rows (codes "IMAGE") image.now × IsGiven rows (codes "NEW") new.now × (image.now ≢ new.now)
 IsJob name rows (job.Describe image sizes) = (name ≡ codes "describe") × IsGiven rows (codes "IMAGE") image.now ×
     AreSizes rows sizes
-IsJob name rows (job.Draw image from to) = (name ≡ codes "draw") × IsGiven rows (codes "IMAGE") image.now
-    × IsNumberOption rows (codes "from") from × IsNumberOption rows (codes "to") to
+IsJob name rows (job.Draw image from reads to) = (name ≡ codes "draw") × IsGiven rows (codes "IMAGE") image.now
+    × IsNumberOption rows (codes "from") from × IsFlag rows (codes "reads") reads
+    × IsNumberOption rows (codes "to") to
 
 -- the subcommand of this name, with these arguments, is the job, and says whether causes are written
 abbrev pub IsLine : Text → List Row → CommandLine → Type 0

@@ -9,8 +9,8 @@ ghost use Rattle.command_line.specs.Refusals.{Explains};
 
 use crate::arguments::{flag_of, numbers_of, option_of};
 use crate::subcommands::{
-    CACHE, DESCRIPTION, FILE, FROM, IMAGE, LOG, NEW, NEW_ONLY, NODES, OLD, PAGES, PROCESS, SAVE,
-    SCRIPT, SHOWS, STOP_AFTER, STRICT, Subcommand, TO, TRACE, TRUST, VERBOSE,
+    CACHE, DESCRIPTION, FILE, FROM, IMAGE, LOG, NEW, NEW_ONLY, NODES, OLD, PAGES, PROCESS, READS,
+    SAVE, SCRIPT, SHOWS, STOP_AFTER, STRICT, Subcommand, TO, TRACE, TRUST, VERBOSE,
 };
 use clap::error::ErrorKind;
 use clap::{ArgMatches, Command, Error};
@@ -87,6 +87,8 @@ pub enum Job<'a> {
         image: &'a str,
         /// The numbers of the processes, in the order of the words; none stands for all processes.
         processes: Vec<u64>,
+        /// Whether it prints what they can ever read instead.
+        reads: bool,
         /// The object to which a shortest chain of capabilities is shown.
         shows: Option<u64>,
         /// The object of which it is shown which processes can change it.
@@ -114,6 +116,8 @@ pub enum Job<'a> {
         image: &'a str,
         /// Draws only what this process reaches: the smallest closed set that contains it.
         from: Option<u64>,
+        /// Whether that set is closed for reading.
+        reads: bool,
         /// Draws only this object and what holds a capability to it.
         to: Option<u64>,
     },
@@ -246,11 +250,13 @@ fn reach_from<'a>(inner: &ArgMatches<'a>, processes: Vec<u64>, trusted: Vec<u64>
     ensures none { IsNone result → IsNoJob (codes "reach") (rows_of (found_of inner.now)) }
 {
     let image = inner.get_str(IMAGE)?;
+    let reads = flag_of(inner, READS);
     let shows = number_of(inner, SHOWS)?;
     let to = number_of(inner, TO)?;
     Some(Job::Reach {
         image,
         processes,
+        reads,
         shows,
         to,
         trusted,
@@ -342,7 +348,12 @@ fn draw_of<'a>(inner: &ArgMatches<'a>) -> Option<Job<'a>>
     let image = inner.get_str(IMAGE)?;
     let from = number_of(inner, FROM)?;
     let to = number_of(inner, TO)?;
-    Some(Job::Draw { image, from, to })
+    Some(Job::Draw {
+        image,
+        from,
+        reads: flag_of(inner, READS),
+        to,
+    })
 }
 
 // The job of a subcommand with its matches, or `None`. Fails where memory runs out.

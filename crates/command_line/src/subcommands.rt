@@ -50,6 +50,8 @@ pub(crate) const FROM: &str = "from";
 
 pub(crate) const TO: &str = "to";
 
+pub(crate) const READS: &str = "reads";
+
 pub(crate) const TRUST: &str = "trust";
 
 pub(crate) const STOP_AFTER: &str = "stop-after";
@@ -203,6 +205,10 @@ const EXPLAIN: &[Argument<'static>] = &[
 const REACH: &[Argument<'static>] = &[
     READ,
     Argument::Processes,
+    Argument::Flag(
+        READS,
+        "Says what the processes can ever read, instead of change: follows weak capabilities too",
+    ),
     Argument::Number(
         SHOWS,
         "O",
@@ -211,7 +217,7 @@ const REACH: &[Argument<'static>] = &[
     Argument::Number(
         TO,
         "O",
-        "Prints which of the processes can ever change object O, as --to 7",
+        "Prints which of the processes can ever change object O, or read it, as --to 7",
     ),
     Argument::Numbers(
         TRUST,
@@ -259,6 +265,10 @@ const DRAW: &[Argument<'static>] = &[
         FROM,
         "P",
         "Draws only what eros reach IMAGE P lists, as --from 3",
+    ),
+    Argument::Flag(
+        READS,
+        "With --from, draws what eros reach IMAGE P --reads lists",
     ),
     Argument::Number(
         TO,

@@ -1,10 +1,10 @@
 -- The orders of a bank of a set closed for reading that don't look outside do the same in linked lists of objects.
 use Rattle.noninterference.proofs.Names.{nat_tests, inl, inr, ℕ, nat_eq, true, false, not, List, [], length, refl, sym, ap, subst, arith, IsTrue, Bool}
-use Rattle.noninterference.proofs.Names.{range_with_len, false≢true, cases_eq, and_parts, or_cases, or_right, eqb-true, eqb-false, Capability, Void, Object}
+use Rattle.noninterference.proofs.Names.{range_with_len, false≢true, and_parts, or_cases, or_right, eqb-true, eqb-false, Capability, Void, Object}
 use Rattle.noninterference.proofs.Names.{Arguments, BankOrder, ResultCode, chain, is_under, freed, freed_by, inherited, on_bank, under, owned_by, is_bank}
 use Rattle.noninterference.proofs.Names.{is_free, is_root, root_in, slots_in, OrderOutcome, refused, is_member, rescind, content_at, object_at, owner_at}
-use Rattle.noninterference.proofs.Names.{annex_at, transferred, tree_induction, inherited_content, inherited_object, IsTree, chain_unfolds, chain_zero}
-use Rattle.noninterference.proofs.Names.{member_cases, only_member, HaveSame, IsReadClosedBut, NamesBut, Geometry, Page, Node, Process, depends_on_supply}
+use Rattle.noninterference.proofs.Names.{transferred, tree_induction, inherited_content, inherited_object, IsTree, chain_unfolds, chain_zero}
+use Rattle.noninterference.proofs.Names.{member_cases, only_member, IsReadClosedBut, NamesBut, Geometry, Page, Node, Process, depends_on_supply}
 use Rattle.noninterference.proofs.Names.{slice_index_or, filter, not-true, given, made, replying, wrote, chain_itself, length_inherited}
 use Rattle.std.proofs.Common.{◌≡◌, ◌≢◌, ◌⊎◌, ◌==◌, ◌∷◌, ◌∙◌, ◌&&◌, ◌||◌, if◌then◌else◌}
 use Rattle.model.specs.declared.order.BankOrder.TheVariants as bank

@@ -1,12 +1,12 @@
 -- What each edit leaves of a set that is closed for reading, and of what two lists of objects have in common.
-use Rattle.noninterference.proofs.Names.{nat_tests, inl, inr, ℕ, zero, suc, Bool, true, false, List, [], length, refl, sym, ap, subst, arith, IsTrue}
+use Rattle.noninterference.proofs.Names.{nat_tests, inl, ℕ, zero, suc, Bool, true, false, List, [], length, refl, sym, ap, subst, arith, IsTrue}
 use Rattle.noninterference.proofs.Names.{slice_index_or, Capability, Void, Content, Object, Root, State, free, is_bank, is_free, is_root, root_in, slots_in}
-use Rattle.noninterference.proofs.Names.{with_slot_in, with_word_in, consume, is_member, rescind, resumes, names_member, void_where, without, annex_at}
-use Rattle.noninterference.proofs.Names.{content_at, is_process, object_at, owner_at, root_at, slot_at, with_content, with_root, with_slot, with_slots_from}
-use Rattle.noninterference.proofs.Names.{with_state, with_word, HaveSame, IsReadClosedBut, NamesBut, inherited, transferred, chosen, one_of, at_content, at_set}
-use Rattle.noninterference.proofs.Names.{object_consume, at_rescind, void_void, without_mapped, get_or, set, length-set, length-map, get_or-set_same}
-use Rattle.noninterference.proofs.Names.{get_or-set_other, set_past, enumerate_from, length-enumerate_from}
-use Rattle.std.proofs.Common.{◌≡◌, ◌≢◌, ◌⊎◌, ◌+◌, ◌==◌, ◌∷◌, ◌∙◌, if◌then◌else◌}
+use Rattle.noninterference.proofs.Names.{with_slot_in, with_word_in, consume, is_member, rescind, resumes, names_member, void_where, without}
+use Rattle.noninterference.proofs.Names.{content_at, is_process, object_at, owner_at, root_at, with_content, with_root, with_slot, with_slots_from}
+use Rattle.noninterference.proofs.Names.{with_state, with_word, HaveSame, IsReadClosedBut, NamesBut, one_of, at_content, at_set}
+use Rattle.noninterference.proofs.Names.{object_consume, at_rescind, void_void, without_mapped, get_or, set, length-set, length-map}
+use Rattle.noninterference.proofs.Names.{enumerate_from, length-enumerate_from}
+use Rattle.std.proofs.Common.{◌≡◌, ◌+◌, ◌∷◌, ◌∙◌, if◌then◌else◌}
 use Rattle.model.specs.declared.object.Content.TheVariants as content
 
 -- two lists of objects that have the same in a set, which is closed in both

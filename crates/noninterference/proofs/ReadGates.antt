@@ -1,16 +1,16 @@
 -- An invocation by a member of a set closed for reading that doesn't look outside does the same in linked lists of objects.
-use Rattle.noninterference.proofs.Names.{nat_tests, inl, inr, ℕ, zero, suc, Bool, true, false, not, List, Option, None, Some, [], arith, refl, sym, ap, subst}
+use Rattle.noninterference.proofs.Names.{inl, ℕ, zero, suc, Bool, false, List, Option, None, Some, [], refl, sym, ap, subst}
 use Rattle.noninterference.proofs.Names.{IsTrue, map, and_parts, Capability, Void, Start, Resume, Geometry, Object, Root, State, Available, Running, Waiting}
 use Rattle.noninterference.proofs.Names.{Invocation, Message, Operation, Call, Return, Send, Effect, after_gate, after_order, deliver, invoke, can_start}
 use Rattle.noninterference.proofs.Names.{is_return, is_available, on_kernel_object, ordered, replied, reply_of, sent_by, sent_to_gate, through_gate, is_running}
 use Rattle.noninterference.proofs.Names.{OrderOutcome, consume, annex_at, is_process, is_running_process, register_at, root_at, root_in, is_root, with_root}
-use Rattle.noninterference.proofs.Names.{with_slots_from, with_state, content_at, slice_index, slice_index_or, slice_set, HaveSame, IsReadClosedBut, NamesBut}
+use Rattle.noninterference.proofs.Names.{with_slots_from, with_state, slice_index, slice_index_or, slice_set, NamesBut}
 use Rattle.noninterference.proofs.Names.{looks_outside, order, IsHeld, Waits, IsNow, IsAfter, after_state, after_order_by, held_on, state_at, frame_refl}
-use Rattle.noninterference.proofs.Names.{at_set, after_gate_by, tests_at, Arguments, AreAlike, AreSameInside, InvocationIsNoninterferent, nearly_from}
+use Rattle.noninterference.proofs.Names.{at_set, after_gate_by, tests_at, Arguments}
 use Rattle.noninterference.proofs.Names.{code_number, not-false}
-use Rattle.std.proofs.Common.{◌≡◌, ◌⊎◌, ◌==◌, ◌||◌, ◌&&◌, ◌∷◌, ◌∙◌, ◌++◌, if◌then◌else◌}
-use Rattle.noninterference.proofs.ReadEdits.{Link, link_consume, link_of_root, link_slots, link_state, void_names}
-use Rattle.noninterference.proofs.ReadBanks.{OutcomesLink, both_chosen, link_sym}
+use Rattle.std.proofs.Common.{◌≡◌, ◌==◌, ◌||◌, ◌&&◌, ◌∷◌, ◌∙◌, ◌++◌, if◌then◌else◌}
+use Rattle.noninterference.proofs.ReadEdits.{Link, link_consume, link_of_root, link_slots, link_state}
+use Rattle.noninterference.proofs.ReadBanks.{OutcomesLink, both_chosen}
 use Rattle.noninterference.proofs.ReadOrders.{member, order_link, register_same, register_stays}
 
 -- effects that write the same numbers and leave linked objects, or none

@@ -1,18 +1,18 @@
 -- Orders on what a set closed for reading holds do the same in linked lists of objects.
-use Rattle.noninterference.proofs.Names.{nat_tests, inl, inr, ℕ, Bool, false, not, List, Option, None, Some, [], arith, refl, sym, ap, subst, IsTrue, nat_lt}
+use Rattle.noninterference.proofs.Names.{nat_tests, inl, ℕ, Bool, false, not, List, Option, None, Some, arith, refl, sym, ap, subst, IsTrue, nat_lt}
 use Rattle.noninterference.proofs.Names.{Access, Capability, Void, Number, Page, Node, Space, Process, Bank, Discrim, Start, Geometry, Object, State, Available}
-use Rattle.noninterference.proofs.Names.{Running, Arguments, NodeOrder, PageOrder, ProcessOrder, BankOrder, on_bank, bank_order, fetched, is_space, node_order}
+use Rattle.noninterference.proofs.Names.{Running, Arguments, NodeOrder, PageOrder, ProcessOrder, BankOrder, bank_order, fetched, is_space, node_order}
 use Rattle.noninterference.proofs.Names.{on_node, on_page, on_process, order, page_order, process_order, reduces, stored, with_root_word, with_space, consume}
-use Rattle.noninterference.proofs.Names.{annex_at, is_process, root_at, slot_at, register_at, with_root, with_slot, with_state, content_at, slots_in, is_bank}
-use Rattle.noninterference.proofs.Names.{slice_index, slice_index_or, HaveSame, NamesBut, depends_on_supply, looks_outside, OrderOutcome, refused, IsHeld}
-use Rattle.noninterference.proofs.Names.{Waits, IsNow, IsTree, tree_of, one_of, root_in, ResultCode, diminished, union, access_bits, tag_of, state_number}
-use Rattle.noninterference.proofs.Names.{words_in, given, made, replying, wrote}
-use Rattle.std.proofs.Common.{◌≡◌, ◌⊎◌, ◌==◌, ◌||◌, ◌∷◌, ◌∙◌}
+use Rattle.noninterference.proofs.Names.{annex_at, is_process, slot_at, register_at, with_slot, with_state, slots_in}
+use Rattle.noninterference.proofs.Names.{slice_index, slice_index_or, NamesBut, depends_on_supply, looks_outside, OrderOutcome, refused, IsHeld}
+use Rattle.noninterference.proofs.Names.{Waits, IsNow, tree_of, one_of, root_in, ResultCode, diminished, union, access_bits, tag_of, state_number}
+use Rattle.noninterference.proofs.Names.{words_in, given, wrote}
+use Rattle.std.proofs.Common.{◌≡◌, ◌⊎◌, ◌==◌, ◌||◌, ◌∙◌}
 use Rattle.model.specs.declared.order.NodeOrder.TheVariants as node
 use Rattle.model.specs.declared.order.PageOrder.TheVariants as page
 use Rattle.model.specs.declared.order.ProcessOrder.TheVariants as process
 use Rattle.model.specs.declared.order.ResultCode.TheVariants as code
-use Rattle.noninterference.proofs.ReadEdits.{Link, link_consume, link_of_root, link_root, link_slot, link_state, link_word}
+use Rattle.noninterference.proofs.ReadEdits.{Link, link_consume, link_of_root, link_slot, link_state, link_word}
 use Rattle.noninterference.proofs.ReadBanks.{OutcomesLink, bank_link, both_chosen, given_link, refused_link, replying_link, wrote_link}
 
 -- what holds of two lists of choices by one option

@@ -1,13 +1,13 @@
 -- Two runs of the same lines by members of a set closed for reading.
 use Rattle.noninterference.proofs.Names.{nat_tests, inl, inr, ℕ, Bool, true, false, not, Option, None, Some, Result, Ok, Err, List, [], map, refl, sym, ap}
-use Rattle.noninterference.proofs.Names.{subst, arith, IsTrue, nat_lt, bit_or, slice_index, slice_index_or, All, All-head, All-tail, and_parts, ltb-true}
-use Rattle.noninterference.proofs.Names.{Access, Answer, MemoryFault, ReadOnly, Refusal, Capability, Void, Page, Node, Space, Command, Invocation, Geometry}
+use Rattle.noninterference.proofs.Names.{subst, arith, IsTrue, nat_lt, slice_index, slice_index_or, All, All-head, All-tail, ltb-true}
+use Rattle.noninterference.proofs.Names.{Access, Answer, MemoryFault, ReadOnly, Refusal, Capability, Void, Page, Space, Command, Invocation, Geometry}
 use Rattle.noninterference.proofs.Names.{Line, Object, Effect, invoke, Machine, Saved, Up, Down, renewing, is_waiting, is_running, words_in, slots_in, root_in}
 use Rattle.noninterference.proofs.Names.{IsRun, IsTurn, Turn, Replies, Reported, IsSound, Answers, Outcome, Step, carried_out, outcome, reached, refusal_of}
-use Rattle.noninterference.proofs.Names.{writable, writing, Fits, Says, below, path, walk, walk_along, content_at, is_process, is_running_process, object_at}
+use Rattle.noninterference.proofs.Names.{writable, writing, Fits, Says, below, path, walk, walk_along, is_process, is_running_process, object_at}
 use Rattle.noninterference.proofs.Names.{register_at, root_at, slot_at, with_word, word_at, AreBy, IsBy, IsLineBy, HaveSame, NamesBut, IsReadClosedBut}
 use Rattle.noninterference.proofs.Names.{AreSameInside, HasRoom, LooksInside, looks_outside, RunsAreNoninterferent, InvocationIsNoninterferent, AreAlike}
-use Rattle.noninterference.proofs.Names.{edited_word, invocation_keeps, Waits, nearly_from, nearly_to, nearly_weaken, state_at, unless, overfills, says_one}
+use Rattle.noninterference.proofs.Names.{edited_word, invocation_keeps, Waits, nearly_from, nearly_to, nearly_weaken, unless, overfills, says_one}
 use Rattle.noninterference.proofs.Names.{is_root, takes_memory, gives_way, Reply, World, get_or, drop, Beyond}
 use Rattle.std.proofs.Common.{◌≡◌, ◌⊎◌, ◌+◌, ◌/◌, ◌%◌, ◌^◌, ◌==◌, ◌<◌, ◌&&◌, if◌then◌else◌, ◌∷◌, ◌∙◌}
 use Rattle.model.specs.Machine.{Running}

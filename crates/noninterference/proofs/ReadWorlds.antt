@@ -1,7 +1,7 @@
 -- The worlds that differ outside a set.
-use Rattle.noninterference.proofs.Names.{ℕ, zero, suc, Bool, false, List, refl, inl, inr, arith, All-from_recursion, IsTrue, slice_index_or, slice_set, Void}
-use Rattle.noninterference.proofs.Names.{Capability, Node, Bank, Object, Start, weak, all_slots, is_bank, is_free, annex_at, content_at, is_process, owner_at}
-use Rattle.noninterference.proofs.Names.{root_at, slot_at, object_at, All, holds_set, holds_void, IsRight, machine, rows_hold, IsRow, HaveSame, IsReadClosedBut}
+use Rattle.noninterference.proofs.Names.{ℕ, zero, suc, false, refl, inl, inr, arith, All-from_recursion, IsTrue, slice_index_or, slice_set, Void}
+use Rattle.noninterference.proofs.Names.{Capability, Node, Bank, Start, weak, all_slots, is_bank, is_free, annex_at, content_at, is_process, owner_at}
+use Rattle.noninterference.proofs.Names.{root_at, slot_at, object_at, All, holds_set, holds_void, IsRight, machine, rows_hold, IsRow, IsReadClosedBut}
 use Rattle.noninterference.proofs.Names.{NamesBut, AreSameForReader, e0, e1, reader, remaining, server, rows}
 use Rattle.std.proofs.Common.{◌≡◌}
 

@@ -1,4 +1,4 @@
--- What nothing outside a set determines: the answers to its processes, and its objects (Goguen, Meseguer: noninterference).
+-- What nothing outside a set determines: the answers to its processes, and its objects (noninterference).
 use Rattle.noninterference.specs.Names.{ℕ, Bool, true, false, Option, None, Some, List, All, IsTrue, map, not}
 use Rattle.noninterference.specs.Names.{slice_index, Capability, Bank, Start, Invocation, Geometry, BankOrder, Effect}
 use Rattle.noninterference.specs.Names.{invoke, Running, Up, bank_order, IsRun, Reported, Turn, IsSound, Fits, Says}
@@ -49,7 +49,8 @@ InvocationIsNoninterferent = (g : Geometry) (trusted inside : ℕ → Bool) (w v
 
 -- a turn that doesn't look outside, and one that isn't refused for the age or a full log
 abbrev pub LooksInside : (ℕ → Bool) → Turn → Type 0
-LooksInside inside t = (s : Running) (i : Invocation) → t.before ≡ Up s → Says t.line (line.Command (command.Invoke i)) →
+LooksInside inside t = (s : Running) (i : Invocation) → t.before ≡ Up s →
+    Says t.line (line.Command (command.Invoke i)) →
     looks_outside inside (register_at s.now.objects i.process i.register) (slice_index i.words 0) ≡ false
 
 abbrev pub HasRoom : Turn → Type 0

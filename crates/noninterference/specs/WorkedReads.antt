@@ -1,5 +1,5 @@
 -- Two worlds that differ only outside a set, worked: why invocations that look outside have to be left out.
-use Rattle.noninterference.specs.Names.{ℕ, Bool, List, [], map, replicate, slice_set, Void, Node, Bank, Start, Object}
+use Rattle.noninterference.specs.Names.{ℕ, Bool, List, [], replicate, slice_set, Void, Node, Bank, Start, Object}
 use Rattle.noninterference.specs.Names.{all_slots, free, weak, zero_words, World, fresh_root, of_prime_bank, Row}
 use Rattle.noninterference.specs.Names.{at_world, row}
 use Rattle.std.specs.Prelude.{◌==◌, ◌||◌, ◌∷◌, ◌++◌}

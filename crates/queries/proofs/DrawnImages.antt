@@ -20,7 +20,7 @@ module _ {D : Type 0} {disk : D → Disk} {device back : D} {s : SavedState} (re
 
 -- A description is restricted twice.
 pub keeps_both : (os : List Object) (focus : Focus) (d m e : Description) → IsHeldTo focus.to d m → (outcome : Result (Unit {0}) Fault) →
-    KeepsReached os focus.from m e outcome → KeepsPart os focus d e outcome
+    KeepsReached os focus.from focus.purpose m e outcome → KeepsPart os focus d e outcome
 keeps_both os focus d m e held (Ok a) keeps = (m, held, keeps)
 keeps_both os focus d m e held (Err (fault.NoProcess p)) keeps = keeps
 keeps_both os focus d m e held (Err fault.NoMemory) keeps = keeps

@@ -86,4 +86,4 @@ pub use Rattle.queries.specs.Reaching.{AreProcesses, AreStarts, IsChainText, IsC
 pub use Rattle.queries.specs.declared.drawing.Focus.{Focus}
 pub use Rattle.queries.specs.declared.info.InfoLine.{InfoLine}
 pub use Rattle.queries.specs.declared.reaching.ReachQuestion.{ReachQuestion}
-pub use Rattle.queries.specs.declared.reaching.ReachQuestion.TheVariants.{Chain, Changers, Changes}
+pub use Rattle.queries.specs.declared.reaching.ReachQuestion.TheVariants.{Chain, Changers, Set}

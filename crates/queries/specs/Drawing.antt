@@ -1,7 +1,7 @@
 -- What the command that draws says of an image.
 use Rattle.queries.specs.Names.{Written, Wrote, ℕ, Bool, true, false, Option, None, Some, List, [], Result, Ok, Err}
 use Rattle.queries.specs.Names.{Object, objects_of, is_process, Disk, WroteFront, Description, boxes, graph_text}
-use Rattle.queries.specs.Names.{IsPart, holders, is_listed, is_member, IsReach, Fault}
+use Rattle.queries.specs.Names.{IsPart, holders, is_listed, is_member, IsReach, Fault, Purpose, links}
 use Rattle.std.specs.Prelude.{◌≡◌, ◌∷◌}
 use Rattle.queries.specs.declared.drawing.Focus.{Focus}
 use Rattle.jobs.specs.declared.fault.Fault.TheVariants as fault
@@ -14,14 +14,14 @@ IsHeldTo (Some o) d e = (is_listed o (boxes d) ≡ true) × (inside : ℕ → Bo
     ((n : ℕ) → inside n ≡ is_listed n (holders o d)) × IsPart inside d e
 
 -- and to what a process reaches, if one is named
-abbrev pub IsReachedFrom : List Object → Option ℕ → Description → Description → Type 0
-IsReachedFrom os None d e = e ≡ d
-IsReachedFrom os (Some p) d e = (is_process os p ≡ true) × (inside : ℕ → Bool) × IsReach os (is_member []) (p ∷ []) inside × IsPart
-    inside d e
+abbrev pub IsReachedFrom : List Object → Option ℕ → Purpose → Description → Description → Type 0
+IsReachedFrom os None by d e = e ≡ d
+IsReachedFrom os (Some p) by d e = (is_process os p ≡ true) × (inside : ℕ → Bool)
+    × IsReach os (links by (is_member [])) (p ∷ []) inside × IsPart inside d e
 
 -- to both
 abbrev pub IsFocus : List Object → Focus → Description → Description → Type 0
-IsFocus os focus d e = (m : Description) × IsHeldTo focus.to d m × IsReachedFrom os focus.from m e
+IsFocus os focus d e = (m : Description) × IsHeldTo focus.to d m × IsReachedFrom os focus.from focus.purpose m e
 
 -- so it was; or the number has no box; or memory ran out
 abbrev pub KeepsHolders : Option ℕ → Description → Description → Result (Unit {0}) Fault → Type 0
@@ -31,11 +31,12 @@ KeepsHolders to d e (Err fault.NoMemory) = Unit {0}
 KeepsHolders to d e (Err _) = ⊥
 
 -- so it was; or the number isn't that of a process; or memory ran out
-abbrev pub KeepsReached : List Object → Option ℕ → Description → Description → Result (Unit {0}) Fault → Type 0
-KeepsReached os from d e (Ok a) = IsReachedFrom os from d e
-KeepsReached os from d e (Err (fault.NoProcess p)) = (from ≡ Some p) × (is_process os p ≡ false)
-KeepsReached os from d e (Err fault.NoMemory) = Unit {0}
-KeepsReached os from d e (Err _) = ⊥
+abbrev pub KeepsReached : List Object → Option ℕ → Purpose → Description → Description → Result (Unit {0}) Fault →
+    Type 0
+KeepsReached os from by d e (Ok a) = IsReachedFrom os from by d e
+KeepsReached os from by d e (Err (fault.NoProcess p)) = (from ≡ Some p) × (is_process os p ≡ false)
+KeepsReached os from by d e (Err fault.NoMemory) = Unit {0}
+KeepsReached os from by d e (Err _) = ⊥
 
 -- a number of a focus is none of an object with a box, or of a process
 abbrev pub IsNoFocus : List Object → Focus → Description → Fault → Type 0

@@ -46,7 +46,9 @@ pub use Rattle.reach.specs.Chain.{IsShortestIfAny}
 unfoldable pub use Rattle.reach.specs.ChainLines.{chain_text}
 pub use Rattle.reach.specs.Lines.{changers_text}
 unfoldable pub use Rattle.reach.specs.Lines.{reach_text}
+pub use Rattle.reach.specs.Links.{links}
 pub use Rattle.reach.specs.Reached.{AreChangers, BoundsRuns, IsReach}
+pub use Rattle.reach.specs.declared.authority.Purpose.{Purpose}
 pub use Rattle.reach.specs.declared.step.Step.{Step}
 pub use Rattle.recovery.specs.Denotes.{Denotes, saved_of}
 pub use Rattle.recovery.specs.Recovered.{RefusesToOpen}

@@ -14,7 +14,7 @@ use image_drawer::{draw, has_box, holders, restrict};
 use jobs::{Done, Fault, of_write};
 use migrator::WholeStore;
 use model::Object;
-use reach::{missing_process, reach};
+use reach::{Purpose, missing_process, reach};
 use script::Output;
 use std::alloc::Global;
 
@@ -23,6 +23,8 @@ use std::alloc::Global;
 pub struct Focus {
     /// Only what this process reaches: the least closed set.
     pub from: Option<u64>,
+    /// Whether that is what it can change, or what it can read.
+    pub purpose: Purpose,
     /// Only this object, and the processes and nodes that hold a capability to it.
     pub to: Option<u64>,
 }
@@ -53,10 +55,11 @@ fn keep_reached(
     alloc: Global,
     objects: &[Object],
     from: Option<u64>,
+    purpose: Purpose,
     description: &mut Description,
 ) -> Result<(), Fault>
     requires { AreSoundObjects objects.now }
-    ensures { KeepsReached objects.now from description.old description.new result }
+    ensures { KeepsReached objects.now from purpose description.old description.new result }
 {
     let Some(process) = from else {
         return Ok(());
@@ -64,7 +67,7 @@ fn keep_reached(
     if missing_process(objects, &[process]).is_some() {
         return Err(Fault::NoProcess(process));
     }
-    match reach(alloc, objects, &[process], &[]) {
+    match reach(alloc, objects, purpose, &[process], &[]) {
         Ok(inside) => {
             restrict(description, &inside);
             Ok(())
@@ -86,7 +89,7 @@ fn keep_part(
     ensures { KeepsPart objects.now focus description.old description.new result }
 {
     match keep_holders(alloc, focus.to, description) {
-        Ok(()) => keep_reached(alloc, objects, focus.from, description),
+        Ok(()) => keep_reached(alloc, objects, focus.from, focus.purpose, description),
         Err(fault) => Err(fault),
     }
 }

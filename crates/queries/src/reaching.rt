@@ -1,11 +1,11 @@
-// The command that says what processes can ever change, and which of them can change an object.
+// The command that says what processes can ever change or read, and which of them can change or read an object.
 ghost use Rattle.std.specs.Prelude.{◌≡◌, ℕ, [], false, true, IfSome, IsNone, Result, Some};
 ghost use Rattle.model.specs.Object.{is_free};
 ghost use Rattle.model.specs.World.{content_at};
 ghost use Rattle.reach.specs.Reached.{AreSoundObjects};
 ghost use Rattle.jobs.specs.Faults.{IsReported, status_of};
 ghost use Rattle.queries.specs.Reaching.{AreProcesses, IsFirstMissing, ReachesImage, TellsOf, TellsReach, object_of};
-ghost use Rattle.queries.specs.declared.reaching.ReachQuestion.TheVariants.{Chain, Changers, Changes};
+ghost use Rattle.queries.specs.declared.reaching.ReachQuestion.TheVariants.{Chain, Changers, Set};
 
 use crate::saved::read_saved;
 use device::Device;
@@ -13,8 +13,8 @@ use jobs::{Done, Fault, of_write};
 use migrator::WholeStore;
 use model::{Content, Object};
 use reach::{
-    all_processes, changers, missing_process, print_chain, print_changers, print_reach, reach,
-    shortest_chain,
+    Purpose, all_processes, changers, missing_process, print_chain, print_changers, print_reach,
+    reach, shortest_chain,
 };
 use script::Output;
 use std::alloc::Global;
@@ -22,12 +22,12 @@ use std::alloc::Global;
 /// What `reach` says of some processes.
 #[derive(Clone, Copy)]
 pub enum ReachQuestion {
-    /// All that they can ever change.
-    Changes,
-    /// A shortest chain of steps from them to this object.
-    Chain(u64),
-    /// Those of them that can ever change this object.
-    Changers(u64),
+    /// All that they can ever change, or read.
+    Set(Purpose),
+    /// A shortest chain of steps from them to this object, by which they can change it, or read it.
+    Chain(Purpose, u64),
+    /// Those of them that can ever change this object, or read it.
+    Changers(Purpose, u64),
 }
 
 impl ReachQuestion {
@@ -36,8 +36,8 @@ impl ReachQuestion {
         ensures { result ≡ object_of self }
     {
         match self {
-            ReachQuestion::Changes => None,
-            ReachQuestion::Chain(object) | ReachQuestion::Changers(object) => Some(object),
+            ReachQuestion::Set(_) => None,
+            ReachQuestion::Chain(_, object) | ReachQuestion::Changers(_, object) => Some(object),
         }
     }
 }
@@ -46,6 +46,7 @@ impl ReachQuestion {
 fn tell_set<W: Output>(
     alloc: Global,
     objects: &[Object],
+    purpose: Purpose,
     processes: &[u64],
     trusted: &[u64],
     writer: &mut W,
@@ -53,10 +54,10 @@ fn tell_set<W: Output>(
     requires sound { AreSoundObjects objects.now }
     requires processes { AreProcesses objects.now processes.now }
     requires trusted { AreProcesses objects.now trusted.now }
-    ensures { TellsOf objects.now processes.now trusted.now Changes (W.written writer.old) (W.written writer.new)
+    ensures { TellsOf objects.now processes.now trusted.now (Set purpose) (W.written writer.old) (W.written writer.new)
         result }
 {
-    match reach(alloc, objects, processes, trusted) {
+    match reach(alloc, objects, purpose, processes, trusted) {
         Ok(inside) => of_write(print_reach(objects, &inside, writer)),
         Err(_) => Err(Fault::NoMemory),
     }
@@ -66,6 +67,7 @@ fn tell_set<W: Output>(
 fn tell_chain<W: Output>(
     alloc: Global,
     objects: &[Object],
+    purpose: Purpose,
     processes: &[u64],
     trusted: &[u64],
     object: u64,
@@ -75,19 +77,20 @@ fn tell_chain<W: Output>(
     requires processes { AreProcesses objects.now processes.now }
     requires trusted { AreProcesses objects.now trusted.now }
     requires there { is_free (content_at objects.now object) ≡ false }
-    ensures { TellsOf objects.now processes.now trusted.now (Chain object) (W.written writer.old)
+    ensures { TellsOf objects.now processes.now trusted.now (Chain purpose object) (W.written writer.old)
         (W.written writer.new) result }
 {
-    match shortest_chain(alloc, objects, processes, trusted, object) {
-        Ok(chain) => of_write(print_chain(objects, object, &chain, writer)),
+    match shortest_chain(alloc, objects, purpose, processes, trusted, object) {
+        Ok(chain) => of_write(print_chain(objects, purpose, object, &chain, writer)),
         Err(_) => Err(Fault::NoMemory),
     }
 }
 
-// Writes which of some processes can ever change an object.
+// Writes which of some processes can ever change an object, or read it.
 fn tell_changers<W: Output>(
     alloc: Global,
     objects: &[Object],
+    purpose: Purpose,
     processes: &[u64],
     trusted: &[u64],
     object: u64,
@@ -97,10 +100,10 @@ fn tell_changers<W: Output>(
     requires processes { AreProcesses objects.now processes.now }
     requires trusted { AreProcesses objects.now trusted.now }
     requires there { is_free (content_at objects.now object) ≡ false }
-    ensures { TellsOf objects.now processes.now trusted.now (Changers object) (W.written writer.old)
+    ensures { TellsOf objects.now processes.now trusted.now (Changers purpose object) (W.written writer.old)
         (W.written writer.new) result }
 {
-    match changers(alloc, objects, processes, trusted, object) {
+    match changers(alloc, objects, purpose, processes, trusted, object) {
         Ok(inside) => of_write(print_changers(objects, &inside, writer)),
         Err(_) => Err(Fault::NoMemory),
     }
@@ -148,13 +151,15 @@ fn tell_of<W: Output>(
         return Err(Fault::NoObject(object));
     }
     match question {
-        ReachQuestion::Changes => tell_set(alloc, objects, processes, trusted, writer),
-        ReachQuestion::Chain(object) => {
-            tell_chain(alloc, objects, processes, trusted, object, writer)
+        ReachQuestion::Set(purpose) => {
+            tell_set(alloc, objects, purpose, processes, trusted, writer)
         }
-        ReachQuestion::Changers(object) => {
-            tell_changers(alloc, objects, processes, trusted, object, writer)
-        }
+        ReachQuestion::Chain(purpose, object) => tell_chain(
+            alloc, objects, purpose, processes, trusted, object, writer,
+        ),
+        ReachQuestion::Changers(purpose, object) => tell_changers(
+            alloc, objects, purpose, processes, trusted, object, writer,
+        ),
     }
 }
 
@@ -230,11 +235,11 @@ fn tell_reach<W: Output>(
 
 /// Opens a device as a run does, and answers a question about the processes named, or about all processes
 /// if none is named. Then the status is 0. The answer is
-/// - what they can ever change, but for messages to the processes `trusted`: the least closed set of
-///   numbers that contains them, where a member may start a trusted process outside the set;
-/// - a shortest chain of steps to an object, or `cannot change` with its kind and number if that set
-///   doesn't contain it;
-/// - or those of them that can ever change an object.
+/// - what they can ever change, or read, but for messages to the processes `trusted`: the least closed set
+///   of numbers that contains them, where a member may start a trusted process outside the set;
+/// - a shortest chain of steps to an object, or `cannot change` or `cannot read` with its kind and number
+///   if that set doesn't contain it;
+/// - or those of them that can ever change an object, or read it.
 ///
 /// After a fault one line is written to `errors`, and the status is 1:
 /// - `bad image` with a number from 1 to 10, `device failed` or `no memory`;

@@ -2,7 +2,7 @@
 use Rattle.reach.proofs.Names.{nat_tests, ℕ, Bool, max, zero, suc, true, false, is_some, Option, None, Some, List, [], length, length-set, slice_set, inl, inr}
 use Rattle.reach.proofs.Names.{⊎_elim, refl, sym, ap, arith, get_or-set_same, get_or-set_other, same_Some, Capability, Void, Object, is_free, content_at}
 use Rattle.reach.proofs.Names.{owner_at, Found, Levels, Step, Way, Conveys, Begins, FindsBy, IsBy, IsFoundBy, IsHeldIn, IsOwnedBelow, IsTheStep, found_at}
-use Rattle.reach.proofs.Names.{missing, slice_index_or}
+use Rattle.reach.proofs.Names.{missing, slice_index_or, IsClosedFor, Links, StaysFor, StaysAs, links}
 use Rattle.std.proofs.Common.{◌≡◌, ◌≢◌, ◌⊎◌, ◌+◌, ◌<◌, ◌≤◌, ◌∷◌, ◌∙◌}
 use Rattle.reach.specs.declared.step.Way.TheVariants as way
 
@@ -110,16 +110,16 @@ finds_both P Q R level a b c from_first from_next either first next = record {
 }
 
 -- the step by a capability
-pub finds_by : (trusted : ℕ → Bool) (from : ℕ) (by : Way) (c : Capability) (to level : ℕ) (a b : Levels) → Conveys trusted c to →
-    FindsBy (IsTheStep (record { from = from; way = by; to = to })) level a b → FindsBy (IsBy trusted from by c) level a b
-finds_by trusted from by c to level a b conveys = finds_same (IsTheStep (record { from = from; way = by; to = to })) (IsBy trusted from by c) level a b
+pub finds_by : (follows : Links) (from : ℕ) (by : Way) (c : Capability) (to level : ℕ) (a b : Levels) → Conveys follows c to →
+    FindsBy (IsTheStep (record { from = from; way = by; to = to })) level a b → FindsBy (IsBy follows from by c) level a b
+finds_by follows from by c to level a b conveys = finds_same (IsTheStep (record { from = from; way = by; to = to })) (IsBy follows from by c) level a b
     (λ s is. (is.0, is.1, rw is.2 conveys)) (λ s is. (is.0, is.1, same_Some s.to to (sym is.2.2 ∙ conveys.2)))
 
 -- one capability more of a list
-pub held_next : (trusted : ℕ → Bool) (slots : List Capability) (i from level : ℕ) (a b c : Levels) → FindsBy (IsHeldIn trusted slots i from) level a b
-    → FindsBy (IsBy trusted from (way.Slot i (slice_index_or slots i Void)) (slice_index_or slots i Void)) level b c → FindsBy (IsHeldIn trusted slots (i + 1) from) level a c
-held_next trusted slots i from level a b c first next = finds_both (IsHeldIn trusted slots i from)
-    (IsBy trusted from (way.Slot i (slice_index_or slots i Void)) (slice_index_or slots i Void)) (IsHeldIn trusted slots (i + 1) from) level a b c
+pub held_next : (follows : Links) (slots : List Capability) (i from level : ℕ) (a b c : Levels) → FindsBy (IsHeldIn follows slots i from) level a b
+    → FindsBy (IsBy follows from (way.Slot i (slice_index_or slots i Void)) (slice_index_or slots i Void)) level b c → FindsBy (IsHeldIn follows slots (i + 1) from) level a c
+held_next follows slots i from level a b c first next = finds_both (IsHeldIn follows slots i from)
+    (IsBy follows from (way.Slot i (slice_index_or slots i Void)) (slice_index_or slots i Void)) (IsHeldIn follows slots (i + 1) from) level a b c
     (λ s held. (held.0, omega (arith, held.1), held.2)) (λ s by. (i, omega arith, by))
     grind (arith, nat_tests) first next
 

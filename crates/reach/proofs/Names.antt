@@ -3,7 +3,7 @@ pub use Rattle.capability.proofs.FrameLists.{length_objects}
 pub use Rattle.capability.specs.Parts.{objects_in}
 pub use Rattle.collections.specs.Marks.{is_marked}
 pub use Rattle.confinement.proofs.TrustedRuns.{run_confined}
-pub use Rattle.confinement.specs.Trusted.{IsClosedBut, IsConfinedBut, StaysBut}
+pub use Rattle.confinement.specs.Trusted.{IsClosedBut, IsConfinedBut, StartsOne, StaysBut}
 pub use Rattle.model.specs.Capability.{IsWeak, named}
 pub use Rattle.model.specs.Closed.{StaysInside}
 pub use Rattle.model.specs.Object.{free, is_bank, is_free, is_node, is_page, is_root, root_in, slots_in}
@@ -36,16 +36,18 @@ pub use Rattle.std.specs.List.{All, Contains, count_by, enumerate_from, find, fl
 pub use Rattle.std.specs.Prelude.{IsTrue}
 pub use Rattle.std.specs.declared.alloc.Global.{Global}
 pub use Rattle.reach.specs.Backward.{AddsOwners, AllChange, ConveysInto, HasOwners, IsClosedAt, LeadsInto, Widens, others, unmarked}
-pub use Rattle.reach.specs.Chain.{Conveys, IsChain, IsPath, IsShortest, IsStep, IsWay, held_by}
+pub use Rattle.reach.specs.Chain.{Conveys, IsChain, IsFollowed, IsPath, IsShortest, IsStep, IsWay, held_by}
 pub use Rattle.reach.specs.ChainLines.{step_line}
 unfoldable pub use Rattle.reach.specs.ChainLines.{chain_text}
-pub use Rattle.reach.specs.Laws.{ReachIsChange, StepsAreAuthority}
+pub use Rattle.reach.specs.Laws.{ClosedSetsAre, ReachIsChange, StepsAreAuthority}
 pub use Rattle.reach.specs.Levels.{Begins, FindsBy, IsAfter, IsAt, IsBy, IsFirst, IsFoundBy, IsFoundIn, IsFrom, IsFromLevel, IsHeldIn, IsOwnedBelow, IsSearched}
 pub use Rattle.reach.specs.Levels.{IsTheStep, NamesWithin, found_at, has_level}
 pub use Rattle.reach.specs.Lines.{counted_text, member_line, member_pulls, pull_line, words_of}
 unfoldable pub use Rattle.reach.specs.Lines.{reach_text}
+pub use Rattle.reach.specs.Links.{IsClosedFor, Links, StaysAs, StaysFor, links}
 pub use Rattle.reach.specs.Missing.{missing}
 pub use Rattle.reach.specs.Reached.{AreChangers, AreSoundObjects, BoundsRuns, CanChange, IsReach}
+pub use Rattle.reach.specs.declared.authority.Purpose.{Purpose}
 pub use Rattle.reach.specs.declared.levels.Found.{Found}
 pub use Rattle.reach.specs.declared.levels.Levels.{Levels}
 pub use Rattle.reach.specs.declared.step.Step.{Step}

@@ -2,7 +2,8 @@
 use Rattle.reach.proofs.Names.{ℕ, Bool, zero, suc, true, false, Option, None, Some, List, [], length, replicate, inl, inr, ⊎_elim, sym, subst, arith, Contains}
 use Rattle.reach.proofs.Names.{cases_lt, nat_tests, get_or_default, length-replicate, Object, Found, Levels, Step, Begins, FindsBy, IsAfter, IsAt, IsFirst}
 use Rattle.reach.proofs.Names.{IsFoundBy, IsFoundIn, IsFrom, IsFromLevel, IsSearched, found_at, has_level, missing, slice_index_or, IsTrue, All, refl, add-one}
-use Rattle.reach.proofs.Names.{cases_eq, ap, get_or-set_other, get_or-set_same, is_marked, is_member, length-set, slice_set, take, take_all}
+use Rattle.reach.proofs.Names.{cases_eq, ap, get_or-set_other, get_or-set_same, is_marked, is_member, length-set, slice_set, take, take_all, IsClosedFor, Links}
+use Rattle.reach.proofs.Names.{StaysFor, StaysAs, links, Purpose}
 use Rattle.std.proofs.Common.{◌≢◌, ◌==◌, ◌||◌, ◌≡◌, ◌+◌, ◌<◌, ◌≤◌, ◌∷◌, ◌∙◌}
 use Rattle.reach.proofs.Finding.{finds_both, finds_same, missing_most}
 
@@ -10,21 +11,21 @@ level_of : (o : Option Found) (f : Found) (k : ℕ) → o ≡ Some f → f.level
 level_of o f k is at = grind (arith, nat_tests)
 
 -- the numbers below one were followed where they are at the level
-module _ (os : List Object) (trusted : ℕ → Bool) (start now : Levels) (level i : ℕ) (first : FindsBy (IsFromLevel os trusted start level i) (level + 1) start now) where
+module _ (os : List Object) (follows : Links) (start now : Levels) (level i : ℕ) (first : FindsBy (IsFromLevel os follows start level i) (level + 1) start now) where
   at_once : (n : ℕ) → IsAt now n level → IsAt start n level
   at_once n at = ⊎_elim (λ before. (at.0, before, at.2)) (λ found. absurd (omega (arith, found.at, at.2))) (first.each n at.0 at.1)
 
-  pub level_next : (new : Levels) → has_level (found_at now i) level ≡ true → FindsBy (IsFrom os trusted i) (level + 1) now new →
-      FindsBy (IsFromLevel os trusted start level (i + 1)) (level + 1) start new
-  level_next new test next = finds_both (IsFromLevel os trusted start level i) (IsFrom os trusted i) (IsFromLevel os trusted start level (i + 1)) (level + 1) start now new
+  pub level_next : (new : Levels) → has_level (found_at now i) level ≡ true → FindsBy (IsFrom os follows i) (level + 1) now new →
+      FindsBy (IsFromLevel os follows start level (i + 1)) (level + 1) start new
+  level_next new test next = finds_both (IsFromLevel os follows start level i) (IsFrom os follows i) (IsFromLevel os follows start level (i + 1)) (level + 1) start now new
       (λ s from. (from.0, omega (arith, from.1), from.2)) (λ s from. (rw from.0 (at_once i (search arith)), omega (arith, from.0), from.1))
       (λ s from. elim (cases_lt s.from i) [
         | inl below ↦ inl (from.0, below, from.2)
         | inr past ↦ inr (omega (arith, past, from.1), from.2)
       ]) first next
 
-  pub level_skip : has_level (found_at now i) level ≡ false → FindsBy (IsFromLevel os trusted start level (i + 1)) (level + 1) start now
-  level_skip test = finds_same (IsFromLevel os trusted start level i) (IsFromLevel os trusted start level (i + 1)) _ start now
+  pub level_skip : has_level (found_at now i) level ≡ false → FindsBy (IsFromLevel os follows start level (i + 1)) (level + 1) start now
+  level_skip test = finds_same (IsFromLevel os follows start level i) (IsFromLevel os follows start level (i + 1)) _ start now
       (λ s from. (from.0, omega (arith, from.1), from.2)) (λ s from. elim (cases_lt s.from i) [
         | inl below ↦ (from.0, below, from.2)
         | inr past ↦ grind (arith, nat_tests, level_of)
@@ -70,8 +71,8 @@ begun_next os starts i old new begun begins lt = record {
     found_now : IsFoundIn new (slice_index_or starts i 0) 0
     found_now = grind (arith, nat_tests, first_now)
 
-pub searched_first : (os : List Object) (trusted : ℕ → Bool) (starts : List ℕ) (i : ℕ) (l : Levels) → Begun os starts i l → length starts ≤ i → IsSearched os trusted starts 0 l
-searched_first os trusted starts i l begun whole = grind (arith, nat_tests)
+pub searched_first : (os : List Object) (follows : Links) (starts : List ℕ) (i : ℕ) (l : Levels) → Begun os starts i l → length starts ≤ i → IsSearched os follows starts 0 l
+searched_first os follows starts i l begun whole = grind (arith, nat_tests)
 
 -- what is found is one of the numbers
 found_below : (xs : List (Option Found)) (n : ℕ) (f : Found) → slice_index_or xs n None ≡ Some f → n < length xs
@@ -80,30 +81,30 @@ found_below (x ∷ xs) zero f is = omega arith
 found_below (x ∷ xs) (suc n) f is = let later : n < length xs = found_below xs n f is in omega (arith, later)
 
 -- one level more was followed
-module _ (os : List Object) (trusted : ℕ → Bool) (starts : List ℕ) (level : ℕ) (old new : Levels) (searched : IsSearched os trusted starts level old)
-    (finds : FindsBy (IsFromLevel os trusted old level (length os)) (level + 1) old new) where
+module _ (os : List Object) (follows : Links) (starts : List ℕ) (level : ℕ) (old new : Levels) (searched : IsSearched os follows starts level old)
+    (finds : FindsBy (IsFromLevel os follows old level (length os)) (level + 1) old new) where
   kept_in : (n k : ℕ) → IsFoundIn old n k → IsFoundIn new n k
   kept_in n k found = (found.0, finds.kept n found.0 found.1, found.2)
 
-  after_before : (n : ℕ) (f : Found) → IsAfter os trusted old n f → IsAfter os trusted new n f
+  after_before : (n : ℕ) (f : Found) → IsAfter os follows old n f → IsAfter os follows new n f
   after_before n f after = grind (arith, nat_tests)
 
-  after_now : (n : ℕ) (f : Found) → IsFoundBy (IsFromLevel os trusted old level (length os)) (level + 1) n f → IsAfter os trusted new n f
+  after_now : (n : ℕ) (f : Found) → IsFoundBy (IsFromLevel os follows old level (length os)) (level + 1) n f → IsAfter os follows new n f
   after_now n f found = grind (arith, nat_tests)
 
   deepest_now : (n : ℕ) (f : Found) → found_at new n ≡ Some f → f.level ≤ level + 1
   deepest_now n f is = ⊎_elim (λ before. omega (arith, searched.deepest n f before)) (λ now. omega (arith, now.at)) (finds.each n f is)
 
-  continues_here : (n : ℕ) (f : Found) → found_at old n ≡ Some f → f.level ≡ level → (s : Step) → IsFrom os trusted n s → IsFoundIn new s.to (f.level + 1)
+  continues_here : (n : ℕ) (f : Found) → found_at old n ≡ Some f → f.level ≡ level → (s : Step) → IsFrom os follows n s → IsFoundIn new s.to (f.level + 1)
   continues_here n f is at s from = grind (arith, nat_tests, found_below, deepest_now)
 
-  continues_now : (n : ℕ) (f : Found) → found_at new n ≡ Some f → f.level < level + 1 → (s : Step) → IsFrom os trusted n s → IsFoundIn new s.to (f.level + 1)
+  continues_now : (n : ℕ) (f : Found) → found_at new n ≡ Some f → f.level < level + 1 → (s : Step) → IsFrom os follows n s → IsFoundIn new s.to (f.level + 1)
   continues_now n f is lt s from = ⊎_elim (λ before. elim (cases_lt f.level level) [
     | inl below ↦ kept_in s.to _ (searched.continues n f before below s from)
     | inr past ↦ continues_here n f before (omega (arith, past, lt)) s from
   ]) (λ now. absurd (omega (arith, now.at, lt))) (finds.each n f is)
 
-  pub searched_next : IsSearched os trusted starts (level + 1) new
+  pub searched_next : IsSearched os follows starts (level + 1) new
   searched_next = grind (arith, nat_tests, kept_in, after_before, after_now, continues_now, deepest_now)
 
 -- the set of some numbers
@@ -160,8 +161,9 @@ pub set_whole : (numbers : List ℕ) (at total : ℕ) (set : List Bool) → IsSe
 set_whole numbers at total set is whole n = is.each n ∙ ap (λ (l : List ℕ). is_member l n) (take_all at numbers whole)
 
 -- what was searched without some marks was searched without their numbers
-pub searched_without : (os : List Object) (trusted starts : List ℕ) (marks : List Bool) (level : ℕ) (l : Levels)
-    → ((n : ℕ) → is_marked marks n ≡ is_member trusted n) → IsSearched os (is_marked marks) starts level l → IsSearched os (is_member trusted) starts level l
-searched_without os trusted starts marks level l same is =
+pub searched_without : (os : List Object) (p : Purpose) (trusted starts : List ℕ) (marks : List Bool) (level : ℕ) (l : Levels)
+    → ((n : ℕ) → is_marked marks n ≡ is_member trusted n) → IsSearched os (links p (is_marked marks)) starts level l
+    → IsSearched os (links p (is_member trusted)) starts level l
+searched_without os p trusted starts marks level l same is =
     let sets : is_marked marks ≡ is_member trusted = λ k n. same n k in
-    subst (λ (t : ℕ → Bool). IsSearched os t starts level l) sets is
+    subst (λ (t : ℕ → Bool). IsSearched os (links p t) starts level l) sets is

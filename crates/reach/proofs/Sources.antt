@@ -3,13 +3,13 @@ use Rattle.reach.proofs.Names.{nat_tests, ℕ, zero, suc, Bool, true, false, not
 use Rattle.reach.proofs.Names.{subst, arith, IsTrue, All, get_or_default, Contains, is_marked, Object, is_free, is_bank, content_at, owner_at, is_process}
 use Rattle.reach.proofs.Names.{AreSoundObjects, AddsOwners, AllChange, HasOwners, IsClosedAt, LeadsInto, Widens, others, unmarked, AreChangers, ConveysInto}
 use Rattle.reach.proofs.Names.{slots_in, is_root, root_in, Void, CanChange, IsReach, ReachIsChange, Capability, Content, cases_lt, length-set, replicate}
-use Rattle.reach.proofs.Names.{Conveys, IsClosedBut, StaysBut, named, same_Some}
+use Rattle.reach.proofs.Names.{Conveys, named, same_Some, IsClosedFor, Links, StaysFor, StaysAs, links}
 use Rattle.std.proofs.Common.{◌≡◌, ◌⊎◌, ◌↔◌, ◌+◌, ◌<◌, ◌≤◌, ◌∷◌, ◌∙◌}
-use Rattle.reach.proofs.Chains.{named_inside, stays_inside}
+use Rattle.reach.proofs.Chains.{named_inside, stays_inside, void_stays}
 use Rattle.model.specs.declared.object.Content.TheVariants as content
 
 pub reach_is_change : ReachIsChange
-reach_is_change os trusted inside n o reach = (
+reach_is_change os follows inside n o reach = (
   λ member other closed begins. reach.least other closed (λ k d lt. grind (arith, nat_tests)) o member,
   λ change. change inside reach.closed (reach.begins 0 0 (omega arith)),
 )
@@ -51,40 +51,40 @@ bank_there (content.Root root) is = refl
 bank_there (content.Annex registers) is = refl
 
 -- a capability in a slot that leads into a set
-pub slots_lead : (os : List Object) (trusted : ℕ → Bool) (n : ℕ) (slots : List Capability) (inside : ℕ → Bool) → slots_in (content_at os n) ≡ slots
-    → (i : ℕ) × ConveysInto trusted inside (slice_index_or slots i Void) → LeadsInto os trusted inside n
-slots_lead os trusted n slots inside is at other closed member = at.1 other
-    (subst (λ (l : List Capability). StaysBut trusted other (slice_index_or l at.0 Void)) is (closed.slots n at.0 member))
+pub slots_lead : (os : List Object) (follows : Links) (n : ℕ) (slots : List Capability) (inside : ℕ → Bool) → slots_in (content_at os n) ≡ slots
+    → (i : ℕ) × ConveysInto follows inside (slice_index_or slots i Void) → LeadsInto os follows inside n
+slots_lead os follows n slots inside is at other closed member = at.1 other
+    (subst (λ (l : List Capability). StaysFor follows other (slice_index_or l at.0 Void)) is (closed.slots n at.0 member))
 
-stays_at : (trusted other : ℕ → Bool) (slots : List Capability) (i : ℕ) → All (StaysBut trusted other) slots → StaysBut trusted other (slice_index_or slots i Void)
-stays_at trusted other [] i all = inl (inl tt)
-stays_at trusted other (c ∷ cs) zero all = all 0 Void (omega arith)
-stays_at trusted other (c ∷ cs) (suc i) all = stays_at trusted other cs i (λ k d lt. all (suc k) d (omega (arith, lt)))
+stays_at : (follows : Links) (other : ℕ → Bool) (slots : List Capability) (i : ℕ) → All (StaysFor follows other) slots → StaysFor follows other (slice_index_or slots i Void)
+stays_at follows other [] i all = void_stays follows other
+stays_at follows other (c ∷ cs) zero all = all 0 Void (omega arith)
+stays_at follows other (c ∷ cs) (suc i) all = stays_at follows other cs i (λ k d lt. all (suc k) d (omega (arith, lt)))
 
 -- none does, and the object holds nothing else
-pub slots_settle : (os : List Object) (n : ℕ) (slots : List Capability) (trusted other : ℕ → Bool) → is_process os n ≡ false → slots_in (content_at os n) ≡ slots
-    → All (StaysBut trusted other) slots → IsClosedAt os trusted other n
-slots_settle os n slots trusted other no_root is all = record {
+pub slots_settle : (os : List Object) (n : ℕ) (slots : List Capability) (follows : Links) (other : ℕ → Bool) → is_process os n ≡ false → slots_in (content_at os n) ≡ slots
+    → All (StaysFor follows other) slots → IsClosedAt os follows other n
+slots_settle os n slots follows other no_root is all = record {
   annexes = λ root. let both : false ≡ true = sym no_root ∙ root in absurd (cc);
-  slots = λ i. subst (λ (l : List Capability). StaysBut trusted other (slice_index_or l i Void)) (sym is) (stays_at trusted other slots i all);
+  slots = λ i. subst (λ (l : List Capability). StaysFor follows other (slice_index_or l i Void)) (sym is) (stays_at follows other slots i all);
   space = no_space (content_at os n) no_root;
 }
   where
-    no_space : (x : Content Capability) → is_root x ≡ false → StaysBut trusted other (root_in x).space
+    no_space : (x : Content Capability) → is_root x ≡ false → StaysFor follows other (root_in x).space
     no_space (content.Root root) not_root = absurd (cc)
-    no_space content.Free not_root = inl (inl tt)
-    no_space (content.Page words) not_root = inl (inl tt)
-    no_space (content.Node held) not_root = inl (inl tt)
-    no_space (content.Annex held) not_root = inl (inl tt)
-    no_space (content.Bank limit) not_root = inl (inl tt)
+    no_space content.Free not_root = void_stays follows other
+    no_space (content.Page words) not_root = void_stays follows other
+    no_space (content.Node held) not_root = void_stays follows other
+    no_space (content.Annex held) not_root = void_stays follows other
+    no_space (content.Bank limit) not_root = void_stays follows other
 
 -- while a number and its owners are added up to one
 pub record Adds (os : List Object) (number at : ℕ) (old new : List Bool) : Type 0 where
   pub count : length new ≡ length old
   pub there : is_free (content_at os at) ≡ false
-  pub change : (trusted : ℕ → Bool) → CanChange os trusted at number
+  pub change : (follows : Links) → CanChange os follows at number
   pub kept : (n : ℕ) → IsTrue (is_marked old n) → IsTrue (is_marked new n)
-  pub each : (trusted : ℕ → Bool) (n : ℕ) → IsTrue (is_marked new n) → IsTrue (is_marked old n) ⊎ CanChange os trusted n number
+  pub each : (follows : Links) (n : ℕ) → IsTrue (is_marked new n) → IsTrue (is_marked old n) ⊎ CanChange os follows n number
   pub owners : HasOwners os (is_marked old) → (n : ℕ) → IsTrue (is_marked new n) → is_free (content_at os n) ≡ false →
       IsTrue (is_marked new (owner_at os n)) ⊎ (owner_at os n ≡ at)
   pub begun : ((at ≡ number) × (new ≡ old)) ⊎ (IsTrue (is_marked new number) × (unmarked new < unmarked old))
@@ -93,9 +93,9 @@ pub adds_first : (os : List Object) (number : ℕ) (old : List Bool) → is_free
 adds_first os number old there = record {
   count = refl;
   there = there;
-  change = λ trusted inside closed member. member;
+  change = λ follows inside closed member. member;
   kept = λ n is. is;
-  each = λ trusted n is. inl is;
+  each = λ follows n is. inl is;
   owners = λ has n is free. inl (has n is free);
   begun = inl (refl, refl);
 }
@@ -105,10 +105,10 @@ module _ (os : List Object) (number at : ℕ) (old mid : List Bool) (adds : Adds
   adds_next sound lt none = record {
     count = length-set mid at true ∙ adds.count;
     there = bank_there (content_at os (owner_at os at)) bank;
-    change = λ trusted inside closed member. adds.change trusted inside closed (closed.owned (owner_at os at) at member bank adds.there refl);
+    change = λ follows inside closed member. adds.change follows inside closed (closed.owned (owner_at os at) at member bank adds.there refl);
     kept = λ n is. marked_kept mid at n (adds.kept n is);
-    each = λ trusted n is. ⊎_elim (λ here. inr (subst (λ (m : ℕ). CanChange os trusted m number) (sym here) (adds.change trusted)))
-        (λ before. adds.each trusted n before)
+    each = λ follows n is. ⊎_elim (λ here. inr (subst (λ (m : ℕ). CanChange os follows m number) (sym here) (adds.change follows)))
+        (λ before. adds.each follows n before)
         (marked_each mid at n is);
     owners = λ has n is free. ⊎_elim (λ here. inr (ap (owner_at os) here))
         (λ before. ⊎_elim (λ marked. inl (marked_kept mid at (owner_at os n) marked))
@@ -140,8 +140,8 @@ module _ (os : List Object) (number at : ℕ) (old mid : List Bool) (adds : Adds
   }
 
 -- the objects below a number were tried
-pub widens_first : (os : List Object) (trusted : ℕ → Bool) (old : List Bool) → Widens os trusted 0 false old old
-widens_first os trusted old = record {
+pub widens_first : (os : List Object) (follows : Links) (old : List Bool) → Widens os follows 0 false old old
+widens_first os follows old = record {
   count = refl;
   kept = λ n is. is;
   each = λ o all. all;
@@ -151,8 +151,8 @@ widens_first os trusted old = record {
   settled = λ none n lt. absurd (omega (arith, lt));
 }
 
-module _ (os : List Object) (trusted : ℕ → Bool) (i : ℕ) (grew : Bool) (old mid : List Bool) (widens : Widens os trusted i grew old mid) where
-  pub widens_skip : (is_marked mid i ≡ false → IsClosedAt os trusted (others (is_marked mid)) i) → Widens os trusted (i + 1) grew old mid
+module _ (os : List Object) (follows : Links) (i : ℕ) (grew : Bool) (old mid : List Bool) (widens : Widens os follows i grew old mid) where
+  pub widens_skip : (is_marked mid i ≡ false → IsClosedAt os follows (others (is_marked mid)) i) → Widens os follows (i + 1) grew old mid
   widens_skip here = record {
     count = widens.count;
     kept = widens.kept;
@@ -164,7 +164,7 @@ module _ (os : List Object) (trusted : ℕ → Bool) (i : ℕ) (grew : Bool) (ol
       | inl below ↦ widens.settled none n below out
       | inr past ↦
           let is : i ≡ n = omega (arith, past, lt) in
-          subst (λ (m : ℕ). IsClosedAt os trusted (others (is_marked mid)) m) is (here (subst (λ (m : ℕ). is_marked mid m ≡ false) (sym is) out))
+          subst (λ (m : ℕ). IsClosedAt os follows (others (is_marked mid)) m) is (here (subst (λ (m : ℕ). is_marked mid m ≡ false) (sym is) out))
     ];
   }
 
@@ -172,12 +172,12 @@ module _ (os : List Object) (trusted : ℕ → Bool) (i : ℕ) (grew : Bool) (ol
   no_more true is = omega (arith, widens.fewer is)
   no_more false is = omega (arith, ap unmarked (widens.same is))
 
-  pub widens_more : (new : List Bool) → is_marked mid i ≡ false → LeadsInto os trusted (is_marked mid) i → AddsOwners os i mid new → Widens os trusted (i + 1) true old new
+  pub widens_more : (new : List Bool) → is_marked mid i ≡ false → LeadsInto os follows (is_marked mid) i → AddsOwners os i mid new → Widens os follows (i + 1) true old new
   widens_more new none leads adds = record {
     count = adds.count ∙ widens.count;
     kept = λ n is. adds.kept n (widens.kept n is);
     each = λ o all n is. ⊎_elim (λ before. widens.each o all n before) (λ change. λ inside closed member.
-        let into = leads inside closed (change inside closed member) in widens.each o all into.0 into.1 inside closed into.2) (adds.each trusted n is);
+        let into = leads inside closed (change inside closed member) in widens.each o all into.0 into.1 inside closed into.2) (adds.each follows n is);
     owners = λ has. adds.owners (widens.owners has);
     fewer = λ yes_. omega (arith, adds.fewer none, no_more grew refl);
     same = λ other. absurd (cc);
@@ -185,24 +185,24 @@ module _ (os : List Object) (trusted : ℕ → Bool) (i : ℕ) (grew : Bool) (ol
   }
 
 -- the members so far, each of which can change the object
-pub record Sources (os : List Object) (trusted : ℕ → Bool) (o : ℕ) (grew : Bool) (marks : List Bool) : Type 0 where
+pub record Sources (os : List Object) (follows : Links) (o : ℕ) (grew : Bool) (marks : List Bool) : Type 0 where
   pub count : length marks ≡ length os
   pub object : IsTrue (is_marked marks o)
-  pub each : AllChange os trusted (is_marked marks) o
+  pub each : AllChange os follows (is_marked marks) o
   pub owners : HasOwners os (is_marked marks)
-  pub settled : grew ≡ false → (n : ℕ) → n < length os → is_marked marks n ≡ false → IsClosedAt os trusted (others (is_marked marks)) n
+  pub settled : grew ≡ false → (n : ℕ) → n < length os → is_marked marks n ≡ false → IsClosedAt os follows (others (is_marked marks)) n
 
 none_marked : (count n : ℕ) → IsTrue (is_marked (replicate count false) n) → ⊥
 none_marked zero n is = absurd (cc)
 none_marked (suc c) zero is = absurd (cc)
 none_marked (suc c) (suc n) is = none_marked c n is
 
-pub sources_first : (os : List Object) (trusted : ℕ → Bool) (o : ℕ) (old new : List Bool) (count : ℕ) → old ≡ replicate count false → length old ≡ length os
-    → AddsOwners os o old new → Sources os trusted o true new
-sources_first os trusted o old new count is long adds = record {
+pub sources_first : (os : List Object) (follows : Links) (o : ℕ) (old new : List Bool) (count : ℕ) → old ≡ replicate count false → length old ≡ length os
+    → AddsOwners os o old new → Sources os follows o true new
+sources_first os follows o old new count is long adds = record {
   count = adds.count ∙ long;
   object = adds.inside;
-  each = λ n member. ⊎_elim (λ before. absurd (none n before)) (λ change. change) (adds.each trusted n member);
+  each = λ n member. ⊎_elim (λ before. absurd (none n before)) (λ change. change) (adds.each follows n member);
   owners = adds.owners (λ n member free. absurd (none n member));
   settled = λ other. absurd (cc);
 }
@@ -210,9 +210,9 @@ sources_first os trusted o old new count is long adds = record {
     none : (n : ℕ) → IsTrue (is_marked old n) → ⊥
     none n member = none_marked count n (subst (λ (l : List Bool). IsTrue (is_marked l n)) is member)
 
-pub sources_next : (os : List Object) (trusted : ℕ → Bool) (o : ℕ) (grew : Bool) (old new : List Bool) → Sources os trusted o true old →
-    Widens os trusted (length os) grew old new → Sources os trusted o grew new
-sources_next os trusted o grew old new sources widens = record {
+pub sources_next : (os : List Object) (follows : Links) (o : ℕ) (grew : Bool) (old new : List Bool) → Sources os follows o true old →
+    Widens os follows (length os) grew old new → Sources os follows o grew new
+sources_next os follows o grew old new sources widens = record {
   count = widens.count ∙ sources.count;
   object = widens.kept o sources.object;
   each = widens.each o sources.each;
@@ -225,21 +225,21 @@ abbrev pub work : Bool → List Bool → ℕ
 work true marks = unmarked marks + 1
 work false marks = unmarked marks
 
-pub work_less : (os : List Object) (trusted : ℕ → Bool) (count : ℕ) (grew : Bool) (old new : List Bool) → Widens os trusted count grew old new → work grew new < work true old
-work_less os trusted count true old new widens = omega (arith, widens.fewer refl)
-work_less os trusted count false old new widens = omega (arith, ap unmarked (widens.same refl))
+pub work_less : (os : List Object) (follows : Links) (count : ℕ) (grew : Bool) (old new : List Bool) → Widens os follows count grew old new → work grew new < work true old
+work_less os follows count true old new widens = omega (arith, widens.fewer refl)
+work_less os follows count false old new widens = omega (arith, ap unmarked (widens.same refl))
 
 -- an object that isn't there has nothing
-past_closed : (os : List Object) (trusted inside : ℕ → Bool) (n : ℕ) → length os ≤ n → IsClosedAt os trusted inside n
-past_closed [] trusted inside n past = record { annexes = λ is. absurd (cc); slots = λ i. inl (inl tt); space = inl (inl tt) }
-past_closed (o ∷ os) trusted inside zero past = absurd (omega (arith, past))
-past_closed (o ∷ os) trusted inside (suc n) past = grind (arith, nat_tests, past_closed os trusted inside n (omega (arith, past)))
+past_closed : (os : List Object) (follows : Links) (inside : ℕ → Bool) (n : ℕ) → length os ≤ n → IsClosedAt os follows inside n
+past_closed [] follows inside n past = record { annexes = λ is. absurd (cc); slots = λ i. void_stays follows inside; space = void_stays follows inside }
+past_closed (o ∷ os) follows inside zero past = absurd (omega (arith, past))
+past_closed (o ∷ os) follows inside (suc n) past = grind (arith, nat_tests, past_closed os follows inside n (omega (arith, past)))
 
-module _ (os : List Object) (trusted : ℕ → Bool) (o : ℕ) (marks : List Bool) (sources : Sources os trusted o false marks) where
-  settled_at : (n : ℕ) → IsTrue (others (is_marked marks) n) → IsClosedAt os trusted (others (is_marked marks)) n
+module _ (os : List Object) (follows : Links) (o : ℕ) (marks : List Bool) (sources : Sources os follows o false marks) where
+  settled_at : (n : ℕ) → IsTrue (others (is_marked marks) n) → IsClosedAt os follows (others (is_marked marks)) n
   settled_at n out = elim (cases_lt n (length os)) [
     | inl below ↦ sources.settled refl n below (is_other (is_marked marks n) out)
-    | inr past ↦ past_closed os trusted (others (is_marked marks)) n past
+    | inr past ↦ past_closed os follows (others (is_marked marks)) n past
   ]
     where
       is_other : (b : Bool) → IsTrue (not b) → b ≡ false
@@ -247,7 +247,7 @@ module _ (os : List Object) (trusted : ℕ → Bool) (o : ℕ) (marks : List Boo
       is_other false is = refl
 
   -- no other number has authority over one of them
-  pub others_closed : IsClosedBut trusted os (others (is_marked marks))
+  pub others_closed : IsClosedFor follows os (others (is_marked marks))
   others_closed = record {
     annexes = λ p out is. (settled_at p out).annexes is;
     owned = λ b n out bank there owned. unowned b n out there owned (is_marked marks n) refl;
@@ -263,10 +263,10 @@ module _ (os : List Object) (trusted : ℕ → Bool) (o : ℕ) (marks : List Boo
       unowned b n out there owned false is = ap not is
 
   -- so they are all that can change the object
-  pub sources_are : (n : ℕ) → IsTrue (is_marked marks n) ↔ CanChange os trusted n o
+  pub sources_are : (n : ℕ) → IsTrue (is_marked marks n) ↔ CanChange os follows n o
   sources_are n = (sources.each n, λ can. member can (is_marked marks n) refl)
     where
-      member : CanChange os trusted n o → (m : Bool) → is_marked marks n ≡ m → IsTrue (is_marked marks n)
+      member : CanChange os follows n o → (m : Bool) → is_marked marks n ≡ m → IsTrue (is_marked marks n)
       member can true is = is
       member can false is =
           let out : not (is_marked marks o) ≡ true = can (others (is_marked marks)) others_closed (ap not is) in
@@ -317,20 +317,20 @@ picks_whole inside numbers i set picks whole n = (
 )
 
 -- and those of some numbers
-pub changers_are : (os : List Object) (trusted : ℕ → Bool) (starts : List ℕ) (o : ℕ) (inside set : List Bool) → ((n : ℕ) → IsTrue (is_marked inside n) ↔ CanChange os trusted n o)
-    → ((n : ℕ) → IsTrue (is_marked set n) ↔ (Contains starts n × IsTrue (is_marked inside n))) → AreChangers os trusted starts o (is_marked set)
-changers_are os trusted starts o inside set can each n = (
+pub changers_are : (os : List Object) (follows : Links) (starts : List ℕ) (o : ℕ) (inside set : List Bool) → ((n : ℕ) → IsTrue (is_marked inside n) ↔ CanChange os follows n o)
+    → ((n : ℕ) → IsTrue (is_marked set n) ↔ (Contains starts n × IsTrue (is_marked inside n))) → AreChangers os follows starts o (is_marked set)
+changers_are os follows starts o inside set can each n = (
   λ member. let both = (each n).0 member in (both.0, (can n).0 both.1),
   λ both. (each n).1 (both.0, (can n).1 both.1),
 )
 
 -- a capability to a member conveys into the set, and one that conveys to none stays outside it
-pub conveys_to : (trusted inside : ℕ → Bool) (c : Capability) (n : ℕ) → Conveys trusted c n → IsTrue (inside n) → ConveysInto trusted inside c
-conveys_to trusted inside c n conveys member = λ other stays. (n, member, named_inside trusted other c n conveys stays)
+pub conveys_to : (follows : Links) (inside : ℕ → Bool) (c : Capability) (n : ℕ) → Conveys follows c n → IsTrue (inside n) → ConveysInto follows inside c
+conveys_to follows inside c n conveys member = λ other stays. (n, member, named_inside follows other c n conveys stays)
 
-pub conveys_elsewhere : (trusted inside : ℕ → Bool) (c : Capability) (n : ℕ) → Conveys trusted c n → inside n ≡ false → StaysBut trusted (others inside) c
-conveys_elsewhere trusted inside c n conveys out = stays_inside trusted (others inside) c (λ m also.
+pub conveys_elsewhere : (follows : Links) (inside : ℕ → Bool) (c : Capability) (n : ℕ) → Conveys follows c n → inside n ≡ false → StaysFor follows (others inside) c
+conveys_elsewhere follows inside c n conveys out = stays_inside follows (others inside) c (λ m also.
     let same : n ≡ m = same_Some n m (sym conveys.2 ∙ also.2) in ap not (subst (λ (k : ℕ). inside k ≡ false) same out))
 
-pub conveys_nowhere : (trusted inside : ℕ → Bool) (c : Capability) → ((n : ℕ) → Conveys trusted c n → ⊥) → StaysBut trusted (others inside) c
-conveys_nowhere trusted inside c none = stays_inside trusted (others inside) c (λ m conveys. absurd (none m conveys))
+pub conveys_nowhere : (follows : Links) (inside : ℕ → Bool) (c : Capability) → ((n : ℕ) → Conveys follows c n → ⊥) → StaysFor follows (others inside) c
+conveys_nowhere follows inside c none = stays_inside follows (others inside) c (λ m conveys. absurd (none m conveys))

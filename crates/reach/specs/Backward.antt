@@ -1,8 +1,8 @@
 -- Sets of numbers, with all that leads into them. No public clause cites this.
-use Rattle.reach.specs.Names.{ℕ, Bool, false, not, List, [], length, IsTrue, is_marked, Capability, Object, IsClosedBut}
-use Rattle.reach.specs.Names.{is_free, content_at, owner_at, StaysBut, annex_at, is_process, root_at, slot_at, true}
-use Rattle.reach.specs.Names.{suc}
+use Rattle.reach.specs.Names.{ℕ, Bool, false, not, List, [], length, IsTrue, is_marked, Capability, Object, is_free}
+use Rattle.reach.specs.Names.{content_at, owner_at, annex_at, is_process, root_at, slot_at, true, suc}
 use Rattle.std.specs.Prelude.{◌≡◌, ◌⊎◌, ◌<◌, ◌∷◌}
+use Rattle.reach.specs.Links.{IsClosedFor, Links, StaysFor}
 use Rattle.reach.specs.Reached.{CanChange}
 
 -- the numbers that aren't in a set
@@ -16,18 +16,19 @@ unmarked (true ∷ marks) = unmarked marks
 unmarked (false ∷ marks) = suc (unmarked marks)
 
 -- what a closed set has to contain for one of its members, but for what a bank owns
-pub record IsClosedAt (os : List Object) (trusted inside : ℕ → Bool) (n : ℕ) : Type 0 where
+pub record IsClosedAt (os : List Object) (follows : Links) (inside : ℕ → Bool) (n : ℕ) : Type 0 where
   pub annexes : IsTrue (is_process os n) → IsTrue (inside (annex_at os n))
-  pub slots : (i : ℕ) → StaysBut trusted inside (slot_at os n i)
-  pub space : StaysBut trusted inside (root_at os n).space
+  pub slots : (i : ℕ) → StaysFor follows inside (slot_at os n i)
+  pub space : StaysFor follows inside (root_at os n).space
 
 -- each set that a capability stays inside has a member of this one
-abbrev pub ConveysInto : (ℕ → Bool) → (ℕ → Bool) → Capability → Type 0
-ConveysInto trusted inside c = (other : ℕ → Bool) → StaysBut trusted other c → (m : ℕ) × IsTrue (inside m) × IsTrue (other m)
+abbrev pub ConveysInto : Links → (ℕ → Bool) → Capability → Type 0
+ConveysInto follows inside c = (other : ℕ → Bool) → StaysFor follows other c →
+    (m : ℕ) × IsTrue (inside m) × IsTrue (other m)
 
 -- each closed set with a number has a member of this one
-abbrev pub LeadsInto : List Object → (ℕ → Bool) → (ℕ → Bool) → ℕ → Type 0
-LeadsInto os trusted inside n = (other : ℕ → Bool) → IsClosedBut trusted os other → IsTrue (other n) →
+abbrev pub LeadsInto : List Object → Links → (ℕ → Bool) → ℕ → Type 0
+LeadsInto os follows inside n = (other : ℕ → Bool) → IsClosedFor follows os other → IsTrue (other n) →
     (m : ℕ) × IsTrue (inside m) × IsTrue (other m)
 
 -- the owner of each member is one
@@ -35,26 +36,26 @@ abbrev pub HasOwners : List Object → (ℕ → Bool) → Type 0
 HasOwners os inside = (n : ℕ) → IsTrue (inside n) → is_free (content_at os n) ≡ false → IsTrue (inside (owner_at os n))
 
 -- all members can change an object
-abbrev pub AllChange : List Object → (ℕ → Bool) → (ℕ → Bool) → ℕ → Type 0
-AllChange os trusted inside o = (n : ℕ) → IsTrue (inside n) → CanChange os trusted n o
+abbrev pub AllChange : List Object → Links → (ℕ → Bool) → ℕ → Type 0
+AllChange os follows inside o = (n : ℕ) → IsTrue (inside n) → CanChange os follows n o
 
 -- a number was added, and owners of it
 pub record AddsOwners (os : List Object) (number : ℕ) (old new : List Bool) : Type 0 where
   pub count : length new ≡ length old
   pub inside : IsTrue (is_marked new number)
   pub kept : (n : ℕ) → IsTrue (is_marked old n) → IsTrue (is_marked new n)
-  pub each : (trusted : ℕ → Bool) (n : ℕ) → IsTrue (is_marked new n) →
-      IsTrue (is_marked old n) ⊎ CanChange os trusted n number
+  pub each : (follows : Links) (n : ℕ) → IsTrue (is_marked new n) →
+      IsTrue (is_marked old n) ⊎ CanChange os follows n number
   pub owners : HasOwners os (is_marked old) → HasOwners os (is_marked new)
   pub fewer : is_marked old number ≡ false → unmarked new < unmarked old
 
 -- the numbers below one were tried, and those added that lead into the set
-pub record Widens (os : List Object) (trusted : ℕ → Bool) (below : ℕ) (grew : Bool) (old new : List Bool) : Type 0 where
+pub record Widens (os : List Object) (follows : Links) (below : ℕ) (grew : Bool) (old new : List Bool) : Type 0 where
   pub count : length new ≡ length old
   pub kept : (n : ℕ) → IsTrue (is_marked old n) → IsTrue (is_marked new n)
-  pub each : (o : ℕ) → AllChange os trusted (is_marked old) o → AllChange os trusted (is_marked new) o
+  pub each : (o : ℕ) → AllChange os follows (is_marked old) o → AllChange os follows (is_marked new) o
   pub owners : HasOwners os (is_marked old) → HasOwners os (is_marked new)
   pub fewer : IsTrue grew → unmarked new < unmarked old
   pub same : grew ≡ false → new ≡ old
   pub settled : grew ≡ false → (n : ℕ) → n < below → is_marked new n ≡ false →
-      IsClosedAt os trusted (others (is_marked new)) n
+      IsClosedAt os follows (others (is_marked new)) n

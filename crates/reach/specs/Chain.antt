@@ -4,13 +4,21 @@ use Rattle.reach.specs.Names.{IsTrue, Contains, Global, Capability, Void, Conten
 use Rattle.reach.specs.Names.{is_free, is_root, root_in, slots_in, content_at, owner_at}
 use Rattle.std.specs.Prelude.{◌≡◌, ◌≤◌, ◌∷◌}
 use Rattle.model.specs.declared.object.Content.TheVariants as content
+use Rattle.reach.specs.declared.authority.Purpose.{Purpose}
+use Rattle.reach.specs.declared.authority.Purpose.TheVariants as purpose
 use Rattle.reach.specs.declared.step.Step.{Step}
+use Rattle.reach.specs.Links.{Links}
 use Rattle.reach.specs.declared.step.Way.{Way}
 use Rattle.reach.specs.declared.step.Way.TheVariants as way
 
--- a capability names an object, isn't weak, and doesn't start a trusted process
-abbrev pub Conveys : (ℕ → Bool) → Capability → ℕ → Type 0
-Conveys trusted c n = (IsWeak c → ⊥) × (StartsOne trusted c → ⊥) × (named c ≡ Some n)
+-- whether a capability is followed: a weak one only to what may be read
+abbrev pub IsFollowed : Purpose → Capability → Type 0
+IsFollowed purpose.Change c = IsWeak c → ⊥
+IsFollowed purpose.Read c = Unit {0}
+
+-- a capability names an object, is followed, and doesn't start a trusted process
+abbrev pub Conveys : Links → Capability → ℕ → Type 0
+Conveys follows c n = IsFollowed follows.purpose c × (StartsOne follows.trusted c → ⊥) × (named c ≡ Some n)
 
 -- what an object holds in slots; a process holds the registers of its annex
 abbrev pub held_by : List Object → Content Capability → List Capability
@@ -18,30 +26,30 @@ held_by os (content.Root root) = slots_in (content_at os root.annex)
 held_by os other = slots_in other
 
 -- a way from an object with a content to another object
-abbrev pub IsWay : List Object → (ℕ → Bool) → ℕ → Content Capability → Way → ℕ → Type 0
-IsWay os trusted n x way.Annex m = IsTrue (is_root x) × ((root_in x).annex ≡ m)
-IsWay os trusted n x way.Owner m = IsTrue (is_bank x) × (is_free (content_at os m) ≡ false) × (owner_at os m ≡ n)
-IsWay os trusted n x (way.Space c) m = ((root_in x).space ≡ c) × Conveys trusted c m
-IsWay os trusted n x (way.Slot i c) m = (slice_index_or (held_by os x) i Void ≡ c) × Conveys trusted c m
+abbrev pub IsWay : List Object → Links → ℕ → Content Capability → Way → ℕ → Type 0
+IsWay os follows n x way.Annex m = IsTrue (is_root x) × ((root_in x).annex ≡ m)
+IsWay os follows n x way.Owner m = IsTrue (is_bank x) × (is_free (content_at os m) ≡ false) × (owner_at os m ≡ n)
+IsWay os follows n x (way.Space c) m = ((root_in x).space ≡ c) × Conveys follows c m
+IsWay os follows n x (way.Slot i c) m = (slice_index_or (held_by os x) i Void ≡ c) × Conveys follows c m
 
-abbrev pub IsStep : List Object → (ℕ → Bool) → Step → Type 0
-IsStep os trusted s = IsWay os trusted s.from (content_at os s.from) s.way s.to
+abbrev pub IsStep : List Object → Links → Step → Type 0
+IsStep os follows s = IsWay os follows s.from (content_at os s.from) s.way s.to
 
 -- steps lead from one object to another
-abbrev pub IsPath : List Object → (ℕ → Bool) → ℕ → List Step → ℕ → Type 0
-IsPath os trusted n [] m = n ≡ m
-IsPath os trusted n (s ∷ ss) m = (s.from ≡ n) × IsStep os trusted s × IsPath os trusted s.to ss m
+abbrev pub IsPath : List Object → Links → ℕ → List Step → ℕ → Type 0
+IsPath os follows n [] m = n ≡ m
+IsPath os follows n (s ∷ ss) m = (s.from ≡ n) × IsStep os follows s × IsPath os follows s.to ss m
 
 -- a chain of steps from one of some numbers to an object
-abbrev pub IsChain : List Object → (ℕ → Bool) → List ℕ → List Step → ℕ → Type 0
-IsChain os trusted starts steps o = (p : ℕ) × Contains starts p × IsPath os trusted p steps o
+abbrev pub IsChain : List Object → Links → List ℕ → List Step → ℕ → Type 0
+IsChain os follows starts steps o = (p : ℕ) × Contains starts p × IsPath os follows p steps o
 
 -- and none has fewer steps
-pub record IsShortest (os : List Object) (trusted : ℕ → Bool) (starts : List ℕ) (steps : List Step) (o : ℕ) : Type 0 where
-  pub chain : IsChain os trusted starts steps o
-  pub least : (others : List Step) → IsChain os trusted starts others o → length steps ≤ length others
+pub record IsShortest (os : List Object) (follows : Links) (starts : List ℕ) (steps : List Step) (o : ℕ) : Type 0 where
+  pub chain : IsChain os follows starts steps o
+  pub least : (others : List Step) → IsChain os follows starts others o → length steps ≤ length others
 
 -- a shortest chain, or `None` if there is none
-abbrev pub IsShortestIfAny : List Object → (ℕ → Bool) → List ℕ → ℕ → Option (Vec Step Global) → Type 0
-IsShortestIfAny os trusted starts o None = (steps : List Step) → IsChain os trusted starts steps o → ⊥
-IsShortestIfAny os trusted starts o (Some steps) = IsShortest os trusted starts steps.items o
+abbrev pub IsShortestIfAny : List Object → Links → List ℕ → ℕ → Option (Vec Step Global) → Type 0
+IsShortestIfAny os follows starts o None = (steps : List Step) → IsChain os follows starts steps o → ⊥
+IsShortestIfAny os follows starts o (Some steps) = IsShortest os follows starts steps.items o

@@ -3,6 +3,8 @@ use Rattle.reach.specs.Names.{ℕ, Option, None, Some, List, [], Vec, codes, dec
 use Rattle.reach.specs.Names.{Content, Object, capability_text, line_of, spaced, content_at, object_at}
 use Rattle.std.specs.Prelude.{◌∷◌, ◌++◌}
 use Rattle.model.specs.declared.object.Content.TheVariants as content
+use Rattle.reach.specs.declared.authority.Purpose.{Purpose}
+use Rattle.reach.specs.declared.authority.Purpose.TheVariants as purpose
 use Rattle.reach.specs.declared.step.Step.{Step}
 use Rattle.reach.specs.declared.step.Way.{Way}
 use Rattle.reach.specs.declared.step.Way.TheVariants as way
@@ -36,10 +38,14 @@ step_line os s = line_of (step_text os s.from s.way s.to)
 abbrev pub steps_text : List Object → List Step → ℕ → List ℕ
 steps_text os steps o = flat_map (step_line os) steps ++ line_of (spaced (words_of o (object_at os o)))
 
--- without a chain `cannot change page 48`
-abbrev pub unchanged_text : List Object → ℕ → List ℕ
-unchanged_text os o = spaced (codes "cannot change" ∷ kind_of (content_at os o) ∷ decimal o ∷ [])
+-- without a chain `cannot change page 48`, or `cannot read page 48`
+abbrev pub denial_of : Purpose → List ℕ
+denial_of purpose.Change = codes "cannot change"
+denial_of purpose.Read = codes "cannot read"
 
-unfoldable pub chain_text : List Object → ℕ → Option (Vec Step Global) → List ℕ
-chain_text os o None = line_of (unchanged_text os o)
-chain_text os o (Some steps) = steps_text os steps.items o
+abbrev pub unchanged_text : List Object → Purpose → ℕ → List ℕ
+unchanged_text os p o = spaced (denial_of p ∷ kind_of (content_at os o) ∷ decimal o ∷ [])
+
+unfoldable pub chain_text : List Object → Purpose → ℕ → Option (Vec Step Global) → List ℕ
+chain_text os p o None = line_of (unchanged_text os p o)
+chain_text os p o (Some steps) = steps_text os steps.items o

@@ -1,16 +1,24 @@
 -- What the definitions of chains say.
-use Rattle.reach.specs.Names.{ℕ, Bool, List, IsTrue, Object, IsClosedBut, []}
+use Rattle.reach.specs.Names.{ℕ, Bool, List, IsTrue, Object, IsClosedBut, IsReadClosedBut, []}
 use Rattle.std.specs.Prelude.{◌↔◌, ◌∷◌}
 use Rattle.reach.specs.Reached.{CanChange, IsReach}
 use Rattle.reach.specs.declared.step.Step.{Step}
+use Rattle.reach.specs.declared.authority.Purpose.TheVariants as purpose
 use Rattle.reach.specs.Chain.{IsStep}
+use Rattle.reach.specs.Links.{IsClosedFor, Links, links}
 
--- A number can change an object exactly if the least closed set that contains it contains the object.
+-- A number can change or read an object exactly if the least closed set that contains it contains the object.
 abbrev pub ReachIsChange : Type 0
-ReachIsChange = (os : List Object) (trusted inside : ℕ → Bool) (n o : ℕ) → IsReach os trusted (n ∷ []) inside →
-    IsTrue (inside o) ↔ CanChange os trusted n o
+ReachIsChange = (os : List Object) (follows : Links) (inside : ℕ → Bool) (n o : ℕ) →
+    IsReach os follows (n ∷ []) inside → IsTrue (inside o) ↔ CanChange os follows n o
 
--- A set is closed but for trusted processes exactly if no step leaves it.
+-- A set is closed for a purpose exactly if no step leaves it.
 abbrev pub StepsAreAuthority : Type 0
-StepsAreAuthority = (os : List Object) (trusted inside : ℕ → Bool) →
-    IsClosedBut trusted os inside ↔ ((s : Step) → IsStep os trusted s → IsTrue (inside s.from) → IsTrue (inside s.to))
+StepsAreAuthority = (os : List Object) (follows : Links) (inside : ℕ → Bool) →
+    IsClosedFor follows os inside ↔ ((s : Step) → IsStep os follows s → IsTrue (inside s.from) → IsTrue (inside s.to))
+
+-- To change, a set is closed but for trusted processes; to read, it is closed for reading but for these.
+abbrev pub ClosedSetsAre : Type 0
+ClosedSetsAre = (os : List Object) (trusted inside : ℕ → Bool) →
+    (IsClosedFor (links purpose.Change trusted) os inside ↔ IsClosedBut trusted os inside)
+    × (IsClosedFor (links purpose.Read trusted) os inside ↔ IsReadClosedBut trusted os inside)

@@ -7,6 +7,7 @@ use Rattle.reach.specs.declared.levels.Levels.{Levels}
 use Rattle.reach.specs.declared.step.Step.{Step}
 use Rattle.reach.specs.declared.step.Way.{Way}
 use Rattle.reach.specs.declared.step.Way.TheVariants as way
+use Rattle.reach.specs.Links.{Links}
 use Rattle.reach.specs.Chain.{Conveys, IsStep}
 use Rattle.reach.specs.Missing.{missing}
 
@@ -66,11 +67,12 @@ NamesWithin count c = elim (named c) [ None ↦ Unit {0} | Some n ↦ n < count 
 abbrev pub IsTheStep : Step → Step → Type 0
 IsTheStep step s = (s.from ≡ step.from) × (s.way ≡ step.way) × (s.to ≡ step.to)
 
-abbrev pub IsBy : (ℕ → Bool) → ℕ → Way → Capability → Step → Type 0
-IsBy trusted from by c s = (s.from ≡ from) × (s.way ≡ by) × Conveys trusted c s.to
+abbrev pub IsBy : Links → ℕ → Way → Capability → Step → Type 0
+IsBy follows from by c s = (s.from ≡ from) × (s.way ≡ by) × Conveys follows c s.to
 
-abbrev pub IsHeldIn : (ℕ → Bool) → List Capability → ℕ → ℕ → Step → Type 0
-IsHeldIn trusted slots count from s = (i : ℕ) × (i < count) × IsBy trusted from (way.Slot i (slice_index_or slots i Void))
+abbrev pub IsHeldIn : Links → List Capability → ℕ → ℕ → Step → Type 0
+IsHeldIn follows slots count from s = (i : ℕ) × (i < count)
+    × IsBy follows from (way.Slot i (slice_index_or slots i Void))
     (slice_index_or slots i Void) s
 
 abbrev pub IsOwnedBelow : List Object → ℕ → ℕ → Step → Type 0
@@ -78,28 +80,29 @@ IsOwnedBelow os count bank s = (s.from ≡ bank) × (s.way ≡ way.Owner) × (s.
     (is_free (content_at os s.to) ≡ false) × (owner_at os s.to ≡ bank)
 
 -- the steps from a number, and from those of a level
-abbrev pub IsFrom : List Object → (ℕ → Bool) → ℕ → Step → Type 0
-IsFrom os trusted n s = (s.from ≡ n) × IsStep os trusted s
+abbrev pub IsFrom : List Object → Links → ℕ → Step → Type 0
+IsFrom os follows n s = (s.from ≡ n) × IsStep os follows s
 
-abbrev pub IsFromLevel : List Object → (ℕ → Bool) → Levels → ℕ → ℕ → Step → Type 0
-IsFromLevel os trusted l level count s = IsAt l s.from level × (s.from < count) × IsStep os trusted s
+abbrev pub IsFromLevel : List Object → Links → Levels → ℕ → ℕ → Step → Type 0
+IsFromLevel os follows l level count s = IsAt l s.from level × (s.from < count) × IsStep os follows s
 
 -- a number was found by a step from one that was found in one step fewer
-pub record IsAfter (os : List Object) (trusted : ℕ → Bool) (l : Levels) (n : ℕ) (f : Found) : Type 0 where
+pub record IsAfter (os : List Object) (follows : Links) (l : Levels) (n : ℕ) (f : Found) : Type 0 where
   pub step : Step
   pub is : f.step ≡ Some step
   pub to : step.to ≡ n
-  pub step_is : IsStep os trusted step
+  pub step_is : IsStep os follows step
   pub before : Found
   pub from : found_at l step.from ≡ Some before
   pub level : f.level ≡ before.level + 1
 
 -- the first numbers were found, and those below a level followed
-pub record IsSearched (os : List Object) (trusted : ℕ → Bool) (starts : List ℕ) (level : ℕ) (l : Levels) : Type 0 where
+pub record IsSearched (os : List Object) (follows : Links) (starts : List ℕ) (level : ℕ) (l : Levels) : Type 0 where
   pub count : length l.found.items ≡ length os
   pub begins : All (λ p. IsFoundIn l p 0) starts
-  pub linked : (n : ℕ) (f : Found) → found_at l n ≡ Some f → (IsFirst n f × Contains starts n) ⊎ IsAfter os trusted l n f
-  pub continues : (n : ℕ) (f : Found) → found_at l n ≡ Some f → f.level < level → (s : Step) → IsFrom os trusted n s →
+  pub linked : (n : ℕ) (f : Found) → found_at l n ≡ Some f →
+      (IsFirst n f × Contains starts n) ⊎ IsAfter os follows l n f
+  pub continues : (n : ℕ) (f : Found) → found_at l n ≡ Some f → f.level < level → (s : Step) → IsFrom os follows n s →
       IsFoundIn l s.to (f.level + 1)
   pub deepest : (n : ℕ) (f : Found) → found_at l n ≡ Some f → f.level ≤ level
   pub within : (n : ℕ) (f : Found) → found_at l n ≡ Some f → f.level ≤ l.greatest

@@ -4,6 +4,7 @@ pub mod Chain
 pub mod ChainLines
 pub mod Laws
 pub mod Levels
+pub mod Links
 pub mod Lines
 pub mod Missing
 pub mod Reached

@@ -15,6 +15,7 @@ pub use Rattle.model.specs.declared.geometry.Geometry.{Geometry}
 pub use Rattle.model.specs.declared.object.Content.{Content}
 pub use Rattle.model.specs.declared.object.Object.{Object}
 pub use Rattle.model_laws.specs.Confinement.{AreBy, with_free}
+pub use Rattle.noninterference.specs.Reads.{IsReadClosedBut, NamesBut}
 pub use Rattle.std.specs.List.{All, Contains, count_by, enumerate_from, flat_map}
 pub use Rattle.std.specs.Prelude.{Bool, IsTrue, List, None, Option, Some, Vec, [], codes, decimal, false, length, not}
 pub use Rattle.std.specs.Prelude.{slice_index_or, suc, true, ℕ}

@@ -1,26 +1,27 @@
 -- What is in reach of processes.
 use Rattle.reach.specs.Names.{ℕ, Bool, false, List, IsTrue, All, Contains, Geometry, Object, Running, Up, IsRun, Turn}
-use Rattle.reach.specs.Names.{IsSound, AreBy, with_free, IsClosedBut, IsConfinedBut}
+use Rattle.reach.specs.Names.{IsSound, AreBy, with_free, IsConfinedBut}
 use Rattle.std.specs.Prelude.{◌≡◌, ◌↔◌}
+use Rattle.reach.specs.Links.{IsClosedFor, Links}
 
 -- objects of a sound world
 abbrev pub AreSoundObjects : List Object → Type 0
 AreSoundObjects os = (g : Geometry) × (age : ℕ) × IsSound g (record { objects = os; age = age })
 
--- the least set closed but for trusted processes that contains some numbers
-pub record IsReach (os : List Object) (trusted : ℕ → Bool) (starts : List ℕ) (inside : ℕ → Bool) : Type 0 where
-  pub closed : IsClosedBut trusted os inside
+-- the least set closed for a purpose that contains some numbers
+pub record IsReach (os : List Object) (follows : Links) (starts : List ℕ) (inside : ℕ → Bool) : Type 0 where
+  pub closed : IsClosedFor follows os inside
   pub begins : All (λ p. IsTrue (inside p)) starts
-  pub least : (other : ℕ → Bool) → IsClosedBut trusted os other → All (λ p. IsTrue (other p)) starts → (n : ℕ) →
+  pub least : (other : ℕ → Bool) → IsClosedFor follows os other → All (λ p. IsTrue (other p)) starts → (n : ℕ) →
       IsTrue (inside n) → IsTrue (other n)
 
--- an object can change another: each set closed but for trusted processes that contains the one contains the other
-abbrev pub CanChange : List Object → (ℕ → Bool) → ℕ → ℕ → Type 0
-CanChange os trusted n o = (inside : ℕ → Bool) → IsClosedBut trusted os inside → IsTrue (inside n) → IsTrue (inside o)
+-- an object can change another, or read it: each set closed for that purpose that contains the one contains the other
+abbrev pub CanChange : List Object → Links → ℕ → ℕ → Type 0
+CanChange os follows n o = (inside : ℕ → Bool) → IsClosedFor follows os inside → IsTrue (inside n) → IsTrue (inside o)
 
--- those of some numbers that can change an object
-abbrev pub AreChangers : List Object → (ℕ → Bool) → List ℕ → ℕ → (ℕ → Bool) → Type 0
-AreChangers os trusted starts o set = (n : ℕ) → IsTrue (set n) ↔ (Contains starts n × CanChange os trusted n o)
+-- those of some numbers that can change or read an object
+abbrev pub AreChangers : List Object → Links → List ℕ → ℕ → (ℕ → Bool) → Type 0
+AreChangers os follows starts o set = (n : ℕ) → IsTrue (set n) ↔ (Contains starts n × CanChange os follows n o)
 
 -- the authority bound for a set: over any run of invocations and memory references by its processes, and by those that
 -- they make of what was free, each object outside that wasn't free is kept, but for inboxes of trusted processes

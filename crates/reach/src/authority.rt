@@ -1,13 +1,23 @@
-// What a capability has authority over.
+// What a capability lets change or read.
 ghost use Rattle.std.specs.Prelude.{◌≡◌, ◌⊎◌, ◌↔◌, ℕ, length, None, IfSome, IsTrue};
-ghost use Rattle.model.specs.Capability.{IsWeak, named};
+ghost use Rattle.model.specs.Capability.{IsWeak};
 ghost use Rattle.collections.specs.Marks.{is_marked};
 ghost use Rattle.confinement.specs.Trusted.{StartsOne};
-ghost use Rattle.reach.specs.Chain.{Conveys};
+ghost use Rattle.reach.specs.Chain.{Conveys, IsFollowed};
 ghost use Rattle.reach.specs.Levels.{NamesWithin};
+ghost use Rattle.reach.specs.Links.{links};
 
 use collections::NumberSet;
 use model::{Access, Capability};
+
+/// What is sought of processes.
+#[derive(Clone, Copy)]
+pub enum Purpose {
+    /// What they can ever change.
+    Change,
+    /// What they can ever read: weak capabilities are followed too.
+    Read,
+}
 
 // Whether a capability names nothing, or is read-only and weak.
 fn is_weak(capability: Capability) -> bool
@@ -25,15 +35,13 @@ fn is_weak(capability: Capability) -> bool
     }
 }
 
-// The number of the object that a capability has authority over, beyond reading weakly, if there is one.
-fn authority(capability: Capability) -> Option<u64>
-    ensures some { IfSome result (λ n. (IsWeak capability → ⊥) × (named capability ≡ Some n)) }
-    ensures none { result ≡ None → IsWeak capability ⊎ (named capability ≡ None) }
+// Whether a capability is followed: a weak one only to what may be read.
+fn is_followed(capability: Capability, purpose: Purpose) -> bool
+    ensures { IsTrue result ↔ IsFollowed purpose capability }
 {
-    if is_weak(capability) {
-        None
-    } else {
-        capability.named()
+    match purpose {
+        Purpose::Change => !is_weak(capability),
+        Purpose::Read => true,
     }
 }
 
@@ -48,15 +56,22 @@ fn starts_one(capability: Capability, trusted: &NumberSet) -> bool
     }
 }
 
-/// The number of the object that a capability has authority over, beyond reading weakly, if there is one
-/// and the capability doesn't start a trusted process.
-pub(crate) fn authority_but(capability: Capability, trusted: &NumberSet) -> Option<u64>
+/// The number of the object that a capability lets change, or read, if there is one and the capability
+/// doesn't start a trusted process.
+pub(crate) fn authority_but(
+    capability: Capability,
+    purpose: Purpose,
+    trusted: &NumberSet,
+) -> Option<u64>
     requires { NamesWithin (length trusted.now) capability }
-    ensures some { IfSome result (Conveys (is_marked trusted.now) capability) }
-    ensures none { result ≡ None → (n : ℕ) → Conveys (is_marked trusted.now) capability n → ⊥ }
+    ensures some { IfSome result (Conveys (links purpose (is_marked trusted.now)) capability) }
+    ensures none { result ≡ None → (n : ℕ) → Conveys (links purpose (is_marked trusted.now)) capability n → ⊥ }
 {
     if starts_one(capability, trusted) {
         return None;
     }
-    authority(capability)
+    if !is_followed(capability, purpose) {
+        return None;
+    }
+    capability.named()
 }

@@ -3,8 +3,10 @@ ghost use Rattle.std.specs.Prelude.{◌≡◌, ℕ, ◌<◌, Bool, is_some, leng
 ghost use Rattle.std.specs.List.{All};
 ghost use Rattle.model.specs.Revoke.{is_member};
 ghost use Rattle.reach.specs.Chain.{IsShortestIfAny};
+ghost use Rattle.reach.specs.Links.{links};
 ghost use Rattle.reach.specs.Reached.{AreSoundObjects, IsReach};
 
+use crate::authority::Purpose;
 use crate::searching::search;
 use crate::step::Step;
 use model::Object;
@@ -13,13 +15,14 @@ use std::alloc::{AllocError, Global};
 /// A shortest chain of steps from one of the numbers `starts` to an object, first step first, in a
 /// sound world. No step is by a capability that starts a process of `trusted`. It has no steps if the
 /// object is one of `starts`. `None` if there is no chain, which is if the object isn't in the set that
-/// `reach` finds for `starts` and `trusted`.
+/// `reach` finds for `purpose`, `starts` and `trusted`.
 ///
 /// It follows each number once. `AllocError` means that memory ran out, which is tested, not proved.
 #[tactic(auto, using(crate::proofs::Chains::back_first))]
 pub fn shortest_chain(
     alloc: Global,
     objects: &[Object],
+    purpose: Purpose,
     starts: &[u64],
     trusted: &[u64],
     object: u64,
@@ -27,11 +30,13 @@ pub fn shortest_chain(
     requires sound { AreSoundObjects objects.now }
     requires known { All (λ n. n < length objects.now) starts.now }
     requires trusted { All (λ n. n < length objects.now) trusted.now }
-    ensures shortest { IfOk result (IsShortestIfAny objects.now (is_member trusted.now) starts.now object) }
-    ensures reach { IfOk result (λ chain. (inside : ℕ → Bool) → IsReach objects.now (is_member trusted.now) starts.now inside
+    ensures shortest { IfOk result
+        (IsShortestIfAny objects.now (links purpose (is_member trusted.now)) starts.now object) }
+    ensures reach { IfOk result (λ chain. (inside : ℕ → Bool)
+        → IsReach objects.now (links purpose (is_member trusted.now)) starts.now inside
         → inside object ≡ is_some chain) }
 {
-    let levels = search(alloc, objects, trusted, starts)?;
+    let levels = search(alloc, objects, purpose, trusted, starts)?;
     if !levels.contains(object) {
         return Ok(None);
     }

@@ -1,46 +1,59 @@
-// What can change an object.
+// What can change or read an object.
 ghost use Rattle.std.specs.Prelude.{◌≡◌, ◌↔◌, ◌<◌, ℕ, false, length, slice_index_or, IfOk, IsTrue};
 ghost use Rattle.std.specs.List.{All, Contains};
 ghost use Rattle.model.specs.declared.capability.Capability.TheVariants.{Void};
-ghost use Rattle.confinement.specs.Trusted.{StaysBut};
 ghost use Rattle.model.specs.Object.{is_free};
 ghost use Rattle.model.specs.Revoke.{is_member};
 ghost use Rattle.model.specs.World.{content_at};
 ghost use Rattle.collections.specs.Marks.{is_marked};
 ghost use Rattle.reach.specs.Backward.{AddsOwners, ConveysInto, IsClosedAt, LeadsInto, Widens, others};
 ghost use Rattle.reach.specs.Levels.{NamesWithin};
+ghost use Rattle.reach.specs.Links.{StaysFor, links};
 ghost use Rattle.reach.specs.Reached.{AreChangers, AreSoundObjects, CanChange};
 
-use crate::authority::authority_but;
+use crate::authority::{Purpose, authority_but};
 use crate::searching::set_of;
 use collections::NumberSet;
 use model::{Capability, Content, Object};
 use std::alloc::{AllocError, Global};
 
-// Whether a capability has authority over a member of a set, unless it starts a trusted process.
-fn conveys_into(capability: Capability, trusted: &NumberSet, inside: &NumberSet) -> bool
+// Whether a capability lets change, or read, a member of a set, unless it starts a trusted process.
+fn conveys_into(
+    capability: Capability,
+    purpose: Purpose,
+    trusted: &NumberSet,
+    inside: &NumberSet,
+) -> bool
     requires known { NamesWithin (length inside.now) capability }
     requires count { length trusted.now ≡ length inside.now }
-    ensures some { IsTrue result → ConveysInto (is_marked trusted.now) (is_marked inside.now) capability }
-    ensures none { result ≡ false → StaysBut (is_marked trusted.now) (others (is_marked inside.now)) capability }
+    ensures some { IsTrue result
+        → ConveysInto (links purpose (is_marked trusted.now)) (is_marked inside.now) capability }
+    ensures none { result ≡ false
+        → StaysFor (links purpose (is_marked trusted.now)) (others (is_marked inside.now)) capability }
 {
-    match authority_but(capability, trusted) {
+    match authority_but(capability, purpose, trusted) {
         Some(number) => inside.contains(number as usize),
         None => false,
     }
 }
 
 // Whether one of some capabilities has authority over a member of a set.
-fn some_convey_into(capabilities: &[Capability], trusted: &NumberSet, inside: &NumberSet) -> bool
+fn some_convey_into(
+    capabilities: &[Capability],
+    purpose: Purpose,
+    trusted: &NumberSet,
+    inside: &NumberSet,
+) -> bool
     requires known { All (NamesWithin (length inside.now)) capabilities.now }
     requires count { length trusted.now ≡ length inside.now }
     ensures some { IsTrue result → (i : ℕ)
-        × ConveysInto (is_marked trusted.now) (is_marked inside.now) (slice_index_or capabilities.now i Void) }
+        × ConveysInto (links purpose (is_marked trusted.now)) (is_marked inside.now)
+        (slice_index_or capabilities.now i Void) }
     ensures none { result ≡ false
-        → All (StaysBut (is_marked trusted.now) (others (is_marked inside.now))) capabilities.now }
+        → All (StaysFor (links purpose (is_marked trusted.now)) (others (is_marked inside.now))) capabilities.now }
 {
     for capability in capabilities {
-        if conveys_into(*capability, trusted, inside) {
+        if conveys_into(*capability, purpose, trusted, inside) {
             return true;
         }
     }
@@ -48,29 +61,40 @@ fn some_convey_into(capabilities: &[Capability], trusted: &NumberSet, inside: &N
 }
 
 // Whether an object isn't a member of a set, and has authority over a member by its annex or by what it holds.
-fn leads_into(objects: &[Object], trusted: &NumberSet, number: usize, inside: &NumberSet) -> bool
+fn leads_into(
+    objects: &[Object],
+    purpose: Purpose,
+    trusted: &NumberSet,
+    number: usize,
+    inside: &NumberSet,
+) -> bool
     requires sound { AreSoundObjects objects.now }
     requires count { length inside.now ≡ length objects.now }
     requires trusted { length trusted.now ≡ length objects.now }
     requires known { number < length objects.now }
     ensures some { IsTrue result → (is_marked inside.now number ≡ false)
-        × LeadsInto objects.now (is_marked trusted.now) (is_marked inside.now) number }
+        × LeadsInto objects.now (links purpose (is_marked trusted.now)) (is_marked inside.now) number }
     ensures there { IsTrue result → is_free (content_at objects.now number) ≡ false }
     ensures none { result ≡ false → is_marked inside.now number ≡ false
-        → IsClosedAt objects.now (is_marked trusted.now) (others (is_marked inside.now)) number }
+        → IsClosedAt objects.now (links purpose (is_marked trusted.now)) (others (is_marked inside.now)) number }
 {
     if inside.contains(number) {
         return false;
     }
     match &objects[number].content {
         Content::Free | Content::Page(_) | Content::Bank { .. } => false,
-        Content::Node(slots) => some_convey_into(slots.as_slice(), trusted, inside),
-        Content::Annex(registers) => some_convey_into(registers.as_slice(), trusted, inside),
+        Content::Node(slots) => some_convey_into(slots.as_slice(), purpose, trusted, inside),
+        Content::Annex(registers) => some_convey_into(
+            registers.as_slice(),
+            purpose,
+            trusted,
+            inside,
+        ),
         Content::Root(root) => {
             if inside.contains(root.annex as usize) {
                 return true;
             }
-            conveys_into(root.space, trusted, inside)
+            conveys_into(root.space, purpose, trusted, inside)
         }
     }
 }
@@ -91,15 +115,16 @@ fn add_owners(objects: &[Object], inside: &mut NumberSet, number: usize)
 
 // Goes over all objects once, and adds those that have authority over a member, with their owners.
 // Returns whether it added any.
-fn widen(objects: &[Object], trusted: &NumberSet, inside: &mut NumberSet) -> bool
+fn widen(objects: &[Object], purpose: Purpose, trusted: &NumberSet, inside: &mut NumberSet) -> bool
     requires sound { AreSoundObjects objects.now }
     requires count { length inside.old ≡ length objects.now }
     requires trusted { length trusted.now ≡ length objects.now }
-    ensures { Widens objects.now (is_marked trusted.now) (length objects.now) result inside.old inside.new }
+    ensures { Widens objects.now (links purpose (is_marked trusted.now)) (length objects.now) result
+        inside.old inside.new }
 {
     let mut grew = false;
     for number in 0..objects.len() {
-        if leads_into(objects, trusted, number, inside) {
+        if leads_into(objects, purpose, trusted, number, inside) {
             add_owners(objects, inside, number);
             grew = true;
         }
@@ -129,10 +154,12 @@ fn members_of(
     Ok(set)
 }
 
-// All numbers that can ever change an object, none by a capability that starts a trusted process. Fails only if memory runs out.
+// All numbers that can ever change, or read, an object, none by a capability that starts a trusted process.
+// Fails only if memory runs out.
 fn sources(
     alloc: Global,
     objects: &[Object],
+    purpose: Purpose,
     trusted: &NumberSet,
     object: u64,
 ) -> Result<NumberSet, AllocError>
@@ -141,24 +168,25 @@ fn sources(
     requires there { is_free (content_at objects.now object) ≡ false }
     ensures count { IfOk result (λ inside. length inside ≡ length objects.now) }
     ensures each { IfOk result (λ inside. (n : ℕ)
-        → IsTrue (is_marked inside n) ↔ CanChange objects.now (is_marked trusted.now) n object) }
+        → IsTrue (is_marked inside n) ↔ CanChange objects.now (links purpose (is_marked trusted.now)) n object) }
 {
     let mut inside = NumberSet::new(alloc, objects.len())?;
     add_owners(objects, &mut inside, object as usize);
     let mut grew = true;
     while grew {
-        grew = widen(objects, trusted, &mut inside);
+        grew = widen(objects, purpose, trusted, &mut inside);
     }
     Ok(inside)
 }
 
-/// Those of the numbers `starts` that can ever change an object, in a sound world: those whose set, which
-/// `reach` finds for `trusted`, contains it. It searches once, backwards from the object.
+/// Those of the numbers `starts` that can ever change an object, or read it, in a sound world: those whose
+/// set, which `reach` finds for `purpose` and `trusted`, contains it. It searches once, backwards from the object.
 ///
 /// `AllocError` means that memory ran out, which is tested, not proved.
 pub fn changers(
     alloc: Global,
     objects: &[Object],
+    purpose: Purpose,
     starts: &[u64],
     trusted: &[u64],
     object: u64,
@@ -167,11 +195,12 @@ pub fn changers(
     requires known { All (λ n. n < length objects.now) starts.now }
     requires trusted { All (λ n. n < length objects.now) trusted.now }
     requires there { is_free (content_at objects.now object) ≡ false }
-    ensures changers { IfOk result (λ set. AreChangers objects.now (is_member trusted.now) starts.now object (is_marked set)) }
+    ensures changers { IfOk result (λ set.
+        AreChangers objects.now (links purpose (is_member trusted.now)) starts.now object (is_marked set)) }
     ensures count { IfOk result (λ set. length set ≡ length objects.now) }
 {
     let trusts = set_of(alloc, trusted, objects.len())?;
-    let inside = sources(alloc, objects, &trusts, object)?;
+    let inside = sources(alloc, objects, purpose, &trusts, object)?;
     let set = members_of(alloc, &inside, starts, objects.len())?;
     Ok(set)
 }

@@ -3,8 +3,10 @@ ghost use Rattle.std.specs.Prelude.{◌≡◌, ◌<◌, length, IfOk};
 ghost use Rattle.std.specs.List.{All};
 ghost use Rattle.model.specs.Revoke.{is_member};
 ghost use Rattle.collections.specs.Marks.{is_marked};
+ghost use Rattle.reach.specs.Links.{links};
 ghost use Rattle.reach.specs.Reached.{AreSoundObjects, BoundsRuns, IsReach};
 
+use crate::authority::Purpose;
 use crate::searching::search;
 use collections::NumberSet;
 use model::Object;
@@ -12,7 +14,10 @@ use std::alloc::{AllocError, Global};
 
 /// The least closed set that contains the numbers `starts`, in a sound world. A closed set contains
 /// the annexes of its processes, what its banks own, and what a member holds a capability to that
-/// isn't weak and doesn't start a process of `trusted`.
+/// doesn't start a process of `trusted`. To change, the capability mustn't be weak either.
+///
+/// If what may be read is sought, the set is closed for reading: nothing outside determines an answer to
+/// its processes, but for what looks outside (crate `noninterference`).
 ///
 /// Over any run of invocations, loads and stores by processes of the set, and by processes made of
 /// numbers that were free, objects outside the set that weren't free keep their content and their
@@ -24,17 +29,19 @@ use std::alloc::{AllocError, Global};
 pub fn reach(
     alloc: Global,
     objects: &[Object],
+    purpose: Purpose,
     starts: &[u64],
     trusted: &[u64],
 ) -> Result<NumberSet, AllocError>
     requires sound { AreSoundObjects objects.now }
     requires known { All (λ n. n < length objects.now) starts.now }
     requires trusted { All (λ n. n < length objects.now) trusted.now }
-    ensures reach { IfOk result (λ inside. IsReach objects.now (is_member trusted.now) starts.now (is_marked inside)) }
+    ensures reach { IfOk result (λ inside.
+        IsReach objects.now (links purpose (is_member trusted.now)) starts.now (is_marked inside)) }
     ensures count { IfOk result (λ inside. length inside ≡ length objects.now) }
     ensures bounds { IfOk result (λ inside. BoundsRuns objects.now (is_member trusted.now) (is_marked inside)) }
 {
-    let levels = search(alloc, objects, trusted, starts)?;
+    let levels = search(alloc, objects, purpose, trusted, starts)?;
     let inside = levels.numbers(alloc)?;
     Ok(inside)
 }

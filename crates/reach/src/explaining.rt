@@ -4,11 +4,12 @@ ghost use Rattle.std.specs.List.{flat_map};
 ghost use Rattle.model.specs.Text.{line_of, spaced};
 ghost use Rattle.model.specs.World.{content_at, object_at};
 ghost use Rattle.script.specs.Writing.{Writes};
-ghost use Rattle.reach.specs.ChainLines.{chain_text, kind_of, place_of, step_line, step_text, steps_text};
+ghost use Rattle.reach.specs.ChainLines.{chain_text, denial_of, kind_of, place_of, step_line, step_text, steps_text};
 ghost use Rattle.reach.specs.ChainLines.{unchanged_text};
 ghost use Rattle.reach.specs.Lines.{words_of};
 ghost use Rattle.reach.specs.declared.step.Way.TheVariants.{Owner};
 
+use crate::authority::Purpose;
 use crate::printing::{line_of_held, line_of_object};
 use crate::step::{Step, Way};
 use model::{Content, Object};
@@ -124,32 +125,45 @@ fn print_to<W: Output>(
     print_object(objects, object, writer)
 }
 
+// What is said of an object to which no chain leads.
+fn denial(purpose: Purpose) -> &'static [u8]
+    ensures text { result.now ≡ denial_of purpose }
+    ensures short { length result.now ≤ 16 }
+{
+    match purpose {
+        Purpose::Change => b"cannot change",
+        Purpose::Read => b"cannot read",
+    }
+}
+
 // The line of an object to which no chain leads.
-fn line_of_unchanged(objects: &[Object], number: u64) -> LineText
-    ensures text { result ≡ unchanged_text objects.now number }
+fn line_of_unchanged(objects: &[Object], purpose: Purpose, number: u64) -> LineText
+    ensures text { result ≡ unchanged_text objects.now purpose number }
     ensures short { length result < 320 }
 {
-    let mut line = LineText::new(b"cannot change");
+    let mut line = LineText::new(denial(purpose));
     line.named(kind_at(objects, number), number);
     line
 }
 
 /// Writes a chain to an object: a line for each step, first step first, and the line of the object as
-/// `show` begins it. Without a chain it writes `cannot change` with the object's kind and number.
+/// `show` begins it. Without a chain it writes `cannot change`, or `cannot read`, with the object's kind
+/// and number.
 ///
 /// `RunFault::Write` if the writer fails or takes nothing: then a beginning of that text was written.
 /// It takes no memory.
 pub fn print_chain<W: Output>(
     objects: &[Object],
+    purpose: Purpose,
     object: u64,
     chain: &Option<Vec<Step>>,
     writer: &mut W,
 ) -> Result<(), RunFault>
     ensures { Writes (W.written writer.old) (W.written writer.new) result
-        (chain_text objects.now object chain.now) }
+        (chain_text objects.now purpose object chain.now) }
 {
     match chain {
         Some(steps) => print_to(objects, object, steps, writer),
-        None => line_of_unchanged(objects, object).write_to(writer),
+        None => line_of_unchanged(objects, purpose, object).write_to(writer),
     }
 }

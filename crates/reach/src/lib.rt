@@ -1,4 +1,5 @@
-//! The least closed set of numbers that contains some processes: all that these, and those that they make, can change.
+//! The least closed set of numbers that contains some processes: all that these, and those that they make, can change,
+//! or read.
 //! Also a shortest chain of capabilities from them to an object.
 #![tactic(auto)]
 
@@ -15,6 +16,7 @@ mod searching;
 mod step;
 mod world;
 
+pub use authority::Purpose;
 pub use chaining::shortest_chain;
 pub use changing::changers;
 pub use closing::reach;

@@ -8,9 +8,10 @@ ghost use Rattle.model.specs.Revoke.{is_member};
 ghost use Rattle.model.specs.World.{content_at};
 ghost use Rattle.reach.specs.Levels.{FindsBy, IsBy, IsFrom, IsFromLevel, IsHeldIn, IsOwnedBelow, IsSearched};
 ghost use Rattle.reach.specs.Levels.{NamesWithin};
+ghost use Rattle.reach.specs.Links.{links};
 ghost use Rattle.reach.specs.Reached.{AreSoundObjects};
 
-use crate::authority::authority_but;
+use crate::authority::{Purpose, authority_but};
 use crate::levels::Levels;
 use crate::printing::slots_of;
 use crate::step::{Step, Way};
@@ -21,6 +22,7 @@ use std::alloc::{AllocError, Global};
 // Finds what a capability has authority over.
 fn find(
     levels: &mut Levels,
+    purpose: Purpose,
     trusted: &NumberSet,
     from: u64,
     way: Way,
@@ -30,27 +32,35 @@ fn find(
     requires known { NamesWithin (length levels.old.found.items) capability }
     requires count { length trusted.now ≡ length levels.old.found.items }
     requires level { level ≤ levels.old.greatest + 1 }
-    ensures { FindsBy (IsBy (is_marked trusted.now) from way capability) level levels.old levels.new }
+    ensures { FindsBy (IsBy (links purpose (is_marked trusted.now)) from way capability) level levels.old levels.new }
 {
-    if let Some(to) = authority_but(capability, trusted) {
+    if let Some(to) = authority_but(capability, purpose, trusted) {
         levels.add(Step { from, way, to }, level);
     }
 }
 
 // Finds what the capabilities in slots have authority over.
 #[tactic(auto, using(crate::proofs::Finding::finds_none))]
-fn find_held(levels: &mut Levels, trusted: &NumberSet, from: u64, slots: &[Capability], level: u64)
+fn find_held(
+    levels: &mut Levels,
+    purpose: Purpose,
+    trusted: &NumberSet,
+    from: u64,
+    slots: &[Capability],
+    level: u64,
+)
     requires known { All (NamesWithin (length levels.old.found.items)) slots.now }
     requires count { length trusted.now ≡ length levels.old.found.items }
     requires level { level ≤ levels.old.greatest + 1 }
-    ensures { FindsBy (IsHeldIn (is_marked trusted.now) slots.now (length slots.now) from) level levels.old levels.new }
+    ensures { FindsBy (IsHeldIn (links purpose (is_marked trusted.now)) slots.now (length slots.now) from) level
+        levels.old levels.new }
 {
     for (index, capability) in slots.iter().enumerate() {
         let way = Way::Slot {
             index: index as u64,
             capability: *capability,
         };
-        find(levels, trusted, from, way, *capability, level);
+        find(levels, purpose, trusted, from, way, *capability, level);
     }
 }
 
@@ -90,6 +100,7 @@ fn find_owned(levels: &mut Levels, objects: &[Object], bank: u64, level: u64)
 fn find_of_process(
     levels: &mut Levels,
     objects: &[Object],
+    purpose: Purpose,
     trusted: &NumberSet,
     process: u64,
     root: &Root<Capability>,
@@ -100,7 +111,7 @@ fn find_of_process(
     requires trusted { length trusted.now ≡ length objects.now }
     requires root { content_at objects.now process ≡ content.Root root.now }
     requires level { level ≤ levels.old.greatest + 1 }
-    ensures { FindsBy (IsFrom objects.now (is_marked trusted.now) process) level levels.old levels.new }
+    ensures { FindsBy (IsFrom objects.now (links purpose (is_marked trusted.now)) process) level levels.old levels.new }
 {
     let (from, to) = (process, root.annex);
     levels.add(
@@ -113,6 +124,7 @@ fn find_of_process(
     );
     find(
         levels,
+        purpose,
         trusted,
         process,
         Way::Space(root.space),
@@ -121,6 +133,7 @@ fn find_of_process(
     );
     find_held(
         levels,
+        purpose,
         trusted,
         process,
         slots_of(objects, root.annex),
@@ -132,6 +145,7 @@ fn find_of_process(
 fn find_of_object(
     levels: &mut Levels,
     objects: &[Object],
+    purpose: Purpose,
     trusted: &NumberSet,
     number: u64,
     level: u64,
@@ -141,37 +155,54 @@ fn find_of_object(
     requires trusted { length trusted.now ≡ length objects.now }
     requires known { number < length objects.now }
     requires level { level ≤ levels.old.greatest + 1 }
-    ensures { FindsBy (IsFrom objects.now (is_marked trusted.now) number) level levels.old levels.new }
+    ensures { FindsBy (IsFrom objects.now (links purpose (is_marked trusted.now)) number) level levels.old levels.new }
 {
     match &objects[number as usize].content {
         Content::Free | Content::Page(_) => {}
-        Content::Node(slots) => find_held(levels, trusted, number, slots.as_slice(), level),
+        Content::Node(slots) => find_held(
+            levels,
+            purpose,
+            trusted,
+            number,
+            slots.as_slice(),
+            level,
+        ),
         Content::Annex(registers) => find_held(
             levels,
+            purpose,
             trusted,
             number,
             registers.as_slice(),
             level,
         ),
-        Content::Root(root) => find_of_process(levels, objects, trusted, number, root, level),
+        Content::Root(root) => find_of_process(
+            levels, objects, purpose, trusted, number, root, level,
+        ),
         Content::Bank { .. } => find_owned(levels, objects, number, level),
     }
 }
 
 // Follows all that was found at a level.
 #[tactic(auto, using(crate::proofs::Finding::finds_none))]
-fn follow_level(levels: &mut Levels, objects: &[Object], trusted: &NumberSet, level: u64)
+fn follow_level(
+    levels: &mut Levels,
+    objects: &[Object],
+    purpose: Purpose,
+    trusted: &NumberSet,
+    level: u64,
+)
     requires sound { AreSoundObjects objects.now }
     requires count { length levels.old.found.items ≡ length objects.now }
     requires trusted { length trusted.now ≡ length objects.now }
     requires level { level ≤ levels.old.greatest }
     requires few { levels.old.greatest ≤ length objects.now }
-    ensures { FindsBy (IsFromLevel objects.now (is_marked trusted.now) levels.old level (length objects.now)) (level + 1)
+    ensures { FindsBy
+        (IsFromLevel objects.now (links purpose (is_marked trusted.now)) levels.old level (length objects.now)) (level + 1)
         levels.old levels.new }
 {
     for number in 0..objects.len() {
         if levels.is_at(number as u64, level) {
-            find_of_object(levels, objects, trusted, number as u64, level + 1);
+            find_of_object(levels, objects, purpose, trusted, number as u64, level + 1);
         }
     }
 }
@@ -181,6 +212,7 @@ fn follow_level(levels: &mut Levels, objects: &[Object], trusted: &NumberSet, le
 fn search_but(
     alloc: Global,
     objects: &[Object],
+    purpose: Purpose,
     trusted: &NumberSet,
     starts: &[u64],
 ) -> Result<Levels, AllocError>
@@ -188,7 +220,7 @@ fn search_but(
     requires trusted { length trusted.now ≡ length objects.now }
     requires known { All (λ n. n < length objects.now) starts.now }
     ensures { IfOk result (λ l. (level : ℕ) × (l.greatest < level)
-        × IsSearched objects.now (is_marked trusted.now) starts.now level l) }
+        × IsSearched objects.now (links purpose (is_marked trusted.now)) starts.now level l) }
 {
     let mut levels = Levels::new(alloc, objects.len())?;
     for start in starts {
@@ -196,7 +228,7 @@ fn search_but(
     }
     let mut level = 0;
     while level <= levels.greatest() {
-        follow_level(&mut levels, objects, trusted, level);
+        follow_level(&mut levels, objects, purpose, trusted, level);
         level += 1;
     }
     Ok(levels)
@@ -220,6 +252,7 @@ pub(crate) fn set_of(alloc: Global, numbers: &[u64], total: usize) -> Result<Num
 pub(crate) fn search(
     alloc: Global,
     objects: &[Object],
+    purpose: Purpose,
     trusted: &[u64],
     starts: &[u64],
 ) -> Result<Levels, AllocError>
@@ -227,9 +260,9 @@ pub(crate) fn search(
     requires trusted { All (λ n. n < length objects.now) trusted.now }
     requires known { All (λ n. n < length objects.now) starts.now }
     ensures { IfOk result (λ l. (level : ℕ) × (l.greatest < level)
-        × IsSearched objects.now (is_member trusted.now) starts.now level l) }
+        × IsSearched objects.now (links purpose (is_member trusted.now)) starts.now level l) }
 {
     let set = set_of(alloc, trusted, objects.len())?;
-    let levels = search_but(alloc, objects, &set, starts)?;
+    let levels = search_but(alloc, objects, purpose, &set, starts)?;
     Ok(levels)
 }

@@ -18,6 +18,7 @@ use jobs::{Done, Fault, check_image, finish, run_and_save, run_image, run_shell,
 use layout::Version;
 use object_cache::{Capacity, KeepAll, KeepRecent, PlainStore, Policy, Store};
 use queries::{Focus, ReachQuestion, explain_description};
+use reach::Purpose;
 use runs::{ScriptReader, TraceOptions, Tracer};
 use script::{BufferedOutput, CountedWriter, Output};
 use shell::{ShellInput, TOPICS};
@@ -414,22 +415,33 @@ fn writing<'a>(old: &'a str, new: &'a str, layout: NewLayout) -> Query<'a> {
     Query::Upgrade { old, new, layout }
 }
 
-// The query of `draw`.
-fn drawing(from: Option<u64>, to: Option<u64>) -> Query<'static> {
-    Query::Draw(Focus { from, to })
+// What is sought: what may be read, or else what may be changed.
+fn purpose_of(reads: bool) -> Purpose {
+    if reads {
+        Purpose::Read
+    } else {
+        Purpose::Change
+    }
 }
 
-// The query of `reach`: which processes can change the object of `--to`, or else a chain to that of `--shows`.
+// The query of `draw`.
+fn drawing(from: Option<u64>, purpose: Purpose, to: Option<u64>) -> Query<'static> {
+    Query::Draw(Focus { from, purpose, to })
+}
+
+// The query of `reach`: which processes can change, or read, the object of `--to`, or else a chain to that of
+// `--shows`.
 fn reaching<'a>(
     processes: &'a [u64],
+    purpose: Purpose,
     trusted: &'a [u64],
     shows: Option<u64>,
     to: Option<u64>,
 ) -> Query<'a> {
     let question = match (to, shows) {
-        (Some(object), _) => ReachQuestion::Changers(object),
-        (None, Some(object)) => ReachQuestion::Chain(object),
-        (None, None) => ReachQuestion::Changes,
+        (Some(object), _) => ReachQuestion::Changers(purpose, object),
+        (None, Some(object)) => ReachQuestion::Chain(purpose, object),
+        (None, None) => ReachQuestion::Set(purpose),
     };
     Query::Reach {
         processes,
@@ -467,17 +479,26 @@ fn serve(rt: &HostRuntime, job: &Job<'_>, stdio: &mut Stdio) -> Result<End, Refu
         Job::Upgrade { old, new } => (*old, writing(old, new, NewLayout::Of(Version::Two))),
         Job::Copy { image, new } => (*image, writing(image, new, NewLayout::Kept)),
         Job::Describe { image, sizes } => (*image, Query::Describe(sizes_of(sizes))),
-        Job::Draw { image, from, to } => (*image, drawing(*from, *to)),
+        Job::Draw {
+            image,
+            from,
+            reads,
+            to,
+        } => (*image, drawing(*from, purpose_of(*reads), *to)),
         Job::Info { image } => (*image, Query::Info),
         Job::Reach {
             image,
             processes,
+            reads,
             shows,
             to,
             trusted,
         } => {
             let (processes, trusted) = (processes.as_slice(), trusted.as_slice());
-            (*image, reaching(processes, trusted, *shows, *to))
+            (
+                *image,
+                reaching(processes, purpose_of(*reads), trusted, *shows, *to),
+            )
         }
     };
     inspect(rt, image, query, stdio)

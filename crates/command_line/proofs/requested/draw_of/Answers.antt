@@ -19,5 +19,6 @@ returns-clause-named c = (
   refl,
   given (found_of c.args.inner.now) (codes "IMAGE") c.get_str.result c.in_ok-image.image c.get_str.ensures (search rules),
   held (IsNumberOption (rows_of (found_of c.args.inner.now)) (codes "from")) c.number_of.result c.in_ok-from.from c.number_of.ensures.named (search rules),
+  c.flag_of.ensures,
   held (IsNumberOption (rows_of (found_of c.args.inner.now)) (codes "to")) c.number_of-2.result c.in_ok-to.to c.number_of-2.ensures.named (search rules),
 )

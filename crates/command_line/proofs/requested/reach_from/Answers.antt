@@ -19,6 +19,7 @@ returns-clause-named c = λ numbers trusts. (
   refl,
   given (found_of c.args.inner.now) (codes "IMAGE") c.get_str.result c.in_ok-image.image c.get_str.ensures (search rules),
   numbers,
+  c.flag_of-reads.ensures,
   held (IsNumberOption (rows_of (found_of c.args.inner.now)) (codes "shows")) c.number_of.result c.in_ok-shows.shows c.number_of.ensures.named (search rules),
   held (IsNumberOption (rows_of (found_of c.args.inner.now)) (codes "to")) c.number_of-2.result c.in_ok-to.to c.number_of-2.ensures.named (search rules),
   trusts,

@@ -1,4 +1,4 @@
-use Rattle.reach.proofs.Names.{is_member, reverse, refl, rules, sym}
+use Rattle.reach.proofs.Names.{is_member, reverse, refl, rules, sym, links}
 use Rattle.std.proofs.Common.{◌≡◌, ◌∙◌}
 use Rattle.reach.proofs.Chains.{back_level, back_next, back_shortest, no_chain, only_reach}
 use Rattle.reach.proofs.chaining.shortest_chain.Invariants.{level_of}
@@ -7,12 +7,12 @@ use Rattle.reach.proofs.chaining.shortest_chain.Goals as goal
 pub returns-then-not-contains-clause-shortest : goal.returns-then-not-contains-clause-shortest
 returns-then-not-contains-clause-shortest c =
     let searched = c.in_ok-levels.ensures in
-    no_chain c.args.objects.now (is_member c.args.trusted.now) c.args.starts.now searched.0 c.in_ok-levels.levels searched.1 searched.2 c.args.object (sym c.if-not-contains.ensures)
+    no_chain c.args.objects.now (links c.args.purpose (is_member c.args.trusted.now)) c.args.starts.now searched.0 c.in_ok-levels.levels searched.1 searched.2 c.args.object (sym c.if-not-contains.ensures)
 
 pub returns-then-not-contains-clause-reach : goal.returns-then-not-contains-clause-reach
 returns-then-not-contains-clause-reach c inside reach =
     let searched = c.in_ok-levels.ensures in
-    only_reach c.args.objects.now (is_member c.args.trusted.now) c.args.starts.now searched.0 c.in_ok-levels.levels searched.1 searched.2 inside reach c.args.object
+    only_reach c.args.objects.now (links c.args.purpose (is_member c.args.trusted.now)) c.args.starts.now searched.0 c.in_ok-levels.levels searched.1 searched.2 inside reach c.args.object
     ∙ sym c.if-not-contains.ensures
 
 pub loop-step-smaller : goal.loop-step-smaller
@@ -34,5 +34,5 @@ returns-clause-shortest c =
 pub returns-clause-reach : goal.returns-clause-reach
 returns-clause-reach c inside reach =
     let searched = c.in_ok-levels.ensures in
-    only_reach c.args.objects.now (is_member c.args.trusted.now) c.args.starts.now searched.0 c.in_ok-levels.levels searched.1 searched.2 inside reach c.args.object
+    only_reach c.args.objects.now (links c.args.purpose (is_member c.args.trusted.now)) c.args.starts.now searched.0 c.in_ok-levels.levels searched.1 searched.2 inside reach c.args.object
     ∙ sym c.if-not-contains.ensures

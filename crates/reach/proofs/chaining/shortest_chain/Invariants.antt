@@ -1,4 +1,4 @@
-use Rattle.reach.proofs.Names.{ℕ, Option, Some, None, Found, found_at, is_member}
+use Rattle.reach.proofs.Names.{ℕ, Option, Some, None, Found, found_at, is_member, links}
 use Rattle.reach.proofs.Chains.{IsBack}
 use Rattle.reach.proofs.chaining.shortest_chain.Given as goal
 
@@ -8,7 +8,7 @@ level_of None = 0
 level_of (Some f) = f.level
 
 abbrev pub invariant-loop-step : goal.invariant-loop-step
-invariant-loop-step l = IsBack l.objects (is_member l.trusted) l.levels l.object l.at l.steps.items
+invariant-loop-step l = IsBack l.objects (links l.fn.purpose (is_member l.trusted)) l.levels l.object l.at l.steps.items
 
 abbrev pub decreases-loop-step : goal.decreases-loop-step
 decreases-loop-step l = level_of (found_at l.levels l.at)

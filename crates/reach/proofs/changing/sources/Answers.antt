@@ -1,4 +1,4 @@
-use Rattle.reach.proofs.Names.{arith, nat_tests, Bool, is_marked, length, length-replicate, subst}
+use Rattle.reach.proofs.Names.{arith, nat_tests, Bool, is_marked, length, length-replicate, subst, links}
 use Rattle.std.proofs.Common.{◌≡◌}
 use Rattle.reach.proofs.Sources.{Sources, sources_are, sources_first, sources_next}
 use Rattle.reach.proofs.changing.sources.Goals as goal
@@ -10,8 +10,8 @@ loop-grew-init c =
 
 pub loop-grew-preserved : goal.loop-grew-preserved
 loop-grew-preserved c = sources_next _ _ _ _ _ _
-    (subst (λ (b : Bool). Sources c.args.objects.now (is_marked c.args.trusted.now) c.args.object b c.loop-grew.inside) c.loop-grew-test.true c.loop-grew.invariant) c.widen-grew.ensures
+    (subst (λ (b : Bool). Sources c.args.objects.now (links c.args.purpose (is_marked c.args.trusted.now)) c.args.object b c.loop-grew.inside) c.loop-grew-test.true c.loop-grew.invariant) c.widen-grew.ensures
 
 pub returns-clause-each : goal.returns-clause-each
 returns-clause-each c = sources_are _ _ _ _
-    (subst (λ (b : Bool). Sources c.args.objects.now (is_marked c.args.trusted.now) c.args.object b c.loop-grew.inside) c.loop-grew-test.false c.loop-grew.invariant)
+    (subst (λ (b : Bool). Sources c.args.objects.now (links c.args.purpose (is_marked c.args.trusted.now)) c.args.object b c.loop-grew.inside) c.loop-grew-test.false c.loop-grew.invariant)

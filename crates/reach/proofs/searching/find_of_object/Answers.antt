@@ -1,4 +1,4 @@
-use Rattle.reach.proofs.Names.{common_steps, arith, ap, sym, Capability, Content, is_marked, slots_in}
+use Rattle.reach.proofs.Names.{common_steps, arith, ap, sym, Capability, Content, is_marked, slots_in, links}
 use Rattle.std.proofs.Common.{◌∙◌}
 use Rattle.model.specs.declared.object.Content.TheVariants as content
 use Rattle.reach.proofs.Members.{content_is, slots_known}
@@ -28,4 +28,4 @@ returns-in-Annex c =
 pub returns-in-Bank : goal.returns-in-Bank
 returns-in-Bank c =
     let is = content_is c.args.objects.now c.args.number c.index-objects-number.result (content.Bank c.in-Bank.limit) c.requires.known c.in-Bank.is in
-    finds_of_bank c.args.objects.now (is_marked c.args.trusted.now) c.args.number c.args.level c.args.levels.now c.find_owned.new.levels c.in-Bank.limit is c.find_owned.ensures
+    finds_of_bank c.args.objects.now (links c.args.purpose (is_marked c.args.trusted.now)) c.args.number c.args.level c.args.levels.now c.find_owned.new.levels c.in-Bank.limit is c.find_owned.ensures
