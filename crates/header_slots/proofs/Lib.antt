@@ -1,0 +1,4 @@
+pub mod Counting
+pub mod Publishing
+pub mod Broken
+pub mod Wrong

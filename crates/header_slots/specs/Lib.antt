@@ -1,0 +1,4 @@
+pub mod Slots
+pub mod Publish
+pub mod Laws
+pub mod Wrong

@@ -1,0 +1,39 @@
+-- What a crash leaves of the header slots while header s + 1 is published after header s.
+use Rattle.std.specs.Prelude.{◌≡◌, ◌⊎◌, ℕ, ◌+◌, ◌%◌, List, [], ◌∷◌, Some}
+use Rattle.header_slots.specs.Slots.{IsCommitted, Slots}
+
+-- all slots are as before but for one
+abbrev pub OthersStay : ℕ → Slots → Slots → Type 0
+OthersStay slot old new = (k : ℕ) → (k ≡ slot → ⊥) → new k ≡ old k
+
+-- the header is being written: its sector may hold anything, and so any header or none
+pub record TearsHeader (s : ℕ) (old new : Slots) : Type 0 where
+  pub others : OthersStay ((s + 1) % 3) old new
+  pub gate : (new ((s + 1) % 3)).gate ≡ (old ((s + 1) % 3)).gate
+
+-- the header is durable, and its gate is being written: that may have any number or none
+pub record TearsGate (s : ℕ) (row : List ℕ) (old new : Slots) : Type 0 where
+  pub others : OthersStay ((s + 1) % 3) old new
+  pub header : (new ((s + 1) % 3)).header ≡ Some (s + 1)
+  pub bytes : (new ((s + 1) % 3)).bytes ≡ row
+
+-- both are durable
+pub record IsPublished (s : ℕ) (row : List ℕ) (old new : Slots) : Type 0 where
+  pub others : OthersStay ((s + 1) % 3) old new
+  pub header : (new ((s + 1) % 3)).header ≡ Some (s + 1)
+  pub bytes : (new ((s + 1) % 3)).bytes ≡ row
+  pub gate : (new ((s + 1) % 3)).gate ≡ Some (s + 1)
+
+-- publishes one after another, each whole or cut off by a crash; the headers of those that came to their gates, the last first.
+-- Each follows the header that is committed then
+pub data Runs : Slots → List (List ℕ) → Slots → Type 0 where
+  none : {slots : Slots} → Runs slots [] slots
+  cut_at_header : {first old new : Slots} {published : List (List ℕ)} {s : ℕ} →
+      Runs first published old → IsCommitted old s → TearsHeader s old new → Runs first published new
+  came_to_gate : {first old new : Slots} {published : List (List ℕ)} {s : ℕ} {bytes : List ℕ} →
+      Runs first published old → IsCommitted old s → TearsGate s bytes old new → Runs first (bytes ∷ published) new
+
+-- a header of some headers
+abbrev pub IsOneOf : List ℕ → List (List ℕ) → Type 0
+IsOneOf x [] = ⊥
+IsOneOf x (y ∷ ys) = (x ≡ y) ⊎ IsOneOf x ys
