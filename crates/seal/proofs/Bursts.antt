@@ -18,7 +18,7 @@ bit_in_byte row q j lt =
     let bit : (8 * q + j) % 8 ≡ j = omega arith in
     ap (λ (n : ℕ). bit_at (get_or row n 0) ((8 * q + j) % 8)) byte ∙ ap (λ (n : ℕ). bit_at (get_or row q 0) n) bit
 
-same_byte : (x y : List ℕ) (q : ℕ) → AreBytes x → AreBytes y → ((j : ℕ) → j < 8 → row_bit x (8 * q + j) ≡ row_bit y (8 * q + j)) →
+pub same_byte : (x y : List ℕ) (q : ℕ) → AreBytes x → AreBytes y → ((j : ℕ) → j < 8 → row_bit x (8 * q + j) ≡ row_bit y (8 * q + j)) →
     get_or x q 0 ≡ get_or y q 0
 same_byte x y q bx by same =
     same_from_bits_below 8 (get_or x q 0) (get_or y q 0) (bx q) (by q) (λ j lt. sym (bit_in_byte x q j lt) ∙ same j lt ∙ bit_in_byte y q j lt)

@@ -23,7 +23,7 @@ none_differ (x ∷ xs) (y ∷ ys) len few =
       | inr ne ↦ absurd (omega (arith, few, other_heads x y xs ys ne))
     ]
 
-turned_round : (xs ys : List ℕ) → differences ys xs ≡ differences xs ys
+pub turned_round : (xs ys : List ℕ) → differences ys xs ≡ differences xs ys
 turned_round [] [] = refl
 turned_round [] (y ∷ ys) = refl
 turned_round (x ∷ xs) [] = refl

@@ -1,0 +1,7 @@
+pub mod Copies
+pub mod Gates
+pub mod Sectors
+pub mod Headers
+pub mod Entries
+pub mod Clusters
+pub mod Spelling

@@ -1,0 +1,43 @@
+-- Given bytes spell one value.
+use Rattle.std.proofs.Common.{◌≡◌, ℕ, List, [], ◌∷◌, ◌∙◌, length, get_or, drop, ap, refl, sym, arith}
+use Rattle.layout.specs.declared.directory.Entry.{Entry}
+use Rattle.seal.proofs.Damaged.{bursts_break}
+use Rattle.sealed_layout.specs.Directory.{entries_bytes, entry_numbers}
+use Rattle.sealed_layout.specs.Header.{header_bytes, header_from, header_numbers}
+use Rattle.sealed_layout.specs.Laws.{ClustersShowBursts, SectorsShowBursts, SpellOneHeader, SpellOnePageHeader, SpellOneSector}
+use Rattle.sealed_layout.specs.Page.{page_header_bytes, page_header_from, page_header_numbers}
+use Rattle.sealed_layout.proofs.Entries.{entry_of, length_numbers, numbers_fit}
+use Rattle.sealed_layout.proofs.Headers.{page_back}
+use Rattle.sealed_layout.proofs.Sectors.{one_sector, sector_sealed}
+
+pub one_header : SpellOneHeader
+unfolding header_bytes
+one_header g h fg fh e = ap header_from (one_sector (header_numbers g) (header_numbers h) refl (omega arith) fg fh e)
+
+pub one_page_header : SpellOnePageHeader
+unfolding page_header_bytes
+one_page_header age g h ig ih fg fh e =
+    sym (page_back age g ig) ∙ ap page_header_from (one_sector (page_header_numbers g) (page_header_numbers h) refl (omega arith) fg fh e)
+    ∙ page_back age h ih
+
+-- the numbers of entries decide them
+one_list : (ds es : List Entry) → entry_numbers ds ≡ entry_numbers es → ds ≡ es
+one_list [] [] e = refl
+one_list [] (x ∷ es) e = absurd (omega (arith, ap length e))
+one_list (d ∷ ds) [] e = absurd (omega (arith, ap length e))
+one_list (d ∷ ds) (x ∷ es) e =
+    ap (λ (o : ℕ). entry_of o d.slot ∷ ds) (ap (λ (ns : List ℕ). get_or ns 0 0) e)
+    ∙ ap (λ (s : ℕ). entry_of x.object s ∷ ds) (ap (λ (ns : List ℕ). get_or ns 1 0) e)
+    ∙ ap (λ (rest : List Entry). x ∷ rest) (one_list ds es (ap (λ (ns : List ℕ). drop 2 ns) e))
+
+pub one_directory_sector : SpellOneSector
+unfolding entries_bytes
+one_directory_sector ds es len few fd fe e =
+    let lens : length (entry_numbers ds) ≡ length (entry_numbers es) = omega (arith, length_numbers ds, length_numbers es, len) in
+    one_list ds es (one_sector (entry_numbers ds) (entry_numbers es) lens (omega (arith, length_numbers es, few)) (numbers_fit ds fd) (numbers_fit es fe) e)
+
+pub sectors_show : SectorsShowBursts
+sectors_show i x y ms ns rx ry burst ex ey = bursts_break i x y rx ry burst (sector_sealed x ms ex) (sector_sealed y ns ey)
+
+pub clusters_show : ClustersShowBursts
+clusters_show i x y m n rx ry burst cx cy = bursts_break i x y rx ry burst cx.seal cy.seal

@@ -1,0 +1,24 @@
+use Rattle.std.proofs.Common.{ap, arith, length, replicate, sym, ℕ, ◌*◌, ◌∙◌}
+use Rattle.std.proofs.lemmas.Bool.{false≢true}
+use Rattle.std.proofs.lemmas.List.{length-replicate, length-take-le}
+use Rattle.sealed_layout.specs.Directory.{entries_bytes, entry_numbers}
+use Rattle.sealed_layout.specs.Sector.{sector_bytes}
+use Rattle.sealed_layout.proofs.Entries.{length_numbers, numbers_fit}
+use Rattle.sealed_layout.proofs.Sectors.{seal_read}
+use Rattle.sealed_layout.proofs.directory.decode_entries.Goals as goal
+
+pub returns-then-not-decode_sector-clause-none : goal.returns-then-not-decode_sector-clause-none
+unfolding entries_bytes
+returns-then-not-decode_sector-clause-none c = λ es len fits e.
+    let size =
+    length_numbers es ∙ ap (λ (n : ℕ). 2 * n) len
+    ∙ sym (length-take-le (2 * length c.args.into.now) (replicate 60 0) (omega (arith, c.requires.entries, length-replicate {A = ℕ} 60 0))) in
+    let only = c.decode_sector.ensures.only (entry_numbers es) size (numbers_fit es fits) e in
+    false≢true (sym c.if-not-decode_sector.true ∙ only.0)
+
+pub returns-clause-some : goal.returns-clause-some
+unfolding entries_bytes
+returns-clause-some c = (
+  c.decode_sector.ensures.found c.if-not-decode_sector.false ∙ ap sector_bytes c.take_entries.ensures,
+  seal_read c.args.bytes.now c.sums_at.result c.requires.size c.sums_at.ensures,
+)

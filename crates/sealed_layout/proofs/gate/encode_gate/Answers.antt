@@ -1,0 +1,8 @@
+use Rattle.layout.specs.Bytes.{number}
+use Rattle.layout.specs.Frame.{words_bytes}
+use Rattle.sealed_layout.specs.Gate.{gate_bytes}
+use Rattle.sealed_layout.proofs.gate.encode_gate.Goals as goal
+
+pub returns : goal.returns
+unfolding gate_bytes words_bytes number
+returns c = c.write_u64_into.ensures

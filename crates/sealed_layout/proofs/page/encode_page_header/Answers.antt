@@ -1,0 +1,11 @@
+use Rattle.std.proofs.Common.{[], ap, ℕ, ◌∷◌, ◌∙◌}
+use Rattle.sealed_layout.specs.Page.{page_header_bytes}
+use Rattle.sealed_layout.specs.Sector.{sector_bytes}
+use Rattle.sealed_layout.proofs.page.encode_page_header.Goals as goal
+
+pub returns : goal.returns
+unfolding page_header_bytes
+returns c =
+    let h = c.args.header in
+    c.encode_sector.ensures
+    ∙ ap (λ (n : ℕ). sector_bytes (n ∷ h.object.allocations ∷ h.object.calls ∷ h.object.owner ∷ h.words.a ∷ h.words.b ∷ h.words.c ∷ [])) c.number.ensures

@@ -1,0 +1,12 @@
+use Rattle.std.proofs.Common.{List, ℕ, ap, drop, length, ◌*◌, ◌++◌, ◌∙◌}
+use Rattle.layout.specs.Bytes.{number, zeros}
+use Rattle.layout.specs.Frame.{words_bytes}
+use Rattle.sealed_layout.proofs.Sectors.{sector_written}
+use Rattle.sealed_layout.proofs.sector.encode_sector.Goals as goal
+
+pub returns : goal.returns
+unfolding words_bytes number
+returns c =
+    let rest : List ℕ = drop (8 * length c.args.numbers.now) c.blank.new.bytes in
+    sector_written c.args.numbers.now c.blank.new.bytes (c.write_u64_into.new.dst ++ rest) c.seal.new.row c.requires.numbers
+    (c.blank.ensures ∙ ap zeros c.requires.size) (ap (λ (t : List ℕ). t ++ rest) c.write_u64_into.ensures) c.seal.ensures.sealed c.seal.ensures.body

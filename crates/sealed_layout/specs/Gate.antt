@@ -1,0 +1,23 @@
+-- The numbered gate of a header.
+use Rattle.std.specs.Prelude.{ℕ, ◌+◌, ◌*◌, ◌<◌, ◌≤◌, ◌==◌, if◌then◌else◌, List, [], ◌∷◌, map, drop, replicate}
+use Rattle.std.specs.List.{range_with_len}
+use Rattle.byteorder.specs.Endian.{little_number}
+use Rattle.layout.specs.Frame.{words_bytes}
+
+-- the sector of a gate: 64 copies of its number
+unfoldable pub gate_bytes : ℕ → List ℕ
+gate_bytes n = words_bytes (replicate 64 n)
+
+-- the 64 numbers in a sector
+unfoldable pub gate_numbers : List ℕ → List ℕ
+gate_numbers bytes = map (λ k. little_number 8 (drop (8 * k) bytes)) (range_with_len 0 64)
+
+-- in how many places a number stands
+abbrev pub copies : ℕ → List ℕ → ℕ
+copies n [] = 0
+copies n (x ∷ xs) = (if x == n then 1 else 0) + copies n xs
+
+-- the number of a gate isn't 0, and most copies hold it
+pub record HasNumber (bytes : List ℕ) (n : ℕ) : Type 0 where
+  pub some : 0 < n
+  pub most : 33 ≤ copies n (gate_numbers bytes)

@@ -1,0 +1,31 @@
+-- Given bytes spell one value, and show damage.
+use Rattle.std.specs.Prelude.{◌≡◌, ℕ, ◌≤◌, List, length}
+use Rattle.layout.specs.Directory.{AllFitting}
+use Rattle.layout.specs.declared.directory.Entry.{Entry}
+use Rattle.seal.specs.Damage.{DifferInBurst, IsRow}
+use Rattle.sealed_layout.specs.declared.header.SealedHeader.{SealedHeader}
+use Rattle.sealed_layout.specs.declared.page.PageHeader.{PageHeader}
+use Rattle.sealed_layout.specs.Cluster.{IsCluster}
+use Rattle.sealed_layout.specs.Directory.{entries_bytes}
+use Rattle.sealed_layout.specs.Header.{header_bytes, header_numbers}
+use Rattle.sealed_layout.specs.Page.{IsPageHeader, page_header_bytes, page_header_numbers}
+use Rattle.sealed_layout.specs.Sector.{AreWords, sector_bytes}
+
+abbrev pub SpellOneHeader : Type 0
+SpellOneHeader = (g h : SealedHeader) → AreWords (header_numbers g) → AreWords (header_numbers h) → header_bytes g ≡ header_bytes h → g ≡ h
+
+abbrev pub SpellOnePageHeader : Type 0
+SpellOnePageHeader = (age : ℕ) (g h : PageHeader) → IsPageHeader age g → IsPageHeader age h → AreWords (page_header_numbers g) →
+    AreWords (page_header_numbers h) → page_header_bytes g ≡ page_header_bytes h → g ≡ h
+
+abbrev pub SpellOneSector : Type 0
+SpellOneSector = (ds es : List Entry) → length ds ≡ length es → length es ≤ 30 → AllFitting ds → AllFitting es →
+    entries_bytes ds ≡ entries_bytes es → ds ≡ es
+
+-- of two rows that differ in a burst one at most is a sector of numbers: of a header, a directory, a page or a superblock
+abbrev pub SectorsShowBursts : Type 0
+SectorsShowBursts = (i : ℕ) (x y ms ns : List ℕ) → IsRow x → IsRow y → DifferInBurst i x y → x ≡ sector_bytes ms → y ≡ sector_bytes ns → x ≡ y
+
+-- and one at most is a cluster
+abbrev pub ClustersShowBursts : Type 0
+ClustersShowBursts = (i : ℕ) (x y : List ℕ) (m n : ℕ) → IsRow x → IsRow y → DifferInBurst i x y → IsCluster m x → IsCluster n y → x ≡ y

@@ -1,0 +1,46 @@
+-- The frame of a page.
+use Rattle.std.specs.Prelude.{◌≡◌, ◌⊎◌, ℕ, ◌==◌, if◌then◌else◌, List, [], ◌∷◌, take, drop, slice_index}
+use Rattle.model.specs.Keepable.{IsCount}
+use Rattle.model.specs.Object.{role_number}
+use Rattle.model.specs.declared.object.Role.TheVariants as role
+use Rattle.layout.specs.Bytes.{zeros}
+use Rattle.seal.specs.Sums.{sums_of}
+use Rattle.sealed_layout.specs.declared.page.PageHeader.{PageHeader}
+use Rattle.sealed_layout.specs.Sector.{sector_bytes}
+
+-- the header sector as numbers of 8 bytes: the frame's header, and the sums of the words
+abbrev pub page_header_numbers : PageHeader → List ℕ
+page_header_numbers h =
+    role_number h.object.role ∷ h.object.allocations ∷ h.object.calls ∷ h.object.owner ∷ h.words.a ∷ h.words.b ∷ h.words.c ∷ []
+
+unfoldable pub page_header_bytes : PageHeader → List ℕ
+page_header_bytes h = sector_bytes (page_header_numbers h)
+
+-- the header that numbers are
+abbrev pub page_header_from : List ℕ → PageHeader
+page_header_from ns = record {
+  object = record {
+    role = if slice_index ns 0 == 1 then role.Page else role.Free;
+    allocations = slice_index ns 1;
+    calls = slice_index ns 2;
+    owner = slice_index ns 3;
+  };
+  words = record { a = slice_index ns 4; b = slice_index ns 5; c = slice_index ns 6 };
+}
+
+-- a page, or free without an owner; with counts of an image of this age
+pub record IsPageHeader (age : ℕ) (h : PageHeader) : Type 0 where
+  pub role : (h.object.role ≡ role.Page) ⊎ ((h.object.role ≡ role.Free) × (h.object.owner ≡ 0))
+  pub allocations : IsCount age h.object.allocations
+  pub calls : IsCount age h.object.calls
+
+-- the words have the sums that the header says, and are zeros where it is free
+pub record HasWords (words : List ℕ) (h : PageHeader) : Type 0 where
+  pub sums : h.words ≡ sums_of words
+  pub free : h.object.role ≡ role.Free → words ≡ zeros 4096
+
+-- the 4608 bytes of a page's frame: its header sector, and the words
+pub record IsPage (age : ℕ) (bytes : List ℕ) (h : PageHeader) : Type 0 where
+  pub header : IsPageHeader age h
+  pub first : take 512 bytes ≡ page_header_bytes h
+  pub words : HasWords (drop 512 bytes) h

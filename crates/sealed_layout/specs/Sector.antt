@@ -1,0 +1,18 @@
+-- Sealed sectors of numbers.
+use Rattle.std.specs.Prelude.{ℕ, ◌-◌, ◌*◌, ◌^◌, ◌<◌, List, ◌++◌, length}
+use Rattle.std.specs.List.{All}
+use Rattle.layout.specs.Bytes.{zeros}
+use Rattle.layout.specs.Frame.{words_bytes}
+use Rattle.seal.specs.Sums.{sums_bytes, sums_of}
+
+-- a body with its seal behind it
+unfoldable pub sealed : List ℕ → List ℕ
+sealed body = body ++ sums_bytes (sums_of body)
+
+-- the 512 bytes of numbers of 8 bytes each, zeros and a seal
+unfoldable pub sector_bytes : List ℕ → List ℕ
+sector_bytes ns = sealed (words_bytes ns ++ zeros (488 - 8 * length ns))
+
+-- each number fits 8 bytes
+abbrev pub AreWords : List ℕ → Type 0
+AreWords ns = All (λ n. n < 2 ^ 64) ns

@@ -1,0 +1,27 @@
+// Laws of the bytes, stated by functions that do nothing.
+ghost use Rattle.sealed_layout.specs.GateLaws.{BurstsKeepNumbers, GatesHaveOneNumber, ClosedGatesHaveNone, WrittenGatesHaveTheirNumber};
+ghost use Rattle.sealed_layout.specs.Laws.{ClustersShowBursts, SectorsShowBursts, SpellOneHeader, SpellOnePageHeader};
+ghost use Rattle.sealed_layout.specs.Laws.{SpellOneSector};
+
+/// A gate has at most one number. A gate that was written has its number, and a closed one has none. A burst of at
+/// most 64 bits doesn't change the number of a whole gate. It does nothing: its contract is the law.
+pub fn gates_are_majorities()
+    ensures one { GatesHaveOneNumber }
+    ensures written { WrittenGatesHaveTheirNumber }
+    ensures closed { ClosedGatesHaveNone }
+    ensures burst { BurstsKeepNumbers }
+{}
+
+/// Given bytes spell at most one value of each structure. It does nothing: its contract is the law.
+pub fn spell_one_value()
+    ensures header { SpellOneHeader }
+    ensures page { SpellOnePageHeader }
+    ensures directory { SpellOneSector }
+{}
+
+/// A burst of at most 64 bits makes no sector of one structure into another, and no cluster into another. It does nothing:
+/// its contract is the law.
+pub fn damage_is_seen()
+    ensures sector { SectorsShowBursts }
+    ensures cluster { ClustersShowBursts }
+{}
