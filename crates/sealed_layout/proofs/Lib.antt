@@ -5,3 +5,5 @@ pub mod Headers
 pub mod Entries
 pub mod Clusters
 pub mod Spelling
+pub mod Superblocks
+pub mod Roots

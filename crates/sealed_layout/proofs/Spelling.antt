@@ -1,14 +1,17 @@
 -- Given bytes spell one value.
-use Rattle.std.proofs.Common.{◌≡◌, ℕ, List, [], ◌∷◌, ◌∙◌, length, get_or, drop, ap, refl, sym, arith}
+use Rattle.std.proofs.Common.{◌≡◌, ℕ, ◌≤◌, List, [], ◌∷◌, ◌∙◌, length, get_or, drop, ap, refl, sym, arith}
 use Rattle.layout.specs.declared.directory.Entry.{Entry}
+use Rattle.layout.specs.declared.extent.HomeRange.{HomeRange}
 use Rattle.seal.proofs.Damaged.{bursts_break}
 use Rattle.sealed_layout.specs.Directory.{entries_bytes, entry_numbers}
 use Rattle.sealed_layout.specs.Header.{header_bytes, header_from, header_numbers}
-use Rattle.sealed_layout.specs.Laws.{ClustersShowBursts, SectorsShowBursts, SpellOneHeader, SpellOnePageHeader, SpellOneSector}
+use Rattle.sealed_layout.specs.Laws.{ClustersShowBursts, SectorsShowBursts, SpellOneHeader, SpellOnePageHeader, SpellOneSector, SpellOneSuperblock}
 use Rattle.sealed_layout.specs.Page.{page_header_bytes, page_header_from, page_header_numbers}
 use Rattle.sealed_layout.proofs.Entries.{entry_of, length_numbers, numbers_fit}
 use Rattle.sealed_layout.proofs.Headers.{page_back}
+use Rattle.sealed_layout.specs.Superblock.{range_numbers, row_from, superblock_bytes, superblock_numbers}
 use Rattle.sealed_layout.proofs.Sectors.{one_sector, sector_sealed}
+use Rattle.sealed_layout.proofs.Superblocks.{length_ranges, range_of, row_back}
 
 pub one_header : SpellOneHeader
 unfolding header_bytes
@@ -35,6 +38,25 @@ unfolding entries_bytes
 one_directory_sector ds es len few fd fe e =
     let lens : length (entry_numbers ds) ≡ length (entry_numbers es) = omega (arith, length_numbers ds, length_numbers es, len) in
     one_list ds es (one_sector (entry_numbers ds) (entry_numbers es) lens (omega (arith, length_numbers es, few)) (numbers_fit ds fd) (numbers_fit es fe) e)
+
+-- the numbers of ranges decide them
+one_ranges : (qs rs : List HomeRange) → range_numbers qs ≡ range_numbers rs → qs ≡ rs
+one_ranges [] [] e = refl
+one_ranges [] (r ∷ rs) e = absurd (omega (arith, ap length e))
+one_ranges (q ∷ qs) [] e = absurd (omega (arith, ap length e))
+one_ranges (q ∷ qs) (r ∷ rs) e =
+    ap (λ (n : ℕ). range_of n q.count q.sector ∷ qs) (ap (λ (ns : List ℕ). get_or ns 0 0) e)
+    ∙ ap (λ (n : ℕ). range_of r.first n q.sector ∷ qs) (ap (λ (ns : List ℕ). get_or ns 1 0) e)
+    ∙ ap (λ (n : ℕ). range_of r.first r.count n ∷ qs) (ap (λ (ns : List ℕ). get_or ns 2 0) e)
+    ∙ ap (λ (rest : List HomeRange). r ∷ rest) (one_ranges qs rs (ap (λ (ns : List ℕ). drop 3 ns) e))
+
+pub one_superblock : SpellOneSuperblock
+unfolding superblock_bytes
+one_superblock p q qs rs eq er fp fq e =
+    let lens : length (superblock_numbers p qs) ≡ length (superblock_numbers q rs) = omega (arith, length_ranges qs, length_ranges rs, eq, er) in
+    let few : length (superblock_numbers q rs) ≤ 61 = omega (arith, length_ranges rs, er) in
+    let same = one_sector (superblock_numbers p qs) (superblock_numbers q rs) lens few fp fq e in
+    (sym (row_back p qs) ∙ ap row_from same ∙ row_back q rs, one_ranges qs rs (ap (λ (ns : List ℕ). drop 8 ns) same))
 
 pub sectors_show : SectorsShowBursts
 sectors_show i x y ms ns rx ry burst ex ey = bursts_break i x y rx ry burst (sector_sealed x ms ex) (sector_sealed y ns ey)

@@ -2,14 +2,17 @@
 use Rattle.std.specs.Prelude.{◌≡◌, ℕ, ◌≤◌, List, length}
 use Rattle.layout.specs.Directory.{AllFitting}
 use Rattle.layout.specs.declared.directory.Entry.{Entry}
+use Rattle.layout.specs.declared.extent.HomeRange.{HomeRange}
 use Rattle.seal.specs.Damage.{DifferInBurst, IsRow}
 use Rattle.sealed_layout.specs.declared.header.SealedHeader.{SealedHeader}
 use Rattle.sealed_layout.specs.declared.page.PageHeader.{PageHeader}
+use Rattle.sealed_layout.specs.declared.superblock.SuperblockRow.{SuperblockRow}
 use Rattle.sealed_layout.specs.Cluster.{IsCluster}
 use Rattle.sealed_layout.specs.Directory.{entries_bytes}
 use Rattle.sealed_layout.specs.Header.{header_bytes, header_numbers}
 use Rattle.sealed_layout.specs.Page.{IsPageHeader, page_header_bytes, page_header_numbers}
 use Rattle.sealed_layout.specs.Sector.{AreWords, sector_bytes}
+use Rattle.sealed_layout.specs.Superblock.{superblock_bytes, superblock_numbers}
 
 abbrev pub SpellOneHeader : Type 0
 SpellOneHeader = (g h : SealedHeader) → AreWords (header_numbers g) → AreWords (header_numbers h) → header_bytes g ≡ header_bytes h → g ≡ h
@@ -21,6 +24,10 @@ SpellOnePageHeader = (age : ℕ) (g h : PageHeader) → IsPageHeader age g → I
 abbrev pub SpellOneSector : Type 0
 SpellOneSector = (ds es : List Entry) → length ds ≡ length es → length es ≤ 30 → AllFitting ds → AllFitting es →
     entries_bytes ds ≡ entries_bytes es → ds ≡ es
+
+abbrev pub SpellOneSuperblock : Type 0
+SpellOneSuperblock = (p q : SuperblockRow) (qs rs : List HomeRange) → length qs ≡ 8 → length rs ≡ 8 → AreWords (superblock_numbers p qs) →
+    AreWords (superblock_numbers q rs) → superblock_bytes p qs ≡ superblock_bytes q rs → (p ≡ q) × (qs ≡ rs)
 
 -- of two rows that differ in a burst one at most is a sector of numbers: of a header, a directory, a page or a superblock
 abbrev pub SectorsShowBursts : Type 0

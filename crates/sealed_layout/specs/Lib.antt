@@ -6,3 +6,6 @@ pub mod Directory
 pub mod Page
 pub mod Cluster
 pub mod Laws
+pub mod Superblock
+pub mod Root
+pub mod RootLaws

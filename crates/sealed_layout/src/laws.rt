@@ -1,7 +1,8 @@
 // Laws of the bytes, stated by functions that do nothing.
 ghost use Rattle.sealed_layout.specs.GateLaws.{BurstsKeepNumbers, GatesHaveOneNumber, ClosedGatesHaveNone, WrittenGatesHaveTheirNumber};
 ghost use Rattle.sealed_layout.specs.Laws.{ClustersShowBursts, SectorsShowBursts, SpellOneHeader, SpellOnePageHeader};
-ghost use Rattle.sealed_layout.specs.Laws.{SpellOneSector};
+ghost use Rattle.sealed_layout.specs.Laws.{SpellOneSector, SpellOneSuperblock};
+ghost use Rattle.sealed_layout.specs.RootLaws.{OneOldSectorIsSeen, OneOldUnitIsSeen, UnitsHaveNoOrder};
 
 /// A gate has at most one number. A gate that was written has its number, and a closed one has none. A burst of at
 /// most 64 bits doesn't change the number of a whole gate. It does nothing: its contract is the law.
@@ -17,6 +18,7 @@ pub fn spell_one_value()
     ensures header { SpellOneHeader }
     ensures page { SpellOnePageHeader }
     ensures directory { SpellOneSector }
+    ensures superblock { SpellOneSuperblock }
 {}
 
 /// A burst of at most 64 bits makes no sector of one structure into another, and no cluster into another. It does nothing:
@@ -24,4 +26,12 @@ pub fn spell_one_value()
 pub fn damage_is_seen()
     ensures sector { SectorsShowBursts }
     ensures cluster { ClustersShowBursts }
+{}
+
+/// One unit with another seal changes the root, and one sector of a directory with another seal the directory's sums. The
+/// order of units doesn't matter. It does nothing: its contract is the law.
+pub fn one_old_block_is_seen()
+    ensures unit { OneOldUnitIsSeen }
+    ensures sector { OneOldSectorIsSeen }
+    ensures order { UnitsHaveNoOrder }
 {}

@@ -1,0 +1,8 @@
+use Rattle.std.proofs.Common.{ap, ◌∙◌}
+use Rattle.sealed_layout.specs.Sector.{sector_bytes}
+use Rattle.sealed_layout.specs.Superblock.{superblock_bytes}
+use Rattle.sealed_layout.proofs.superblock.encode_superblock.Goals as goal
+
+pub returns : goal.returns
+unfolding superblock_bytes
+returns c = c.encode_sector.ensures ∙ ap sector_bytes c.put_row.ensures
