@@ -2,3 +2,4 @@ pub mod Counting
 pub mod Publishing
 pub mod Broken
 pub mod Wrong
+pub mod Finding

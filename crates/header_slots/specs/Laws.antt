@@ -12,18 +12,21 @@ HeaderCommitsNothing = (old new : Slots) (s : ℕ) (a : List ℕ) → Opens old 
 
 -- from then on header s or s + 1 is
 abbrev pub GateCommits : Type 0
-GateCommits = (old new : Slots) (s : ℕ) (a b : List ℕ) → Opens old s a → TearsGate s b old new → Opens new s a ⊎ Opens new (s + 1) b
+GateCommits = (old new : Slots) (s : ℕ) (a b : List ℕ) → Opens old s a → TearsGate s b old new →
+    Opens new s a ⊎ Opens new (s + 1) b
 
 -- and in the end header s + 1
 abbrev pub PublishedIsCommitted : Type 0
-PublishedIsCommitted = (old new : Slots) (s : ℕ) (a b : List ℕ) → Opens old s a → IsPublished s b old new → Opens new (s + 1) b
+PublishedIsCommitted = (old new : Slots) (s : ℕ) (a b : List ℕ) → Opens old s a → IsPublished s b old new →
+    Opens new (s + 1) b
 
 -- after any run the first header is committed, or a later one that was published since
 abbrev pub RunsCommit : Type 0
-RunsCommit = (first last : Slots) (published : List (List ℕ)) (s : ℕ) (a : List ℕ) → Opens first s a → Runs first published last →
-    (t : ℕ) × (b : List ℕ) × (s ≤ t) × (b ≡ a ⊎ IsOneOf b published) × Opens last t b
+RunsCommit = (first last : Slots) (published : List (List ℕ)) (s : ℕ) (a : List ℕ) → Opens first s a →
+    Runs first published last → (t : ℕ) × (b : List ℕ) × (s ≤ t) × (b ≡ a ⊎ IsOneOf b published) × Opens last t b
 
 -- a header that isn't sound any more, or any change of the third header, changes nothing or leaves none committed
 abbrev pub BrokenHeadersAreSeen : Type 0
 BrokenHeadersAreSeen = (old new : Slots) (s slot t : ℕ) (a b : List ℕ) → Opens old s a → OthersStay slot old new →
-    (new slot).gate ≡ (old slot).gate → ((new slot).header ≡ None ⊎ (slot ≡ (s + 1) % 3)) → Opens new t b → (t ≡ s) × (b ≡ a)
+    (new slot).gate ≡ (old slot).gate → ((new slot).header ≡ None ⊎ (slot ≡ (s + 1) % 3)) → Opens new t b →
+    (t ≡ s) × (b ≡ a)

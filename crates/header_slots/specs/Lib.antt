@@ -2,3 +2,4 @@ pub mod Slots
 pub mod Publish
 pub mod Laws
 pub mod Wrong
+pub mod Committed

@@ -24,8 +24,8 @@ pub record IsPublished (s : ℕ) (row : List ℕ) (old new : Slots) : Type 0 whe
   pub bytes : (new ((s + 1) % 3)).bytes ≡ row
   pub gate : (new ((s + 1) % 3)).gate ≡ Some (s + 1)
 
--- publishes one after another, each whole or cut off by a crash; the headers of those that came to their gates, the last first.
--- Each follows the header that is committed then
+-- publishes one after another, each whole or cut off by a crash, and the headers of those that came to their gates, the
+-- last first. Each follows the header that is committed then
 pub data Runs : Slots → List (List ℕ) → Slots → Type 0 where
   none : {slots : Slots} → Runs slots [] slots
   cut_at_header : {first old new : Slots} {published : List (List ℕ)} {s : ℕ} →

@@ -1,7 +1,8 @@
 -- Three header slots, and the header that is committed.
 use Rattle.std.specs.Prelude.{◌≡◌, ℕ, ◌+◌, ◌-◌, ◌%◌, ◌<◌, ◌≤◌, List, Option, Some}
 
--- a header slot: the sequence number of its header, if that is sound, the number of its gate, if it has one, and the header's bytes
+-- a header slot: the sequence number of its header, if that is sound, the number of its gate, if it has one, and the
+-- header's bytes
 pub record Slot : Type 0 where
   pub header : Option ℕ
   pub gate : Option ℕ

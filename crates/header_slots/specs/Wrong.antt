@@ -16,7 +16,8 @@ pub record IsGreatestAlone (slots : Slots) (s : ℕ) : Type 0 where
 
 -- then a torn header commits
 abbrev pub NeighboursAreNeeded : Type 0
-NeighboursAreNeeded = ((old new : Slots) (s : ℕ) → IsGreatestAlone old s → TearsHeader s old new → IsGreatestAlone new s) → ⊥
+NeighboursAreNeeded = ((old new : Slots) (s : ℕ) → IsGreatestAlone old s → TearsHeader s old new →
+    IsGreatestAlone new s) → ⊥
 
 -- without a look at the next gate a torn header commits
 abbrev pub NextGateIsNeeded : Type 0

@@ -16,8 +16,8 @@ pub fn publishing_is_safe()
     ensures runs { RunsCommit }
 {}
 
-/// A header that isn't sound any more, or any change of the header in the third slot, leaves the same header committed, or
-/// none. It does nothing: its contract is the law.
+/// A header that isn't sound any more, or any change of the header in the third slot, leaves the same header committed,
+/// or none. It does nothing: its contract is the law.
 pub fn damage_changes_nothing()
     ensures { BrokenHeadersAreSeen }
 {}

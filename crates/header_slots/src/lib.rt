@@ -1,6 +1,8 @@
-//! Three header slots, and which header is committed. The crate has definitions and laws, and no code.
+//! Three header slots with numbered gates, and which header is committed.
 #![tactic(auto)]
 
+mod deciding;
 mod laws;
 
+pub use deciding::{NotCommitted, SlotNumbers, committed};
 pub use laws::{damage_changes_nothing, publishing_is_safe, weaker_rules_fail};

@@ -1,12 +1,8 @@
 -- Sealed clusters.
-use Rattle.std.proofs.Common.{◌≡◌, ℕ, ◌+◌, ◌-◌, ◌*◌, ◌<◌, ◌≤◌, List, ◌++◌, ◌∙◌, length, take, drop, ap, sym, arith}
-use Rattle.std.proofs.lemmas.List.{drop-take, take-replicate, take-take}
-use Rattle.layout.specs.Bytes.{zeros}
-use Rattle.layout.specs.Clusters.{IsBlankBehind}
-use Rattle.layout.specs.Shape.{shape_bytes}
+use Rattle.sealed_layout.proofs.Names.{ℕ, List, length, take, drop, ap, sym, arith, drop-take, take-replicate, take-take, zeros, IsBlankBehind, shape_bytes}
+use Rattle.sealed_layout.proofs.Names.{IsSealed, body_of, IsCluster}
+use Rattle.std.proofs.Common.{◌≡◌, ◌+◌, ◌-◌, ◌*◌, ◌<◌, ◌≤◌, ◌++◌, ◌∙◌}
 use Rattle.layout.specs.declared.shape.Shape.TheVariants as shape
-use Rattle.seal.specs.Seal.{IsSealed, body_of}
-use Rattle.sealed_layout.specs.Cluster.{IsCluster}
 
 -- what lies before the seal is the same in both
 part_same : (x y : List ℕ) (at n : ℕ) → at + n ≤ 4072 → take 4072 x ≡ take 4072 y → take n (drop at x) ≡ take n (drop at y)

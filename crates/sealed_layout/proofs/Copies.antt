@@ -1,9 +1,7 @@
 -- How often a number stands in a list.
-use Rattle.std.proofs.Common.{◌≡◌, ℕ, ◌+◌, ◌<◌, ◌≤◌, List, [], ◌∷◌, ◌++◌, length, get_or, replicate, zero, suc, subst, sym, refl, ◌∙◌, inl, inr, arith}
-use Rattle.std.proofs.lemmas.Bool.{cases_eq}
-use Rattle.std.proofs.lemmas.Bool.Decides.{nat_tests}
-use Rattle.seal.specs.Damage.{differences}
-use Rattle.sealed_layout.specs.Gate.{copies}
+use Rattle.sealed_layout.proofs.Names.{ℕ, List, [], length, get_or, replicate, zero, suc, subst, sym, refl, inl, inr, arith, cases_eq, nat_tests, differences}
+use Rattle.sealed_layout.proofs.Names.{copies}
+use Rattle.std.proofs.Common.{◌≡◌, ◌+◌, ◌<◌, ◌≤◌, ◌∷◌, ◌++◌, ◌∙◌}
 
 pub copies_here : (n x : ℕ) (xs : List ℕ) → x ≡ n → copies n (x ∷ xs) ≡ 1 + copies n xs
 copies_here n x xs e = grind (arith, nat_tests)

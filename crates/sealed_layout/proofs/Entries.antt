@@ -1,11 +1,7 @@
 -- Entries of a directory as numbers.
-use Rattle.std.proofs.Common.{◌≡◌, ℕ, ◌+◌, ◌*◌, ◌^◌, ◌<◌, ◌≤◌, List, [], ◌∷◌, ◌++◌, ◌∙◌, length, get_or, take, set, ap, sym, refl, arith}
-use Rattle.std.proofs.lemmas.List.{length-set, take_all, take_more, take_more_set}
-use Rattle.std.proofs.lemmas.List.Elements.{All-cons, All-head, All-nil, All-tail}
-use Rattle.layout.specs.Directory.{AllFitting}
-use Rattle.layout.specs.declared.directory.Entry.{Entry}
-use Rattle.sealed_layout.specs.Directory.{entry_numbers}
-use Rattle.sealed_layout.specs.Sector.{AreWords}
+use Rattle.sealed_layout.proofs.Names.{ℕ, List, [], length, get_or, take, set, ap, sym, refl, arith, length-set, take_all, take_more, take_more_set, All-cons}
+use Rattle.sealed_layout.proofs.Names.{All-head, All-nil, All-tail, AllFitting, Entry, entry_numbers, AreWords}
+use Rattle.std.proofs.Common.{◌≡◌, ◌+◌, ◌*◌, ◌^◌, ◌<◌, ◌≤◌, ◌∷◌, ◌++◌, ◌∙◌}
 
 abbrev pub entry_of : ℕ → ℕ → Entry
 entry_of object slot = record { object = object; slot = slot }
@@ -53,6 +49,7 @@ entry_taken ns into i lt size before =
     ∙ ap (λ (t : List ℕ). (t ++ e.object ∷ []) ++ e.slot ∷ []) before
     ∙ sym (numbers_push (take i into) e) ∙ ap entry_numbers (sym more)
 
-pub all_put : (es : List Entry) (i : ℕ) (now : List ℕ) → length es ≤ i → length now ≡ 2 * length es → take (2 * i) now ≡ entry_numbers (take i es) → now ≡ entry_numbers es
+pub all_put : (es : List Entry) (i : ℕ) (now : List ℕ) → length es ≤ i → length now ≡ 2 * length es → take (2 * i) now ≡ entry_numbers (take i es)
+    → now ≡ entry_numbers es
 all_put es i now past size is =
     sym (take_all (2 * i) now (omega (arith, size, past))) ∙ is ∙ ap entry_numbers (take_all i es (omega (arith, past)))

@@ -1,18 +1,11 @@
 -- The number of a gate.
-use Rattle.std.proofs.Common.{◌≡◌, ℕ, ◌+◌, ◌*◌, ◌/◌, ◌^◌, ◌<◌, ◌≤◌, List, [], ◌∷◌, ◌++◌, length, get_or, take, drop, replicate, zero, suc, ap, subst, sym, ◌∙◌, inl, inr, arith}
-use Rattle.std.proofs.lemmas.Bool.{cases_eq, cases_lt}
-use Rattle.std.proofs.lemmas.List.{drop-drop, drop_at, get_or_default, get_or_past, get_or-drop, length-replicate, length-take, get_or-replicate, same_lists, take_more}
-use Rattle.std.proofs.lemmas.List.FromFn.{get_or-map-range_with_len, length-map-range_with_len}
-use Rattle.byteorder.specs.Endian.{IsRead, little_number}
-use Rattle.byteorder.specs.Numbers.{little_number-reads_back}
-use Rattle.layout.specs.Bytes.{number}
-use Rattle.layout.specs.Frame.{words_bytes}
-use Rattle.layout.proofs.Numbers.{length-number}
-use Rattle.seal.specs.Damage.{DifferInBurst, IsRow, differences}
-use Rattle.seal.proofs.Bursts.{are_bytes, few_differ, same_byte}
-use Rattle.seal.proofs.Runs.{turned_round}
-use Rattle.sealed_layout.specs.Gate.{HasNumber, copies, gate_bytes, gate_numbers}
-use Rattle.sealed_layout.specs.GateLaws.{BurstsKeepNumbers, ClosedGatesHaveNone, GatesHaveOneNumber, IsWhole, WrittenGatesHaveTheirNumber}
+use Rattle.sealed_layout.proofs.Names.{ℕ, List, [], length, get_or, take, drop, replicate, zero, suc, ap, subst, sym, inl, inr, arith, cases_eq, cases_lt}
+use Rattle.sealed_layout.proofs.Names.{drop-drop, drop_at, get_or_default, get_or_past, get_or-drop, length-replicate, length-take, get_or-replicate}
+use Rattle.sealed_layout.proofs.Names.{same_lists, take_more, get_or-map-range_with_len, length-map-range_with_len, IsRead, little_number}
+use Rattle.sealed_layout.proofs.Names.{little_number-reads_back, number, words_bytes, length-number, DifferInBurst, IsRow, differences, are_bytes, few_differ}
+use Rattle.sealed_layout.proofs.Names.{same_byte, turned_round, HasNumber, copies, gate_bytes, gate_numbers, BurstsKeepNumbers, ClosedGatesHaveNone}
+use Rattle.sealed_layout.proofs.Names.{GatesHaveOneNumber, IsWhole, WrittenGatesHaveTheirNumber}
+use Rattle.std.proofs.Common.{◌≡◌, ◌+◌, ◌*◌, ◌/◌, ◌^◌, ◌<◌, ◌≤◌, ◌∷◌, ◌++◌, ◌∙◌}
 use Rattle.sealed_layout.proofs.Copies.{copies_all, copies_here, copies_later, copies_most, copies_of_two, copies_push, copies_stay}
 
 pub length_numbers : (bytes : List ℕ) → length (gate_numbers bytes) ≡ 64
@@ -36,10 +29,12 @@ numbers_read bytes into size read =
 one_more : (n : ℕ) (xs : List ℕ) (i : ℕ) → i < length xs → copies n (take (i + 1) xs) ≡ copies n (take i xs) + copies n (get_or xs i 0 ∷ [])
 one_more n xs i lt = ap (λ (ys : List ℕ). copies n ys) (take_more xs i 0 lt) ∙ copies_push n (get_or xs i 0) (take i xs)
 
-pub counted_here : (n : ℕ) (xs : List ℕ) (i count : ℕ) → i < length xs → count ≡ copies n (take i xs) → get_or xs i 0 ≡ n → count + 1 ≡ copies n (take (i + 1) xs)
+pub counted_here : (n : ℕ) (xs : List ℕ) (i count : ℕ) → i < length xs → count ≡ copies n (take i xs) → get_or xs i 0 ≡ n →
+    count + 1 ≡ copies n (take (i + 1) xs)
 counted_here n xs i count lt is here = omega (arith, is, one_more n xs i lt, copies_here n (get_or xs i 0) [] here)
 
-pub counted_not : (n : ℕ) (xs : List ℕ) (i count : ℕ) → i < length xs → count ≡ copies n (take i xs) → (get_or xs i 0 ≡ n → ⊥) → count ≡ copies n (take (i + 1) xs)
+pub counted_not : (n : ℕ) (xs : List ℕ) (i count : ℕ) → i < length xs → count ≡ copies n (take i xs) → (get_or xs i 0 ≡ n → ⊥) →
+    count ≡ copies n (take (i + 1) xs)
 counted_not n xs i count lt is other = omega (arith, is, one_more n xs i lt, copies_later n (get_or xs i 0) [] other)
 
 pub few_counted : (n : ℕ) (xs : List ℕ) (i count : ℕ) → i < length xs → count ≡ copies n (take i xs) → count < length xs
@@ -75,7 +70,8 @@ copy_there n (suc count) (suc k) fits lt = ap (little_number 8) (one_copy_less n
 all_copies : (n : ℕ) → n < 2 ^ 64 → gate_numbers (gate_bytes n) ≡ replicate 64 n
 unfolding gate_bytes
 all_copies n fits =
-    same_lists (gate_numbers (words_bytes (replicate 64 n))) (replicate 64 n) (length_numbers (words_bytes (replicate 64 n)) ∙ sym (length-replicate 64 n)) (λ k d lt.
+    same_lists (gate_numbers (words_bytes (replicate 64 n))) (replicate 64 n)
+    (length_numbers (words_bytes (replicate 64 n)) ∙ sym (length-replicate 64 n)) (λ k d lt.
     let inside : k < 64 = omega (arith, lt, length_numbers (words_bytes (replicate 64 n))) in
     get_or_default (gate_numbers (words_bytes (replicate 64 n))) k d 0 lt ∙ number_there (words_bytes (replicate 64 n)) k inside
     ∙ copy_there n 64 k fits inside ∙ sym (get_or-replicate 64 k n d inside))

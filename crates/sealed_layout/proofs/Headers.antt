@@ -1,20 +1,10 @@
 -- Headers as numbers.
-use Rattle.std.proofs.Common.{◌≡◌, ℕ, ◌^◌, ◌<◌, ◌⊎◌, List, [], ◌∷◌, ◌++◌, ◌∙◌, length, get_or, take, drop, ap, sym, arith}
+use Rattle.sealed_layout.proofs.Names.{ℕ, List, [], length, get_or, take, drop, ap, sym, arith, nat_tests, All-cons, All-nil, drop_at, length-take-le, take_at}
+use Rattle.sealed_layout.proofs.Names.{role_number, Role, ObjectHeader, sums_of, Sums, SealedHeader, PageHeader, header_from, header_numbers, IsPageHeader}
+use Rattle.sealed_layout.proofs.Names.{page_header_bytes, page_header_from, page_header_numbers, AreWords}
+use Rattle.std.proofs.Common.{◌≡◌, ◌^◌, ◌<◌, ◌⊎◌, ◌∷◌, ◌++◌, ◌∙◌}
 use Rattle.std.specs.Prelude.{◌==◌, if◌then◌else◌}
-use Rattle.std.proofs.lemmas.Bool.Decides.{nat_tests}
-use Rattle.std.proofs.lemmas.List.Elements.{All-cons, All-nil}
-use Rattle.std.proofs.lemmas.List.{drop_at, length-take-le, take_at}
-use Rattle.model.specs.Object.{role_number}
-use Rattle.model.specs.declared.object.Role.{Role}
 use Rattle.model.specs.declared.object.Role.TheVariants as role
-use Rattle.model.specs.declared.frame.ObjectHeader.{ObjectHeader}
-use Rattle.seal.specs.Sums.{sums_of}
-use Rattle.seal.specs.declared.sums.Sums.{Sums}
-use Rattle.sealed_layout.specs.declared.header.SealedHeader.{SealedHeader}
-use Rattle.sealed_layout.specs.declared.page.PageHeader.{PageHeader}
-use Rattle.sealed_layout.specs.Header.{header_from, header_numbers}
-use Rattle.sealed_layout.specs.Page.{IsPageHeader, page_header_bytes, page_header_from, page_header_numbers}
-use Rattle.sealed_layout.specs.Sector.{AreWords}
 use Rattle.sealed_layout.proofs.Sectors.{listed, listing}
 
 -- numbers with the magic are those of a header
@@ -53,7 +43,8 @@ pub page_fits : (h : PageHeader) → h.object.allocations < 2 ^ 64 → h.object.
     → h.words.c < 2 ^ 64 → AreWords (page_header_numbers h)
 page_fits h allocations calls owner a b c =
     let Fits : ℕ → Type 0 = λ n. n < 2 ^ 64 in
-    All-cons Fits (role_number h.object.role) (h.object.allocations ∷ h.object.calls ∷ h.object.owner ∷ h.words.a ∷ h.words.b ∷ h.words.c ∷ []) (role_small h.object.role) (
+    All-cons Fits (role_number h.object.role) (h.object.allocations ∷ h.object.calls ∷ h.object.owner ∷ h.words.a ∷ h.words.b ∷ h.words.c ∷ [])
+    (role_small h.object.role) (
     All-cons Fits h.object.allocations (h.object.calls ∷ h.object.owner ∷ h.words.a ∷ h.words.b ∷ h.words.c ∷ []) allocations (
     All-cons Fits h.object.calls (h.object.owner ∷ h.words.a ∷ h.words.b ∷ h.words.c ∷ []) calls (
     All-cons Fits h.object.owner (h.words.a ∷ h.words.b ∷ h.words.c ∷ []) owner (

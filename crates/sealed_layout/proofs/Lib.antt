@@ -1,3 +1,4 @@
+mod Names
 pub mod Copies
 pub mod Gates
 pub mod Sectors

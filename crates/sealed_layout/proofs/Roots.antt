@@ -1,11 +1,8 @@
 -- The root, and what it shows.
-use Rattle.std.proofs.Common.{◌≡◌, ℕ, ◌+◌, ◌-◌, ◌*◌, ◌/◌, ◌%◌, ◌^◌, ◌<◌, ◌≤◌, List, [], ◌∷◌, ◌++◌, ◌∙◌, zero, suc, ap, sym, refl, inl, inr, arith}
-use Rattle.std.proofs.Math.Nat.{add-mul, mul-add, mul_assoc, mul_comm, pow-suc}
-use Rattle.std.proofs.lemmas.Bool.{cases_lt}
-use Rattle.seal.specs.declared.sums.Sums.{Sums}
-use Rattle.seal.proofs.Weights.{same_sums}
-use Rattle.sealed_layout.specs.Root.{Unit, directory_sums, root_of, seals_total, units_total, weighed}
-use Rattle.sealed_layout.specs.RootLaws.{OneOldSectorIsSeen, OneOldUnitIsSeen, UnitsHaveNoOrder, unit_of}
+use Rattle.sealed_layout.proofs.Names.{ℕ, List, [], zero, suc, ap, sym, refl, inl, inr, arith, add-mul, mul-add, mul_assoc, mul_comm, pow-suc, cases_lt, Sums}
+use Rattle.sealed_layout.proofs.Names.{same_sums, Unit, directory_sums, root_of, seals_total, units_total, weighed, OneOldSectorIsSeen, OneOldUnitIsSeen}
+use Rattle.sealed_layout.proofs.Names.{UnitsHaveNoOrder, unit_of}
+use Rattle.std.proofs.Common.{◌≡◌, ◌+◌, ◌-◌, ◌*◌, ◌/◌, ◌%◌, ◌^◌, ◌<◌, ◌≤◌, ◌∷◌, ◌++◌, ◌∙◌}
 
 -- ---- one unit more or less
 

@@ -1,19 +1,10 @@
 -- Sealed sectors of numbers.
-use Rattle.std.proofs.Common.{◌≡◌, ℕ, ◌+◌, ◌-◌, ◌*◌, ◌≤◌, List, [], ◌∷◌, ◌++◌, length, get_or, take, drop, zero, suc, ap, sym, refl, ◌∙◌, arith}
-use Rattle.std.proofs.Math.Seq.{take-add, drop-cons}
-use Rattle.std.proofs.lemmas.Bool.Decides.{nat_tests}
-use Rattle.std.proofs.lemmas.List.{append-nil, append_assoc, drop_all, replicate-append-replicate, drop_at, get_or-drop, get_or_default, length-append, length-drop, length-take-le, take-append-drop, take_all, take_at, take_more}
-use Rattle.std.proofs.lemmas.List.Concat.{flat_map-append}
-use Rattle.byteorder.specs.Endian.{IsRead, little_number}
-use Rattle.layout.specs.Bytes.{number, zeros}
-use Rattle.layout.specs.Frame.{words_bytes}
-use Rattle.layout.proofs.Clusters.{length-zeros}
-use Rattle.layout.proofs.Numbers.{IsBytes, AllFit, drop_filled, length-number, number_read, stream, stream_splits}
-use Rattle.seal.specs.Seal.{IsSealed, body_of, seal_of}
-use Rattle.seal.specs.Sums.{sums_bytes, sums_of}
-use Rattle.seal.specs.declared.sums.Sums.{Sums}
-use Rattle.seal.proofs.Spelled.{length_sums}
-use Rattle.sealed_layout.specs.Sector.{AreWords, sealed, sector_bytes}
+use Rattle.sealed_layout.proofs.Names.{ℕ, List, [], length, get_or, take, drop, zero, suc, ap, sym, refl, arith, take-add, drop-cons, nat_tests, append-nil}
+use Rattle.sealed_layout.proofs.Names.{append_assoc, drop_all, replicate-append-replicate, drop_at, get_or-drop, get_or_default, length-append, length-drop}
+use Rattle.sealed_layout.proofs.Names.{length-take-le, take-append-drop, take_all, take_at, take_more, flat_map-append, IsRead, little_number, number, zeros}
+use Rattle.sealed_layout.proofs.Names.{words_bytes, length-zeros, IsBytes, AllFit, drop_filled, length-number, number_read, stream, stream_splits, IsSealed}
+use Rattle.sealed_layout.proofs.Names.{body_of, seal_of, sums_bytes, sums_of, Sums, length_sums, AreWords, sealed, sector_bytes}
+use Rattle.std.proofs.Common.{◌≡◌, ◌+◌, ◌-◌, ◌*◌, ◌≤◌, ◌∷◌, ◌++◌, ◌∙◌}
 
 -- ---- seals
 

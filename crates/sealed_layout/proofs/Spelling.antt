@@ -1,15 +1,11 @@
 -- Given bytes spell one value.
-use Rattle.std.proofs.Common.{◌≡◌, ℕ, ◌≤◌, List, [], ◌∷◌, ◌∙◌, length, get_or, drop, ap, refl, sym, arith}
-use Rattle.layout.specs.declared.directory.Entry.{Entry}
-use Rattle.layout.specs.declared.extent.HomeRange.{HomeRange}
-use Rattle.seal.proofs.Damaged.{bursts_break}
-use Rattle.sealed_layout.specs.Directory.{entries_bytes, entry_numbers}
-use Rattle.sealed_layout.specs.Header.{header_bytes, header_from, header_numbers}
-use Rattle.sealed_layout.specs.Laws.{ClustersShowBursts, SectorsShowBursts, SpellOneHeader, SpellOnePageHeader, SpellOneSector, SpellOneSuperblock}
-use Rattle.sealed_layout.specs.Page.{page_header_bytes, page_header_from, page_header_numbers}
+use Rattle.sealed_layout.proofs.Names.{ℕ, List, [], length, get_or, drop, ap, refl, sym, arith, Entry, HomeRange, bursts_break, entries_bytes, entry_numbers}
+use Rattle.sealed_layout.proofs.Names.{header_bytes, header_from, header_numbers, ClustersShowBursts, SectorsShowBursts, SpellOneHeader, SpellOnePageHeader}
+use Rattle.sealed_layout.proofs.Names.{SpellOneSector, SpellOneSuperblock, page_header_bytes, page_header_from, page_header_numbers, range_numbers, row_from}
+use Rattle.sealed_layout.proofs.Names.{superblock_bytes, superblock_numbers}
+use Rattle.std.proofs.Common.{◌≡◌, ◌≤◌, ◌∷◌, ◌∙◌}
 use Rattle.sealed_layout.proofs.Entries.{entry_of, length_numbers, numbers_fit}
 use Rattle.sealed_layout.proofs.Headers.{page_back}
-use Rattle.sealed_layout.specs.Superblock.{range_numbers, row_from, superblock_bytes, superblock_numbers}
 use Rattle.sealed_layout.proofs.Sectors.{one_sector, sector_sealed}
 use Rattle.sealed_layout.proofs.Superblocks.{length_ranges, range_of, row_back}
 

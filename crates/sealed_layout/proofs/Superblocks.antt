@@ -1,13 +1,10 @@
 -- Superblocks as numbers.
-use Rattle.std.proofs.Common.{◌≡◌, ℕ, ◌+◌, ◌-◌, ◌*◌, ◌/◌, ◌%◌, ◌^◌, ◌<◌, ◌≤◌, List, [], ◌∷◌, ◌++◌, ◌∙◌, length, get_or, set, take, drop, ap, refl, sym, arith, zero, suc}
-use Rattle.std.proofs.lemmas.List.{append-nil, drop_all, length-drop, length-set, take_all, take_at, take_more, take_more_set}
+use Rattle.sealed_layout.proofs.Names.{ℕ, List, [], length, get_or, set, take, drop, ap, refl, sym, arith, zero, suc, append-nil, drop_all, length-drop}
+use Rattle.sealed_layout.proofs.Names.{length-set, take_all, take_at, take_more, take_more_set, HomeRange, SuperblockRow, range_numbers, row_from}
+use Rattle.sealed_layout.proofs.Names.{superblock_numbers, drop-cons, nat_tests}
+use Rattle.std.proofs.Common.{◌≡◌, ◌+◌, ◌-◌, ◌*◌, ◌/◌, ◌%◌, ◌^◌, ◌<◌, ◌≤◌, ◌∷◌, ◌++◌, ◌∙◌}
 use borrow.Rule.Slice.PartMut.{put_mid}
-use Rattle.layout.specs.declared.extent.HomeRange.{HomeRange}
-use Rattle.sealed_layout.specs.declared.superblock.SuperblockRow.{SuperblockRow}
-use Rattle.sealed_layout.specs.Superblock.{range_numbers, row_from, superblock_numbers}
 use Rattle.sealed_layout.proofs.Sectors.{listed}
-use Rattle.std.proofs.Math.Seq.{drop-cons}
-use Rattle.std.proofs.lemmas.Bool.Decides.{nat_tests}
 
 -- ---- ranges
 
@@ -81,7 +78,8 @@ front_listed : (n at : ℕ) (ns : List ℕ) → at + n ≤ length ns → drop at
 front_listed zero at ns room = ap (λ (m : ℕ). drop m ns) (omega arith)
 front_listed (suc n) at ns room =
     drop-cons ns at 0 (omega (arith, room))
-    ∙ ap (λ (t : List ℕ). get_or ns at 0 ∷ t) (front_listed n (suc at) ns (omega (arith, room)) ∙ ap (λ (m : ℕ). listed (suc at) n ns ++ drop m ns) (omega arith))
+    ∙ ap (λ (t : List ℕ). get_or ns at 0 ∷ t)
+    (front_listed n (suc at) ns (omega (arith, room)) ∙ ap (λ (m : ℕ). listed (suc at) n ns ++ drop m ns) (omega arith))
 
 -- numbers with the magic and the version are those of a superblock
 pub row_read : (ns : List ℕ) (rs : List HomeRange) → length ns ≡ 32 → get_or ns 0 0 ≡ 0x5450_4b43_534f_5245 → get_or ns 1 0 % 2 ^ 32 ≡ 3

@@ -18,5 +18,5 @@ ClosedGatesHaveNone = (n : ℕ) → HasNumber (gate_bytes 0) n → ⊥
 
 -- a whole gate keeps its number, or has none, whatever some of its bits in a row become
 abbrev pub BurstsKeepNumbers : Type 0
-BurstsKeepNumbers = (i : ℕ) (x y : List ℕ) (n : ℕ) → IsRow x → IsRow y → length x ≡ 512 → DifferInBurst i x y → IsWhole x →
-    HasNumber x n ↔ HasNumber y n
+BurstsKeepNumbers = (i : ℕ) (x y : List ℕ) (n : ℕ) → IsRow x → IsRow y → length x ≡ 512 → DifferInBurst i x y →
+    IsWhole x → HasNumber x n ↔ HasNumber y n

@@ -15,24 +15,29 @@ use Rattle.sealed_layout.specs.Sector.{AreWords, sector_bytes}
 use Rattle.sealed_layout.specs.Superblock.{superblock_bytes, superblock_numbers}
 
 abbrev pub SpellOneHeader : Type 0
-SpellOneHeader = (g h : SealedHeader) → AreWords (header_numbers g) → AreWords (header_numbers h) → header_bytes g ≡ header_bytes h → g ≡ h
+SpellOneHeader = (g h : SealedHeader) → AreWords (header_numbers g) → AreWords (header_numbers h) →
+    header_bytes g ≡ header_bytes h → g ≡ h
 
 abbrev pub SpellOnePageHeader : Type 0
-SpellOnePageHeader = (age : ℕ) (g h : PageHeader) → IsPageHeader age g → IsPageHeader age h → AreWords (page_header_numbers g) →
-    AreWords (page_header_numbers h) → page_header_bytes g ≡ page_header_bytes h → g ≡ h
+SpellOnePageHeader = (age : ℕ) (g h : PageHeader) → IsPageHeader age g → IsPageHeader age h →
+    AreWords (page_header_numbers g) → AreWords (page_header_numbers h) →
+    page_header_bytes g ≡ page_header_bytes h → g ≡ h
 
 abbrev pub SpellOneSector : Type 0
 SpellOneSector = (ds es : List Entry) → length ds ≡ length es → length es ≤ 30 → AllFitting ds → AllFitting es →
     entries_bytes ds ≡ entries_bytes es → ds ≡ es
 
 abbrev pub SpellOneSuperblock : Type 0
-SpellOneSuperblock = (p q : SuperblockRow) (qs rs : List HomeRange) → length qs ≡ 8 → length rs ≡ 8 → AreWords (superblock_numbers p qs) →
-    AreWords (superblock_numbers q rs) → superblock_bytes p qs ≡ superblock_bytes q rs → (p ≡ q) × (qs ≡ rs)
+SpellOneSuperblock = (p q : SuperblockRow) (qs rs : List HomeRange) → length qs ≡ 8 → length rs ≡ 8 →
+    AreWords (superblock_numbers p qs) → AreWords (superblock_numbers q rs) →
+    superblock_bytes p qs ≡ superblock_bytes q rs → (p ≡ q) × (qs ≡ rs)
 
--- of two rows that differ in a burst one at most is a sector of numbers: of a header, a directory, a page or a superblock
+-- of two rows that differ in a burst one at most is a sector of numbers: of a superblock, header, directory or page
 abbrev pub SectorsShowBursts : Type 0
-SectorsShowBursts = (i : ℕ) (x y ms ns : List ℕ) → IsRow x → IsRow y → DifferInBurst i x y → x ≡ sector_bytes ms → y ≡ sector_bytes ns → x ≡ y
+SectorsShowBursts = (i : ℕ) (x y ms ns : List ℕ) → IsRow x → IsRow y → DifferInBurst i x y →
+    x ≡ sector_bytes ms → y ≡ sector_bytes ns → x ≡ y
 
 -- and one at most is a cluster
 abbrev pub ClustersShowBursts : Type 0
-ClustersShowBursts = (i : ℕ) (x y : List ℕ) (m n : ℕ) → IsRow x → IsRow y → DifferInBurst i x y → IsCluster m x → IsCluster n y → x ≡ y
+ClustersShowBursts = (i : ℕ) (x y : List ℕ) (m n : ℕ) → IsRow x → IsRow y → DifferInBurst i x y →
+    IsCluster m x → IsCluster n y → x ≡ y

@@ -11,7 +11,8 @@ use Rattle.sealed_layout.specs.Sector.{sector_bytes}
 -- the header sector as numbers of 8 bytes: the frame's header, and the sums of the words
 abbrev pub page_header_numbers : PageHeader → List ℕ
 page_header_numbers h =
-    role_number h.object.role ∷ h.object.allocations ∷ h.object.calls ∷ h.object.owner ∷ h.words.a ∷ h.words.b ∷ h.words.c ∷ []
+    role_number h.object.role ∷ h.object.allocations ∷ h.object.calls ∷ h.object.owner
+    ∷ h.words.a ∷ h.words.b ∷ h.words.c ∷ []
 
 unfoldable pub page_header_bytes : PageHeader → List ℕ
 page_header_bytes h = sector_bytes (page_header_numbers h)

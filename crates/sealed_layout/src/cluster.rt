@@ -14,8 +14,8 @@ const PLACE_BYTES: usize = 800;
 // Where the seal of a cluster begins.
 const CLUSTER_SEAL_AT: usize = 4072;
 
-/// Seals the 4096 bytes of a cluster with the frames of `nodes` nodes, at most 5. The frames stay; the bytes between them
-/// and the seal are set to 0.
+/// Seals the 4096 bytes of a cluster with the frames of `nodes` nodes, at most 5. The frames stay; the bytes between
+/// them and the seal are set to 0.
 pub fn seal_cluster(cluster: &mut [u8], nodes: u64)
     requires nodes { nodes ≤ 5 }
     requires cluster { length cluster.old ≡ 4096 }

@@ -56,7 +56,8 @@ pub fn encode_entries(entries: &[Entry], into: &mut [u8])
 pub fn decode_entries(bytes: &[u8], into: &mut [Entry]) -> Option<Sums>
     requires size { length bytes.now ≡ 512 }
     requires entries { length into.old ≤ 30 }
-    ensures some { IfSome result (λ seal. (bytes.now ≡ entries_bytes into.new) × (seal_of bytes.now ≡ sums_bytes seal)) }
+    ensures some { IfSome result (λ seal. (bytes.now ≡ entries_bytes into.new)
+        × (seal_of bytes.now ≡ sums_bytes seal)) }
     ensures none { IfNone result ((es : List Entry) → length es ≡ length into.old → AllFitting es →
         bytes.now ≡ entries_bytes es → ⊥) }
 {

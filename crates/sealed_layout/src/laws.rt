@@ -1,5 +1,6 @@
 // Laws of the bytes, stated by functions that do nothing.
-ghost use Rattle.sealed_layout.specs.GateLaws.{BurstsKeepNumbers, GatesHaveOneNumber, ClosedGatesHaveNone, WrittenGatesHaveTheirNumber};
+ghost use Rattle.sealed_layout.specs.GateLaws.{BurstsKeepNumbers, GatesHaveOneNumber, ClosedGatesHaveNone};
+ghost use Rattle.sealed_layout.specs.GateLaws.{WrittenGatesHaveTheirNumber};
 ghost use Rattle.sealed_layout.specs.Laws.{ClustersShowBursts, SectorsShowBursts, SpellOneHeader, SpellOnePageHeader};
 ghost use Rattle.sealed_layout.specs.Laws.{SpellOneSector, SpellOneSuperblock};
 ghost use Rattle.sealed_layout.specs.RootLaws.{OneOldSectorIsSeen, OneOldUnitIsSeen, UnitsHaveNoOrder};
@@ -21,15 +22,15 @@ pub fn spell_one_value()
     ensures superblock { SpellOneSuperblock }
 {}
 
-/// A burst of at most 64 bits makes no sector of one structure into another, and no cluster into another. It does nothing:
-/// its contract is the law.
+/// A burst of at most 64 bits makes no sector of one structure into another, and no cluster into another. It does
+/// nothing: its contract is the law.
 pub fn damage_is_seen()
     ensures sector { SectorsShowBursts }
     ensures cluster { ClustersShowBursts }
 {}
 
-/// One unit with another seal changes the root, and one sector of a directory with another seal the directory's sums. The
-/// order of units doesn't matter. It does nothing: its contract is the law.
+/// One unit with another seal changes the root, and one sector of a directory with another seal the directory's sums.
+/// The order of units doesn't matter. It does nothing: its contract is the law.
 pub fn one_old_block_is_seen()
     ensures unit { OneOldUnitIsSeen }
     ensures sector { OneOldSectorIsSeen }

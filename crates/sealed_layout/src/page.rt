@@ -3,7 +3,8 @@ ghost use Rattle.std.specs.Prelude.{◌≡◌, ◌↔◌, ◌++◌, length, take
 ghost use Rattle.model.specs.Object.{role_number};
 ghost use Rattle.seal.specs.Sums.{sums_of};
 ghost use Rattle.sealed_layout.specs.declared.page.PageHeader.{PageHeader};
-ghost use Rattle.sealed_layout.specs.Page.{HasWords, IsPage, IsPageHeader, page_header_bytes, page_header_from, page_header_numbers};
+ghost use Rattle.sealed_layout.specs.Page.{HasWords, IsPage, IsPageHeader, page_header_bytes, page_header_from};
+ghost use Rattle.sealed_layout.specs.Page.{page_header_numbers};
 ghost use Rattle.sealed_layout.specs.Sector.{AreWords};
 
 use crate::sector::{decode_sector, encode_sector, is_blank};
@@ -71,8 +72,8 @@ fn page_header_from(numbers: &[u64]) -> PageHeader
     }
 }
 
-/// Reads the 512 bytes of the header sector of a page's frame. Returns `None` if the bytes spell no header that an image
-/// of this age may have at the number of a page. The words aren't checked.
+/// Reads the 512 bytes of the header sector of a page's frame. Returns `None` if the bytes spell no header that an
+/// image of this age may have at the number of a page. The words aren't checked.
 pub fn decode_page_header(bytes: &[u8], age: u64) -> Option<PageHeader>
     requires { length bytes.now ≡ 512 }
     ensures some { IfSome result (λ h. IsPageHeader age h × (bytes.now ≡ page_header_bytes h)) }
@@ -110,8 +111,8 @@ fn has_words(header: PageHeader, words: &[u8]) -> bool
     sums_of(words) == header.words && (!is_free || is_blank(words))
 }
 
-/// Reads the header sector of a page's frame of 4608 bytes, and checks the words by it. Returns `None` if the bytes are no
-/// frame that an image of this age may have at the number of a page.
+/// Reads the header sector of a page's frame of 4608 bytes, and checks the words by it. Returns `None` if the bytes are
+/// no frame that an image of this age may have at the number of a page.
 #[tactic(auto, using(crate::proofs::Headers::front_long))]
 pub fn decode_page(frame: &[u8], age: u64) -> Option<PageHeader>
     requires { length frame.now ≡ 4608 }

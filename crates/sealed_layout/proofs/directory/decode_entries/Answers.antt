@@ -1,8 +1,6 @@
-use Rattle.std.proofs.Common.{ap, arith, length, replicate, sym, ℕ, ◌*◌, ◌∙◌}
-use Rattle.std.proofs.lemmas.Bool.{false≢true}
-use Rattle.std.proofs.lemmas.List.{length-replicate, length-take-le}
-use Rattle.sealed_layout.specs.Directory.{entries_bytes, entry_numbers}
-use Rattle.sealed_layout.specs.Sector.{sector_bytes}
+use Rattle.sealed_layout.proofs.Names.{ap, arith, length, replicate, sym, ℕ, false≢true, length-replicate, length-take-le, entries_bytes, entry_numbers}
+use Rattle.sealed_layout.proofs.Names.{sector_bytes}
+use Rattle.std.proofs.Common.{◌*◌, ◌∙◌}
 use Rattle.sealed_layout.proofs.Entries.{length_numbers, numbers_fit}
 use Rattle.sealed_layout.proofs.Sectors.{seal_read}
 use Rattle.sealed_layout.proofs.directory.decode_entries.Goals as goal

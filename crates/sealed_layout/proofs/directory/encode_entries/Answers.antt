@@ -1,6 +1,5 @@
-use Rattle.std.proofs.Common.{ap, ◌∙◌}
-use Rattle.sealed_layout.specs.Directory.{entries_bytes}
-use Rattle.sealed_layout.specs.Sector.{sector_bytes}
+use Rattle.sealed_layout.proofs.Names.{ap, entries_bytes, sector_bytes}
+use Rattle.std.proofs.Common.{◌∙◌}
 use Rattle.sealed_layout.proofs.directory.encode_entries.Goals as goal
 
 pub returns : goal.returns

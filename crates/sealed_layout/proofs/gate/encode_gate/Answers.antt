@@ -1,6 +1,4 @@
-use Rattle.layout.specs.Bytes.{number}
-use Rattle.layout.specs.Frame.{words_bytes}
-use Rattle.sealed_layout.specs.Gate.{gate_bytes}
+use Rattle.sealed_layout.proofs.Names.{number, words_bytes, gate_bytes}
 use Rattle.sealed_layout.proofs.gate.encode_gate.Goals as goal
 
 pub returns : goal.returns

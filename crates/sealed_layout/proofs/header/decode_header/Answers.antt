@@ -1,7 +1,5 @@
-use Rattle.std.proofs.Common.{ap, refl, sym, List, ℕ, ◌≡◌, ◌∙◌}
-use Rattle.std.proofs.lemmas.Bool.{false≢true}
-use Rattle.sealed_layout.specs.Header.{header_bytes, header_from, header_numbers}
-use Rattle.sealed_layout.specs.Sector.{sector_bytes}
+use Rattle.sealed_layout.proofs.Names.{ap, refl, sym, List, ℕ, false≢true, header_bytes, header_from, header_numbers, sector_bytes}
+use Rattle.std.proofs.Common.{◌≡◌, ◌∙◌}
 use Rattle.sealed_layout.proofs.Headers.{header_magic, header_read}
 use Rattle.sealed_layout.proofs.header.decode_header.Goals as goal
 use Rattle.sealed_layout.proofs.header.decode_header.Goals.{else-is_sector-via-then-is_sector+else-numbers-eq-HEADER_MAGIC}

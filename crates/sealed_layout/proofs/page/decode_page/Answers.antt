@@ -1,8 +1,5 @@
-use Rattle.std.proofs.Common.{arith, subst, sym, List, ℕ, take, drop, length, ◌≡◌, ◌-◌, ◌∙◌}
-use Rattle.std.proofs.lemmas.Bool.{false≢true}
-use Rattle.std.proofs.lemmas.List.{take_rest}
-use Rattle.sealed_layout.specs.declared.page.PageHeader.{PageHeader}
-use Rattle.sealed_layout.specs.Page.{HasWords}
+use Rattle.sealed_layout.proofs.Names.{arith, subst, sym, List, ℕ, take, drop, length, false≢true, take_rest, PageHeader, HasWords}
+use Rattle.std.proofs.Common.{◌≡◌, ◌-◌, ◌∙◌}
 use Rattle.sealed_layout.proofs.Headers.{page_fits}
 use Rattle.sealed_layout.proofs.Spelling.{one_page_header}
 use Rattle.sealed_layout.proofs.page.decode_page.Goals as goal

@@ -1,9 +1,6 @@
-use Rattle.std.proofs.Common.{ap, refl, subst, sym, List, ℕ, ◌≡◌, ◌∙◌}
-use Rattle.std.proofs.lemmas.Bool.{false≢true}
-use Rattle.model.specs.Object.{role_number}
-use Rattle.sealed_layout.specs.declared.page.PageHeader.{PageHeader}
-use Rattle.sealed_layout.specs.Page.{IsPageHeader, page_header_bytes, page_header_from, page_header_numbers}
-use Rattle.sealed_layout.specs.Sector.{sector_bytes}
+use Rattle.sealed_layout.proofs.Names.{ap, refl, subst, sym, List, ℕ, false≢true, role_number, PageHeader, IsPageHeader, page_header_bytes, page_header_from}
+use Rattle.sealed_layout.proofs.Names.{page_header_numbers, sector_bytes}
+use Rattle.std.proofs.Common.{◌≡◌, ◌∙◌}
 use Rattle.sealed_layout.proofs.Headers.{page_found, page_read}
 use Rattle.sealed_layout.proofs.page.decode_page_header.Goals as goal
 use Rattle.sealed_layout.proofs.page.decode_page_header.Goals.{else-is_sector-via-then-is_sector+then-number-numbers+else-is_page_header}

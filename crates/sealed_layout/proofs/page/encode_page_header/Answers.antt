@@ -1,6 +1,5 @@
-use Rattle.std.proofs.Common.{[], ap, ℕ, ◌∷◌, ◌∙◌}
-use Rattle.sealed_layout.specs.Page.{page_header_bytes}
-use Rattle.sealed_layout.specs.Sector.{sector_bytes}
+use Rattle.sealed_layout.proofs.Names.{[], ap, ℕ, page_header_bytes, sector_bytes}
+use Rattle.std.proofs.Common.{◌∷◌, ◌∙◌}
 use Rattle.sealed_layout.proofs.page.encode_page_header.Goals as goal
 
 pub returns : goal.returns

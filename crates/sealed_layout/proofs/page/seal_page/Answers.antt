@@ -1,6 +1,5 @@
-use Rattle.std.proofs.Common.{ap, ◌∙◌}
-use Rattle.std.proofs.lemmas.List.{take_rest}
-use Rattle.seal.specs.Sums.{sums_of}
+use Rattle.sealed_layout.proofs.Names.{ap, take_rest, sums_of}
+use Rattle.std.proofs.Common.{◌∙◌}
 use Rattle.sealed_layout.proofs.Headers.{front_long, page_sealed, words_stay}
 use Rattle.sealed_layout.proofs.page.seal_page.Goals as goal
 

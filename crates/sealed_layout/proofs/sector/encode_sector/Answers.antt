@@ -1,6 +1,5 @@
-use Rattle.std.proofs.Common.{List, ℕ, ap, drop, length, ◌*◌, ◌++◌, ◌∙◌}
-use Rattle.layout.specs.Bytes.{number, zeros}
-use Rattle.layout.specs.Frame.{words_bytes}
+use Rattle.sealed_layout.proofs.Names.{List, ℕ, ap, drop, length, number, zeros, words_bytes}
+use Rattle.std.proofs.Common.{◌*◌, ◌++◌, ◌∙◌}
 use Rattle.sealed_layout.proofs.Sectors.{sector_written}
 use Rattle.sealed_layout.proofs.sector.encode_sector.Goals as goal
 

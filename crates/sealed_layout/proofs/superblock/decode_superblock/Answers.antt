@@ -1,10 +1,6 @@
-use Rattle.std.proofs.Common.{ap, arith, drop, sym, List, ℕ, ◌<◌, ◌≡◌, ◌^◌, ◌/◌, ◌∙◌, get_or, length}
-use Rattle.std.proofs.lemmas.Bool.{false≢true}
-use Rattle.std.proofs.lemmas.List.{length-drop, take_all}
-use Rattle.layout.specs.declared.extent.HomeRange.{HomeRange}
-use Rattle.sealed_layout.specs.declared.superblock.SuperblockRow.{SuperblockRow}
-use Rattle.sealed_layout.specs.Sector.{sector_bytes}
-use Rattle.sealed_layout.specs.Superblock.{range_numbers, row_from, superblock_bytes, superblock_numbers}
+use Rattle.sealed_layout.proofs.Names.{ap, arith, drop, sym, List, ℕ, get_or, length, false≢true, length-drop, take_all, HomeRange, SuperblockRow, sector_bytes}
+use Rattle.sealed_layout.proofs.Names.{range_numbers, row_from, superblock_bytes, superblock_numbers}
+use Rattle.std.proofs.Common.{◌<◌, ◌≡◌, ◌^◌, ◌/◌, ◌∙◌}
 use Rattle.sealed_layout.proofs.Superblocks.{length_ranges, row_magic, row_read, row_version, used_small}
 use Rattle.sealed_layout.proofs.superblock.decode_superblock.Goals as goal
 use Rattle.sealed_layout.proofs.superblock.decode_superblock.Goals.{else-is_sector-via-then-is_sector+then-numbers-eq-SUPERBLOCK_MAGIC+else-numbers-eq-VERSION}
@@ -16,7 +12,8 @@ unfolding superblock_bytes
 returns-then-numbers-eq-VERSION-clause-some c =
     let ns : List ℕ = c.decode_sector-is_sector.new.into in
     let rs : List HomeRange = c.take_ranges.new.into in
-    let ranges : drop 8 ns ≡ range_numbers rs = sym (take_all 24 (drop 8 ns) (omega (arith, length-drop 8 ns, c.decode_sector-is_sector.ensures.size))) ∙ c.take_ranges.ensures in
+    let ranges : drop 8 ns ≡ range_numbers rs =
+    sym (take_all 24 (drop 8 ns) (omega (arith, length-drop 8 ns, c.decode_sector-is_sector.ensures.size))) ∙ c.take_ranges.ensures in
     let read : ns ≡ superblock_numbers (row_from ns) rs =
     row_read ns rs c.decode_sector-is_sector.ensures.size c.if-numbers-eq-SUPERBLOCK_MAGIC.true c.if-numbers-eq-VERSION.true ranges in
     let second : get_or ns 1 0 < 2 ^ 64 = c.decode_sector-is_sector.ensures.fits 1 0 (omega (arith, c.decode_sector-is_sector.ensures.size)) in

@@ -1,6 +1,5 @@
-use Rattle.std.proofs.Common.{ap, ◌∙◌}
-use Rattle.sealed_layout.specs.Sector.{sector_bytes}
-use Rattle.sealed_layout.specs.Superblock.{superblock_bytes}
+use Rattle.sealed_layout.proofs.Names.{ap, sector_bytes, superblock_bytes}
+use Rattle.std.proofs.Common.{◌∙◌}
 use Rattle.sealed_layout.proofs.superblock.encode_superblock.Goals as goal
 
 pub returns : goal.returns

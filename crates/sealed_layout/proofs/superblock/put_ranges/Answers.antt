@@ -1,5 +1,4 @@
-use Rattle.std.proofs.Common.{rules}
-use Rattle.std.proofs.lemmas.List.{get_or_default}
+use Rattle.sealed_layout.proofs.Names.{rules, get_or_default}
 use Rattle.sealed_layout.proofs.Superblocks.{all_ranges, range_put}
 use Rattle.sealed_layout.proofs.superblock.put_ranges.Goals as goal
 
