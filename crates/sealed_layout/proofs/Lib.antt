@@ -8,3 +8,4 @@ pub mod Clusters
 pub mod Spelling
 pub mod Superblocks
 pub mod Roots
+pub mod Zeros

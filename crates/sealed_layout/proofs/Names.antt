@@ -14,9 +14,9 @@ pub use Rattle.model.specs.Object.{role_number}
 pub use Rattle.model.specs.declared.frame.ObjectHeader.{ObjectHeader}
 pub use Rattle.model.specs.declared.object.Role.{Role}
 pub use Rattle.seal.proofs.Bursts.{are_bytes, few_differ, same_byte}
-pub use Rattle.seal.proofs.Damaged.{bursts_break}
+pub use Rattle.seal.proofs.Damaged.{bursts_break, row_words, zeros_sealed}
 pub use Rattle.seal.proofs.Runs.{turned_round}
-pub use Rattle.seal.proofs.Spelled.{length_sums}
+pub use Rattle.seal.proofs.Spelled.{length_sums, one_spelling, zero_bytes}
 pub use Rattle.seal.proofs.Weights.{same_sums}
 pub use Rattle.seal.specs.Damage.{DifferInBurst, IsRow, differences}
 pub use Rattle.seal.specs.Seal.{IsSealed, body_of, seal_of}
@@ -27,12 +27,12 @@ pub use Rattle.std.proofs.Math.Nat.{add-mul, mul-add, mul_assoc, mul_comm, pow-s
 pub use Rattle.std.proofs.Math.Seq.{drop-cons, take-add}
 pub use Rattle.std.proofs.lemmas.Bool.{cases_eq, cases_lt, false≢true}
 pub use Rattle.std.proofs.lemmas.Bool.Decides.{nat_tests}
-pub use Rattle.std.proofs.lemmas.List.{append-nil, append_assoc, drop-drop, drop-take, drop_all, drop_at, get_or-drop, get_or-replicate, get_or_default}
-pub use Rattle.std.proofs.lemmas.List.{get_or_past, length-append, length-drop, length-replicate, length-set, length-take, length-take-le}
+pub use Rattle.std.proofs.lemmas.List.{append-nil, append_assoc, drop-drop, drop-replicate, drop-take, drop_all, drop_at, get_or-drop, get_or-replicate}
+pub use Rattle.std.proofs.lemmas.List.{get_or_default, get_or_past, length-append, length-drop, length-replicate, length-set, length-take, length-take-le}
 pub use Rattle.std.proofs.lemmas.List.{replicate-append-replicate, same_lists, take-append-drop, take-replicate, take-take, take_all, take_at, take_more}
 pub use Rattle.std.proofs.lemmas.List.{take_more_set, take_rest}
 pub use Rattle.std.proofs.lemmas.List.Concat.{flat_map-append}
-pub use Rattle.std.proofs.lemmas.List.Elements.{All-cons, All-head, All-nil, All-tail}
+pub use Rattle.std.proofs.lemmas.List.Elements.{All-cons, All-head, All-nil, All-replicate, All-tail}
 pub use Rattle.std.proofs.lemmas.List.FromFn.{get_or-map-range_with_len, length-map-range_with_len}
 pub use Rattle.sealed_layout.specs.Cluster.{IsCluster}
 pub use Rattle.sealed_layout.specs.Directory.{entry_numbers}
@@ -43,7 +43,8 @@ pub use Rattle.sealed_layout.specs.GateLaws.{BurstsKeepNumbers, ClosedGatesHaveN
 pub use Rattle.sealed_layout.specs.Header.{header_from, header_numbers}
 unfoldable pub use Rattle.sealed_layout.specs.Header.{header_bytes}
 pub use Rattle.sealed_layout.specs.Laws.{ClustersShowBursts, SectorsShowBursts, SpellOneHeader, SpellOnePageHeader, SpellOneSector, SpellOneSuperblock}
-pub use Rattle.sealed_layout.specs.Page.{HasWords, IsPageHeader, page_header_from, page_header_numbers}
+pub use Rattle.sealed_layout.specs.Laws.{ZerosAreFree}
+pub use Rattle.sealed_layout.specs.Page.{HasWords, IsPage, IsPageHeader, never_used, page_header_from, page_header_numbers}
 unfoldable pub use Rattle.sealed_layout.specs.Page.{page_header_bytes}
 pub use Rattle.sealed_layout.specs.Root.{Unit, seals_total, units_total, weighed}
 unfoldable pub use Rattle.sealed_layout.specs.Root.{directory_sums, root_of}

@@ -1,5 +1,6 @@
 -- Given bytes spell one value, and show damage.
 use Rattle.std.specs.Prelude.{◌≡◌, ℕ, ◌≤◌, List, length}
+use Rattle.layout.specs.Bytes.{zeros}
 use Rattle.layout.specs.Directory.{AllFitting}
 use Rattle.layout.specs.declared.directory.Entry.{Entry}
 use Rattle.layout.specs.declared.extent.HomeRange.{HomeRange}
@@ -10,7 +11,7 @@ use Rattle.sealed_layout.specs.declared.superblock.SuperblockRow.{SuperblockRow}
 use Rattle.sealed_layout.specs.Cluster.{IsCluster}
 use Rattle.sealed_layout.specs.Directory.{entries_bytes}
 use Rattle.sealed_layout.specs.Header.{header_bytes, header_numbers}
-use Rattle.sealed_layout.specs.Page.{IsPageHeader, page_header_bytes, page_header_numbers}
+use Rattle.sealed_layout.specs.Page.{IsPage, IsPageHeader, never_used, page_header_bytes, page_header_numbers}
 use Rattle.sealed_layout.specs.Sector.{AreWords, sector_bytes}
 use Rattle.sealed_layout.specs.Superblock.{superblock_bytes, superblock_numbers}
 
@@ -41,3 +42,7 @@ SectorsShowBursts = (i : ℕ) (x y ms ns : List ℕ) → IsRow x → IsRow y →
 abbrev pub ClustersShowBursts : Type 0
 ClustersShowBursts = (i : ℕ) (x y : List ℕ) (m n : ℕ) → IsRow x → IsRow y → DifferInBurst i x y →
     IsCluster m x → IsCluster n y → x ≡ y
+
+-- frames of zeros are those of numbers that were never used, so they may be holes of the file
+abbrev pub ZerosAreFree : Type 0
+ZerosAreFree = (age : ℕ) → IsPage age (zeros 4608) never_used × ((nodes : ℕ) → IsCluster nodes (zeros 4096))

@@ -45,3 +45,10 @@ pub record IsPage (age : ℕ) (bytes : List ℕ) (h : PageHeader) : Type 0 where
   pub header : IsPageHeader age h
   pub first : take 512 bytes ≡ page_header_bytes h
   pub words : HasWords (drop 512 bytes) h
+
+-- the header of a number that was never used
+abbrev pub never_used : PageHeader
+never_used = record {
+  object = record { role = role.Free; allocations = 0; calls = 0; owner = 0 };
+  words = record { a = 0; b = 0; c = 0 };
+}

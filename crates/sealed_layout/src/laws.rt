@@ -2,7 +2,7 @@
 ghost use Rattle.sealed_layout.specs.GateLaws.{BurstsKeepNumbers, GatesHaveOneNumber, ClosedGatesHaveNone};
 ghost use Rattle.sealed_layout.specs.GateLaws.{WrittenGatesHaveTheirNumber};
 ghost use Rattle.sealed_layout.specs.Laws.{ClustersShowBursts, SectorsShowBursts, SpellOneHeader, SpellOnePageHeader};
-ghost use Rattle.sealed_layout.specs.Laws.{SpellOneSector, SpellOneSuperblock};
+ghost use Rattle.sealed_layout.specs.Laws.{SpellOneSector, SpellOneSuperblock, ZerosAreFree};
 ghost use Rattle.sealed_layout.specs.RootLaws.{OneOldSectorIsSeen, OneOldUnitIsSeen, UnitsHaveNoOrder};
 
 /// A gate has at most one number. A gate that was written has its number, and a closed one has none. A burst of at
@@ -14,12 +14,14 @@ pub fn gates_are_majorities()
     ensures burst { BurstsKeepNumbers }
 {}
 
-/// Given bytes spell at most one value of each structure. It does nothing: its contract is the law.
+/// Given bytes spell at most one value of each structure. Frames of zeros are those of free numbers. It does nothing:
+/// its contract is the law.
 pub fn spell_one_value()
     ensures header { SpellOneHeader }
     ensures page { SpellOnePageHeader }
     ensures directory { SpellOneSector }
     ensures superblock { SpellOneSuperblock }
+    ensures zeros { ZerosAreFree }
 {}
 
 /// A burst of at most 64 bits makes no sector of one structure into another, and no cluster into another. It does

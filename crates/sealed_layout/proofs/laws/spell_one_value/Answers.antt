@@ -1,4 +1,5 @@
 use Rattle.sealed_layout.proofs.Spelling.{one_directory_sector, one_header, one_page_header, one_superblock}
+use Rattle.sealed_layout.proofs.Zeros.{zeros_free}
 use Rattle.sealed_layout.proofs.laws.spell_one_value.Goals as goal
 
 pub returns-clause-header : goal.returns-clause-header
@@ -12,3 +13,6 @@ returns-clause-directory c = one_directory_sector
 
 pub returns-clause-superblock : goal.returns-clause-superblock
 returns-clause-superblock c = one_superblock
+
+pub returns-clause-zeros : goal.returns-clause-zeros
+returns-clause-zeros c = zeros_free
