@@ -3,3 +3,4 @@ pub mod Publishing
 pub mod Broken
 pub mod Wrong
 pub mod Finding
+pub mod Closing

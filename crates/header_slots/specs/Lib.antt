@@ -3,3 +3,4 @@ pub mod Publish
 pub mod Laws
 pub mod Wrong
 pub mod Committed
+pub mod Closing

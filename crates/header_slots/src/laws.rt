@@ -1,4 +1,5 @@
 // Laws of three header slots, stated by functions that do nothing.
+ghost use Rattle.header_slots.specs.Closing.{OldThirdFirst, OtherThirdLast};
 ghost use Rattle.header_slots.specs.Laws.{BrokenHeadersAreSeen, GateCommits, HeaderCommitsNothing, OneIsCommitted};
 ghost use Rattle.header_slots.specs.Laws.{PublishedIsCommitted, RunsCommit};
 ghost use Rattle.header_slots.specs.Wrong.{NeighboursAreNeeded, NextGateIsNeeded, NextGateShowsDamage, OneSyncIsTooFew};
@@ -20,6 +21,14 @@ pub fn publishing_is_safe()
 /// or none. It does nothing: its contract is the law.
 pub fn damage_changes_nothing()
     ensures { BrokenHeadersAreSeen }
+{}
+
+/// Before another image is built over one, its gates are closed, one after another, each with a sync: those of headers
+/// that count, the least number first, then the others. A crash leaves the same header committed, or none. It does
+/// nothing: its contract is the law.
+pub fn closing_is_safe()
+    ensures older { OldThirdFirst }
+    ensures other { OtherThirdLast }
 {}
 
 /// One sync for header and gate isn't enough. Without its neighbour, or without a look at the next gate, a header is

@@ -5,4 +5,4 @@ mod deciding;
 mod laws;
 
 pub use deciding::{NotCommitted, SlotNumbers, committed};
-pub use laws::{damage_changes_nothing, publishing_is_safe, weaker_rules_fail};
+pub use laws::{closing_is_safe, damage_changes_nothing, publishing_is_safe, weaker_rules_fail};

@@ -1,0 +1,34 @@
+-- What a crash leaves while the gates of an image are closed one after another, before another image is built over it.
+use Rattle.std.specs.Prelude.{◌≡◌, ◌⊎◌, ℕ, ◌+◌, ◌%◌, ◌<◌, List, None}
+use Rattle.header_slots.specs.Publish.{OthersStay}
+use Rattle.header_slots.specs.Slots.{Counts, Opens, Slots}
+
+-- one gate is being written, and may have any number or none
+pub record TearsGateOf (slot : ℕ) (old new : Slots) : Type 0 where
+  pub others : OthersStay slot old new
+  pub header : (new slot).header ≡ (old slot).header
+  pub bytes : (new slot).bytes ≡ (old slot).bytes
+
+-- it is closed, durably
+pub record ClosesGateOf (slot : ℕ) (old new : Slots) : Type 0 where
+  pub torn : TearsGateOf slot old new
+  pub closed : (new slot).gate ≡ None
+
+-- a crash while the gates of three slots are closed in this order, each with a sync of its own
+abbrev pub LeftByClosing : ℕ → ℕ → ℕ → Slots → Slots → Type 0
+LeftByClosing i j k old new =
+    TearsGateOf i old new
+    ⊎ ((one : Slots) × ClosesGateOf i old one × TearsGateOf j one new)
+    ⊎ ((one : Slots) × (two : Slots) × ClosesGateOf i old one × ClosesGateOf j one two × TearsGateOf k two new)
+
+-- header s is committed. If the header in the third slot counts and is older, that slot is the first, then s - 1, s
+abbrev pub OldThirdFirst : Type 0
+OldThirdFirst = (old new : Slots) (s n t : ℕ) (a b : List ℕ) → Opens old s a → Counts old n →
+    n % 3 ≡ (s + 1) % 3 → n < s → LeftByClosing ((s + 1) % 3) ((s + 2) % 3) (s % 3) old new →
+    Opens new t b → (t ≡ s) × (b ≡ a)
+
+-- if it doesn't count, or is newer, s - 1 is the first, then s, the third
+abbrev pub OtherThirdLast : Type 0
+OtherThirdLast = (old new : Slots) (s t : ℕ) (a b : List ℕ) → Opens old s a →
+    ((n : ℕ) → Counts old n → n % 3 ≡ (s + 1) % 3 → s < n) →
+    LeftByClosing ((s + 2) % 3) (s % 3) ((s + 1) % 3) old new → Opens new t b → (t ≡ s) × (b ≡ a)
