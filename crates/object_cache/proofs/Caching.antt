@@ -5,7 +5,7 @@ use Rattle.object_cache.proofs.Names.{header_at, held_at, Disk, put_at, DurableS
 use Rattle.object_cache.proofs.Names.{new_entry, is_some, Memory, FrozenState, Nothing, mark_at, masked, in_staging, content_at, newest_body, below_body}
 use Rattle.object_cache.proofs.Names.{apart_body, frozen_body, frozen_frame, frozen_at, frozen_state_of, frozen_state_in_memory, frozen_states_in, StoreState}
 use Rattle.object_cache.proofs.Names.{IsCache, IsFetchedIn, cache_of, is_kept, frozen_state_by, frozen_state_at, cached_at, cached_in, with_cached, without}
-use Rattle.object_cache.proofs.Names.{with_entry, Shared, Apart}
+use Rattle.object_cache.proofs.Names.{with_entry, Shared, Apart, IsSome, true≢false}
 use Rattle.std.proofs.Common.{◌≡◌, ◌≢◌, ◌⊎◌, ◌<◌, ◌∷◌, ◌∙◌}
 use Rattle.object_cache.proofs.Objects.{Alike, cached_entry, cached_stay, clean_alike, content_in, contents_alike, entry_found, fetched_known, frozen_alike}
 use Rattle.object_cache.proofs.Objects.{of_each, keepable_alike, unwritten_alike, with_objects}
@@ -44,8 +44,10 @@ module _ {s : Stored} {m : Memory} {es : List (Option Entry)} {n : ℕ} (change 
   unfolding frozen_states_in
   frozen_state_stay here = search (arith, maps_same, of_each)
 
-  pub cached_cache : {left count : ℕ} → IsCache s m left count → IsCache s cached left count
-  cached_cache {left} is =
+  pub cached_cache : {all : Bool} → (all ≡ true → IsSome (entry_at es n)) → {left count : ℕ} → IsCache all s m left count → IsCache all s cached left count
+  cached_cache {all} some {left} is =
+      let whole : all ≡ true → (k : ℕ) → k < length m.headers → IsSome (entry_at es k) =
+      λ is_all. of_each n (λ within. some is_all) (λ k other. rw (change.entries k other) (is.whole is_all k)) in
       let apart : (k : ℕ) (e : Entry) → entry_at es k ≡ Some e → (e.kept ≡ None) ⊎ (mark_at m.pending k ≡ true) =
       of_each n change.apart (λ k other. rw (change.entries k other) (is.apart k)) in
       let freed : (k : ℕ) → entry_at es k ≡ None → mark_at m.pending k ≡ true → (header_at m.frozen_headers k).role ≡ role.Free →
@@ -61,11 +63,11 @@ pub nothing_frozen_state : (e : Entry) (pending touched : Bool) → frozen_state
 nothing_frozen_state e pending touched is = search arith
 
 -- only a pending number's body is in the staging buffer
-pub no_staging : {s : Stored} {m : Memory} {left count : ℕ} → IsCache s m left count → (n : ℕ) (c : Content Cap) → mark_at m.pending n ≡ false →
+pub no_staging : {s : Stored} {m : Memory} {all : Bool} {left count : ℕ} → IsCache all s m left count → (n : ℕ) (c : Content Cap) → mark_at m.pending n ≡ false →
     in_staging m.staging n c ≡ c
-no_staging {s} {m} {left} {count} is n c not_pending = search (arith, ne_eqb)
+no_staging {s} {m} {all} {left} {count} is n c not_pending = search (arith, ne_eqb)
 
-module _ {s : Stored} {m : Memory} {left count : ℕ} (is : IsCache s m left count) (n : ℕ) (within : n < length m.headers) (e : Entry)
+module _ {s : Stored} {m : Memory} {all : Bool} {left count : ℕ} (is : IsCache all s m left count) (n : ℕ) (within : n < length m.headers) (e : Entry)
     (at : entry_at m.entries n ≡ Some e)
     (clean : mark_at m.dirty n ≡ false) (frozen_state : frozen_state_in_memory m n ≡ Nothing)
     (masks : masked (header_at m.headers n).role (content_at s m n) ≡ content_at s m n) where
@@ -116,47 +118,47 @@ unfolding frozen_states_in
 frozen_state_entry m n within = get_or-map-range_with_len (frozen_state_in_memory m) 0 (length m.headers) n n Nothing within (omega arith)
 
 -- the same by what is seen
-module _ {D : Type 0} (disk : D → Disk) {d : DurableState D} {m : Memory} {left count : ℕ} {order : List ℕ} {most_entries : ℕ} {s : StoreState D}
-    (view : cache_of disk d m left order most_entries ≡ s) (is : IsCache (stored_of disk d) m left count) {n : ℕ} (fetched : IsFetchedIn s n)
+module _ {D : Type 0} (disk : D → Disk) {d : DurableState D} {m : Memory} {all : Bool} {left count : ℕ} {order : List ℕ} {most_entries : ℕ} {s : StoreState D}
+    (view : cache_of disk d m left order most_entries ≡ s) (is : IsCache all (stored_of disk d) m left count) {n : ℕ} (fetched : IsFetchedIn s n)
     (clean : mark_at s.dirty n ≡ false)
     (frozen_state : frozen_state_at s.frozen_state n ≡ Nothing) (masks : masked (header_at s.headers n).role (held_at s.contents n) ≡ held_at s.contents n)
-  where
-    in_table : n < length m.headers
-    in_table = omega (arith, fetched.header, ap (λ t. length t.headers) view)
+    (some : all ≡ false) where
+  in_table : n < length m.headers
+  in_table = omega (arith, fetched.header, ap (λ t. length t.headers) view)
 
-    holds : content_at (stored_of disk d) m n ≡ held_at s.contents n
-    holds = sym (content_in (stored_of disk d) m n in_table) ∙ ap (λ t. held_at t.contents n) view
+  holds : content_at (stored_of disk d) m n ≡ held_at s.contents n
+  holds = sym (content_in (stored_of disk d) m n in_table) ∙ ap (λ t. held_at t.contents n) view
 
-    masks_here : masked (header_at m.headers n).role (content_at (stored_of disk d) m n) ≡ content_at (stored_of disk d) m n
-    masks_here = ap (masked (header_at m.headers n).role) holds ∙ ap (λ t. masked (header_at t.headers n).role (held_at s.contents n)) view ∙ masks ∙ sym holds
+  masks_here : masked (header_at m.headers n).role (content_at (stored_of disk d) m n) ≡ content_at (stored_of disk d) m n
+  masks_here = ap (masked (header_at m.headers n).role) holds ∙ ap (λ t. masked (header_at t.headers n).role (held_at s.contents n)) view ∙ masks ∙ sym holds
 
-    entry_here : (e : Entry) × (entry_at m.entries n ≡ Some e)
-    entry_here = entry_found disk view is fetched
+  entry_here : (e : Entry) × (entry_at m.entries n ≡ Some e)
+  entry_here = entry_found disk view is fetched
 
-    clean_here : mark_at m.dirty n ≡ false
-    clean_here = ap (λ t. mark_at t.dirty n) view ∙ clean
+  clean_here : mark_at m.dirty n ≡ false
+  clean_here = ap (λ t. mark_at t.dirty n) view ∙ clean
 
-    state_here : frozen_state_in_memory m n ≡ Nothing
-    state_here = sym (frozen_state_entry m n in_table) ∙ ap (λ t. frozen_state_at t.frozen_state n) view ∙ frozen_state
+  state_here : frozen_state_in_memory m n ≡ Nothing
+  state_here = sym (frozen_state_entry m n in_table) ∙ ap (λ t. frozen_state_at t.frozen_state n) view ∙ frozen_state
 
-    drops_here : Recaches (stored_of disk d) m (set m.entries n None) n
-    drops_here = drops is n in_table entry_here.0 entry_here.1 clean_here state_here masks_here
+  drops_here : Recaches (stored_of disk d) m (set m.entries n None) n
+  drops_here = drops is n in_table entry_here.0 entry_here.1 clean_here state_here masks_here
 
-    pub dropped_next : IsSeenAs disk d (with_objects m m.headers (set m.entries n None)) left count (without n order) most_entries
-        (record s { cached = set s.cached n false; order = without n s.order })
-    dropped_next = search (
-      cached_cache drops_here is,
-      seen_cached disk d left (without n order) most_entries drops_here (cached_set m.entries n None) (frozen_state_stay drops_here
-          (frozen_state_dropped is n in_table entry_here.0 entry_here.1 clean_here
-          state_here masks_here)) ∙ ap (λ (t : StoreState D). record t { cached = set t.cached n false; order = without n t.order }) view,
-    )
+  pub dropped_next : IsSeenAs all disk d (with_objects m m.headers (set m.entries n None)) left count (without n order) most_entries
+      (record s { cached = set s.cached n false; order = without n s.order })
+  dropped_next = search (
+    cached_cache drops_here (λ is_all. absurd (true≢false (sym is_all ∙ some))) is,
+    seen_cached disk d left (without n order) most_entries drops_here (cached_set m.entries n None) (frozen_state_stay drops_here
+        (frozen_state_dropped is n in_table entry_here.0 entry_here.1 clean_here
+        state_here masks_here)) ∙ ap (λ (t : StoreState D). record t { cached = set t.cached n false; order = without n t.order }) view,
+  )
 
 -- ---- a number gets an entry
 
 masked_twice : (r : Role) (c : Content Cap) → masked r (masked r c) ≡ masked r c
 masked_twice other c = search arith
 
-module _ {s : Stored} {m : Memory} {left count : ℕ} (is : IsCache s m left count) (number : ℕ) (c : Content Cap) (within : number < length m.headers)
+module _ {s : Stored} {m : Memory} {all : Bool} {left count : ℕ} (is : IsCache all s m left count) (number : ℕ) (c : Content Cap) (within : number < length m.headers)
     (none : entry_at m.entries number ≡ None)
     (present : c ≡ content_at s m number) where
   abbrev e : Entry
@@ -189,8 +191,8 @@ no_entry_by : (o : Option Entry) → is_some o ≡ false → o ≡ None
 no_entry_by o is = search arith
 
 -- the same by what is seen
-module _ {D : Type 0} (disk : D → Disk) {d : DurableState D} {m : Memory} {left count : ℕ} {order : List ℕ} {most_entries : ℕ} {s : StoreState D}
-    (view : cache_of disk d m left order most_entries ≡ s) (is : IsCache (stored_of disk d) m left count) where
+module _ {D : Type 0} (disk : D → Disk) {d : DurableState D} {m : Memory} {all : Bool} {left count : ℕ} {order : List ℕ} {most_entries : ℕ} {s : StoreState D}
+    (view : cache_of disk d m left order most_entries ≡ s) (is : IsCache all (stored_of disk d) m left count) where
   -- a number that isn't cached has no entry
   pub no_entry : (n : ℕ) → cached_at s.cached n ≡ false → entry_at m.entries n ≡ None
   no_entry n uncached = no_entry_by (entry_at m.entries n) (sym (cached_entry m.entries n) ∙ ap (λ t. cached_at t.cached n) view ∙ uncached)
@@ -202,12 +204,15 @@ module _ {D : Type 0} (disk : D → Disk) {d : DurableState D} {m : Memory} {lef
     present_there : c ≡ content_at (stored_of disk d) m n
     present_there = read ∙ ap (λ t. held_at t.contents n) (sym view) ∙ content_in (stored_of disk d) m n there
 
+    some_there : entry_at (set m.entries n (Some (new_entry c))) n ≡ Some (new_entry c)
+    some_there = some_now is n c there (no_entry n uncached) present_there
+
     new_here : Recaches (stored_of disk d) m (set m.entries n (Some (new_entry c))) n
     new_here = cached_new is n c there (no_entry n uncached) present_there
 
-    pub cached_next : IsSeenAs disk d (with_objects m m.headers (set m.entries n (Some (new_entry c)))) left count (n ∷ order) most_entries (with_cached n s)
+    pub cached_next : IsSeenAs all disk d (with_objects m m.headers (set m.entries n (Some (new_entry c)))) left count (n ∷ order) most_entries (with_cached n s)
     cached_next = search (
-      cached_cache new_here is,
+      cached_cache new_here (λ is_all. ap is_some some_there) is,
       seen_cached disk d left (n ∷ order) most_entries new_here (cached_set m.entries n (Some (new_entry c)))
           (frozen_state_changed new_here (frozen_state_by (mark_at m.pending n) false (mark_at m.touched n)) there
           (frozen_state_new is n c there (no_entry n uncached) present_there)) ∙ ap (with_cached n) view,
@@ -245,8 +250,8 @@ module _ (s : Stored) (m : Memory) (n : ℕ) (within : n < length m.entries) (e 
   frozen_state_apart = rw (now, facts.0)
 
 -- the same by what is seen
-module _ {D : Type 0} (disk : D → Disk) {d : DurableState D} {m : Memory} {left count : ℕ} {order : List ℕ} {most_entries : ℕ} {s : StoreState D}
-    (view : cache_of disk d m left order most_entries ≡ s) (is : IsCache (stored_of disk d) m left count) {n : ℕ} (fetched : IsFetchedIn s n)
+module _ {D : Type 0} (disk : D → Disk) {d : DurableState D} {m : Memory} {all : Bool} {left count : ℕ} {order : List ℕ} {most_entries : ℕ} {s : StoreState D}
+    (view : cache_of disk d m left order most_entries ≡ s) (is : IsCache all (stored_of disk d) m left count) {n : ℕ} (fetched : IsFetchedIn s n)
     (shared : frozen_state_at s.frozen_state n ≡ Shared) where
   known_here : n < length m.headers
   known_here = fetched_known disk view is fetched
@@ -263,10 +268,10 @@ module _ {D : Type 0} (disk : D → Disk) {d : DurableState D} {m : Memory} {lef
   recaches : Recaches (stored_of disk d) m (with_entry keeping n m.entries) n
   recaches = keeps_apart (stored_of disk d) m n within_shared entry_shared.0 entry_shared.1 shared_here
 
-  pub apart_next : IsSeenAs disk d (with_objects m m.headers (with_entry keeping n m.entries)) left count order most_entries
+  pub apart_next : IsSeenAs all disk d (with_objects m m.headers (with_entry keeping n m.entries)) left count order most_entries
       (record s { frozen_state = set s.frozen_state n Apart })
   apart_next = search (
-    cached_cache recaches is,
+    cached_cache recaches (λ is_all. ap is_some (now (stored_of disk d) m n within_shared entry_shared.0 entry_shared.1 shared_here)) is,
     seen_cached disk d left order most_entries recaches (cached_stay keeping n m.entries) (frozen_state_changed recaches Apart known_here
         (frozen_state_apart (stored_of disk d) m n within_shared entry_shared.0 entry_shared.1 shared_here))
         ∙ ap (λ (t : StoreState D). record t { frozen_state = set t.frozen_state n Apart }) view,

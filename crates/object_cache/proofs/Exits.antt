@@ -2,14 +2,12 @@
 use Rattle.object_cache.proofs.Names.{Result, Ok, Err, OnOk, OnErr, IsErrAnd, is_err, err_from_is_err_and, err_counts, Counts, Disk, ap, sym, subst, ℕ, most}
 use Rattle.object_cache.proofs.Names.{StoreState, GoesOnIn, IsFetchedIn, AreKeepable, IsKeepable, parts_of, stored_of, header_at, held_at, frames_in, on_device}
 use Rattle.object_cache.proofs.Names.{on_device_with, List, Bool, readied, AreKeepableIn, IsKeepableIn, OnlyFetches, false, true≢false, ContinuesIn, Held}
-use Rattle.object_cache.proofs.Names.{released, Some, None, arith}
-use Rattle.object_cache.proofs.Names.{Refusal, IsErrOf, cases_lt, counted_ok, touched_count, touching, untouched}
+use Rattle.object_cache.proofs.Names.{released, Some, None, arith, on_ok_weaker, on_err_weaker, refl, PutsBy, Option, FrozenFrames}
+use Rattle.object_cache.proofs.Names.{Refusal, IsErrOf, counted_ok, touched_count, touching}
 use Rattle.checkpoint.specs.Refused.{IsRefused}
-use Rattle.checkpoint.specs.Store.{all_untouched}
-use Rattle.capability.specs.Parts.{AreSameUnlessFailed, IsUnprepared, Prepares}
+use Rattle.capability.specs.Parts.{AreSameUnlessFailed, IsUnprepared, Prepares, touched_too}
 use Rattle.model.specs.declared.answer.Refusal.TheVariants as refusal
-use Rattle.model.specs.declared.geometry.Geometry.{Geometry}
-use Rattle.std.proofs.Common.{◌≡◌, ◌∙◌, ◌<◌, ◌≤◌, ◌↔◌, ⊎_elim}
+use Rattle.std.proofs.Common.{◌≡◌, ◌∙◌, ◌<◌, ◌≤◌, ◌↔◌}
 use Rattle.std.specs.Prelude.{IfErr}
 
 -- an error says nothing of success
@@ -55,36 +53,24 @@ module _ {D : Type 0} where
   readied_by (Ok x) s t u touched dirty apart marked unchanged = readied_on s t u apart (marked ∙ ap (readied t) (sym marked))
   readied_by (Err e) s t u touched dirty apart marked unchanged = readied_on s t u apart (unchanged ∙ ap (readied t) (sym unchanged))
 
-  -- objects were fetched, and their numbers were announced, or not
-  pub with_marks : (s t : StoreState D) → t ≡ on_device_with s t → t ≡ record (on_device_with s t) { touched = t.touched }
-  with_marks s t is = is ∙ ap (λ x. record (on_device_with s x) { touched = x.touched }) (sym is)
-
-  pub prepared_on : (s t u : StoreState D) → t ≡ on_device_with s t → u ≡ readied t u → u ≡ record (on_device_with s u) { touched = u.touched }
-  prepared_on s t u first second =
-      let is = second ∙ ap (λ x. readied x u) first in
-      is ∙ ap (λ x. record (on_device_with s x) { touched = x.touched; dirty = u.dirty; frozen_state = u.frozen_state }) (sym is)
-
 -- the body in the staging buffer is released
 pub released_own : (h : Held) → released h.number (Some h) ≡ None
 released_own h = search arith
 
--- a count that neither fell nor rose is the same
-unrisen : (m n : ℕ) → m ≤ n → (m < n → ⊥) → n ≡ m
-unrisen m n later stayed = ⊎_elim (λ (rose : m < n). absurd (stayed rose)) (λ (within : n ≤ m). omega arith) (cases_lt m n)
-
 -- the parts are the same, unless the device failed
-module _ {D : Type 0} (disk : D → Disk) (s t : StoreState D) where
-  pub same_parts : t.headers ≡ s.headers → t.contents ≡ s.contents → t.touched ≡ s.touched →
+module _ {D : Type 0} (disk : D → Disk) (s : StoreState D) where
+  pub same_parts : (t : StoreState D) → t.headers ≡ s.headers → t.contents ≡ s.contents → t.touched ≡ s.touched →
       (stored_of disk t.durable).saved.geometry ≡ (stored_of disk s.durable).saved.geometry → AreSameUnlessFailed (parts_of disk s) (parts_of disk t)
-  same_parts headers contents touched geometry failures =
+  same_parts t headers contents touched geometry failures =
       λ k. record { geometry = geometry k; headers = headers k; contents = contents k; touched = touched k; failures = failures k }
 
-  -- and as a checkpoint begins, no number was written since
-  pub frozen_parts : t.headers ≡ s.headers → t.contents ≡ s.contents → (stored_of disk t.durable).saved.geometry ≡ (stored_of disk s.durable).saved.geometry →
-      (disk t.durable.beneath).failures ≡ (disk s.durable.beneath).failures → t.touched ≡ untouched (stored_of disk s.durable).saved.geometry →
-      parts_of disk t ≡ all_untouched (parts_of disk s)
-  frozen_parts headers contents geometry failures touched =
-      λ k. record { geometry = geometry k; headers = headers k; contents = contents k; touched = touched k; failures = failures k }
+  pub same_seen : (t : StoreState D) {f : Option FrozenFrames} → t ≡ record s { durable = t.durable; frozen = f } →
+      (stored_of disk t.durable).saved.geometry ≡ (stored_of disk s.durable).saved.geometry → AreSameUnlessFailed (parts_of disk s) (parts_of disk t)
+  same_seen t is = same_parts t (ap (λ x. x.headers) is) (ap (λ x. x.contents) is) (ap (λ x. x.touched) is)
+
+  pub puts_same : (t : StoreState D) {k : ℕ} → PutsBy disk s t k → AreSameUnlessFailed (parts_of disk s) (parts_of disk t)
+  puts_same t puts = same_parts t (ap (λ x. x.headers) puts.rest) (ap (λ x. x.contents) puts.rest) (ap (λ x. x.touched) puts.rest)
+      (ap (λ p. p.geometry) puts.goes_on.plan)
 
 -- a store that doesn't keep all bodies
 module _ {D : Type 0} {disk : D → Disk} {s t : StoreState D} {all : Bool} (some : all ≡ false) where
@@ -100,45 +86,64 @@ module _ {D : Type 0} {disk : D → Disk} {s t : StoreState D} {all : Bool} (som
   }
 
 -- numbers were announced, or not
-module _ {D : Type 0} {disk : D → Disk} {s t : StoreState D} {all : Bool} (headers : t.headers ≡ s.headers) (contents : t.contents ≡ s.contents)
-    (goes : GoesOnIn disk s t) (continues : ContinuesIn all disk s t) where
+module _ {D : Type 0} {disk : D → Disk} {s t : StoreState D} {all : Bool} (rest : t ≡ readied s t) (goes : GoesOnIn disk s t) where
   pub prepares_by : {T : Type 0} (r : Result T Refusal) {ws : List ℕ} → OnOk r (t.touched ≡ touching s.touched ws) → OnErr r (t.touched ≡ s.touched) →
       touched_count s.touched ≤ (stored_of disk s.durable).saved.geometry.log → touched_count t.touched ≤ (stored_of disk t.durable).saved.geometry.log →
       IfErr r IsUnprepared →
-      (IsErrOf r refusal.LogFull → (stored_of disk s.durable).saved.geometry.log < touched_count (touching s.touched ws)) →
-      (IsErrOf r refusal.Fault ↔ ((disk s.durable.beneath).failures < (disk t.durable.beneath).failures)) →
+      (IsErrOf r refusal.LogFull → (stored_of disk s.durable).saved.geometry.log < touched_count (touching s.touched ws)) → (IsErrOf r refusal.Fault → ⊥) →
       Prepares (parts_of disk) (ContinuesIn all disk) s t ws r
-  prepares_by (Ok x) {ws} touched untouched before within refusals full cause =
-      let geometry = ap (λ a. a.saved.geometry) goes.snapshots in
+  prepares_by r {ws} touched untouched before within refusals full unfailed =
+      let same : t.durable ≡ s.durable = ap (λ x. x.durable) rest in
       record {
         before = before;
-        done = λ k. record {
-          geometry = geometry k;
-          headers = headers k;
-          contents = contents k;
-          touched = touched k;
-          failures = unrisen _ _ goes.later (λ rose. let never = cause.1 rose in cc) k;
-        };
-        within = subst (λ ts. touched_count ts ≤ (stored_of disk s.durable).saved.geometry.log) touched
-            (subst (λ (g : Geometry). touched_count t.touched ≤ g.log) geometry within);
-        same = tt;
+        done = on_ok_weaker r (λ is k. record {
+          geometry = (stored_of disk (same k)).saved.geometry;
+          headers = (rest k).headers;
+          contents = (rest k).contents;
+          touched = is k;
+          failures = (disk (same k).beneath).failures;
+        }) touched;
+        within = on_ok_weaker r (λ is. omega (arith, ap touched_count is, ap (λ d. (stored_of disk d).saved.geometry.log) same, within)) touched;
+        same = on_err_weaker r (λ is. same_parts disk s t (ap (λ x. x.headers) rest) (ap (λ x. x.contents) rest) is
+            (ap (λ d. (stored_of disk d).saved.geometry) same)) untouched;
         full = full;
-        refusals = tt;
-        cause = cause;
+        refusals = refusals;
+        cause = (λ fault. absurd (unfailed fault), λ rose. absurd (omega (arith, rose, ap (λ d. (disk d.beneath).failures) same)));
         later = goes.later;
-        continues = continues;
+        continues = record { goes_on = goes; still = λ is. same };
       }
-  prepares_by (Err e) touched untouched before within refusals full cause = record {
+
+module _ {D : Type 0} {disk : D → Disk} {s t : StoreState D} {all : Bool} {T : Type 0} {ws : List ℕ} where
+  -- bodies were fetched before
+  pub prepares_after : {u : StoreState D} {r : Result T Refusal} → parts_of disk t ≡ parts_of disk s → ContinuesIn all disk s u →
+      Prepares (parts_of disk) (ContinuesIn all disk) t u ws r → Prepares (parts_of disk) (ContinuesIn all disk) s u ws r
+  prepares_after {u} {r} same continues did = record {
+    before = subst (λ p. touched_count p.touched ≤ p.geometry.log) same did.before;
+    done = subst (λ p. OnOk r (parts_of disk u ≡ touched_too ws p)) same did.done;
+    within = subst (λ p. OnOk r (touched_count (touching p.touched ws) ≤ p.geometry.log)) same did.within;
+    same = subst (λ p. OnErr r (AreSameUnlessFailed p (parts_of disk u))) same did.same;
+    full = subst (λ p. IsErrOf r refusal.LogFull → p.geometry.log < touched_count (touching p.touched ws)) same did.full;
+    refusals = did.refusals;
+    cause = subst (λ p. IsErrOf r refusal.Fault ↔ (p.failures < (parts_of disk u).failures)) same did.cause;
+    later = subst (λ p. p.failures ≤ (parts_of disk u).failures) same did.later;
+    continues = continues;
+  }
+
+  -- they weren't fetched
+  pub unfetched : {r : Result T Refusal} → (e : Refusal) × (r ≡ Err e) × (e ≡ refusal.Fault) → touched_count s.touched ≤
+      (stored_of disk s.durable).saved.geometry.log → OnlyFetches (parts_of disk) (ContinuesIn all disk) s t →
+      (disk s.durable.beneath).failures < (disk t.durable.beneath).failures → Prepares (parts_of disk) (ContinuesIn all disk) s t ws r
+  unfetched why before only rose = subst (Prepares (parts_of disk) (ContinuesIn all disk) s t ws) (sym (why.1 ∙ ap Err why.2)) (record {
     before = before;
     done = tt;
     within = tt;
-    same = same_parts disk s t headers contents untouched (ap (λ a. a.saved.geometry) goes.snapshots);
-    full = full;
-    refusals = refusals;
-    cause = cause;
-    later = goes.later;
-    continues = continues;
-  }
+    same = only.same;
+    full = search arith;
+    refusals = tt;
+    cause = (λ fault. rose, λ more. refl);
+    later = only.later;
+    continues = only.continues;
+  })
 
 -- a call that succeeds counts no failure
 pub counts_same : {T E : Type 0} {old new : Disk} (r : Result T E) → Counts old new r → OnOk r (new.failures ≡ old.failures)

@@ -7,7 +7,7 @@ use Rattle.object_cache.proofs.Names.{without_here, without_tail, length-take, H
 use Rattle.object_cache.proofs.Names.{in_staging, put_body, present_body, newest_body, contents_in, GoesOnIn, frozen_seen, Some, Cap, Content, option_map}
 use Rattle.object_cache.proofs.Names.{same_Some, Stored, entry_at, mark_at, below_body, content_at, frozen_at, frozen_states_in, either_of, member_head}
 use Rattle.object_cache.proofs.Names.{member_tail, in_tail, list_any-from_Contains, nat_eq_equiv, All, All-contains, Contains, Frame, ObjectHeader}
-use Rattle.object_cache.proofs.Names.{EntriesState, Option, with_new}
+use Rattle.object_cache.proofs.Names.{EntriesState, Option, with_new, Bool}
 use Rattle.std.proofs.Common.{◌≡◌, ◌≢◌, ◌+◌, ◌<◌, ◌≤◌, ◌∷◌, ◌∙◌, ◌-◌}
 use Rattle.object_cache.proofs.Marking.{marked_within}
 use Rattle.object_cache.proofs.Objects.{Alike, clean_alike, content_in, contents_alike, frozen_alike, keepable_alike, stored_next, unwritten_alike}
@@ -132,8 +132,8 @@ used_then most k ns s t u first is = is ∙ ap (λ ks. take most (used_in_turn n
 
 -- ---- bodies are read from the device: nothing that is seen is another
 
-module _ {D : Type 0} (disk : D → Disk) {d : DurableState D} {m : Memory} {left count : ℕ} {order : List ℕ} {most_entries : ℕ} {s : StoreState D}
-    (view : cache_of disk d m left order most_entries ≡ s) (is : IsCache (stored_of disk d) m left count) where
+module _ {D : Type 0} (disk : D → Disk) {d : DurableState D} {m : Memory} {all : Bool} {left count : ℕ} {order : List ℕ} {most_entries : ℕ} {s : StoreState D}
+    (view : cache_of disk d m left order most_entries ≡ s) (is : IsCache all (stored_of disk d) m left count) where
   module _ (n : ℕ) (known : n < length s.headers) (uncached : cached_at s.cached n ≡ false) (empty : s.staging ≡ None) where
     known_here : n < length m.headers
     known_here = omega (arith, known, ap (λ t. length t.headers) view)
@@ -149,7 +149,7 @@ module _ {D : Type 0} (disk : D → Disk) {d : DurableState D} {m : Memory} {lef
         (no_entry disk view is n uncached)) ∙ sym (content_in (stored_of disk d) m n known_here) ∙ ap (λ t. held_at t.contents n) view
 
   pub read_next : {new : DurableState D} → ReadsStore disk d new → (disk d.beneath).failures ≤ (disk new.beneath).failures →
-      IsNext disk s new m left count order most_entries (record s { durable = new })
+      IsNext all disk s new m left count order most_entries (record s { durable = new })
   read_next {new} reads later = search (arith, stored_next)
 
   -- and it is made an entry
@@ -157,7 +157,7 @@ module _ {D : Type 0} (disk : D → Disk) {d : DurableState D} {m : Memory} {lef
       (disk d.beneath).failures ≤ (disk new.beneath).failures → {f : Frame} → f ≡ newest (stored_of disk d) n → {h : ObjectHeader} →
       h ≡ header_at m.headers n → {es : EntriesState} →
       es ≡ with_new n (masked h.role f.content) (record { at = m.entries; order = order; most = most_entries }) →
-      IsNext disk s new (with_objects m m.headers es.at) left count es.order es.most
+      IsNext all disk s new (with_objects m m.headers es.at) left count es.order es.most
       (with_cached n (record s { durable = new }))
   kept_next n known uncached empty {new} reads later {f} found {h} h_is {es} es_is =
       let next = read_next reads later in
@@ -177,7 +177,7 @@ module _ {D : Type 0} (disk : D → Disk) {d : DurableState D} {m : Memory} {lef
 abbrev pub holding_up : ℕ → Content Cap → Memory → Memory
 holding_up n c m = record m { staging = Some (record { number = n; content = c }) }
 
-module _ {s : Stored} {m : Memory} {left count : ℕ} (is : IsCache s m left count) (n : ℕ) (pending : mark_at m.pending n ≡ true) (empty : m.staging ≡ None)
+module _ {s : Stored} {m : Memory} {all : Bool} {left count : ℕ} (is : IsCache all s m left count) (n : ℕ) (pending : mark_at m.pending n ≡ true) (empty : m.staging ≡ None)
     (c : Content Cap) (read : c ≡ (below_at s n).content) where
   abbrev then : Memory
   then = holding_up n c m
@@ -197,15 +197,15 @@ module _ {s : Stored} {m : Memory} {left count : ℕ} (is : IsCache s m left cou
   pub taken_alike : Alike s m s (holding_up n c m)
   taken_alike = record { headers = refl; content = content_same; frozen = frozen_stays }
 
-  pub taken_cache : IsCache s then left count
+  pub taken_cache : IsCache all s then left count
   taken_cache =
       let held : (h : Held) → then.staging ≡ Some h → mark_at m.pending h.number ≡ true =
       λ h h_is. subst (λ g. mark_at m.pending g.number ≡ true) (same_Some (record { number = n; content = c }) h h_is) pending in
       search (clean_alike taken_alike is, unwritten_alike taken_alike is, keepable_alike taken_alike is)
 
 -- the same by what is seen
-module _ {D : Type 0} (disk : D → Disk) {d : DurableState D} {m : Memory} {left count : ℕ} {order : List ℕ} {most_entries : ℕ} {s : StoreState D}
-    (view : cache_of disk d m left order most_entries ≡ s) (is : IsCache (stored_of disk d) m left count) (n : ℕ) (pending : mark_at s.pending n ≡ true) where
+module _ {D : Type 0} (disk : D → Disk) {d : DurableState D} {m : Memory} {all : Bool} {left count : ℕ} {order : List ℕ} {most_entries : ℕ} {s : StoreState D}
+    (view : cache_of disk d m left order most_entries ≡ s) (is : IsCache all (stored_of disk d) m left count) (n : ℕ) (pending : mark_at s.pending n ≡ true) where
   pending_here : mark_at m.pending n ≡ true
   pending_here = ap (λ t. mark_at t.pending n) view ∙ pending
 
@@ -219,12 +219,12 @@ module _ {D : Type 0} (disk : D → Disk) {d : DurableState D} {m : Memory} {lef
 
     pub taken_next : {staging : Option Held} → staging ≡ Some (record { number = n; content = c }) →
         (disk d.beneath).failures ≤ (disk new.beneath).failures →
-        IsNext disk s new (record m { staging = staging }) left count order most_entries (record s { durable = new; staging = staging })
+        IsNext all disk s new (record m { staging = staging }) left count order most_entries (record s { durable = new; staging = staging })
     unfolding frozen_states_in
     taken_next staging_is later =
         let next = read_next disk view is reads later in
         next_as (next_in (record {
-          is = subst (λ t. IsCache t (holding_up n c m) left count) (sym reads.stored) (taken_cache is n pending_here empty_here c read);
+          is = subst (λ t. IsCache all t (holding_up n c m) left count) (sym reads.stored) (taken_cache is n pending_here empty_here c read);
           view = seen;
           continues = subst (GoesOnIn disk s) (sym seen) (continues_with disk s.cached s.frozen_state s.order (Some (record { number = n; content = c }))
               (subst (GoesOnIn disk s) next.view next.continues));

@@ -7,7 +7,9 @@ use Rattle.object_cache.proofs.Names.{all_frozen, freezing_puts, put_at, put_or,
 use Rattle.object_cache.proofs.Names.{frame_in, length_in, Entry, entry_at, Memory, mark_at, masked, put_body, content_at, present_at, newest_body, below_body}
 use Rattle.object_cache.proofs.Names.{frozen_body, frozen_frame, frozen_at, contents_in, frozen_in, StoreState, IsCache, AreFrozen, snapshots_of, cache_of}
 use Rattle.object_cache.proofs.Names.{frozen_seen, is_kept, left_of, sum_by-replicate, get_or_default}
+use Rattle.object_cache.proofs.Names.{parts_of}
 use Rattle.std.proofs.Common.{◌≡◌, ◌<◌, ◌≤◌, ◌||◌, ◌∷◌, ◌∙◌}
+use Rattle.checkpoint.specs.Store.{all_untouched}
 use Rattle.object_cache.proofs.Marking.{alike}
 use Rattle.object_cache.proofs.Objects.{content_in, saved_below}
 use Rattle.object_cache.proofs.Puts.{held_touched}
@@ -48,7 +50,7 @@ abbrev pub frozen_memory : List ObjectHeader → Memory → Memory
 frozen_memory fh m = record
     m { frozen_headers = fh; touched = replicate (length m.touched) false; dirty = replicate (length m.pending) false; pending = m.dirty }
 
-module _ {s : Stored} {m : Memory} {left count : ℕ} (is : IsCache s m left count) (none : s.frozen ≡ None)
+module _ {s : Stored} {m : Memory} {all : Bool} {left count : ℕ} (is : IsCache all s m left count) (none : s.frozen ≡ None)
     (fh : List ObjectHeader) (fh_count : length fh ≡ length m.frozen_headers)
     (same_headers : (n : ℕ) → mark_at m.dirty n ≡ true → header_at fh n ≡ header_at m.headers n)
     (keepable : AreKeepable s.saved.geometry most (frames_in m.headers (contents_in s m))) where
@@ -124,12 +126,12 @@ module _ {s : Stored} {m : Memory} {left count : ℕ} (is : IsCache s m left cou
     within = omega arith;
   }
 
-  pub begun_cache : IsCache begun now count 0
+  pub begun_cache : IsCache all begun now count 0
   begun_cache = search (arith, length-replicate, none_counted, alike, present_same, frozen_now, none-some, same_Some, begun_are, begun_frozen, none)
 
 -- the same by what is seen
-module _ {D : Type 0} (disk : D → Disk) {d : DurableState D} {m : Memory} {left count : ℕ} {order : List ℕ} {most_entries : ℕ} {s : StoreState D}
-    (view : cache_of disk d m left order most_entries ≡ s) (is : IsCache (stored_of disk d) m left count) where
+module _ {D : Type 0} (disk : D → Disk) {d : DurableState D} {m : Memory} {all : Bool} {left count : ℕ} {order : List ℕ} {most_entries : ℕ} {s : StoreState D}
+    (view : cache_of disk d m left order most_entries ≡ s) (is : IsCache all (stored_of disk d) m left count) where
   -- as many slots are held as were written since
   pub freeze_enough : sum_of held_slot (stored_of disk d).working ≤ count
   freeze_enough = let few = held_touched (stored_of disk d).working m.touched (is.puts ∙ sym is.marks) is.unput in omega (arith, few, is.counted)
@@ -145,15 +147,25 @@ module _ {D : Type 0} (disk : D → Disk) {d : DurableState D} {m : Memory} {lef
     kept : AreKeepable (stored_of disk d).saved.geometry most (frames_in m.headers (contents_in (stored_of disk d) m))
     kept = subst (λ t. AreKeepable (stored_of disk t.durable).saved.geometry most (frames_in t.headers t.contents)) (sym view) keepable
 
-    pub freeze_stands : IsCache (stored_of disk new) (frozen_memory fh m) count 0
-    freeze_stands = subst (λ t. IsCache t (frozen_memory fh m) count 0) (sym begun) (begun_cache is none fh fh_count same_headers kept)
+    pub freeze_stands : IsCache all (stored_of disk new) (frozen_memory fh m) count 0
+    freeze_stands = subst (λ t. IsCache all t (frozen_memory fh m) count 0) (sym begun) (begun_cache is none fh fh_count same_headers kept)
 
-    pub freeze_contents : contents_in (stored_of disk new) (frozen_memory fh m) ≡ s.contents
+    freeze_contents : contents_in (stored_of disk new) (frozen_memory fh m) ≡ s.contents
     freeze_contents = ap (λ t. contents_in t (frozen_memory fh m)) begun ∙ begun_contents is none fh fh_count same_headers kept ∙ ap (λ t. t.contents) view
 
-    pub freeze_touched : replicate (length m.touched) false ≡ untouched (stored_of disk s.durable).saved.geometry
+    freeze_touched : replicate (length m.touched) false ≡ untouched (stored_of disk s.durable).saved.geometry
     unfolding untouched
     freeze_touched = ap (λ k. replicate k false) is.marks ∙ ap (λ t. replicate (object_count (stored_of disk t.durable).saved.geometry) false) view
+
+    pub freeze_parts : new.beneath ≡ d.beneath → parts_of disk (cache_of disk new (frozen_memory fh m) count order most_entries) ≡
+        all_untouched (parts_of disk s)
+    freeze_parts beneath = λ k. record {
+      geometry = (ap (λ t. t.saved.geometry) begun ∙ ap (λ t. (stored_of disk t.durable).saved.geometry) view) k;
+      headers = (view k).headers;
+      contents = freeze_contents k;
+      touched = freeze_touched k;
+      failures = (ap (λ b. (disk b).failures) beneath ∙ ap (λ t. (disk t.durable.beneath).failures) view) k;
+    }
 
     pub freeze_snapshots : snapshots_of disk (cache_of disk new (frozen_memory fh m) count order most_entries) ≡ freezing
         (all_frozen (frames_in s.headers s.contents) (touched_count s.touched)) (snapshots_of disk s)

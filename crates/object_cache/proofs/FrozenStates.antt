@@ -12,8 +12,8 @@ use Rattle.object_cache.proofs.Caching.{frozen_state_entry}
 pub still_uncached : (ss : List Bool) (n k : ℕ) → cached_at ss k ≡ false → cached_at (set ss n false) k ≡ false
 still_uncached ss n k none = search (arith, cases_eq, set_there, get_or-set_other)
 
-module _ {D : Type 0} (disk : D → Disk) {d : DurableState D} {m : Memory} {left count : ℕ} {order : List ℕ} {most_entries : ℕ} {s : StoreState D}
-    (view : cache_of disk d m left order most_entries ≡ s) (is : IsCache (stored_of disk d) m left count) (n : ℕ) where
+module _ {D : Type 0} (disk : D → Disk) {d : DurableState D} {m : Memory} {all : Bool} {left count : ℕ} {order : List ℕ} {most_entries : ℕ} {s : StoreState D}
+    (view : cache_of disk d m left order most_entries ≡ s) (is : IsCache all (stored_of disk d) m left count) (n : ℕ) where
   module _ (known : n < length s.headers) where
     pub known_there : n < length m.headers
     known_there = omega (arith, known, ap (λ t. length t.headers) view)
@@ -34,6 +34,9 @@ module _ {D : Type 0} (disk : D → Disk) {d : DurableState D} {m : Memory} {lef
     pub fetched_by : IsSome (entry_at m.entries n) → IsFetchedIn s n
     fetched_by some = search (arith, known, known_there, contents_count, cached_entry)
 
+    pub fetched_whole : all ≡ true → IsFetchedIn s n
+    fetched_whole is_all = fetched_by (is.whole is_all n known_there)
+
   pub uncached_by : is_some (entry_at m.entries n) ≡ false → cached_at s.cached n ≡ false
   uncached_by none = ap (λ t. cached_at t.cached n) (sym view) ∙ cached_entry m.entries n ∙ none
 
@@ -44,8 +47,8 @@ pub record IsLeast {D : Type 0} (s : StoreState D) (n : ℕ) : Type 0 where
   pub room : length (without n s.order) < s.capacity
   pub rest : without n s.order ≡ take (s.capacity - 1) s.order
 
-module _ {D : Type 0} (disk : D → Disk) {d : DurableState D} {m : Memory} {left count : ℕ} {order : List ℕ} {most_entries : ℕ} {s : StoreState D}
-    (view : cache_of disk d m left order most_entries ≡ s) (is : IsCache (stored_of disk d) m left count)
+module _ {D : Type 0} (disk : D → Disk) {d : DurableState D} {m : Memory} {all : Bool} {left count : ℕ} {order : List ℕ} {most_entries : ℕ} {s : StoreState D}
+    (view : cache_of disk d m left order most_entries ≡ s) (is : IsCache all (stored_of disk d) m left count)
     (ordered : AreOrdered (record { at = m.entries; order = order; most = most_entries })) (full : s.capacity ≤ length s.order) where
   long : 8 ≤ length order
   long = omega (arith, ordered.least, full, ap (λ t. t.capacity) view, ap (λ t. length t.order) view)

@@ -31,8 +31,8 @@ module _ (s : Stored) (m : Memory) where
   frozen_home b k = search arith
 
   -- the numbers of the checkpoint are no matter
-  numbered_stands : (left count generation entries age k : ℕ) → IsCache s m left count →
-      IsCache (record {
+  numbered_stands : {all : Bool} (left count generation entries age k : ℕ) → IsCache all s m left count →
+      IsCache all (record {
         working = s.working;
         frozen = s.frozen;
         saved = record { geometry = s.saved.geometry; frames = s.saved.frames; generation = generation; entries = entries; age = age };
@@ -42,20 +42,20 @@ module _ (s : Stored) (m : Memory) where
   unfolding frozen_in
   numbered_stands left count generation entries age k is = search
 
-  pub home_stands : (left count : ℕ) (b : Bool) (k : ℕ) → IsCache s m left count → IsCache (stored_with s b k) m left count
+  pub home_stands : {all : Bool} (left count : ℕ) (b : Bool) (k : ℕ) → IsCache all s m left count → IsCache all (stored_with s b k) m left count
   home_stands left count true k is = numbered_stands left count s.saved.generation 0 s.saved.age k is
   home_stands left count false k is = numbered_stands left count s.saved.generation s.saved.entries s.saved.age k is
 
 -- the same by what is seen
-module _ {D : Type 0} (disk : D → Disk) {d : DurableState D} {m : Memory} {left count : ℕ} {order : List ℕ} {most_entries : ℕ} {s : StoreState D}
-    (view : cache_of disk d m left order most_entries ≡ s) (is : IsCache (stored_of disk d) m left count) (new : DurableState D) (amount : ℕ) where
+module _ {D : Type 0} (disk : D → Disk) {d : DurableState D} {m : Memory} {all : Bool} {left count : ℕ} {order : List ℕ} {most_entries : ℕ} {s : StoreState D}
+    (view : cache_of disk d m left order most_entries ≡ s) (is : IsCache all (stored_of disk d) m left count) (new : DurableState D) (amount : ℕ) where
   home_next : (b : Bool) (k : ℕ) → stored_of disk new ≡ stored_with (stored_of disk d) b k →
-      IsSeenAs disk new m left count order most_entries (record s { durable = new })
+      IsSeenAs all disk new m left count order most_entries (record s { durable = new })
   home_next b k put = search (arith, stored_next, home_stands, contents_home, frozen_home)
 
   pub moved_next : {T E : Type 0} (r : Result T E) → OnOk r (stored_of disk new ≡ on_snapshots (moved amount) (stored_of disk d)) →
       OnErr r ((k : ℕ) × (k ≤ (stored_of disk d).to_move) × (stored_of disk new ≡ record (stored_of disk d) { to_move = k })) →
-      IsSeenAs disk new m left count order most_entries (record s { durable = new }) ×
+      IsSeenAs all disk new m left count order most_entries (record s { durable = new }) ×
       OnOk r (snapshots_of disk (cache_of disk new m left order most_entries) ≡ moved amount (snapshots_of disk s))
   moved_next (Ok x) done left_over =
       let now = home_next ((stored_of disk d).to_move - amount == 0) ((stored_of disk d).to_move - amount) done in (
@@ -83,7 +83,7 @@ not_marked ts n none = go (mark_at ts n) refl
     go true at = let some = one_fewer ts n at in absurd (omega (arith, none, some))
     go false at = refl
 
-module _ {s : Stored} {m : Memory} {count : ℕ} (is : IsCache s m 0 count) (f : FrozenPuts) (f_is : s.frozen ≡ Some f) where
+module _ {s : Stored} {m : Memory} {all : Bool} {count : ℕ} (is : IsCache all s m 0 count) (f : FrozenPuts) (f_is : s.frozen ≡ Some f) where
   pub none_pending : (n : ℕ) → mark_at m.pending n ≡ false
   none_pending n = let few = (is.running f f_is).few in not_marked m.pending n (omega (arith, few))
 
@@ -129,12 +129,12 @@ module _ {s : Stored} {m : Memory} {count : ℕ} (is : IsCache s m 0 count) (f :
     pub saved_alike : Alike s m (on_snapshots (committed puts age f) s) m
     saved_alike = record { headers = refl; content = content_stays; frozen = frozen_stays }
 
-    pub saved_stands : IsCache after m 0 count
+    pub saved_stands : IsCache all after m 0 count
     saved_stands = search (arith, none-some, clean_alike, saved_alike, unwritten_alike, length_over, none_pending)
 
 -- the same by what is seen
-module _ {D : Type 0} (disk : D → Disk) {d : DurableState D} {m : Memory} {left count : ℕ} {order : List ℕ} {most_entries : ℕ} {s : StoreState D}
-    (view : cache_of disk d m left order most_entries ≡ s) (is : IsCache (stored_of disk d) m left count) (f : FrozenFrames) (running : s.frozen ≡ Some f)
+module _ {D : Type 0} (disk : D → Disk) {d : DurableState D} {m : Memory} {all : Bool} {left count : ℕ} {order : List ℕ} {most_entries : ℕ} {s : StoreState D}
+    (view : cache_of disk d m left order most_entries ≡ s) (is : IsCache all (stored_of disk d) m left count) (f : FrozenFrames) (running : s.frozen ≡ Some f)
     (stable : f.left ≡ 0) where
   found : (h : FrozenPuts) × ((stored_of disk d).frozen ≡ Some h) × (record { frames = frozen_in (stored_of disk d) m; size = h.size; left = left } ≡ f)
   found = running_in (frozen_in (stored_of disk d) m) left (stored_of disk d).frozen f (ap (λ t. t.frozen) view ∙ running)
@@ -142,8 +142,8 @@ module _ {D : Type 0} (disk : D → Disk) {d : DurableState D} {m : Memory} {lef
   none_left : left ≡ 0
   none_left = ap (λ g. g.left) found.2 ∙ stable
 
-  stands_here : IsCache (stored_of disk d) m 0 count
-  stands_here = subst (λ k. IsCache (stored_of disk d) m k count) none_left is
+  stands_here : IsCache all (stored_of disk d) m 0 count
+  stands_here = subst (λ k. IsCache all (stored_of disk d) m k count) none_left is
 
   frames_are : frozen_in (stored_of disk d) m ≡ f.frames
   frames_are = ap (λ g. g.frames) found.2
@@ -175,14 +175,14 @@ module _ {D : Type 0} (disk : D → Disk) {d : DurableState D} {m : Memory} {lef
     pub save_next : (new : DurableState D) {T E : Type 0} (r : Result T E) →
         ((h : FrozenPuts) → (stored_of disk d).frozen ≡ Some h → OnOk r (stored_of disk new ≡ on_snapshots (committed puts age h) (stored_of disk d))) →
         OnErr r (stored_of disk new ≡ stored_of disk d) →
-        IsSeenAs disk new m left count order most_entries (record s { durable = new; frozen = frozen_seen (stored_of disk new) m left }) ×
+        IsSeenAs all disk new m left count order most_entries (record s { durable = new; frozen = frozen_seen (stored_of disk new) m left }) ×
         OnOk r (snapshots_of disk (cache_of disk new m left order most_entries) ≡ committed whole age f (snapshots_of disk s))
     save_next new (Ok x) done undone =
         let now = done found.0 found.1 in
         let contents = ap (λ t. contents_in t m) now ∙ contents_alike (saved_alike stands_here found.0 found.1 age) ∙ ap (λ t. t.contents) view in (
           record {
-            is = subst (λ t. IsCache t m left count) (sym now)
-                (subst (λ k. IsCache (on_snapshots (committed puts age found.0) (stored_of disk d)) m k count) (sym none_left)
+            is = subst (λ t. IsCache all t m left count) (sym now)
+                (subst (λ k. IsCache all (on_snapshots (committed puts age found.0) (stored_of disk d)) m k count) (sym none_left)
                 (saved_stands stands_here found.0 found.1 age));
             view = λ k. record (view k) { durable = new; contents = contents k; frozen = frozen_seen (stored_of disk new) m left };
           },
@@ -192,7 +192,7 @@ module _ {D : Type 0} (disk : D → Disk) {d : DurableState D} {m : Memory} {lef
     save_next new (Err e) done undone =
         let contents = ap (λ t. contents_in t m) undone ∙ ap (λ t. t.contents) view in (
           record {
-            is = subst (λ t. IsCache t m left count) (sym undone) is;
+            is = subst (λ t. IsCache all t m left count) (sym undone) is;
             view = λ k. record (view k) { durable = new; contents = contents k; frozen = frozen_seen (stored_of disk new) m left };
           },
           tt,

@@ -19,7 +19,7 @@ use Rattle.object_cache.proofs.Caching.{no_staging}
 as_page : (o : Option Entry) (c : Content Cap) → present_body o role.Page c ≡ entry_body o c
 as_page o c = search arith
 
-module _ {s : Stored} {m : Memory} {left count : ℕ} (is : IsCache s m left count) (none : s.frozen ≡ None) (n : ℕ)
+module _ {s : Stored} {m : Memory} {all : Bool} {left count : ℕ} (is : IsCache all s m left count) (none : s.frozen ≡ None) (n : ℕ)
     (role_is : (header_at m.headers n).role ≡ role.Page) where
   -- what it holds now
   pub page_held : content_at s m n ≡ held_now m.entries s n
@@ -83,7 +83,7 @@ module _ {s : Stored} {m : Memory} {left count : ℕ} (is : IsCache s m left cou
     unwritten_here : n < length m.headers → mark_at m.touched n ≡ false → below_at s n ≡ below_at after n
     unwritten_here inside untouched = search (arith, frozen_was, none, saved_below, page_is, below_here)
 
-    pub journal_stands : IsCache (on_snapshots (journaled age n (words_in (content_at s m n))) s) m left count
+    pub journal_stands : IsCache all (on_snapshots (journaled age n (words_in (content_at s m n))) s) m left count
     journal_stands = search (arith, present_same, frozen_was, cases_eq, unwritten_here, below_other, frozen_now, none-some, length-set)
 
     -- none is seen before and after
@@ -101,8 +101,8 @@ next_words : {F : Type 0} (age n : ℕ) (ws vs : List ℕ) (o : Option F) (saved
 next_words {F} age n ws vs o saved is_page is_saved same = search arith
 
 -- the same by what is seen
-module _ {D : Type 0} (disk : D → Disk) {d : DurableState D} {m : Memory} {left count : ℕ} {order : List ℕ} {most_entries : ℕ} {s : StoreState D}
-    (view : cache_of disk d m left order most_entries ≡ s) (is : IsCache (stored_of disk d) m left count) (n : ℕ)
+module _ {D : Type 0} (disk : D → Disk) {d : DurableState D} {m : Memory} {all : Bool} {left count : ℕ} {order : List ℕ} {most_entries : ℕ} {s : StoreState D}
+    (view : cache_of disk d m left order most_entries ≡ s) (is : IsCache all (stored_of disk d) m left count) (n : ℕ)
     (keepable : AreKeepable (stored_of disk s.durable).saved.geometry most (frames_in s.headers s.contents)) where
   abbrev st : Stored
   st = stored_of disk d
@@ -141,7 +141,7 @@ module _ {D : Type 0} (disk : D → Disk) {d : DurableState D} {m : Memory} {lef
     done_is there done = rw (page_held is (none_of left_of st.frozen there.0) n (role_is_page header.role there.1)) done
 
     pub journal_next : {T E : Type 0} (r : Result T E) → OnOk r IsThere → OnOk r IsDone → OnErr r (stored_of disk new ≡ st) →
-        IsSeenAs disk new m left count order most_entries (record s { durable = new }) ×
+        IsSeenAs all disk new m left count order most_entries (record s { durable = new }) ×
         OnOk r (snapshots_of disk (cache_of disk new m left order most_entries) ≡ journaled age n (words_in (held_at s.contents n)) (snapshots_of disk s)) ×
         OnErr r (snapshots_of disk (cache_of disk new m left order most_entries) ≡ snapshots_of disk s)
     journal_next (Ok x) there done undone =

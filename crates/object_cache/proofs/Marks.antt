@@ -51,7 +51,7 @@ frozen_state_marked o pending touched frozen_state = search arith
 abbrev pub marking : List ℕ → Memory → Memory
 marking ns m = record m { touched = touching m.touched ns; dirty = touching m.dirty ns }
 
-module _ {s : Stored} {m : Memory} {left count : ℕ} (is : IsCache s m left count) (ns : List ℕ) (known : (n : ℕ) → Contains ns n → n < length m.headers)
+module _ {s : Stored} {m : Memory} {all : Bool} {left count : ℕ} (is : IsCache all s m left count) (ns : List ℕ) (known : (n : ℕ) → Contains ns n → n < length m.headers)
     (apart : (n : ℕ) → Contains ns n → frozen_state_in_memory m n ≢ Shared) where
   touched_here : (k : ℕ) → Contains ns k → mark_at (touching m.touched ns) k ≡ true
   touched_here k has = listed_is_marked m.touched ns k has (let there = known k has in omega (arith, there, is.headers, is.marks))
@@ -73,7 +73,7 @@ module _ {s : Stored} {m : Memory} {left count : ℕ} (is : IsCache s m left cou
   unmarked : (ts : List Bool) (k : ℕ) → mark_at (touching ts ns) k ≡ false → mark_at ts k ≡ false
   unmarked ts k none = search (arith, still_marked)
 
-  pub marked_cache : (total : ℕ) → total ≡ touched_count (touching m.touched ns) → total ≤ s.saved.geometry.log → IsCache s (marking ns m) left total
+  pub marked_cache : (total : ℕ) → total ≡ touched_count (touching m.touched ns) → total ≤ s.saved.geometry.log → IsCache all s (marking ns m) left total
   marked_cache total counted few =
       let marked : (k : ℕ) → mark_at (touching m.dirty ns) k ≡ true → mark_at (touching m.touched ns) k ≡ true = λ k dirty. elim (marked_or m.dirty ns k) [
         | inl as_it_was ↦ still_marked m.touched ns k (is.marked k (sym as_it_was ∙ dirty))
@@ -92,8 +92,8 @@ module _ {s : Stored} {m : Memory} {left count : ℕ} (is : IsCache s m left cou
       search (is, keepable_alike marked_alike is, length-touching m.touched ns ∙ is.marks, length-touching m.dirty ns ∙ is.dirty_marks)
 
 -- the same by what is seen
-module _ {D : Type 0} (disk : D → Disk) {d : DurableState D} {m : Memory} {left count : ℕ} {order : List ℕ} {most_entries : ℕ} {s : StoreState D}
-    (view : cache_of disk d m left order most_entries ≡ s) (is : IsCache (stored_of disk d) m left count) (ns : List ℕ)
+module _ {D : Type 0} (disk : D → Disk) {d : DurableState D} {m : Memory} {all : Bool} {left count : ℕ} {order : List ℕ} {most_entries : ℕ} {s : StoreState D}
+    (view : cache_of disk d m left order most_entries ≡ s) (is : IsCache all (stored_of disk d) m left count) (ns : List ℕ)
     (known : (n : ℕ) → Contains ns n → n < length s.headers)
     (apart : (n : ℕ) → Contains ns n → frozen_state_at s.frozen_state n ≢ Shared) where
   known_here : (n : ℕ) → Contains ns n → n < length m.headers
@@ -103,7 +103,7 @@ module _ {D : Type 0} (disk : D → Disk) {d : DurableState D} {m : Memory} {lef
   apart_here n has shared = apart n has (ap (λ t. frozen_state_at t.frozen_state n) (sym view) ∙ frozen_state_entry m n (known_here n has) ∙ shared)
 
   pub mark_stands : (total : ℕ) → total ≡ touched_count (touching m.touched ns) → total ≤ (stored_of disk d).saved.geometry.log →
-      IsCache (stored_of disk d) (marking ns m) left total
+      IsCache all (stored_of disk d) (marking ns m) left total
   mark_stands = marked_cache is ns known_here apart_here
 
   pub mark_seen : cache_of disk d (marking ns m) left order most_entries ≡ record s { touched = touching s.touched ns; dirty = touching s.dirty ns }
@@ -125,8 +125,8 @@ module _ {D : Type 0} (disk : D → Disk) where
         GoesOnIn disk s (record s { touched = ts; dirty = ds })
     mark_continues s ts ds grows = search (arith, goes_none, peeks_started)
 
-module _ {D : Type 0} (disk : D → Disk) {d : DurableState D} {m : Memory} {left count : ℕ} {order : List ℕ} {most_entries : ℕ} {s : StoreState D}
-    (view : cache_of disk d m left order most_entries ≡ s) (is : IsCache (stored_of disk d) m left count) where
+module _ {D : Type 0} (disk : D → Disk) {d : DurableState D} {m : Memory} {all : Bool} {left count : ℕ} {order : List ℕ} {most_entries : ℕ} {s : StoreState D}
+    (view : cache_of disk d m left order most_entries ≡ s) (is : IsCache all (stored_of disk d) m left count) where
   -- what is marked may be written
   pub marked_announced : (ns : List ℕ) (n : ℕ) → n < length s.headers → Contains ns n →
       IsAnnouncedIn (record s { touched = touching s.touched ns; dirty = touching s.dirty ns }) n

@@ -73,9 +73,9 @@ pub use Rattle.object_cache.specs.Memory.{frozen_frame, frozen_state_by, frozen_
 pub use Rattle.object_cache.specs.Memory.{memory_of, newest_body, own_body, own_body_of, own_frame, present_at, present_body, put_body, released}
 unfoldable pub use Rattle.object_cache.specs.Memory.{contents_in, frozen_in, frozen_states_in}
 pub use Rattle.object_cache.specs.Prepared.{on_device_with, readied}
-pub use Rattle.object_cache.specs.PresentLaws.{continues_same, goes_on_same, goes_on_twice}
+pub use Rattle.object_cache.specs.PresentLaws.{continues_same, continues_twice, goes_on_same, goes_on_twice}
 pub use Rattle.object_cache.specs.StoreState.{AreAll, AreFrozen, AreInserted, AreKeepableIn, AreTaken, ContinuesIn, GoesOnIn, HaveRoom, HoldBodies}
-pub use Rattle.object_cache.specs.StoreState.{IsAnnouncedIn, IsBounded, IsCache, IsFetchedIn, IsJustOpened, IsKeepableIn, IsOpenOver, IsUnkept, IsWhole}
+pub use Rattle.object_cache.specs.StoreState.{IsAnnouncedIn, IsBounded, IsCache, IsFetchedIn, IsJustOpened, IsKeepableIn, IsOpenOver, IsUnkept}
 pub use Rattle.object_cache.specs.StoreState.{MayPutFrozen, PutsBy, StoreState, TakenState, all_of, bodies_of, cache_of, cached_at, frozen_seen}
 pub use Rattle.object_cache.specs.StoreState.{frozen_state_at, is_kept, on_device, on_device_frozen, parts_of, pending_count, snapshots_of, view_of, with_body}
 pub use Rattle.object_cache.specs.StoreState.{with_cached, with_content_in, without_cached}

@@ -6,9 +6,9 @@ use Rattle.object_cache.proofs.Names.{frozen_body, frozen_at, frozen_state_of, f
 use Rattle.object_cache.proofs.Names.{IsSome, length-set, get_or-map-range_with_len, length-map-range_with_len, get_or-map, get_or-set_same, get_or-set_other}
 use Rattle.object_cache.proofs.Names.{Role, blank_header, held_at, Disk, DurableState, stored_of, with_entry, changing, present_of, AreOrdered, StoreState}
 use Rattle.object_cache.proofs.Names.{IsBounded, IsAnnouncedIn, IsFetchedIn, cache_of, cached_in, cached_at, with_content_in, map-set_same, [], cases_lt}
-use Rattle.object_cache.proofs.Names.{ext_get_or, get_or_append_left, get_or_at, IsWhole, frozen_seen, some_map, newest, Ok, Err, Result, AreObjectsOf}
+use Rattle.object_cache.proofs.Names.{ext_get_or, get_or_append_left, get_or_at, touched_count, frozen_seen, some_map, newest, Ok, Err, Result, AreObjectsOf}
 use Rattle.object_cache.proofs.Names.{AllObjects, IfOk, parts_of, below_at, frame_at, frozen_put, put_or}
-use Rattle.std.proofs.Common.{◌≡◌, ◌≢◌, ◌⊎◌, ◌<◌, ◌∙◌, ◌+◌, ◌∷◌, ◌++◌}
+use Rattle.std.proofs.Common.{◌≡◌, ◌≢◌, ◌⊎◌, ◌<◌, ◌≤◌, ◌∙◌, ◌+◌, ◌∷◌, ◌++◌}
 use Rattle.object_cache.proofs.Outcomes.{IsSeenAs, none_of}
 use Rattle.model.specs.declared.object.Role.TheVariants as role
 use Rattle.model.specs.declared.object.Content.TheVariants as content
@@ -41,7 +41,7 @@ module _ {s t : Stored} {m u : Memory} (same : Alike s m t u) where
   frozen_alike = rw same.headers (maps_same (frozen_at t u) (frozen_at s m) (length m.headers) (λ k below. same.frozen k))
 
   -- what always holds of clean, of untouched and of frozen numbers still does
-  module _ {left count : ℕ} (is : IsCache s m left count) where
+  module _ {all : Bool} {left count : ℕ} (is : IsCache all s m left count) where
     pub clean_alike : (k : ℕ) → mark_at m.dirty k ≡ false → mark_at m.touched k ≡ true → put_at s.working k ≡ Kept (present_at t u k)
     clean_alike k clean touched = is.clean k clean touched ∙ ap Kept (sym (present_alike k))
 
@@ -67,6 +67,9 @@ pub record Changes (m : Memory) (hs : List ObjectHeader) (es : List (Option Entr
 -- of an object written since it was frozen the frozen body isn't the present one
 by_kept : (o p : Option Entry) (below : Content Cap) → option_map kept_of o ≡ option_map kept_of p → frozen_body o true below ≡ frozen_body p true below
 by_kept o p below same = search (arith, none-some, same_Some)
+
+kept_some : (o p : Option Entry) → option_map kept_of o ≡ option_map kept_of p → IsSome p → IsSome o
+kept_some o p same some = search (arith, none-some)
 
 frozen_state_by_kept : (o p : Option Entry) (pending : Bool) → option_map kept_of o ≡ option_map kept_of p →
     frozen_state_of o pending true ≡ frozen_state_of p pending true
@@ -107,7 +110,7 @@ module _ (s : Stored) {m : Memory} {hs : List ObjectHeader} {es : List (Option E
     unfolding frozen_states_in
     frozen_state_same = search (arith, maps_same, frozen_state_stays)
 
-  module _ {left count : ℕ} (is : IsCache s m left count) (dirty : mark_at m.dirty n ≡ true) where
+  module _ {all : Bool} {left count : ℕ} (is : IsCache all s m left count) (dirty : mark_at m.dirty n ≡ true) where
     touched_here : mark_at m.touched n ≡ true
     touched_here = is.marked n dirty
 
@@ -121,8 +124,14 @@ module _ (s : Stored) {m : Memory} {hs : List ObjectHeader} {es : List (Option E
     none_here : entry_at es n ≡ None → entry_at m.entries n ≡ None
     none_here at = none_of kept_of (entry_at m.entries n) (sym change.kept ∙ ap (option_map kept_of) at)
 
-    pub still_cache : IsCache s changed left count
-    still_cache = search (arith, present_elsewhere, unmarked, touched_here, frozen_stays, frozen_same, of_each, apart_here, none_here)
+    some_here : IsSome (entry_at m.entries n) → IsSome (entry_at es n)
+    some_here some = kept_some (entry_at es n) (entry_at m.entries n) change.kept some
+
+    whole_still : all ≡ true → (k : ℕ) → k < length m.headers → IsSome (entry_at es k)
+    whole_still is_all = of_each n (λ within. some_here (is.whole is_all n within)) (λ k other. rw (change.entries k other) (is.whole is_all k))
+
+    pub still_cache : IsCache all s changed left count
+    still_cache = search (arith, present_elsewhere, unmarked, touched_here, frozen_stays, frozen_same, of_each, apart_here, none_here, whole_still)
 
 -- ---- what is seen of a cache after one object was changed
 
@@ -184,8 +193,8 @@ pub some_of : (o : Option Entry) → IsSome o → (e : Entry) × (o ≡ Some e)
 some_of o is = search arith
 
 -- the entries of a cache are no more than its capacity
-pub bounded_seen : {D : Type 0} (disk : D → Disk) {d : DurableState D} {m : Memory} {left count : ℕ} {order : List ℕ} {most_entries : ℕ} {s : StoreState D} →
-    cache_of disk d m left order most_entries ≡ s → IsCache (stored_of disk d) m left count →
+pub bounded_seen : {D : Type 0} (disk : D → Disk) {d : DurableState D} {m : Memory} {all : Bool} {left count : ℕ} {order : List ℕ} {most_entries : ℕ} {s : StoreState D} →
+    cache_of disk d m left order most_entries ≡ s → IsCache all (stored_of disk d) m left count →
     AreOrdered (record { at = m.entries; order = order; most = most_entries }) → IsBounded s
 bounded_seen {D} disk {d} {m} {left} {count} {order} {most_entries} {s} view is are = search (arith, cached_entry)
 
@@ -196,8 +205,8 @@ pub contents_count : (s : Stored) (m : Memory) → length (contents_in s m) ≡ 
 unfolding contents_in
 contents_count s m = length-map-range_with_len (content_at s m) 0 (length m.headers)
 
-module _ {D : Type 0} (disk : D → Disk) {d : DurableState D} {m : Memory} {left count : ℕ} {order : List ℕ} {most_entries : ℕ} {s : StoreState D}
-    (view : cache_of disk d m left order most_entries ≡ s) (is : IsCache (stored_of disk d) m left count) {n : ℕ} (fetched : IsFetchedIn s n) where
+module _ {D : Type 0} (disk : D → Disk) {d : DurableState D} {m : Memory} {all : Bool} {left count : ℕ} {order : List ℕ} {most_entries : ℕ} {s : StoreState D}
+    (view : cache_of disk d m left order most_entries ≡ s) (is : IsCache all (stored_of disk d) m left count) {n : ℕ} (fetched : IsFetchedIn s n) where
   pub entry_some : IsSome (entry_at m.entries n)
   entry_some = sym (cached_entry m.entries n) ∙ ap (λ t. cached_at t.cached n) view ∙ fetched.cached
 
@@ -213,10 +222,10 @@ module _ {D : Type 0} (disk : D → Disk) {d : DurableState D} {m : Memory} {lef
 
 -- ---- another durable store below the same memory
 
-pub stored_next : {D : Type 0} (disk : D → Disk) {d new : DurableState D} {m : Memory} {left count : ℕ} {order : List ℕ} {most_entries : ℕ} {s : StoreState D} →
-    cache_of disk d m left order most_entries ≡ s → {t : Stored} → stored_of disk new ≡ t → IsCache t m left count →
+pub stored_next : {D : Type 0} (disk : D → Disk) {d new : DurableState D} {m : Memory} {all : Bool} {left count : ℕ} {order : List ℕ} {most_entries : ℕ} {s : StoreState D} →
+    cache_of disk d m left order most_entries ≡ s → {t : Stored} → stored_of disk new ≡ t → IsCache all t m left count →
     contents_in t m ≡ contents_in (stored_of disk d) m → frozen_seen t m left ≡ frozen_seen (stored_of disk d) m left →
-    IsSeenAs disk new m left count order most_entries (record s { durable = new })
+    IsSeenAs all disk new m left count order most_entries (record s { durable = new })
 stored_next {D} disk {d} {new} {m} {left} {count} {order} {most_entries} {s} view {t} put is contents frozen = search arith
 
 -- ---- an object that may be written
@@ -227,10 +236,10 @@ pub record IsKnown (m : Memory) (n : ℕ) : Type 0 where
   pub dirty : mark_at m.dirty n ≡ true
   pub touched : mark_at m.touched n ≡ true
 
-module _ {D : Type 0} (disk : D → Disk) {d : DurableState D} {m : Memory} {left count : ℕ} {order : List ℕ} {most_entries : ℕ} {s : StoreState D}
-    (view : cache_of disk d m left order most_entries ≡ s) (is : IsCache (stored_of disk d) m left count) {n : ℕ} (announced : IsAnnouncedIn s n) where
+module _ {D : Type 0} (disk : D → Disk) {d : DurableState D} {m : Memory} {all : Bool} {left count : ℕ} {order : List ℕ} {most_entries : ℕ} {s : StoreState D}
+    (view : cache_of disk d m left order most_entries ≡ s) (is : IsCache all (stored_of disk d) m left count) {n : ℕ} (announced : IsAnnouncedIn s n) where
   abbrev IsNow : Memory → StoreState D → Type 0
-  IsNow then t = IsSeenAs disk d then left count order most_entries t
+  IsNow then t = IsSeenAs all disk d then left count order most_entries t
 
   pub known : IsKnown m n
   known = search arith
@@ -299,27 +308,31 @@ pub one_copied : (es : List (Option Entry)) (bodies : List (Content Cap)) (k : �
 one_copied es bodies k c many copied here n below = search (arith, cases_lt, get_or_append_left, get_or_at)
 
 -- all were copied out of a store in which each object has an entry
-module _ {D : Type 0} (disk : D → Disk) {d : DurableState D} {m : Memory} {left count : ℕ} {order : List ℕ} {most_entries : ℕ} {s : StoreState D}
-    (view : cache_of disk d m left order most_entries ≡ s) (is : IsCache (stored_of disk d) m left count) where
+module _ {D : Type 0} (disk : D → Disk) {d : DurableState D} {m : Memory} {all : Bool} {left count : ℕ} {order : List ℕ} {most_entries : ℕ} {s : StoreState D}
+    (view : cache_of disk d m left order most_entries ≡ s) (is : IsCache all (stored_of disk d) m left count) where
+  -- no more numbers are touched than half of the log holds
+  pub within_log : touched_count s.touched ≤ (stored_of disk s.durable).saved.geometry.log
+  within_log = subst (λ t. touched_count t.touched ≤ (stored_of disk t.durable).saved.geometry.log) view (omega (arith, is.within, is.counted))
+
   pub contents_each : length s.contents ≡ length s.headers
   contents_each = ap (λ t. length t.contents) (sym view) ∙ contents_count (stored_of disk d) m ∙ ap (λ t. length t.headers) view
 
-  copied_are : IsWhole s → (bodies : List (Content Cap)) → length bodies ≡ length m.headers
+  copied_are : (bodies : List (Content Cap)) → length bodies ≡ length m.headers
       → ((n : ℕ) → n < length m.headers → option_map present_of (entry_at m.entries n) ≡ Some (held_at bodies n)) → bodies ≡ s.contents
-  copied_are whole bodies each copied =
-      let headers = ap (λ t. length t.headers) view in
-      ext_get_or content.Free bodies s.contents (each ∙ headers ∙ sym contents_each)
+  copied_are bodies each copied =
+      ext_get_or content.Free bodies s.contents (each ∙ ap (λ t. length t.headers) view ∙ sym contents_each)
       (λ n within.
       let known : n < length m.headers = omega (arith, within, each) in
-      entry_holds disk view is (whole n (omega (arith, known, headers))) (held_at bodies n) (copied n known))
+      sym (present_is (entry_at m.entries n) (held_at bodies n) (header_at m.headers n).role (newest_body (stored_of disk d) m n) (copied n known))
+      ∙ sym (content_in (stored_of disk d) m n known) ∙ ap (λ t. held_at t.contents n) view)
 
-  pub all_copied : {E : Type 0} → IsWhole s → (headers : List ObjectHeader) → headers ≡ m.headers → (r : Result AllObjects E)
+  pub all_copied : {E : Type 0} → (headers : List ObjectHeader) → headers ≡ m.headers → (r : Result AllObjects E)
       → IfOk r (λ o. o.headers.items ≡ headers) → IfOk r (λ o. length o.contents.items ≡ length headers)
       → IfOk r (λ o. (n : ℕ) → n < length headers → option_map present_of (entry_at m.entries n) ≡ Some (held_at o.contents.items n))
       → IfOk r (λ o. AreObjectsOf (parts_of disk s) o)
-  all_copied whole headers made (Ok o) same count copied = record {
+  all_copied headers made (Ok o) same count copied = record {
     headers_are = same ∙ made ∙ ap (λ t. t.headers) view;
-    contents = copied_are whole o.contents.items (count ∙ ap length made) (λ n within. copied n (omega (arith, within, ap length made)));
+    contents = copied_are o.contents.items (count ∙ ap length made) (λ n within. copied n (omega (arith, within, ap length made)));
     each = contents_each;
   }
-  all_copied whole headers made (Err e) same count copied = tt
+  all_copied headers made (Err e) same count copied = tt

@@ -6,7 +6,7 @@ use Rattle.object_cache.proofs.Names.{OpensDurable, DurableState, Stored, stored
 use Rattle.object_cache.proofs.Names.{present_at, frozen_at, contents_in, StoreState, IsCache, IsJustOpened, IsOpenOver, AreAll, HoldBodies, EntriesState}
 use Rattle.object_cache.proofs.Names.{bodies_of, cache_of, parts_of, view_of, Some, length-set, length-append, get_or-set_same, get_or-set_other}
 use Rattle.object_cache.proofs.Names.{get_or_append_left, get_or_at, same_Some, Content, Cap, new_entry, with_new, AreTaken, AreInserted, HaveRoom, IsUnkept}
-use Rattle.object_cache.proofs.Names.{TakenState, true, changing, with_body, with_entry, is_some, all_of}
+use Rattle.object_cache.proofs.Names.{IsSome, TakenState, true, changing, with_body, with_entry, is_some, all_of}
 use Rattle.std.proofs.Common.{◌≡◌, ◌∷◌, ◌∙◌, ◌<◌, ◌≤◌, ◌+◌, ◌++◌}
 use Rattle.object_cache.proofs.Freezing.{masked_same, none_counted}
 use Rattle.object_cache.proofs.Marking.{alike}
@@ -59,11 +59,13 @@ module _ (s : Stored) (hs fh : List ObjectHeader) (fh_count : length fh ≡ leng
   marks_are : length (replicate (length hs) false) ≡ object_count s.saved.geometry
   marks_are = length-replicate {A = Bool} (length hs) false ∙ each ∙ is.frames
 
-  pub open_cache : IsCache s (open_memory hs fh e) 0 0
-  open_cache = search (arith, each, marks_are, length-replicate, none_counted, alike, unput_here, present_is, frozen_is, none-some)
+  pub open_cache : {all : Bool} → (all ≡ true → AreAll e) → IsCache all s (open_memory hs fh e) 0 0
+  open_cache {all} whole =
+      let some : all ≡ true → (n : ℕ) → n < length hs → IsSome (entry_at e.at n) = λ is_all n within. whole is_all n (omega (arith, within, each, hold.each)) in
+      search (arith, some, each, marks_are, length-replicate, none_counted, alike, unput_here, present_is, frozen_is, none-some)
 
   pub open_over : {D : Type 0} (disk : D → Disk) (d : DurableState D) → stored_of disk d ≡ s →
-      IsOpenOver (AreAll e) disk d e.most (cache_of disk d (open_memory hs fh e) 0 e.order e.most)
+      IsOpenOver disk d e.most (cache_of disk d (open_memory hs fh e) 0 e.order e.most)
   unfolding untouched
   open_over {D} disk d same = search (arith, open_contents, each, contents_count, cached_entry)
 
@@ -80,8 +82,8 @@ module _ {D : Type 0} (disk : D → Disk) (device : D) (d : DurableState D) (hs 
   }
 
   -- and in a store that was made over it
-  pub opens_store : (all : Type 0) (most : ℕ) (s : StoreState D) → IsOpenOver all disk d most s → OpensStore disk device (parts_of disk s) (view_of disk s)
-  opens_store all most s over = search (arith, again)
+  pub opens_store : (most : ℕ) (s : StoreState D) → IsOpenOver disk d most s → OpensStore disk device (parts_of disk s) (view_of disk s)
+  opens_store most s over = search (arith, again)
 
 -- ---- what is taken of the saved objects when a device is opened, frame by frame
 

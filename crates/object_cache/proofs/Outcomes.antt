@@ -7,25 +7,25 @@ use Rattle.std.proofs.Common.{◌≡◌, ◌∙◌}
 use Rattle.object_cache.proofs.Marking.{set_there}
 
 -- what always holds does of the fields of a cache, and this is seen of them
-pub record IsSeenAs {D : Type 0} (disk : D → Disk) (d : DurableState D) (m : Memory) (left count : ℕ) (order : List ℕ) (most_entries : ℕ) (s : StoreState D) :
+pub record IsSeenAs {D : Type 0} (all : Bool) (disk : D → Disk) (d : DurableState D) (m : Memory) (left count : ℕ) (order : List ℕ) (most_entries : ℕ) (s : StoreState D) :
     Type 0 where
-  pub is : IsCache (stored_of disk d) m left count
+  pub is : IsCache all (stored_of disk d) m left count
   pub view : cache_of disk d m left order most_entries ≡ s
 
 -- what always holds does of the fields of a cache after a step, this is seen of them, and the store goes on
-pub record IsNext {D : Type 0} (disk : D → Disk) (s : StoreState D) (d : DurableState D) (m : Memory) (left count : ℕ) (order : List ℕ) (most_entries : ℕ)
+pub record IsNext {D : Type 0} (all : Bool) (disk : D → Disk) (s : StoreState D) (d : DurableState D) (m : Memory) (left count : ℕ) (order : List ℕ) (most_entries : ℕ)
     (t : StoreState D) : Type 0 where
-  pub is : IsCache (stored_of disk d) m left count
+  pub is : IsCache all (stored_of disk d) m left count
   pub view : cache_of disk d m left order most_entries ≡ t
   pub continues : GoesOnIn disk s (cache_of disk d m left order most_entries)
 
-module _ {D : Type 0} {disk : D → Disk} {s t : StoreState D} {d : DurableState D} {m : Memory} {left count : ℕ} {order : List ℕ} {most_entries : ℕ}
-    (next : IsNext disk s d m left count order most_entries t) where
-  pub next_as : {u : StoreState D} → t ≡ u → IsNext disk s d m left count order most_entries u
+module _ {D : Type 0} {disk : D → Disk} {s t : StoreState D} {d : DurableState D} {m : Memory} {all : Bool} {left count : ℕ} {order : List ℕ} {most_entries : ℕ}
+    (next : IsNext all disk s d m left count order most_entries t) where
+  pub next_as : {u : StoreState D} → t ≡ u → IsNext all disk s d m left count order most_entries u
   next_as same = record { is = next.is; view = next.view ∙ same; continues = next.continues }
 
-  pub next_in : {n : Memory} {ns : List ℕ} {most : ℕ} → n ≡ m → ns ≡ order → most ≡ most_entries → IsNext disk s d n left count ns most t
-  next_in m_is order_is most_is = subst (λ (x : Memory × List ℕ × ℕ). IsNext disk s d x.0 left count x.1 x.2 t)
+  pub next_in : {n : Memory} {ns : List ℕ} {most : ℕ} → n ≡ m → ns ≡ order → most ≡ most_entries → IsNext all disk s d n left count ns most t
+  next_in m_is order_is most_is = subst (λ (x : Memory × List ℕ × ℕ). IsNext all disk s d x.0 left count x.1 x.2 t)
       (λ k. (sym m_is k, sym order_is k, sym most_is k)) next
 
 module _ {D : Type 0} where

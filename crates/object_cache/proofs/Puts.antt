@@ -50,7 +50,7 @@ has_free_slot room ps ts n count each marked within = search (arith, held_short)
 abbrev pub with_dirty : Memory → List Bool → Memory
 with_dirty m ds = record m { dirty = ds }
 
-module _ {s : Stored} {m : Memory} {left count : ℕ} (is : IsCache s m left count) (n : ℕ) (within : n < length m.headers) (e : Entry)
+module _ {s : Stored} {m : Memory} {all : Bool} {left count : ℕ} (is : IsCache all s m left count) (n : ℕ) (within : n < length m.headers) (e : Entry)
     (at : entry_at m.entries n ≡ Some e) (dirty : mark_at m.dirty n ≡ true)
     (p : Put) (ds : List Bool) (size : length ds ≡ length m.dirty) (others : (k : ℕ) → k ≢ n → mark_at ds k ≡ mark_at m.dirty k)
     (here : (mark_at ds n ≡ true) ⊎ (p ≡ Kept (present_at s m n))) where
@@ -69,14 +69,14 @@ module _ {s : Stored} {m : Memory} {left count : ℕ} (is : IsCache s m left cou
   present_stays : (k : ℕ) → present_at after (with_dirty m ds) k ≡ present_at s m k
   present_stays = present_alike put_alike
 
-  pub put_cache : IsCache after (with_dirty m ds) left count
+  pub put_cache : IsCache all after (with_dirty m ds) left count
   unfolding frozen_in
   put_cache = search (arith, of_each, get_or-set_same, present_stays, put_elsewhere, none-some, unwritten_alike, put_alike, length-set)
 
 -- ---- the same by what is seen
 
-module _ {D : Type 0} (disk : D → Disk) {d : DurableState D} {m : Memory} {left count : ℕ} {order : List ℕ} {most_entries : ℕ} {s : StoreState D}
-    (view : cache_of disk d m left order most_entries ≡ s) (is : IsCache (stored_of disk d) m left count) {n : ℕ} (fetched : IsFetchedIn s n)
+module _ {D : Type 0} (disk : D → Disk) {d : DurableState D} {m : Memory} {all : Bool} {left count : ℕ} {order : List ℕ} {most_entries : ℕ} {s : StoreState D}
+    (view : cache_of disk d m left order most_entries ≡ s) (is : IsCache all (stored_of disk d) m left count) {n : ℕ} (fetched : IsFetchedIn s n)
     (dirty : mark_at s.dirty n ≡ true) where
   known_here : n < length m.headers
   known_here = fetched_known disk view is fetched
@@ -114,9 +114,9 @@ module _ {D : Type 0} (disk : D → Disk) {d : DurableState D} {m : Memory} {lef
           contents = (contents_alike (put_alike is n known_here entry_here.0 entry_here.1 dirty_here p ds size others here) ∙ ap (λ t. t.contents) view) k;
         })
 
-    put_next : IsNext disk s new (with_dirty m ds) left count order most_entries (record s { durable = new; dirty = ds })
+    put_next : IsNext all disk s new (with_dirty m ds) left count order most_entries (record s { durable = new; dirty = ds })
     put_next = record {
-      is = subst (λ t. IsCache t (with_dirty m ds) left count) (sym put) (put_cache is n known_here entry_here.0 entry_here.1 dirty_here p ds size others here);
+      is = subst (λ t. IsCache all t (with_dirty m ds) left count) (sym put) (put_cache is n known_here entry_here.0 entry_here.1 dirty_here p ds size others here);
       view = seen_put;
       continues = subst (GoesOnIn disk s) (sym seen_put) (record {
         goes_on = subst (λ t. GoesOn disk t.durable new) view goes;
@@ -133,7 +133,7 @@ module _ {D : Type 0} (disk : D → Disk) {d : DurableState D} {m : Memory} {lef
 
   -- its slot may hold any bytes
   pub unput_next : {new : DurableState D} → stored_of disk new ≡ with_working n Broken (stored_of disk d) → GoesOn disk d new →
-      (disk d.beneath).failures ≤ (disk new.beneath).failures → IsNext disk s new m left count order most_entries (record s { durable = new })
+      (disk d.beneath).failures ≤ (disk new.beneath).failures → IsNext all disk s new m left count order most_entries (record s { durable = new })
   unput_next {new = new} put goes later = next_as (put_next refl (λ k other. refl) (inl dirty_here) put goes later)
       (ap (λ t. record s { durable = new; dirty = t.dirty }) view)
 
@@ -151,7 +151,7 @@ module _ {D : Type 0} (disk : D → Disk) {d : DurableState D} {m : Memory} {lef
     pub kept_next : {ds : List Bool} → ds ≡ set m.dirty n false → {new : DurableState D} →
         stored_of disk new ≡ with_working n (Kept (record { header = header; content = x })) (stored_of disk d) → GoesOn disk d new →
         (disk d.beneath).failures ≤ (disk new.beneath).failures →
-        IsNext disk s new (with_dirty m ds) left count order most_entries (record s { durable = new; dirty = set s.dirty n false })
+        IsNext all disk s new (with_dirty m ds) left count order most_entries (record s { durable = new; dirty = set s.dirty n false })
     kept_next ds_is {new = new} put goes later = next_as
         (put_next (ap length ds_is ∙ length-set m.dirty n false)
         (λ k other. ap (λ x. mark_at x k) ds_is ∙ get_or-set_other m.dirty n k false false other) (inr (ap Kept frame_is)) put goes later)

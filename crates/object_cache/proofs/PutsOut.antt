@@ -8,7 +8,7 @@ use Rattle.object_cache.proofs.Names.{IsCache, AreFrozen, is_kept, frozen_seen, 
 use Rattle.object_cache.proofs.Names.{length-map-range_with_len, get_or-map-range_with_len, ObjectHeader, Role, blank_frame, IsKeepable, Disk, HasFreeSlot}
 use Rattle.object_cache.proofs.Names.{with_entry_of, EntriesState, DurableState, GoesOn, stored_of, with_entry, own_body_of, FrozenState, masked, released}
 use Rattle.object_cache.proofs.Names.{own_body, own_frame, newest_body, apart_body, StoreState, IsFetchedIn, GoesOnIn, cache_of, frozen_state_at, cached_in}
-use Rattle.object_cache.proofs.Names.{MayPutFrozen}
+use Rattle.object_cache.proofs.Names.{MayPutFrozen, IsSome, is_some}
 use Rattle.std.proofs.Common.{◌≡◌, ◌≢◌, ◌⊎◌, ◌<◌, ◌≤◌, ◌||◌, ◌∙◌}
 use Rattle.object_cache.proofs.Marking.{one_fewer, marked_within}
 use Rattle.object_cache.proofs.Outcomes.{IsNext, next_as, next_in}
@@ -34,6 +34,7 @@ pub record Releases (s : Stored) (m : Memory) (n : ℕ) (p : Put) (ps : List Boo
   pub others : (k : ℕ) (c : Content Cap) → k ≢ n → in_staging staging k c ≡ in_staging m.staging k c
   pub content : content_at (with_frozen n p s) (with_pending m ps es staging) n ≡ content_at s m n
   pub frozen : frozen_at (with_frozen n p s) (with_pending m ps es staging) n ≡ frozen_at s m n
+  pub some : IsSome (entry_at m.entries n) → IsSome (entry_at es n)
   pub written : (mark_at ps n || is_kept p) ≡ true
   pub torn : p ≡ Broken → mark_at ps n ≡ true
   pub few : count_by (λ b. b) ps ≤ count_by (λ b. b) m.pending
@@ -42,7 +43,7 @@ pub record Releases (s : Stored) (m : Memory) (n : ℕ) (p : Put) (ps : List Boo
   pub freed : entry_at es n ≡ None → mark_at ps n ≡ true → (header_at m.frozen_headers n).role ≡ role.Free →
       (is_kept (put_at s.working n) ≡ true) ⊎ ((header_at m.headers n).role ≡ role.Free)
 
-module _ {s : Stored} {m : Memory} {left count : ℕ} (is : IsCache s m left count) {n : ℕ} (pending : mark_at m.pending n ≡ true) where
+module _ {s : Stored} {m : Memory} {all : Bool} {left count : ℕ} (is : IsCache all s m left count) {n : ℕ} (pending : mark_at m.pending n ≡ true) where
   pending_within : n < length m.headers → n < length m.pending
   pending_within within = omega (arith, within, is.headers, is.pending_marks)
 
@@ -57,14 +58,14 @@ module _ {s : Stored} {m : Memory} {left count : ℕ} (is : IsCache s m left cou
   -- it has its frozen frame: nothing is kept apart
   pub put_releases : {f : FrozenPuts} → s.frozen ≡ Some f → n < length m.headers → (g : Frame) → g ≡ frozen_at s m n → (es : List (Option Entry)) →
       length es ≡ length m.entries → ((k : ℕ) → k ≢ n → entry_at es k ≡ entry_at m.entries k) → ((e : Entry) → entry_at es n ≡ Some e → e.kept ≡ None) →
-      (staging : Option Held) → ((k : ℕ) (c : Content Cap) → k ≢ n → in_staging staging k c ≡ in_staging m.staging k c) →
+      (IsSome (entry_at m.entries n) → IsSome (entry_at es n)) → (staging : Option Held) → ((k : ℕ) (c : Content Cap) → k ≢ n → in_staging staging k c ≡ in_staging m.staging k c) →
       ((h : Held) → staging ≡ Some h → (h.number ≢ n) × (mark_at m.pending h.number ≡ true)) →
       content_at (with_frozen n (Kept g) s) (with_pending m (set m.pending n false) es staging) n ≡ content_at s m n →
       Releases s m n (Kept g) (set m.pending n false) es staging
-  put_releases {f} f_is within g g_is es es_count entries kept staging others released content =
+  put_releases {f} f_is within g g_is es es_count entries kept some staging others released content =
       search (arith, length-set, get_or-set_other, frozen_below, one_fewer, get_or-set_same, pending_within)
 
-module _ {s : Stored} {m : Memory} {left count : ℕ} (is : IsCache s m left count) {n : ℕ} (within : n < length m.headers) {f : FrozenPuts}
+module _ {s : Stored} {m : Memory} {all : Bool} {left count : ℕ} (is : IsCache all s m left count) {n : ℕ} (within : n < length m.headers) {f : FrozenPuts}
     (f_is : s.frozen ≡ Some f) (pending : mark_at m.pending n ≡ true) {p : Put} {ps : List Bool} {es : List (Option Entry)} {staging : Option Held}
     (rest : Releases s m n p ps es staging) where
   abbrev after : Stored
@@ -106,7 +107,7 @@ module _ {s : Stored} {m : Memory} {left count : ℕ} (is : IsCache s m left cou
   still_frozen : AreFrozen (with_put n p f) ps left
   still_frozen = search (arith, length-set, maps_same, written_stays, of_each, get_or-set_same, get_or-set_other)
 
-  pub released_cache : IsCache after memory left count
+  pub released_cache : IsCache all after memory left count
   released_cache =
       let idle : after.frozen ≡ None → (k : ℕ) → mark_at ps k ≡ false = λ none. absurd (none-some (with_put n p f) (sym none ∙ frozen_now)) in
       let running : (g : FrozenPuts) → after.frozen ≡ Some g → AreFrozen g ps left =
@@ -116,6 +117,8 @@ module _ {s : Stored} {m : Memory} {left count : ℕ} (is : IsCache s m left cou
       let freed : (k : ℕ) → entry_at es k ≡ None → mark_at ps k ≡ true → (header_at m.frozen_headers k).role ≡ role.Free →
       (is_kept (put_at s.working k) ≡ true) ⊎ ((header_at m.headers k).role ≡ role.Free) =
       of_each n rest.freed (λ k other. rw (rest.entries k other, rest.marks k other) (is.freed k)) in
+      let whole : all ≡ true → (k : ℕ) → k < length m.headers → IsSome (entry_at es k) =
+      λ is_all. of_each n (λ below. rest.some (is.whole is_all n below)) (λ k other. rw (rest.entries k other) (is.whole is_all k)) in
       search (
         is,
         rest,
@@ -152,8 +155,8 @@ dropping e = record e { kept = None }
 no_put : (pending : Bool) (p : Put) → (pending || is_kept p) ≡ false → (p ≡ Broken → pending ≡ true) → p ≡ Absent
 no_put pending p none torn = search arith
 
-module _ {D : Type 0} (disk : D → Disk) {d : DurableState D} {m : Memory} {left count : ℕ} {order : List ℕ} {most_entries : ℕ} {s : StoreState D}
-    (view : cache_of disk d m left order most_entries ≡ s) (is : IsCache (stored_of disk d) m left count) {n : ℕ} (known : n < length m.headers)
+module _ {D : Type 0} (disk : D → Disk) {d : DurableState D} {m : Memory} {all : Bool} {left count : ℕ} {order : List ℕ} {most_entries : ℕ} {s : StoreState D}
+    (view : cache_of disk d m left order most_entries ≡ s) (is : IsCache all (stored_of disk d) m left count) {n : ℕ} (known : n < length m.headers)
     (pending : mark_at m.pending n ≡ true) where
   pub running_here : (f : FrozenPuts) × ((stored_of disk d).frozen ≡ Some f)
   running_here = search arith
@@ -216,17 +219,17 @@ module _ {D : Type 0} (disk : D → Disk) {d : DurableState D} {m : Memory} {lef
           staging = staging;
         }) ∙ ap (λ (t : StoreState D). record t { durable = new; pending = ps; frozen_state = os; staging = staging }) view
 
-    released_next : IsNext disk s new (with_pending m ps es staging) left count order most_entries
+    released_next : IsNext all disk s new (with_pending m ps es staging) left count order most_entries
         (record s { durable = new; pending = ps; frozen_state = os; staging = staging })
     released_next = record {
-      is = subst (λ t. IsCache t then left count) (sym put) (released_cache is known running_here.1 pending rest);
+      is = subst (λ t. IsCache all t then left count) (sym put) (released_cache is known running_here.1 pending rest);
       view = released_seen;
       continues = subst (GoesOnIn disk s) (sym released_seen) (put_continues new p put goes later ps os staging);
     }
 
     -- and it is pending no more
     pub put_next : ps ≡ set m.pending n false → os ≡ set (frozen_states_in m) n Nothing →
-        IsNext disk s new (with_pending m ps es staging) left count order most_entries
+        IsNext all disk s new (with_pending m ps es staging) left count order most_entries
         (record s { durable = new; pending = set s.pending n false; frozen_state = set s.frozen_state n Nothing; staging = staging })
     put_next ps_is os_is = search (arith, next_as, released_next)
 
@@ -235,7 +238,7 @@ module _ {D : Type 0} (disk : D → Disk) {d : DurableState D} {m : Memory} {lef
       (disk d.beneath).failures ≤ (disk new.beneath).failures →
       content_at (with_frozen n Broken (stored_of disk d)) m n ≡ content_at (stored_of disk d) m n →
       frozen_at (with_frozen n Broken (stored_of disk d)) m n ≡ frozen_at (stored_of disk d) m n →
-      IsNext disk s new m left count order most_entries (record s { durable = new })
+      IsNext all disk s new m left count order most_entries (record s { durable = new })
   torn_next {new = new} put goes later content frozen = next_as
       (released_next put goes later (torn_releases is pending content frozen) refl refl)
       (ap (λ t. record s { durable = new; pending = t.pending; frozen_state = t.frozen_state; staging = t.staging }) view)
@@ -247,7 +250,7 @@ has_frozen_body : (e : Entry) (pending touched : Bool) → frozen_state_of (Some
     (pending ≡ true) × ((below : Content Cap) → apart_body e.kept touched e.present below ≡ own_body e.kept e.present)
 has_frozen_body e pending touched frozen_state = search arith
 
-module _ {s : Stored} {m : Memory} {left count : ℕ} (is : IsCache s m left count) (n : ℕ) (within : n < length m.headers) (e : Entry)
+module _ {s : Stored} {m : Memory} {all : Bool} {left count : ℕ} (is : IsCache all s m left count) (n : ℕ) (within : n < length m.headers) (e : Entry)
     (at : entry_at m.entries n ≡ Some e) (frozen_state : frozen_state_in_memory m n ≢ Nothing) where
   pub frozen_state_pending : (mark_at m.pending n ≡ true) ×
       ((below : Content Cap) → apart_body e.kept (mark_at m.touched n) e.present below ≡ own_body e.kept e.present)
@@ -261,8 +264,8 @@ module _ {s : Stored} {m : Memory} {left count : ℕ} (is : IsCache s m left cou
   own_content t = ap (λ o. present_body o (header_at m.headers n).role (newest_body t m n)) at
 
 -- the same by what is seen
-module _ {D : Type 0} (disk : D → Disk) {d : DurableState D} {m : Memory} {left count : ℕ} {order : List ℕ} {most_entries : ℕ} {s : StoreState D}
-    (view : cache_of disk d m left order most_entries ≡ s) (is : IsCache (stored_of disk d) m left count) {n : ℕ} (fetched : IsFetchedIn s n)
+module _ {D : Type 0} (disk : D → Disk) {d : DurableState D} {m : Memory} {all : Bool} {left count : ℕ} {order : List ℕ} {most_entries : ℕ} {s : StoreState D}
+    (view : cache_of disk d m left order most_entries ≡ s) (is : IsCache all (stored_of disk d) m left count) {n : ℕ} (fetched : IsFetchedIn s n)
     (frozen_state : frozen_state_at s.frozen_state n ≢ Nothing) where
   entry_here : (e : Entry) × (entry_at m.entries n ≡ Some e)
   entry_here = entry_found disk view is fetched
@@ -284,7 +287,7 @@ module _ {D : Type 0} (disk : D → Disk) {d : DurableState D} {m : Memory} {lef
 
   pub own_torn : {new : DurableState D} → GoesOn disk d new → (disk d.beneath).failures ≤ (disk new.beneath).failures →
       stored_of disk new ≡ with_frozen n Broken (stored_of disk d) →
-      IsNext disk s new m left count order most_entries (record s { durable = new })
+      IsNext all disk s new m left count order most_entries (record s { durable = new })
   own_torn goes later put =
       let content = own_content is n own_known entry_here.0 entry_here.1 state_here in
       let torn = with_frozen n Broken (stored_of disk d) in
@@ -309,7 +312,7 @@ module _ {D : Type 0} (disk : D → Disk) {d : DurableState D} {m : Memory} {lef
       pub out_next : {ps : List Bool} {es : EntriesState} {staging : Option Held} → ps ≡ set m.pending n false →
           es ≡ with_entry_of dropping n (record { at = m.entries; order = order; most = most_entries }) → staging ≡ released n m.staging →
           stored_of disk new ≡ with_frozen n (Kept (record { header = header; content = masked header.role x })) (stored_of disk d) →
-          IsNext disk s new (with_pending m ps es.at staging) left count es.order es.most
+          IsNext all disk s new (with_pending m ps es.at staging) left count es.order es.most
           (record s { durable = new; pending = set s.pending n false; frozen_state = set s.frozen_state n Nothing; staging = released n s.staging })
       out_next ps_is es_is staging_is put =
           let here = running_here disk view is own_known own_pending in
@@ -322,7 +325,7 @@ module _ {D : Type 0} (disk : D → Disk) {d : DurableState D} {m : Memory} {lef
           ∙ ap (option_map dropping) entry_here.1 in
           next_in (next_as (put_next disk view is own_known own_pending put goes later
           (put_releases is own_pending here.1 own_known frame own_frame_is (with_entry dropping n m.entries) (length-set m.entries n e) others
-          (λ g g_is. ap (λ y. y.kept) (same_Some g (dropping entry_here.0) (sym g_is ∙ now)))
+          (λ g g_is. ap (λ y. y.kept) (same_Some g (dropping entry_here.0) (sym g_is ∙ now))) (λ some. ap is_some now)
           (released n m.staging) (λ k c other. released_others m.staging n k c other)
           (λ h h_is. let was = released_of m.staging n h h_is in (was.0, is.held h was.1))
           (ap (λ o. present_body o (header_at m.headers n).role
@@ -344,7 +347,7 @@ put_under : (p : Put) (fr r : Role) (c : Content Cap) → (fr ≡ role.Free → 
     masked r (put_body p (masked fr c)) ≡ masked r (put_body p c)
 put_under p fr r c freed = search (arith, mask_under)
 
-module _ {s : Stored} {m : Memory} {left count : ℕ} (is : IsCache s m left count) (h : Held) (staging : m.staging ≡ Some h) where
+module _ {s : Stored} {m : Memory} {all : Bool} {left count : ℕ} (is : IsCache all s m left count) (h : Held) (staging : m.staging ≡ Some h) where
   pub held_pending : mark_at m.pending h.number ≡ true
   held_pending = is.held h staging
 
@@ -378,14 +381,14 @@ module _ {s : Stored} {m : Memory} {left count : ℕ} (is : IsCache s m left cou
 
     pub held_releases : {f : FrozenPuts} → s.frozen ≡ Some f → (g : Frame) → g ≡ frozen_at s m h.number →
         Releases s m h.number (Kept g) (set m.pending h.number false) m.entries None
-    held_releases f_is g g_is = put_releases is held_pending f_is held_within g g_is m.entries refl (λ k other. refl) (λ e at. (bare e at).1) None
+    held_releases f_is g g_is = put_releases is held_pending f_is held_within g g_is m.entries refl (λ k other. refl) (λ e at. (bare e at).1) (λ some. some) None
         (λ k c other. sym (ap (λ o. in_staging o k c) staging
         ∙ ap (λ b. cond b h.content c) (ne_eqb h.number k (λ same. other (sym same))))) (λ g gone. absurd (none-some g gone))
         (content_put f_is g g_is (entry_at m.entries h.number) refl)
 
 -- the same by what is seen
-module _ {D : Type 0} (disk : D → Disk) {d : DurableState D} {m : Memory} {left count : ℕ} {order : List ℕ} {most_entries : ℕ} {s : StoreState D}
-    (view : cache_of disk d m left order most_entries ≡ s) (is : IsCache (stored_of disk d) m left count) (h : Held) (staging : m.staging ≡ Some h) where
+module _ {D : Type 0} (disk : D → Disk) {d : DurableState D} {m : Memory} {all : Bool} {left count : ℕ} {order : List ℕ} {most_entries : ℕ} {s : StoreState D}
+    (view : cache_of disk d m left order most_entries ≡ s) (is : IsCache all (stored_of disk d) m left count) (h : Held) (staging : m.staging ≡ Some h) where
   held_marked : mark_at m.pending h.number ≡ true
   held_marked = held_pending is h staging
 
@@ -420,7 +423,7 @@ module _ {D : Type 0} (disk : D → Disk) {d : DurableState D} {m : Memory} {lef
       pub settled_next : {ps : List Bool} {staging : Option Held} → ps ≡ set m.pending h.number false → staging ≡ None → {header : ObjectHeader} →
           header ≡ header_at m.frozen_headers h.number →
           stored_of disk new ≡ with_frozen h.number (Kept (record { header = header; content = masked header.role h.content })) (stored_of disk d) →
-          IsNext disk s new (with_pending m ps m.entries staging) left count order most_entries
+          IsNext all disk s new (with_pending m ps m.entries staging) left count order most_entries
           (record s { durable = new; pending = set s.pending h.number false; frozen_state = set s.frozen_state h.number Nothing; staging = None })
       settled_next ps_is staging_is {header = header} header_is put =
           let here = running_here disk view is held_known held_marked in
@@ -430,7 +433,7 @@ module _ {D : Type 0} (disk : D → Disk) {d : DurableState D} {m : Memory} {lef
           (λ k. with_pending m (ps_is k) m.entries (staging_is k)) refl refl
 
       pub held_torn : stored_of disk new ≡ with_frozen h.number Broken (stored_of disk d) →
-          IsNext disk s new m left count order most_entries (record s { durable = new })
+          IsNext all disk s new m left count order most_entries (record s { durable = new })
       held_torn put =
           let torn = with_frozen h.number Broken (stored_of disk d) in
           torn_next disk view is held_known held_marked put goes later

@@ -14,8 +14,8 @@ pub running_in : (fs : List Frame) (left : ℕ) (o : Option FrozenPuts) (f : Fro
 running_in fs left o f is = search (arith, none-some, same_Some)
 
 module _ {D : Type 0} (disk : D → Disk) where
-  module _ {d : DurableState D} {m : Memory} {left count : ℕ} {order : List ℕ} {most_entries : ℕ} {s : StoreState D}
-      (view : cache_of disk d m left order most_entries ≡ s) (is : IsCache (stored_of disk d) m left count) (f : FrozenFrames) (f_is : s.frozen ≡ Some f) where
+  module _ {d : DurableState D} {m : Memory} {all : Bool} {left count : ℕ} {order : List ℕ} {most_entries : ℕ} {s : StoreState D}
+      (view : cache_of disk d m left order most_entries ≡ s) (is : IsCache all (stored_of disk d) m left count) (f : FrozenFrames) (f_is : s.frozen ≡ Some f) where
     found : (h : FrozenPuts) × ((stored_of disk d).frozen ≡ Some h) × (record { frames = frozen_in (stored_of disk d) m; size = h.size; left = left } ≡ f)
     found = running_in (frozen_in (stored_of disk d) m) left (stored_of disk d).frozen f (ap (λ t. t.frozen) view ∙ f_is)
 
@@ -31,7 +31,7 @@ module _ {D : Type 0} (disk : D → Disk) where
           let was = is.running h h_is in
           search (arith, was.each, was.size, was.torn, left_is)
 
-      pub turned_stands : IsCache (stored_of disk d) m (left - 1) count
+      pub turned_stands : IsCache all (stored_of disk d) m (left - 1) count
       turned_stands = search fewer_frozen
 
   pub puts_more : (a b c : StoreState D) (f : FrozenFrames) (i k : ℕ) → a.frozen ≡ Some f → PutsBy disk a b i → PutsBy disk b c k → PutsBy disk a c (i + k)

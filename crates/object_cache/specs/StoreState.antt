@@ -159,10 +159,6 @@ pub record IsAnnouncedIn {D : Type 0} (s : StoreState D) (n : ℕ) : Type 0 wher
   pub content : n < length s.contents
   pub dirty : mark_at s.dirty n ≡ true
 
--- every object has an entry
-abbrev pub IsWhole : {D : Type 0} → StoreState D → Type 0
-IsWhole s = (n : ℕ) → n < length s.headers → IsFetchedIn s n
-
 -- only present objects change; a store that keeps all of them made no call of the device
 pub record ContinuesIn {D : Type 0} (all : Bool) (disk : D → Disk) (s t : StoreState D) : Type 0 where
   pub goes_on : GoesOnIn disk s t
@@ -233,15 +229,13 @@ pub record AreTaken (s : TakenState) (fs : List Frame) : Type 0 where
   pub bodies : (e : EntriesState) → s.entries ≡ Some e → (n : ℕ) → n < length fs →
       entry_at e.at n ≡ Some (new_entry (frame_at fs n).content)
 
--- the present objects are the saved ones, and each has an entry if all are kept
-pub record IsOpenOver {D : Type 0} (all : Type 0) (disk : D → Disk) (d : DurableState D) (most : ℕ) (s : StoreState D) :
-    Type 0 where
+-- the present objects are the saved ones
+pub record IsOpenOver {D : Type 0} (disk : D → Disk) (d : DurableState D) (most : ℕ) (s : StoreState D) : Type 0 where
   pub durable : s.durable ≡ d
   pub headers_are : s.headers ≡ headers (stored_of disk d).saved.frames
   pub contents : s.contents ≡ bodies_of (stored_of disk d).saved.frames
   pub touched : s.touched ≡ untouched (stored_of disk d).saved.geometry
   pub idle : s.frozen ≡ None
-  pub whole : all → IsWhole s
   pub same_most : s.capacity ≡ most
 
 -- ---- what always holds
@@ -261,7 +255,7 @@ pub record AreFrozen (f : FrozenPuts) (pending : List Bool) (left : ℕ) : Type 
   pub few : count_by (λ b. b) pending ≤ left
   pub within : left ≤ f.size
 
-pub record IsCache (s : Stored) (m : Memory) (left count : ℕ) : Type 0 where
+pub record IsCache (all : Bool) (s : Stored) (m : Memory) (left count : ℕ) : Type 0 where
   pub headers : length m.headers ≡ object_count s.saved.geometry
   pub frozen_headers : length m.frozen_headers ≡ object_count s.saved.geometry
   pub marks : length m.touched ≡ object_count s.saved.geometry
@@ -270,6 +264,8 @@ pub record IsCache (s : Stored) (m : Memory) (left count : ℕ) : Type 0 where
   pub entries : length m.entries ≡ object_count s.saved.geometry
   pub frames : length s.saved.frames ≡ object_count s.saved.geometry
   pub puts : length s.working ≡ object_count s.saved.geometry
+  -- each object has an entry, if all are kept
+  pub whole : all ≡ true → (n : ℕ) → n < length m.headers → IsSome (entry_at m.entries n)
   pub counted : count ≡ touched_count m.touched
   pub within : count ≤ s.saved.geometry.log
   -- dirty numbers are touched, and the other touched ones have their working frame in the log

@@ -3,7 +3,6 @@
 #![tactic(auto)]
 
 mod all_objects;
-mod cache;
 mod frozen;
 mod frozen_state;
 mod headers;

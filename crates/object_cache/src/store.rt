@@ -1,25 +1,55 @@
 // The store of objects over a device.
-ghost use Rattle.std.specs.Prelude.{◌≡◌, ◌≤◌, true, length, IfOk, IfErr};
+ghost use Rattle.std.specs.Prelude.{◌∷◌, ◌≡◌, ◌≢◌, ◌<◌, ◌≤◌, ◌-◌, None, false, true, ℕ, length, slice_set, take, OnOk};
+ghost use Rattle.std.specs.Prelude.{OnErr};
+ghost use Rattle.model.specs.Frame.{header_at, held_at};
+ghost use Rattle.device.specs.Calls.{Counts};
 ghost use Rattle.migrator.specs.Durable.{stored_of};
-ghost use Rattle.object_cache.specs.StoreState.{AreTaken, IsBounded, IsJustOpened, IsOpenOver};
 
-use crate::cache::Cache;
+use crate::all_objects::copy_objects;
+use crate::frozen::{own_body, put_body};
+use crate::frozen_state::{FrozenState, state_by};
+use crate::headers::FrozenHeaders;
 use crate::policy::{KeepAll, KeepRecent, Policy};
-use crate::saved_objects::SavedObjects;
+use crate::staging::Staging;
 use cache_entries::Entries;
-use device::Device;
-use layout::Superblock;
+use capability::ObjectTable;
+use collections::NumberSet;
+use device::{Device, Failed};
+use layout::{Scratch, Superblock};
 use migrator::{AllObjects, Durable, WholeStore};
 use std::alloc::{AllocError, Global};
 use std::marker::{Model, PhantomData};
 
 mod durable;
+mod fetch;
+mod journal;
+mod open;
+mod prepare;
 mod present;
+mod stabilize;
 
-/// The objects over a device. The headers of all objects are always in memory; the policy says which bodies are.
+/// The objects over a device. The headers of all objects are always in memory; the policy says which bodies are. Those
+/// with an entry are in memory; the others lie on the device.
 #[derive(Drop)]
 pub struct Store<D: Device, P: Policy> {
-    cache: Cache<D>,
+    durable: Durable<D>,
+    table: ObjectTable,
+    /// The numbers written since the last freeze.
+    touched: NumberSet,
+    /// How many numbers are touched.
+    touched_count: u64,
+    /// The touched numbers whose present frame isn't in the log.
+    dirty: NumberSet,
+    entries: Entries,
+    /// The numbers whose frozen frame isn't in the log.
+    pending: NumberSet,
+    /// The headers of pending numbers as they were frozen.
+    frozen_headers: FrozenHeaders,
+    /// How many objects of the frozen checkpoint `stabilize` has yet to reach.
+    left: u64,
+    /// A frozen body that is in no entry, and perhaps no longer in its slot.
+    staging: Staging,
+    scratch: Scratch,
     policy: PhantomData<P>,
 }
 
@@ -30,47 +60,225 @@ pub type PlainStore<D> = Store<D, KeepAll>;
 pub type BoundedCache<D> = Store<D, KeepRecent>;
 
 impl<D: Device, P: Policy> Model for Store<D, P> {
-    ghost use Rattle.std.specs.Prelude.{◌≡◌, true};
-    ghost use Rattle.object_cache.specs.StoreState.{StoreState, IsWhole};
+    ghost use Rattle.migrator.specs.Durable.{stored_of};
+    ghost use Rattle.object_cache.specs.Memory.{memory_of};
+    ghost use Rattle.object_cache.specs.StoreState.{StoreState, IsCache, cache_of};
 
     ghost Value = { StoreState D };
 
-    ghost view = { λ s. s.cache };
+    ghost view = { λ s. cache_of D.disk s.durable
+        (memory_of s.table s.frozen_headers s.touched s.dirty s.pending s.entries.at s.staging)
+        s.left s.entries.order s.entries.most };
 
-    ghost invariant = { λ s. P.KEEPS_ALL ≡ true → IsWhole s.cache };
-}
-
-// The cache of a store that was just opened. If memory runs out, it returns the device.
-fn cache_over<D: Device, P: Policy>(
-    alloc: Global,
-    durable: Durable<D>,
-    saved: SavedObjects<P>,
-    setting: P::Setting,
-    memory: &mut Option<Entries>,
-) -> Result<Cache<D>, D>
-    requires opened { IsJustOpened (stored_of D.disk durable) saved.headers }
-    requires took { AreTaken saved (stored_of D.disk durable).saved.frames }
-    requires few { length saved.headers ≤ 8192 }
-    ensures made { IfOk result (λ cache. IsOpenOver (P.KEEPS_ALL ≡ true) D.disk durable
-        (P.most_for setting (length saved.headers)) cache) }
-    ensures back { IfErr result (λ device. device ≡ durable.beneath) }
-{
-    match saved.into_parts(alloc, setting, memory) {
-        Ok(parts) => match Cache::new(alloc, durable, parts.0, parts.1) {
-            Ok(cache) => Ok(cache),
-            Err(durable) => Err(durable.into_device()),
-        },
-        Err(_) => Err(durable.into_device()),
-    }
+    ghost invariant = { λ s. IsCache P.KEEPS_ALL (stored_of D.disk s.durable)
+        (memory_of s.table s.frozen_headers s.touched s.dirty s.pending s.entries.at s.staging)
+        s.left s.touched_count };
 }
 
 impl<D: Device, P: Policy> Store<D, P> {
+    ghost use Rattle.object_cache.specs.Memory.{Nothing, Shared, Apart, released, mark_at, masked};
+    ghost use Rattle.object_cache.specs.StoreState.{GoesOnIn, IsBounded, IsFetchedIn, on_device};
+    ghost use Rattle.object_cache.specs.StoreState.{AreKeepableIn, IsKeepableIn, frozen_state_at};
+    ghost use Rattle.object_cache.specs.StoreState.{cached_at, pending_count, without_cached};
+    ghost use Rattle.object_cache.specs.Prepared.{on_device_with};
+    ghost use Rattle.cache_entries.specs.Order.{without};
+
     /// The number of objects in memory: never more than the capacity that the store was opened with.
     pub fn len(&self) -> usize
         ensures count { result ≡ length self.now.order }
         ensures bounded { IsBounded self.now }
     {
-        self.cache.len()
+        self.entries.len()
+    }
+
+    // The durable store and the entries. All else in memory is dropped.
+    fn into_durable(self) -> (Durable<D>, Entries)
+        ensures { result.0 ≡ self.durable }
+    {
+        let Store {
+            durable,
+            table,
+            touched,
+            dirty,
+            entries,
+            pending,
+            frozen_headers,
+            staging,
+            scratch,
+            ..
+        } = self;
+        // Dropped by calls: the drop of each field here would be a step of this proof.
+        drop((table, touched, dirty, pending));
+        drop((frozen_headers, staging, scratch));
+        (durable, entries)
+    }
+
+    // Marks an object as used last, if it has an entry. Returns whether it has one.
+    pub(crate) fn use_now(&mut self, number: u64) -> bool
+        requires { number < length self.old.headers }
+        ensures fetched { result ≡ true → IsFetchedIn self.old number }
+        ensures uncached { result ≡ false → cached_at self.old.cached number ≡ false }
+        ensures used { result ≡ true → self.new
+            ≡ record self.old { order = number ∷ without number self.old.order } }
+        ensures unchanged { result ≡ false → self.new ≡ self.old }
+        ensures bounded { IsBounded self.old }
+    {
+        self.entries.promote(number)
+    }
+
+    // Makes the frozen copy of an object whose present body is also its unwritten frozen body.
+    pub(crate) fn keep_apart(&mut self, number: u64)
+        requires fetched { IsFetchedIn self.old number }
+        requires shared { frozen_state_at self.old.frozen_state number ≡ Shared }
+        ensures { self.new ≡ record self.old { frozen_state = slice_set self.old.frozen_state number Apart } }
+    {
+        self.entries.keep_apart(number);
+    }
+
+    // Removes the entry of a clean object. The device has all that the entry holds.
+    pub(crate) fn drop_entry(&mut self, number: u64)
+        requires fetched { IsFetchedIn self.old number }
+        requires clean { mark_at self.old.dirty number ≡ false }
+        requires frozen_state { frozen_state_at self.old.frozen_state number ≡ Nothing }
+        requires masked { masked (header_at self.old.headers number).role (held_at self.old.contents number)
+            ≡ held_at self.old.contents number }
+        requires some { P.KEEPS_ALL ≡ false }
+        ensures { self.new ≡ record self.old {
+          cached = slice_set self.old.cached number false;
+          order = without number self.old.order;
+        } }
+    {
+        self.entries.remove(number);
+    }
+
+    // Writes the present frame of a dirty object and clears its mark. After `Failed` it is still dirty.
+    pub(crate) fn put_present(&mut self, number: u64) -> Result<(), Failed>
+        requires fetched { IsFetchedIn self.old number }
+        requires dirty { mark_at self.old.dirty number ≡ true }
+        requires keepable { IsKeepableIn D.disk self.old number }
+        ensures put { OnOk result (self.new ≡ record self.old {
+          durable = self.new.durable;
+          dirty = slice_set self.old.dirty number false;
+        }) }
+        ensures unput { OnErr result (self.new ≡ record self.old { durable = self.new.durable }) }
+        ensures continues { GoesOnIn D.disk self.old self.new }
+        ensures cause { Counts (D.disk self.old.durable.beneath) (D.disk self.new.durable.beneath) result }
+    {
+        let header = self.table.header(number);
+        self.durable
+            .put_working(number, header, self.entries.present(number))?;
+        self.dirty.set(number as usize, false);
+        Ok(())
+    }
+
+    // Writes an object's frozen frame from its entry. After `Failed` it is still pending.
+    pub(crate) fn put_own_frozen(&mut self, number: u64) -> Result<(), Failed>
+        requires fetched { IsFetchedIn self.old number }
+        requires frozen_state { frozen_state_at self.old.frozen_state number ≢ Nothing }
+        ensures put { OnOk result (self.new ≡ record self.old {
+          durable = self.new.durable;
+          pending = slice_set self.old.pending number false;
+          frozen_state = slice_set self.old.frozen_state number Nothing;
+          staging = released number self.old.staging;
+        }) }
+        ensures fewer { OnOk result (pending_count self.new < pending_count self.old) }
+        ensures unput { OnErr result (self.new ≡ record self.old { durable = self.new.durable }) }
+        ensures continues { GoesOnIn D.disk self.old self.new }
+        ensures cause { Counts (D.disk self.old.durable.beneath) (D.disk self.new.durable.beneath) result }
+    {
+        let header = self.frozen_headers.header(number);
+        let content = own_body(&self.entries, number);
+        put_body(&mut self.durable, number, header, content)?;
+        self.pending.set(number as usize, false);
+        self.entries.drop_kept(number);
+        self.staging.release(number);
+        Ok(())
+    }
+
+    // What an object's entry has of its frozen frame, if that isn't in the log. Nothing if the object has no entry.
+    pub(crate) fn frozen_state(&self, number: u64) -> FrozenState
+        requires { number < length self.now.headers }
+        ensures fetched { result ≢ Nothing → IsFetchedIn self.now number }
+        ensures state { result ≡ frozen_state_at self.now.frozen_state number }
+    {
+        let is_pending = self.pending.contains(number as usize);
+        let is_touched = self.touched.contains(number as usize);
+        if self.entries.holds(number) {
+            return state_by(is_pending, self.entries.kept(number).is_some(), is_touched);
+        }
+        FrozenState::Nothing
+    }
+
+    // Writes an object's frozen frame from its entry, if the entry holds a frozen body that isn't in the log.
+    fn write_frozen(&mut self, number: u64) -> Result<(), Failed>
+        requires { IsFetchedIn self.old number }
+        ensures frozen_written { OnOk result (frozen_state_at self.new.frozen_state number ≡ Nothing) }
+        ensures put { self.new ≡ on_device self.old self.new }
+        ensures empty { self.old.staging ≡ None → self.new.staging ≡ None }
+        ensures continues { GoesOnIn D.disk self.old self.new }
+        ensures cause { Counts (D.disk self.old.durable.beneath) (D.disk self.new.durable.beneath) result }
+    {
+        match self.frozen_state(number) {
+            FrozenState::Nothing => Ok(()),
+            _ => self.put_own_frozen(number),
+        }
+    }
+
+    // Writes the present frame of an object and clears its mark, if it is dirty.
+    fn write_back(&mut self, number: u64) -> Result<(), Failed>
+        requires fetched { IsFetchedIn self.old number }
+        requires keepable { IsKeepableIn D.disk self.old number }
+        ensures clean { OnOk result (mark_at self.new.dirty number ≡ false) }
+        ensures frozen_state { self.new.frozen_state ≡ self.old.frozen_state }
+        ensures put { self.new ≡ on_device self.old self.new }
+        ensures staging { self.new.staging ≡ self.old.staging }
+        ensures continues { GoesOnIn D.disk self.old self.new }
+        ensures cause { Counts (D.disk self.old.durable.beneath) (D.disk self.new.durable.beneath) result }
+    {
+        if self.dirty.contains(number as usize) {
+            return self.put_present(number);
+        }
+        Ok(())
+    }
+
+    // Writes what the log lacks of an entry, and evicts it. After `Failed` it stays.
+    pub(crate) fn write_and_evict(&mut self, number: u64) -> Result<(), Failed>
+        requires fetched { IsFetchedIn self.old number }
+        requires keepable { IsKeepableIn D.disk self.old number }
+        requires some { P.KEEPS_ALL ≡ false }
+        ensures away { OnOk result (self.new ≡ without_cached number (on_device self.old self.new)) }
+        ensures stays { OnErr result (self.new ≡ on_device self.old self.new) }
+        ensures empty { self.old.staging ≡ None → self.new.staging ≡ None }
+        ensures continues { GoesOnIn D.disk self.old self.new }
+        ensures cause { Counts (D.disk self.old.durable.beneath) (D.disk self.new.durable.beneath) result }
+    {
+        self.write_frozen(number)?;
+        self.write_back(number)?;
+        self.drop_entry(number);
+        Ok(())
+    }
+
+    // If the cache is full, evicts the entry used longest ago. After `Failed` it stays.
+    pub(crate) fn make_room(&mut self) -> Result<(), Failed>
+        requires keepable { AreKeepableIn D.disk self.old }
+        requires some { P.KEEPS_ALL ≡ false }
+        ensures room { OnOk result (length self.new.order < self.new.capacity) }
+        ensures uncached { (n : ℕ) → cached_at self.old.cached n ≡ false
+            → cached_at self.new.cached n ≡ false }
+        ensures least { OnOk result (self.new.order ≡ take (self.old.capacity - 1) self.old.order) }
+        ensures unchanged { length self.old.order < self.old.capacity → self.new ≡ self.old }
+        ensures rest { self.new ≡ on_device_with self.old self.new }
+        ensures empty { self.old.staging ≡ None → self.new.staging ≡ None }
+        ensures continues { GoesOnIn D.disk self.old self.new }
+        ensures cause { Counts (D.disk self.old.durable.beneath) (D.disk self.new.durable.beneath) result }
+    {
+        if self.entries.is_full() {
+            let Some(oldest) = self.entries.least() else {
+                unreachable!()
+            };
+            return self.write_and_evict(oldest);
+        }
+        Ok(())
     }
 }
 
@@ -80,11 +288,14 @@ impl<D: Device> WholeStore<D> for PlainStore<D> {
     ghost durable = { λ s. s.durable };
 
     fn superblock(&self) -> &Superblock {
-        self.cache.superblock()
+        self.durable.superblock()
     }
 
     fn into_parts(self, alloc: Global) -> (Durable<D>, Result<AllObjects, AllocError>) {
-        self.cache.into_parts(alloc)
+        let objects = copy_objects(alloc, &self.table, &self.entries);
+        let (durable, entries) = self.into_durable();
+        drop(entries);
+        (durable, objects)
     }
 
     ghost is_over = { λ s. record { beneath = refl; saved = refl; sound = λ sound. sound } };

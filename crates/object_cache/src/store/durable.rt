@@ -1,23 +1,51 @@
-// A store of objects over a device.
-ghost use Rattle.std.specs.Prelude.{◌≡◌, ◌<◌, true, false, length, IfOk, IfErr, OnOk};
+// A store of objects over a device: opening it, and the stages of a checkpoint.
+ghost use Rattle.std.specs.Prelude.{◌≡◌, ◌<◌, ℕ, true, false, length, replicate, IfOk, IfErr, OnOk};
 ghost use Rattle.capability.specs.Parts.{AreSameUnlessFailed, frames_of};
 ghost use Rattle.checkpoint.specs.Opened.{Refuses};
 ghost use Rattle.checkpoint.specs.Saved.{most};
 ghost use Rattle.device.specs.Calls.{Counts};
+ghost use Rattle.model.specs.Frame.{header_at};
 ghost use Rattle.model.specs.Keepable.{AreKeepable};
 ghost use Rattle.checkpoint.specs.Store.{OpensStore};
+ghost use Rattle.object_cache.specs.Memory.{mark_at};
 ghost use Rattle.object_cache.specs.StoreState.{ContinuesIn, on_device, parts_of, cached_at, view_of, without_cached};
 
+use crate::headers::FrozenHeaders;
 use crate::policy::Policy;
 use crate::saved_objects::SavedObjects;
-use crate::store::{Store, cache_over};
+use crate::store::Store;
+use crate::store::journal::journal_page;
 use cache_entries::Entries;
+use capability::ObjectTable;
 use checkpoint::{Checkpoint, ObjectStore, OpenFault, OpenRefused};
+use collections::NumberSet;
 use device::{Device, Failed};
 use migrator::{Durable, Opened};
 use model::Refusal;
 use std::alloc::Global;
-use std::marker::PhantomData;
+use std::mem;
+
+// Makes the dirty numbers pending, with their headers of now. None is dirty or touched then.
+fn take_written(
+    frozen_headers: &mut FrozenHeaders,
+    table: &ObjectTable,
+    pending: &mut NumberSet,
+    dirty: &mut NumberSet,
+    touched: &mut NumberSet,
+)
+    requires each { length dirty.old ≡ length frozen_headers.old }
+    ensures count { length frozen_headers.new ≡ length frozen_headers.old }
+    ensures marked { (n : ℕ) → mark_at dirty.old n ≡ true
+        → header_at frozen_headers.new n ≡ header_at table.now n }
+    ensures pending { pending.new ≡ dirty.old }
+    ensures dirty { dirty.new ≡ replicate (length pending.old) false }
+    ensures touched { touched.new ≡ replicate (length touched.old) false }
+{
+    frozen_headers.take_marked(table, dirty);
+    mem::swap(pending, dirty);
+    dirty.clear();
+    touched.clear();
+}
 
 impl<D: Device, P: Policy> ObjectStore<D> for Store<D, P> {
     type Setting = P::Setting;
@@ -41,11 +69,8 @@ impl<D: Device, P: Policy> ObjectStore<D> for Store<D, P> {
         match Durable::open::<SavedObjects<P>>(alloc, device, memory) {
             Ok(opened) => {
                 let Opened { store, taken } = opened;
-                match cache_over(alloc, store, taken, setting, memory) {
-                    Ok(cache) => Ok(Store {
-                        cache,
-                        policy: PhantomData,
-                    }),
+                match Store::over(alloc, store, taken, setting, memory) {
+                    Ok(store) => Ok(store),
                     Err(device) => Err(OpenRefused {
                         fault: OpenFault::NoMemory,
                         device,
@@ -57,23 +82,30 @@ impl<D: Device, P: Policy> ObjectStore<D> for Store<D, P> {
     }
 
     fn device(&self) -> &D {
-        self.cache.device()
+        self.durable.device()
     }
 
     fn into_device(self) -> D {
-        self.cache.into_device()
+        let (durable, entries) = self.into_durable();
+        drop(entries);
+        durable.into_device()
     }
 
     fn close(self, memory: &mut Option<Entries>) -> D {
-        self.cache.close(memory)
+        let (durable, entries) = self.into_durable();
+        drop(memory.replace(entries));
+        durable.into_device()
     }
 
     fn saved(&self) -> Checkpoint {
-        self.cache.saved()
+        self.durable.saved()
     }
 
     fn left(&self) -> Option<u64> {
-        self.cache.left()
+        match self.durable.left() {
+            Some(_) => Some(self.left),
+            None => None,
+        }
     }
 
     /// Removes an object's entry, unless the policy keeps every body. First writes what the log lacks of it. `Ok` also
@@ -83,10 +115,6 @@ impl<D: Device, P: Policy> ObjectStore<D> for Store<D, P> {
         requires keepable { AreKeepable (parts_of D.disk self.old).geometry most
             (frames_of (parts_of D.disk self.old)) }
         ensures gone { OnOk result (P.KEEPS_ALL ≡ false → cached_at self.new.cached number ≡ false) }
-        ensures rest { self.new ≡ record (on_device self.old self.new) {
-          cached = self.new.cached;
-          order = self.new.order;
-        } }
         ensures away { OnOk result (P.KEEPS_ALL ≡ false → cached_at self.old.cached number ≡ true
             → self.new ≡ without_cached number (on_device self.old self.new)) }
         ensures none { cached_at self.old.cached number ≡ false → self.new ≡ self.old }
@@ -98,27 +126,65 @@ impl<D: Device, P: Policy> ObjectStore<D> for Store<D, P> {
         if P::KEEPS_ALL {
             return Ok(());
         }
-        self.cache.evict(number)
+        if self.entries.holds(number) {
+            return self.write_and_evict(number);
+        }
+        Ok(())
     }
 
     fn freeze(&mut self) -> Result<u64, Refusal> {
-        self.cache.freeze()
+        let size = self.touched_count;
+        self.durable.freeze(size)?;
+        take_written(
+            &mut self.frozen_headers,
+            &self.table,
+            &mut self.pending,
+            &mut self.dirty,
+            &mut self.touched,
+        );
+        self.touched_count = 0;
+        self.left = size;
+        Ok(size)
     }
 
+    /// Writes `count` of the frozen objects to the log, and returns how many it has yet to reach. An object that an
+    /// eviction wrote before its turn is counted until its turn. Refusals: see `ObjectStore::stabilize`.
     fn stabilize(&mut self, count: u64) -> Result<u64, Refusal> {
-        self.cache.stabilize(count)
+        let Some(left) = self.left() else {
+            return Err(Refusal::NoCheckpoint);
+        };
+        let some = count.min(left);
+        self.put_some(some)?;
+        Ok(left - some)
     }
 
     fn commit(&mut self, age: u64) -> Result<u64, Refusal> {
-        self.cache.commit(age)
+        // `Durable::commit` takes this decision by its own count, which is lower after an eviction wrote frozen frames
+        // early. The count here is the model's, and where it is 0 the other is too.
+        let Some(left) = self.left() else {
+            return Err(Refusal::NoCheckpoint);
+        };
+        if left != 0 {
+            return Err(Refusal::NotStable(left));
+        }
+        self.durable.commit(age)
     }
 
     fn migrate(&mut self, count: u64) -> Result<u64, Failed> {
-        self.cache.migrate(count)
+        self.durable.migrate(count)
     }
 
+    /// Saves the present words of a page. The words of a page that isn't in memory are read into the scratch buffer,
+    /// which `open` allocated. Refusals: see `ObjectStore::journal`.
     fn journal(&mut self, number: u64, age: u64) -> Result<u64, Refusal> {
-        self.cache.journal(number, age)
+        journal_page(
+            &mut self.durable,
+            &self.table,
+            &self.entries,
+            &mut self.scratch,
+            number,
+            age,
+        )
     }
 
     ghost use Rattle.std.proofs.Common.{refl};

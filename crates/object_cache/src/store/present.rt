@@ -2,15 +2,30 @@
 ghost use Rattle.std.specs.Prelude.{◌≡◌, ◌↔◌, ◌<◌, ◌≤◌, ℕ, true, false, length, take, OnOk, IsErr};
 ghost use Rattle.std.specs.List.{All, Contains};
 ghost use Rattle.cache_entries.specs.Order.{used_in_turn};
-ghost use Rattle.capability.specs.Parts.{OnlyFetches, Prepares, frames_of};
+ghost use Rattle.capability.specs.Parts.{OnlyFetches, Prepares, frames_of, fresh_content};
+ghost use Rattle.model.specs.Frame.{void_held};
 ghost use Rattle.model.specs.Keepable.{AreKeepable};
+ghost use Rattle.model.specs.Object.{role_of};
 ghost use Rattle.object_cache.specs.StoreState.{ContinuesIn, IsAnnouncedIn, IsFetchedIn, parts_of};
 
 use crate::policy::Policy;
 use crate::store::Store;
 use capability::{Frames, Fresh, MAX_FETCHED, ObjectTable, PresentFrames, RootChange};
 use device::{Device, Failed};
-use model::{Cap, ContentRef, Geometry, Refusal};
+use model::{Cap, ContentRef, Geometry, Refusal, Role};
+
+// The role of a new object.
+fn role_of(fresh: Fresh) -> Role
+    ensures { result ≡ role_of (fresh_content void_held fresh) }
+{
+    match fresh {
+        Fresh::Page => Role::Page,
+        Fresh::Node => Role::Node,
+        Fresh::Root { .. } => Role::Root,
+        Fresh::Annex => Role::Annex,
+        Fresh::Bank { .. } => Role::Bank,
+    }
+}
 
 impl<D: Device, P: Policy> Frames for Store<D, P> {
     ghost parts = { parts_of D.disk };
@@ -20,15 +35,15 @@ impl<D: Device, P: Policy> Frames for Store<D, P> {
     ghost ContinuesTo = { ContinuesIn P.KEEPS_ALL D.disk };
 
     fn geometry(&self) -> Geometry {
-        self.cache.geometry()
+        self.durable.geometry()
     }
 
     fn table(&self) -> &ObjectTable {
-        self.cache.table()
+        &self.table
     }
 
-    /// Brings the bodies of up to 8 objects into memory, and evicts those used longest ago for which there is no room.
-    /// Fails exactly if the device fails.
+    /// Brings the bodies of up to 8 objects into memory, in turn, and evicts those used longest ago for which there is
+    /// no room. Fails exactly if the device fails.
     fn fetch(&mut self, numbers: &[u64]) -> Result<(), Failed>
         requires few { length numbers.now ≤ MAX_FETCHED }
         requires known { All (λ n. n < length (parts_of D.disk self.old).headers) numbers.now }
@@ -44,15 +59,21 @@ impl<D: Device, P: Policy> Frames for Store<D, P> {
         ensures snapshots { OnlyFetches (parts_of D.disk) (ContinuesIn P.KEEPS_ALL D.disk) self.old self.new }
     {
         // Proof only: brings in the invariant.
-        let _ = &self.cache;
+        let _ = &self.durable;
         if P::KEEPS_ALL {
             return Ok(());
         }
-        self.cache.fetch(numbers)
+        if self.use_again(numbers) {
+            return Ok(());
+        }
+        let read = self.read_all_in(numbers);
+        // Proof only: brings in that the numbers of the order are those that have an entry.
+        self.len();
+        read
     }
 
     fn frame(&self, number: u64) -> ContentRef<'_> {
-        self.cache.frame(number)
+        self.entries.present(number)
     }
 
     ghost use Rattle.object_cache.specs.PresentLaws.{continues_same, continues_twice};
@@ -84,43 +105,45 @@ impl<D: Device, P: Policy> PresentFrames for Store<D, P> {
         ensures all { P.KEEPS_ALL ≡ true → self.new.order ≡ self.old.order }
         ensures prepares { Prepares (parts_of D.disk) (ContinuesIn P.KEEPS_ALL D.disk) self.old self.new written.now result }
     {
-        if P::KEEPS_ALL {
-            return self.cache.make_writable(written);
-        }
-        self.cache.prepare(fetched, written)
+        // Proof only: brings in the invariant.
+        let _ = &self.durable;
+        self.fetch(fetched)?;
+        self.make_writable(written)
     }
 
     fn set_word(&mut self, number: u64, index: usize, word: u64) {
-        self.cache.set_word(number, index, word);
+        self.entries.set_word(number, index, word);
     }
 
     fn set_slot(&mut self, number: u64, slot: usize, held: Cap) {
-        self.cache.set_slot(number, slot, held);
+        self.entries.set_slot(number, slot, held);
     }
 
     fn set_last_slots(&mut self, number: u64, held: [Cap; 4]) {
-        self.cache.set_last_slots(number, held);
+        self.entries.set_last_slots(number, held);
     }
 
     #[inline(always)]
     fn change_root(&mut self, process: u64, change: RootChange) {
-        self.cache.change_root(process, change);
+        self.entries.change_root(process, change);
     }
 
     fn claim(&mut self, number: u64, fresh: Fresh, owner: u64) {
-        self.cache.claim(number, fresh, owner);
+        self.entries.claim(number, fresh);
+        self.table.claim(number, role_of(fresh), owner);
     }
 
     fn reset(&mut self, number: u64) {
-        self.cache.reset(number);
+        self.entries.free(number);
+        self.table.rescind(number);
     }
 
     fn set_owner(&mut self, number: u64, bank: u64) {
-        self.cache.set_owner(number, bank);
+        self.table.set_owner(number, bank);
     }
 
     fn consume(&mut self, root: u64) {
-        self.cache.consume(root);
+        self.table.consume(root);
     }
 
     ghost known_announced = { λ s n there. (there.header, there.content) };

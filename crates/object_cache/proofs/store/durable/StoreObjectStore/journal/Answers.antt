@@ -1,20 +1,43 @@
-use Rattle.object_cache.proofs.Names.{ap, subst, parts_of, snapshots_of}
+use Rattle.object_cache.proofs.Names.{rules, stored_of, journal_there}
 use Rattle.std.proofs.Common.{◌≡◌}
-use Rattle.capability.specs.Parts.{AreSameUnlessFailed}
-use Rattle.checkpoint.specs.Refused.{IsRefused}
-use Rattle.object_cache.proofs.Exits.{refused_of, same_parts}
+use Rattle.object_cache.proofs.Exits.{refused_of, same_seen}
+use Rattle.object_cache.proofs.Journaling.{answer_seen, journal_known, journal_next, journal_object, journal_page, moments_seen}
 use Rattle.object_cache.proofs.store.durable.StoreObjectStore.journal.Goals as goal
 
-pub returns-clause-same : goal.returns-clause-same
-returns-clause-same g c =
-    let disk = g.D.Device.disk in
-    let u = c.journal.new.self in
-    let said = c.journal.ensures in
-    subst (λ t. AreSameUnlessFailed (parts_of disk t) (parts_of disk u)) c.self.view_is (same_parts disk c.self.inside.cache u
-    (ap (λ x. x.headers) said.rest) (ap (λ x. x.contents) said.rest) (ap (λ x. x.touched) said.rest) said.geometry)
+pub journal_page-requires-clause-object : goal.journal_page-requires-clause-object
+journal_page-requires-clause-object g c = λ is. (
+  journal_known g.D.Device.disk c.self.view_is c.self.invariant c.args.number c.requires.keepable is,
+  journal_object g.D.Device.disk c.self.view_is c.self.invariant c.args.number c.requires.keepable is,
+)
 
-pub returns-clause-refused : goal.returns-clause-refused
-returns-clause-refused g c =
-    let disk = g.D.Device.disk in
-    let r = c.journal.result in
-    subst (λ t. IsRefused r → snapshots_of disk c.journal.new.self ≡ snapshots_of disk t) c.self.view_is (refused_of r c.journal.ensures.unchanged)
+pub journal_page-requires-clause-page : goal.journal_page-requires-clause-page
+journal_page-requires-clause-page g c = journal_page g.D.Device.disk c.self.view_is c.self.invariant c.args.number c.requires.keepable
+
+pub invariant_of-self : goal.invariant_of-self
+invariant_of-self g c =
+    (journal_next g.D.Device.disk c.self.view_is c.self.invariant c.args.number c.requires.keepable c.journal_page.new.durable c.args.age
+    c.journal_page.result
+    (journal_there (g.D.Device.disk c.self.inside.durable.beneath) (g.D.Device.disk c.journal_page.new.durable.beneath) _
+    (stored_of g.D.Device.disk c.self.inside.durable).saved _ _ _ c.journal_page.result c.journal_page.ensures.answer)
+    c.journal_page.ensures.journaled c.journal_page.ensures.unchanged).0.is
+
+pub returns : goal.returns
+returns g c =
+    let next = journal_next g.D.Device.disk c.self.view_is c.self.invariant c.args.number c.requires.keepable c.journal_page.new.durable c.args.age
+    c.journal_page.result
+    (journal_there (g.D.Device.disk c.self.inside.durable.beneath) (g.D.Device.disk c.journal_page.new.durable.beneath) _
+    (stored_of g.D.Device.disk c.self.inside.durable).saved _ _ _ c.journal_page.result c.journal_page.ensures.answer)
+    c.journal_page.ensures.journaled c.journal_page.ensures.unchanged in
+    let s = c.args.self.now in
+    let new = c.journal_page.new.durable in
+    let geometry : (stored_of g.D.Device.disk new).saved.geometry ≡ (stored_of g.D.Device.disk s.durable).saved.geometry = search rules in
+    search (
+      rules,
+      same_seen g.D.Device.disk s _ next.0.view geometry,
+      next.1,
+      refused_of c.journal_page.result next.2,
+      answer_seen g.D.Device.disk c.self.view_is c.self.invariant c.args.number c.requires.keepable c.journal_page.new.durable c.args.age
+          c.journal_page.result c.journal_page.ensures.answer,
+      moments_seen g.D.Device.disk c.self.view_is c.self.invariant c.args.number c.requires.keepable c.journal_page.new.durable c.args.age
+          c.journal_page.ensures.any_moment,
+    )

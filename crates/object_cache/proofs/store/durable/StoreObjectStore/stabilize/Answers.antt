@@ -1,21 +1,23 @@
-use Rattle.object_cache.proofs.Names.{ap, subst, parts_of}
-use Rattle.capability.specs.Parts.{AreSameUnlessFailed}
-use Rattle.object_cache.proofs.Exits.{same_parts}
+use Rattle.object_cache.proofs.Exits.{puts_same}
 use Rattle.object_cache.proofs.store.durable.StoreObjectStore.stabilize.Goals as goal
 
+pub returns-in_err-put_some-clause-same : goal.returns-in_err-put_some-clause-same
+returns-in_err-put_some-clause-same g c = puts_same g.D.Device.disk c.args.self.now c.put_some.new.self c.in_err-put_some.ensures.unput.2
+
+pub returns-in_err-put_some-clause-size : goal.returns-in_err-put_some-clause-size
+returns-in_err-put_some-clause-size g c = c.in_err-put_some.ensures.unput.2.goes_on.size
+
+pub returns-in_err-put_some-clause-any_moment : goal.returns-in_err-put_some-clause-any_moment
+returns-in_err-put_some-clause-any_moment g c = c.in_err-put_some.ensures.unput.2.goes_on.any_moment c.requires.usable
+
 pub returns-clause-same : goal.returns-clause-same
-returns-clause-same g c =
-    let disk = g.D.Device.disk in
-    let u = c.stabilize.new.self in
-    let said = c.stabilize.ensures in
-    subst (λ t. AreSameUnlessFailed (parts_of disk t) (parts_of disk u)) c.self.view_is (same_parts disk c.self.inside.cache u
-    (ap (λ x. x.headers) said.rest) (ap (λ x. x.contents) said.rest) (ap (λ x. x.touched) said.rest) said.geometry)
+returns-clause-same g c = puts_same g.D.Device.disk c.args.self.now c.put_some.new.self c.in_ok-put_some.ensures.put
+
+pub returns-clause-usable : goal.returns-clause-usable
+returns-clause-usable g c = c.in_ok-put_some.ensures.put.goes_on.sound c.requires.usable
+
+pub returns-clause-size : goal.returns-clause-size
+returns-clause-size g c = c.in_ok-put_some.ensures.put.goes_on.size
 
 pub returns-clause-any_moment : goal.returns-clause-any_moment
-returns-clause-any_moment g c = rw c.self.view_is at c.stabilize.ensures.any_moment
-
-pub returns-clause-answer : goal.returns-clause-answer
-returns-clause-answer g c = rw c.self.view_is at c.stabilize.ensures.answer
-
-pub returns-clause-snapshots : goal.returns-clause-snapshots
-returns-clause-snapshots g c = rw c.self.view_is at c.stabilize.ensures.snapshots
+returns-clause-any_moment g c = c.in_ok-put_some.ensures.put.goes_on.any_moment c.requires.usable

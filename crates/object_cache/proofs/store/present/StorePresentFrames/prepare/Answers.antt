@@ -1,49 +1,35 @@
-use Rattle.object_cache.proofs.Names.{length, sym, subst, All-contains, on_ok, ap, OnOk, true≢false, take, used_in_turn, AreKeepableIn, arith, parts_of, ContinuesIn}
-use Rattle.std.proofs.Common.{◌≡◌, ◌∙◌, ◌<◌}
-use Rattle.capability.specs.Parts.{Prepares}
-use Rattle.object_cache.proofs.Exits.{continues_some, prepares_by}
+use Rattle.object_cache.proofs.Names.{on_ok, ap, length, All, continues_twice, err_from_is_err_and, refl, subst, sym}
+use Rattle.std.proofs.Common.{◌∙◌, ◌<◌}
+use Rattle.object_cache.proofs.Exits.{no_ok, prepares_after, unfetched}
+use Rattle.object_cache.proofs.Objects.{within_log}
 use Rattle.object_cache.proofs.store.present.StorePresentFrames.prepare.Goals as goal
 
-pub returns-then-KEEPS_ALL-clause-fetched : goal.returns-then-KEEPS_ALL-clause-fetched
-returns-then-KEEPS_ALL-clause-fetched g c =
-    on_ok c.make_writable.result (λ n has. c.make_writable.ensures.fetched n
-    (c.self.invariant (sym c.KEEPS_ALL.ensures ∙ c.if-KEEPS_ALL.true) n
-    (subst (λ t. n < length t.headers) (sym c.self.view_is)
-    (All-contains (λ k. k < length c.args.self.now.headers) c.args.fetched.now n c.requires.known has))))
+pub returns-in_err-fetch : goal.returns-in_err-fetch
+returns-in_err-fetch g c =
+    let r = c.from_residual.result in
+    let failed = c.from_residual.ensures.1 in
+    record {
+      fetched = no_ok r _ _ failed;
+      announced = no_ok r _ _ failed;
+      order = λ some. no_ok r _ _ failed;
+      all = λ all. ap (λ t. t.order) (c.fetch.ensures.all all);
+      prepares = unfetched (err_from_is_err_and r failed) (within_log g.D.Device.disk c.self.view_is c.self.invariant) c.fetch.ensures.snapshots
+          (c.in_err-fetch.ensures.cause.0 refl);
+    }
 
-pub returns-then-KEEPS_ALL-clause-order : goal.returns-then-KEEPS_ALL-clause-order
-returns-then-KEEPS_ALL-clause-order g c = λ some. absurd (true≢false (sym (sym c.KEEPS_ALL.ensures ∙ c.if-KEEPS_ALL.true) ∙ some))
-
-pub returns-then-KEEPS_ALL-clause-all : goal.returns-then-KEEPS_ALL-clause-all
-returns-then-KEEPS_ALL-clause-all g c = λ all. ap (λ t. t.order) c.make_writable.ensures.rest ∙ ap (λ t. t.order) c.self.view_is
-
-pub returns-then-KEEPS_ALL-clause-prepares : goal.returns-then-KEEPS_ALL-clause-prepares
-returns-then-KEEPS_ALL-clause-prepares g c =
-    let disk = g.D.Device.disk in
-    let r = c.make_writable.result in
-    let said = c.make_writable.ensures in
-    subst (λ t. Prepares (parts_of disk) (ContinuesIn g.P.Policy.KEEPS_ALL disk) t c.make_writable.new.self c.args.written.now r) c.self.view_is
-    (prepares_by (ap (λ t. t.headers) said.rest) (ap (λ t. t.contents) said.rest) said.continues
-    (record { goes_on = said.continues; still = λ all. ap (λ t. t.durable) said.rest }) r said.touched said.untouched said.before said.within said.refusals said.full.0
-    (λ fault. absurd (said.cause fault), λ rose. absurd (omega (arith, rose, ap (λ t. (disk t.durable.beneath).failures) said.rest))))
-
-pub prepare-requires-clause-keepable : goal.prepare-requires-clause-keepable
-prepare-requires-clause-keepable g c = subst (AreKeepableIn g.D.Device.disk) (sym c.self.view_is) c.requires.keepable
+pub make_writable-requires : goal.make_writable-requires
+make_writable-requires g c = subst (λ p. All (λ n. n < length p.headers) c.args.written.now) (sym c.in_ok-fetch.ensures.same) c.requires.announced
 
 pub returns : goal.returns
 returns g c =
-    let some = sym c.KEEPS_ALL.ensures ∙ c.if-KEEPS_ALL.false in
-    let disk = g.D.Device.disk in
-    let r = c.prepare.result in
-    let u = c.prepare.new.self in
-    let said = c.prepare.ensures in
-    let seen = c.self.view_is in
+    let r = c.make_writable.result in
+    let said = c.make_writable.ensures in
     record {
-      fetched = said.fetched;
+      fetched = on_ok r (λ n has. said.fetched n (c.in_ok-fetch.ensures.fetched n has));
       announced = said.announced;
-      order = λ some. subst (λ t. OnOk r (u.order ≡ take t.capacity (used_in_turn c.args.fetched.now t.order))) seen said.order;
-      all = λ all. absurd (true≢false (sym all ∙ some));
-      prepares = subst (λ t. Prepares (parts_of disk) (ContinuesIn g.P.Policy.KEEPS_ALL disk) t u c.args.written.now r) seen
-          (prepares_by (ap (λ t. t.headers) said.rest) (ap (λ t. t.contents) said.rest) said.continues (continues_some some said.continues) r said.touched
-          said.untouched said.before said.within said.refusals said.full said.cause);
+      order = λ some. on_ok r (said.order ∙ c.in_ok-fetch.ensures.order some);
+      all = λ all. said.order ∙ ap (λ t. t.order) (c.fetch.ensures.all all);
+      prepares = prepares_after c.in_ok-fetch.ensures.same
+          (continues_twice g.D.Device.disk g.P.Policy.KEEPS_ALL g.met.D.Device.counts_now c.args.self.now c.fetch.new.self c.make_writable.new.self
+          c.fetch.ensures.snapshots.continues said.prepares.continues) said.prepares;
     }

@@ -1,11 +1,18 @@
-use Rattle.capability.specs.Objects.{with_slots_in}
-use Rattle.object_cache.proofs.Presenting.{becomes_held, whole_held}
+use Rattle.object_cache.proofs.Names.{with_slots_in}
+use Rattle.object_cache.proofs.Objects.{content_becomes, entry_some}
+use Rattle.object_cache.proofs.Presenting.{becomes_held}
 use Rattle.object_cache.proofs.store.present.StorePresentFrames.set_last_slots.Goals as goal
 
+pub set_last_slots-requires : goal.set_last_slots-requires
+set_last_slots-requires g c = entry_some g.D.Device.disk c.self.view_is c.self.invariant c.requires.fetched
+
 pub invariant_of-self : goal.invariant_of-self
-invariant_of-self g c = λ all. whole_held c.args.number c.self.view_is (λ x. with_slots_in x 28 c.args.held) c.set_last_slots.ensures (c.self.invariant all)
+invariant_of-self g c =
+    rw c.set_last_slots.ensures (content_becomes g.D.Device.disk c.self.view_is c.self.invariant c.requires.announced c.requires.fetched
+    (λ x. with_slots_in x 28 c.args.held)).is
 
 pub returns : goal.returns
 returns g c =
-    becomes_held c.args.number c.self.view_is (λ x. with_slots_in x 28 c.args.held) c.set_last_slots.ensures g.P.Policy.KEEPS_ALL g.D.Device.disk
-    g.met.D.Device.only_now
+    rw c.set_last_slots.ensures (becomes_held g.P.Policy.KEEPS_ALL g.D.Device.disk g.met.D.Device.only_now c.args.self.now _ c.args.number _
+    (content_becomes g.D.Device.disk c.self.view_is c.self.invariant c.requires.announced c.requires.fetched
+    (λ x. with_slots_in x 28 c.args.held)).view)

@@ -1,0 +1,136 @@
+// Writing frozen frames to the log, in turn.
+ghost use Rattle.std.specs.Prelude.{◌≡◌, ◌≢◌, ℕ, ◌-◌, ◌<◌, ◌≤◌, None, Some, true, IfErr, OnOk, OnErr};
+ghost use Rattle.device.specs.Calls.{Counts};
+ghost use Rattle.migrator.specs.Durable.{is_sound};
+ghost use Rattle.checkpoint.specs.Refused.{IsRefused};
+ghost use Rattle.checkpoint.specs.Saved.{LeavesSaved};
+ghost use Rattle.checkpoint.specs.Snapshots.{left_in};
+ghost use Rattle.checkpoint.specs.Store.{whole, FrozenFrames, IsStabilizeAnswer, stabilized};
+ghost use Rattle.object_cache.specs.Memory.{Held, Nothing, mark_at};
+ghost use Rattle.object_cache.specs.StoreState.{GoesOnIn, PutsBy, on_device, on_device_frozen, frozen_state_at};
+ghost use Rattle.object_cache.specs.StoreState.{parts_of, pending_count, view_of};
+
+use crate::frozen::put_body;
+use crate::frozen_state::FrozenState;
+use crate::policy::Policy;
+use crate::store::Store;
+use device::{Device, Failed};
+use model::Refusal;
+
+impl<D: Device, P: Policy> Store<D, P> {
+    // Writes the frozen frame of the body in `staging`, which no cache entry has, and empties `staging`.
+    // After `Failed` the body is still in `staging`.
+    pub(crate) fn put_held(&mut self) -> Result<(), Failed>
+        requires { (h : Held) × (self.old.staging ≡ Some h)
+            × (frozen_state_at self.old.frozen_state h.number ≡ Nothing) }
+        ensures empty { OnOk result (self.new.staging ≡ None) }
+        ensures fewer { OnOk result (pending_count self.new < pending_count self.old) }
+        ensures put { self.new ≡ on_device self.old self.new }
+        ensures continues { GoesOnIn D.disk self.old self.new }
+        ensures cause { Counts (D.disk self.old.durable.beneath) (D.disk self.new.durable.beneath) result }
+    {
+        let Some(held) = self.staging.get() else {
+            unreachable!()
+        };
+        let number = held.0;
+        let header = self.frozen_headers.header(number);
+        put_body(&mut self.durable, number, header, held.1)?;
+        self.pending.set(number as usize, false);
+        self.staging.clear();
+        Ok(())
+    }
+
+    // Empties the staging buffer: writes the frozen frame of the body in it. After `Failed` the body stays.
+    pub(crate) fn empty_staging(&mut self) -> Result<(), Failed>
+        ensures empty { OnOk result (self.new.staging ≡ None) }
+        ensures fewer { OnOk result (self.old.staging ≢ None → pending_count self.new < pending_count self.old) }
+        ensures put { self.new ≡ on_device self.old self.new }
+        ensures continues { GoesOnIn D.disk self.old self.new }
+        ensures cause { Counts (D.disk self.old.durable.beneath) (D.disk self.new.durable.beneath) result }
+    {
+        let Some(held) = self.staging.get() else {
+            return Ok(());
+        };
+        let number = held.0;
+        match self.frozen_state(number) {
+            FrozenState::Nothing => self.put_held(),
+            _ => self.put_own_frozen(number),
+        }
+    }
+
+    // Reads a pending object's frozen body into `staging`. After `Failed`, `staging` is still empty.
+    fn take_below(&mut self, number: u64) -> Result<(), Failed>
+        requires pending { mark_at self.old.pending number ≡ true }
+        requires empty { self.old.staging ≡ None }
+        ensures held { OnOk result ((h : Held) × (self.new.staging ≡ Some h) × (h.number ≡ number)) }
+        ensures rest { self.new ≡ record self.old { durable = self.new.durable; staging = self.new.staging } }
+        ensures continues { GoesOnIn D.disk self.old self.new }
+        ensures cause { Counts (D.disk self.old.durable.beneath) (D.disk self.new.durable.beneath) result }
+    {
+        let read = self.durable.fetch_below(number, &mut self.scratch)?;
+        self.staging.take_up(number, read.1, &mut self.scratch);
+        Ok(())
+    }
+
+    // Writes the frozen frame of a pending object. The staging buffer must be empty. After `Failed` it may be in use.
+    fn put_pending(&mut self, number: u64) -> Result<(), Failed>
+        requires pending { mark_at self.old.pending number ≡ true }
+        requires empty { self.old.staging ≡ None }
+        ensures fewer { OnOk result (pending_count self.new < pending_count self.old) }
+        ensures put { self.new ≡ on_device self.old self.new }
+        ensures continues { GoesOnIn D.disk self.old self.new }
+        ensures cause { Counts (D.disk self.old.durable.beneath) (D.disk self.new.durable.beneath) result }
+    {
+        // Proof only: brings in the invariant.
+        let _ = &self.durable;
+        if let FrozenState::Nothing = self.frozen_state(number) {
+            self.take_below(number)?;
+            return self.put_held();
+        }
+        self.put_own_frozen(number)
+    }
+
+    // Writes the frozen frame of a pending object, if there is one: first that of the body in `staging`.
+    fn put_next(&mut self) -> Result<(), Failed>
+        ensures fewer { OnOk result (pending_count self.new ≤ pending_count self.old - 1) }
+        ensures few { (f : FrozenFrames) → self.old.frozen ≡ Some f → pending_count self.old ≤ f.left }
+        ensures put { self.new ≡ on_device self.old self.new }
+        ensures continues { GoesOnIn D.disk self.old self.new }
+        ensures cause { Counts (D.disk self.old.durable.beneath) (D.disk self.new.durable.beneath) result }
+    {
+        if self.staging.is_held() {
+            return self.empty_staging();
+        }
+        match self.pending.next(0) {
+            Some(number) => self.put_pending(number as u64),
+            None => Ok(()),
+        }
+    }
+
+    // Calls `put_next`, and lowers `left` by one if it didn't fail.
+    fn put_one(&mut self) -> Result<(), Refusal>
+        requires { (f : FrozenFrames) × (self.old.frozen ≡ Some f) × (0 < f.left) }
+        ensures put { OnOk result (PutsBy D.disk self.old self.new 1) }
+        ensures unput { OnErr result (PutsBy D.disk self.old self.new 0) }
+        ensures failed { IfErr result (λ e. e ≡ Refusal.Fault) }
+        ensures cause { Counts (D.disk self.old.durable.beneath) (D.disk self.new.durable.beneath) result }
+    {
+        self.put_next()?;
+        self.left -= 1;
+        Ok(())
+    }
+
+    // Calls `put_one` `count` times, up to its first fault.
+    pub(crate) fn put_some(&mut self, count: u64) -> Result<(), Refusal>
+        requires { (f : FrozenFrames) × (self.old.frozen ≡ Some f) × (count ≤ f.left) }
+        ensures put { OnOk result (PutsBy D.disk self.old self.new count) }
+        ensures unput { OnErr result ((k : ℕ) × (k ≤ count) × PutsBy D.disk self.old self.new k) }
+        ensures failed { IfErr result (λ e. e ≡ Refusal.Fault) }
+        ensures cause { Counts (D.disk self.old.durable.beneath) (D.disk self.new.durable.beneath) result }
+    {
+        for _ in 0..count {
+            self.put_one()?;
+        }
+        Ok(())
+    }
+}
