@@ -1,14 +1,14 @@
 -- What one exit of a function gives of the calls before it.
-use Rattle.object_cache.proofs.Names.{Result, Ok, Err, OnOk, OnErr, IsErrAnd, is_err, err_from_is_err_and, err_counts, Counts, Disk, ap, sym, subst, ℕ, most}
+use Rattle.object_cache.proofs.Names.{Result, Ok, Err, OnOk, IsErrAnd, is_err, err_from_is_err_and, err_counts, Counts, Disk, ap, sym, subst, ℕ, most}
 use Rattle.object_cache.proofs.Names.{StoreState, GoesOnIn, IsFetchedIn, AreKeepable, IsKeepable, parts_of, stored_of, header_at, held_at, frames_in, on_device}
 use Rattle.object_cache.proofs.Names.{on_device_with, List, Bool, readied, AreKeepableIn, IsKeepableIn, OnlyFetches, false, true≢false, ContinuesIn, Held}
-use Rattle.object_cache.proofs.Names.{released, Some, None, arith, on_ok_weaker, on_err_weaker, refl, PutsBy, Option, FrozenFrames}
-use Rattle.object_cache.proofs.Names.{Refusal, IsErrOf, counted_ok, touched_count, touching}
-use Rattle.checkpoint.specs.Refused.{IsRefused}
-use Rattle.capability.specs.Parts.{AreSameUnlessFailed, IsUnprepared, Prepares, touched_too}
-use Rattle.model.specs.declared.answer.Refusal.TheVariants as refusal
+use Rattle.object_cache.proofs.Names.{released, Some, None, arith, on_ok_weaker, on_err_weaker, refl, PutsBy, Option, FrozenFrames, Image, Moves, DurableState}
+use Rattle.object_cache.proofs.Names.{Memory, cache_of, ok_counts, counts_on, goes_on_same, goes_on_twice, set, without, without_cached, Refusal, IsErrOf}
+use Rattle.object_cache.proofs.Names.{Failed, counted_ok, touched_count, touching, IsRefused, AreSameUnlessFailed, IsUnprepared, Prepares, touched_too, IfErr}
+use Rattle.std.specs.Prelude.{OnErr}
 use Rattle.std.proofs.Common.{◌≡◌, ◌∙◌, ◌<◌, ◌≤◌, ◌↔◌}
-use Rattle.std.specs.Prelude.{IfErr}
+use Rattle.object_cache.proofs.Outcomes.{IsNext, continues_with}
+use Rattle.model.specs.declared.answer.Refusal.TheVariants as refusal
 
 -- an error says nothing of success
 pub no_ok : {T E : Type 0} (r : Result T E) (P : Type 0) (Q : E → Type 0) → IsErrAnd r Q → OnOk r P
@@ -19,6 +19,78 @@ no_ok (Err e) P Q failed = tt
 pub counts_as : {T U E : Type 0} {old new : Disk} {e : E} (r : Result U E) (Q : E → Type 0) → IsErrAnd r Q → Counts {T = T} old new (Err e) →
     Counts old new r
 counts_as r Q failed counts = err_counts (ap is_err (err_from_is_err_and r failed).1) counts
+
+-- ---- calls that write frames and read bodies, one after the other
+
+module _ {D : Type 0} where
+  -- a new state, and what it is like
+  pub as_like : (like : StoreState D → StoreState D → StoreState D) (s : StoreState D) {t u : StoreState D} → u ≡ t → t ≡ like s t → u ≡ like s u
+  as_like like s is same = is ∙ same ∙ ap (like s) (sym is)
+
+  rest_on : (s t u : StoreState D) → t ≡ on_device_with s t → u ≡ on_device_with t u → u ≡ on_device_with s u
+  rest_on s t u first second = second ∙ ap (λ x. on_device_with x u) first
+
+  put_on : (s t u : StoreState D) → t ≡ on_device s t → u ≡ on_device t u → u ≡ on_device s u
+  put_on s t u first second = second ∙ ap (λ x. on_device x u) first
+
+  pub away_on : (s t u : StoreState D) (n : ℕ) → t ≡ on_device s t → u ≡ record t { cached = set t.cached n false; order = without n t.order } →
+      u ≡ without_cached n (on_device s u)
+  away_on s t u n put is = search arith
+
+module _ {D : Type 0} {disk : D → Disk} where
+  -- nothing was done
+  pub moves_none : {like : StoreState D → StoreState D → StoreState D} {T E : Type 0} {x : T} →
+      ((d : D) (c : Image) → (disk d).left_since (disk d).moment c → (disk d).may_leave c) → (s : StoreState D) → s ≡ like s s →
+      Moves {E = E} disk like s s (Ok x)
+  moves_none only_now s same = record { rest = same; continues = goes_on_same disk only_now s; cause = ok_counts refl }
+
+  -- `?` passes a failure on
+  pub moves_err : {like : StoreState D → StoreState D → StoreState D} {s t : StoreState D} {T U E : Type 0} {e : E} (r : Result U E) (Q : E → Type 0) →
+      IsErrAnd r Q → Moves {T = T} disk like s t (Err e) → Moves disk like s t r
+  moves_err r Q failed moves = record { rest = moves.rest; continues = moves.continues; cause = counts_as r Q failed moves.cause }
+
+  -- by what is seen of the fields
+  pub moves_next : {like : StoreState D → StoreState D → StoreState D} {all : Bool} {s t : StoreState D} {d : DurableState D} {m : Memory} {left count : ℕ}
+      {order : List ℕ} {most_entries : ℕ} → IsNext all disk s d m left count order most_entries t → t ≡ like s t → {T E : Type 0} (r : Result T E) →
+      Counts (disk s.durable.beneath) (disk d.beneath) r → Moves disk like s (cache_of disk d m left order most_entries) r
+  moves_next {like} {s = s} next same r cause = record { rest = as_like like s next.view same; continues = next.continues; cause = cause }
+
+  -- entries may be others too
+  pub moves_more : {s t : StoreState D} {T E : Type 0} {r : Result T E} → Moves disk on_device s t r → Moves disk on_device_with s t r
+  moves_more {s} moves = record { rest = as_like on_device_with s moves.rest refl; continues = moves.continues; cause = moves.cause }
+
+  -- another order
+  pub moves_used : {s t : StoreState D} {os : List ℕ} → t ≡ record s { order = os } → GoesOnIn disk s t → Moves {T = Unit {0}} {E = Failed} disk on_device_with s t (Ok tt)
+  moves_used {s} {t} is goes = record {
+    rest = as_like on_device_with s is refl;
+    continues = goes;
+    cause = ok_counts (ap (λ x. (disk x.durable.beneath).failures) is);
+  }
+
+  module _ (counts_now : (d : D) (t : ℕ) (c : Image) → t ≤ (disk d).moment → (disk d).may_leave c → (disk d).left_since t c)
+      {s t u : StoreState D} {T U E F : Type 0} {x : T} {r : Result U E} where
+    pub moves_on : Moves {E = F} disk on_device_with s t (Ok x) → Moves disk on_device_with t u r → Moves disk on_device_with s u r
+    moves_on first second = record {
+      rest = rest_on s t u first.rest second.rest;
+      continues = goes_on_twice disk counts_now s t u first.continues second.continues;
+      cause = counts_on (counted_ok first.cause) second.cause;
+    }
+
+    pub writes_on : Moves {E = F} disk on_device s t (Ok x) → Moves disk on_device t u r → Moves disk on_device s u r
+    writes_on first second = record {
+      rest = put_on s t u first.rest second.rest;
+      continues = goes_on_twice disk counts_now s t u first.continues second.continues;
+      cause = counts_on (counted_ok first.cause) second.cause;
+    }
+
+  -- an entry was dropped, or another order: the device is as it was
+  pub moves_in_memory : {s t u : StoreState D} {cached : List Bool} {order : List ℕ} {T U E : Type 0} {x : T} {y : U} →
+      Moves {E = E} disk on_device s t (Ok x) → u ≡ record t { cached = cached; order = order } → Moves {E = E} disk on_device_with s u (Ok y)
+  moves_in_memory {s} {t} {cached = cached} {order} {U = U} {E} {y = y} moves is = subst (λ v. Moves {T = U} {E = E} disk on_device_with s v (Ok y)) (sym is) (record {
+    rest = ap (λ (v : StoreState D). record v { cached = cached; order = order }) moves.rest;
+    continues = continues_with disk cached t.frozen_state order t.staging moves.continues;
+    cause = ok_counts (counted_ok moves.cause);
+  })
 
 -- ---- what is fetched and can be kept still is, if the device or the entries are others
 
@@ -40,10 +112,6 @@ module _ {D : Type 0} {s t : StoreState D} where
         (subst (λ g. AreKeepable g most (frames_in s.headers s.contents)) (ap (λ a. a.saved.geometry) (sym goes.snapshots)) keepable)
 
 module _ {D : Type 0} where
-  -- another order
-  pub used_rest : (s t : StoreState D) {os : List ℕ} → t ≡ record s { order = os } → t ≡ on_device_with s t
-  used_rest s t is = is ∙ ap (on_device_with s) (sym is)
-
   -- numbers were announced, or not
   readied_on : (s t u : StoreState D) → t ≡ record s { frozen_state = t.frozen_state } → u ≡ readied t u → u ≡ readied s u
   readied_on s t u apart is = is ∙ ap (λ x. readied x u) apart
@@ -77,12 +145,13 @@ module _ {D : Type 0} {disk : D → Disk} {s t : StoreState D} {all : Bool} (som
   pub continues_some : GoesOnIn disk s t → ContinuesIn all disk s t
   continues_some goes = record { goes_on = goes; still = λ is. absurd (true≢false (sym is ∙ some)) }
 
-  pub fetches_only : t ≡ on_device_with s t → GoesOnIn disk s t → OnlyFetches (parts_of disk) (ContinuesIn all disk) s t
-  fetches_only rest goes = record {
-    same = same_parts disk s t (ap (λ x. x.headers) rest) (ap (λ x. x.contents) rest) (ap (λ x. x.touched) rest) (ap (λ a. a.saved.geometry) goes.snapshots);
-    touched = ap (λ x. x.touched) rest;
-    later = goes.later;
-    continues = continues_some goes;
+  pub fetches_only : {T E : Type 0} {r : Result T E} → Moves disk on_device_with s t r → OnlyFetches (parts_of disk) (ContinuesIn all disk) s t
+  fetches_only moves = record {
+    same = same_parts disk s t (ap (λ x. x.headers) moves.rest) (ap (λ x. x.contents) moves.rest) (ap (λ x. x.touched) moves.rest)
+        (ap (λ a. a.saved.geometry) moves.continues.snapshots);
+    touched = ap (λ x. x.touched) moves.rest;
+    later = moves.continues.later;
+    continues = continues_some moves.continues;
   }
 
 -- numbers were announced, or not

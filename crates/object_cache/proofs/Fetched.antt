@@ -1,13 +1,12 @@
 -- Objects are brought into memory: those used last stay there.
-use Rattle.object_cache.proofs.Names.{inl, inr, ℕ, zero, suc, true, false, true≢false, List, [], length, take, Result, refl, sym, ap, subst, arith, OnOk, OnErr}
-use Rattle.object_cache.proofs.Names.{slice_index_or, cases_eq, eq-eqb, is_member, Disk, DurableState, stored_of, Memory, without, StoreState}
-use Rattle.object_cache.proofs.Names.{IsCache, IsFetchedIn, ne_eqb, cache_of, cached_at, with_cached, on_device, on_device_with, take-take, used_in_turn}
-use Rattle.object_cache.proofs.Names.{IsBounded, take_all, length_without, in_front, one_more, used_anew, without_absent}
-use Rattle.object_cache.proofs.Names.{without_here, without_tail, length-take, Held, None, header_at, held_at, put_at, ReadsStore, below_at, newest, masked}
-use Rattle.object_cache.proofs.Names.{in_staging, put_body, present_body, newest_body, contents_in, GoesOnIn, frozen_seen, Some, Cap, Content, option_map}
-use Rattle.object_cache.proofs.Names.{same_Some, Stored, entry_at, mark_at, below_body, content_at, frozen_at, frozen_states_in, either_of, member_head}
-use Rattle.object_cache.proofs.Names.{member_tail, in_tail, list_any-from_Contains, nat_eq_equiv, All, All-contains, Contains, Frame, ObjectHeader}
-use Rattle.object_cache.proofs.Names.{EntriesState, Option, with_new, Bool}
+use Rattle.object_cache.proofs.Names.{inl, inr, ℕ, zero, suc, true, false, true≢false, List, [], length, take, refl, sym, ap, subst, arith, slice_index_or}
+use Rattle.object_cache.proofs.Names.{cases_eq, eq-eqb, is_member, Disk, DurableState, stored_of, Memory, without, StoreState, IsCache, IsFetchedIn, ne_eqb}
+use Rattle.object_cache.proofs.Names.{cache_of, cached_at, with_cached, on_device_with, take-take, used_in_turn, IsBounded, take_all, length_without, in_front}
+use Rattle.object_cache.proofs.Names.{one_more, used_anew, without_absent, without_here, without_tail, length-take, Held, None, header_at, held_at, put_at}
+use Rattle.object_cache.proofs.Names.{ReadsStore, below_at, newest, masked, in_staging, put_body, present_body, newest_body, contents_in, GoesOnIn, frozen_seen}
+use Rattle.object_cache.proofs.Names.{Some, Cap, Content, option_map, same_Some, Stored, entry_at, mark_at, below_body, content_at, frozen_at, frozen_states_in}
+use Rattle.object_cache.proofs.Names.{either_of, member_head, member_tail, in_tail, list_any-from_Contains, nat_eq_equiv, All, All-contains, Contains, Frame}
+use Rattle.object_cache.proofs.Names.{ObjectHeader, EntriesState, Option, with_new, Bool}
 use Rattle.std.proofs.Common.{◌≡◌, ◌≢◌, ◌+◌, ◌<◌, ◌≤◌, ◌∷◌, ◌∙◌, ◌-◌}
 use Rattle.object_cache.proofs.Marking.{marked_within}
 use Rattle.object_cache.proofs.Objects.{Alike, clean_alike, content_in, contents_alike, frozen_alike, keepable_alike, stored_next, unwritten_alike}
@@ -64,25 +63,6 @@ module _ {D : Type 0} where
             sym (bounded.listed n) ∙ ap (λ os. is_member os n) order
             ∙ used_stay ns t.order n t.capacity (omega (arith, few, least)) (list_any-from_Contains nat_eq_equiv n ns has);
       }
-
-  -- what was put is on the device, and what was read is in memory
-  pub rest_of : (s t : StoreState D) → t ≡ on_device s t → t ≡ on_device_with s t
-  rest_of s t put = put ∙ ap (λ x. record (on_device s t) { cached = x.cached; order = x.order }) (sym put)
-
-  pub rest_on : (s t u : StoreState D) → t ≡ on_device_with s t → u ≡ on_device_with t u → u ≡ on_device_with s u
-  rest_on s t u first second = second ∙ ap (λ x. on_device_with x u) first
-
-  -- what is there once an object was read, or wasn't
-  abbrev pub read_on : StoreState D → StoreState D → StoreState D
-  read_on s t = record s { durable = t.durable }
-
-  pub read_rest : {T E : Type 0} (r : Result T E) (s t : StoreState D) (n : ℕ) → OnOk r (t ≡ with_cached n (read_on s t)) → OnErr r (t ≡ read_on s t) →
-      t ≡ on_device_with s t
-  read_rest {T} {E} r s t n ok err = search arith
-
-  pub read_staging : {T E : Type 0} (r : Result T E) (s t : StoreState D) (n : ℕ) → OnOk r (t ≡ with_cached n (read_on s t)) → OnErr r (t ≡ read_on s t) →
-      t.staging ≡ s.staging
-  read_staging {T} {E} r s t n ok err = search arith
 
 -- ---- which entries go: a cache keeps the numbers used last, as many as its capacity
 

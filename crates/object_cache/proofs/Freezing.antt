@@ -6,10 +6,8 @@ use Rattle.object_cache.proofs.Names.{frames_in, header_at, AreKeepable, touched
 use Rattle.object_cache.proofs.Names.{all_frozen, freezing_puts, put_at, put_or, held_slot, sum_of, most, DurableState, Stored, below_at, stored_of, maps_same}
 use Rattle.object_cache.proofs.Names.{frame_in, length_in, Entry, entry_at, Memory, mark_at, masked, put_body, content_at, present_at, newest_body, below_body}
 use Rattle.object_cache.proofs.Names.{frozen_body, frozen_frame, frozen_at, contents_in, frozen_in, StoreState, IsCache, AreFrozen, snapshots_of, cache_of}
-use Rattle.object_cache.proofs.Names.{frozen_seen, is_kept, left_of, sum_by-replicate, get_or_default}
-use Rattle.object_cache.proofs.Names.{parts_of}
+use Rattle.object_cache.proofs.Names.{frozen_seen, is_kept, left_of, sum_by-replicate, get_or_default, parts_of, all_untouched}
 use Rattle.std.proofs.Common.{◌≡◌, ◌<◌, ◌≤◌, ◌||◌, ◌∷◌, ◌∙◌}
-use Rattle.checkpoint.specs.Store.{all_untouched}
 use Rattle.object_cache.proofs.Marking.{alike}
 use Rattle.object_cache.proofs.Objects.{content_in, saved_below}
 use Rattle.object_cache.proofs.Puts.{held_touched}

@@ -3,7 +3,7 @@ use Rattle.object_cache.proofs.Names.{ℕ, zero, suc, Bool, true, false, List, [
 use Rattle.object_cache.proofs.Names.{arith, slice_get, get_or-set_other, cases_eq, none-some, same_Some, Cap, Content, is_member, Disk, DurableState}
 use Rattle.object_cache.proofs.Names.{stored_of, entry_at, kept_of, frozen_state_by, Memory, Nothing, mark_at, frozen_state_of, AreOrdered, used_longest_ago}
 use Rattle.object_cache.proofs.Names.{without, StoreState, IsCache, IsFetchedIn, cache_of, frozen_state_at, cached_at, take_all, length_without, front_stays}
-use Rattle.object_cache.proofs.Names.{listed_member, on_device, without_cached, Result, OnOk, OnErr, some_within}
+use Rattle.object_cache.proofs.Names.{listed_member, on_device, without_cached, Result, OnOk, some_within}
 use Rattle.std.proofs.Common.{◌≡◌, ◌+◌, ◌-◌, ◌<◌, ◌≤◌, ◌∷◌, ◌∙◌}
 use Rattle.object_cache.proofs.Marking.{set_there}
 use Rattle.object_cache.proofs.Objects.{cached_entry, contents_count}
@@ -95,9 +95,8 @@ module _ {D : Type 0} (disk : D → Disk) {d : DurableState D} {m : Memory} {all
               ∙ ap (take (s.capacity - 1)) (sym seen);
         }
 
--- and what is there once it was evicted, or wasn't
+-- and what is there once it was evicted
 pub evicted : {D T E : Type 0} (r : Result T E) (s u : StoreState D) (n : ℕ) → IsLeast s n → OnOk r (u ≡ without_cached n (on_device s u)) →
-    OnErr r (u ≡ on_device s u) →
-    OnOk r (length u.order < u.capacity) × ((k : ℕ) → cached_at s.cached k ≡ false → cached_at u.cached k ≡ false) ×
+    OnOk r (length u.order < u.capacity) × OnOk r ((k : ℕ) → cached_at s.cached k ≡ false → cached_at u.cached k ≡ false) ×
     OnOk r (u.order ≡ take (s.capacity - 1) s.order)
-evicted {D} {T} {E} r s u n least away stays = search (arith, still_uncached)
+evicted {D} {T} {E} r s u n least away = search (arith, still_uncached)

@@ -5,8 +5,8 @@ use Rattle.object_cache.proofs.Names.{get_or-map-range_with_len, sum_by-cons, no
 use Rattle.object_cache.proofs.Names.{overlaid, kept_count, sum_of, SavedFrames, LeavesEither, LeavesOneOf, home_saved, DurableState, MayCommit, committed}
 use Rattle.object_cache.proofs.Names.{moved, next_saved, whole, on_snapshots, puts, FrozenPuts, Stored, below_at, left_of, stored_of, maps_same, FrozenFrames}
 use Rattle.object_cache.proofs.Names.{Memory, mark_at, content_at, frozen_at, get_or-map, get_or_default, contents_in, frozen_in, StoreState, IsCache}
-use Rattle.object_cache.proofs.Names.{snapshots_of, cache_of, frozen_seen, is_kept}
-use Rattle.std.proofs.Common.{◌≡◌, ◌-◌, ◌≤◌, ◌<◌, ◌||◌, ◌∷◌, ◌∙◌, OnOk, OnErr}
+use Rattle.object_cache.proofs.Names.{snapshots_of, cache_of, frozen_seen, is_kept, OnErr}
+use Rattle.std.proofs.Common.{◌≡◌, ◌-◌, ◌≤◌, ◌<◌, ◌||◌, ◌∷◌, ◌∙◌, OnOk}
 use Rattle.std.specs.Prelude.{◌==◌}
 use Rattle.object_cache.proofs.Outcomes.{IsSeenAs}
 use Rattle.object_cache.proofs.Marking.{one_fewer}

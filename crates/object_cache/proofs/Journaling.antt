@@ -7,8 +7,8 @@ use Rattle.object_cache.proofs.Names.{LeavesOneOf, journaled_saved, with_words, 
 use Rattle.object_cache.proofs.Names.{ReadsStore, frozen_put, is_sound, left_of, stored_of, maps_same, frame_in, is_page_role, next_journaled, FrozenFrames}
 use Rattle.object_cache.proofs.Names.{page_is, role_is_page, content_is_page, known_page, next_same, Entry, entry_at, entry_body, held_now, Memory, mark_at}
 use Rattle.object_cache.proofs.Names.{masked, put_body, present_body, content_at, present_at, frozen_at, contents_in, frozen_in, StoreState, IsCache}
-use Rattle.object_cache.proofs.Names.{snapshots_of, cache_of, frozen_seen, nat_lt, Refusal, IsJournalAnswer, is_some, present_of, same_Some, newest}
-use Rattle.std.proofs.Common.{◌≡◌, ◌≢◌, ◌<◌, ◌∙◌, OnOk, OnErr}
+use Rattle.object_cache.proofs.Names.{snapshots_of, cache_of, frozen_seen, nat_lt, Refusal, IsJournalAnswer, is_some, present_of, same_Some, newest, OnErr}
+use Rattle.std.proofs.Common.{◌≡◌, ◌≢◌, ◌<◌, ◌∙◌, OnOk}
 use Rattle.model.specs.declared.object.Role.TheVariants as role
 use Rattle.checkpoint.specs.Journal as journal
 use Rattle.object_cache.proofs.Freezing.{put_or_body}

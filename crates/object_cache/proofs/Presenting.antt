@@ -1,6 +1,6 @@
 -- An edit of present objects, by what is seen of a store.
-use Rattle.object_cache.proofs.Names.{List, length, refl, Cap, ObjectHeader, Content, Bool, Becomes, Image, Disk, StoreState, IsAnnouncedIn, arith}
-use Rattle.object_cache.proofs.Names.{IsFetchedIn, parts_of, ContinuesIn, continues_same, set, length-set, ℕ}
+use Rattle.object_cache.proofs.Names.{List, length, refl, Cap, ObjectHeader, Content, Bool, Becomes, Image, Disk, StoreState, IsAnnouncedIn, arith, IsFetchedIn}
+use Rattle.object_cache.proofs.Names.{parts_of, ContinuesIn, continues_same, set, length-set, ℕ}
 use Rattle.std.proofs.Common.{◌≡◌}
 
 module _ {D : Type 0} (all : Bool) (disk : D → Disk)

@@ -4,7 +4,6 @@ pub use Rattle.checkpoint.specs.Store
 pub mod Names
 pub mod Memory
 pub mod StoreState
-pub mod Prepared
 pub mod Journaled
 pub mod PresentLaws
 pub mod StoreLaws

@@ -6,7 +6,7 @@ use Rattle.object_cache.specs.Names.{touched_count, untouched, is_member, object
 use Rattle.object_cache.specs.Names.{Broken, Kept, put_at, most, DurableState, FrozenPuts, Stored, GoesOn, stored_of}
 use Rattle.object_cache.specs.Names.{is_sound, Parts, HaveTheirRoles, Snapshots, FrozenFrames, View, stabilized, Entry}
 use Rattle.object_cache.specs.Names.{EntriesState, entry_at, new_entry, AllDiffer, changing, with_entry_of, without}
-use Rattle.object_cache.specs.Names.{nat_le, IsKeepable, HasFreeSlot, held_at, frames_of}
+use Rattle.object_cache.specs.Names.{nat_le, IsKeepable, HasFreeSlot, held_at, frames_of, Result, Counts}
 use Rattle.std.specs.Prelude.{◌≡◌, ◌⊎◌, ◌<◌, ◌∷◌, ◌||◌, ◌≤◌, if◌then◌else◌}
 use Rattle.model.specs.declared.object.Role.TheVariants as role
 use Rattle.object_cache.specs.Memory.{Held, Memory, FrozenState, Nothing, frozen_state_by, mark_at, present_at}
@@ -117,6 +117,22 @@ on_device s t = record
 -- the same, where more frozen frames may be in the log
 abbrev pub on_device_frozen : {D : Type 0} → StoreState D → StoreState D → StoreState D
 on_device_frozen s t = record (on_device s t) { frozen = t.frozen }
+
+-- the same, with other entries in another order
+abbrev pub on_device_with : {D : Type 0} → StoreState D → StoreState D → StoreState D
+on_device_with s t = record (on_device s t) { cached = t.cached; order = t.order }
+
+-- numbers were announced: all else stays
+abbrev pub readied : {D : Type 0} → StoreState D → StoreState D → StoreState D
+readied s t = record s { touched = t.touched; dirty = t.dirty; frozen_state = t.frozen_state }
+
+-- frames were written, or bodies read, and what `like` takes of the new state changed alone. It fails exactly if the
+-- device fails
+pub record Moves {D T E : Type 0} (disk : D → Disk) (like : StoreState D → StoreState D → StoreState D) (s t : StoreState D)
+    (result : Result T E) : Type 0 where
+  pub rest : t ≡ like s t
+  pub continues : GoesOnIn disk s t
+  pub cause : Counts (disk s.durable.beneath) (disk t.durable.beneath) result
 
 -- `left` is lower by `k`, and more frozen frames may be in the log
 pub record PutsBy {D : Type 0} (disk : D → Disk) (s t : StoreState D) (k : ℕ) : Type 0 where

@@ -1,8 +1,6 @@
 // The store of objects over a device.
-ghost use Rattle.std.specs.Prelude.{◌∷◌, ◌≡◌, ◌≢◌, ◌<◌, ◌≤◌, ◌-◌, None, false, true, ℕ, length, slice_set, take, OnOk};
-ghost use Rattle.std.specs.Prelude.{OnErr};
+ghost use Rattle.std.specs.Prelude.{◌∷◌, ◌≡◌, ◌≢◌, ◌<◌, ◌-◌, None, false, true, ℕ, length, slice_set, take, OnOk};
 ghost use Rattle.model.specs.Frame.{header_at, held_at};
-ghost use Rattle.device.specs.Calls.{Counts};
 ghost use Rattle.migrator.specs.Durable.{stored_of};
 
 use crate::all_objects::copy_objects;
@@ -77,10 +75,9 @@ impl<D: Device, P: Policy> Model for Store<D, P> {
 
 impl<D: Device, P: Policy> Store<D, P> {
     ghost use Rattle.object_cache.specs.Memory.{Nothing, Shared, Apart, released, mark_at, masked};
-    ghost use Rattle.object_cache.specs.StoreState.{GoesOnIn, IsBounded, IsFetchedIn, on_device};
+    ghost use Rattle.object_cache.specs.StoreState.{IsBounded, IsFetchedIn, Moves, on_device, on_device_with};
     ghost use Rattle.object_cache.specs.StoreState.{AreKeepableIn, IsKeepableIn, frozen_state_at};
     ghost use Rattle.object_cache.specs.StoreState.{cached_at, pending_count, without_cached};
-    ghost use Rattle.object_cache.specs.Prepared.{on_device_with};
     ghost use Rattle.cache_entries.specs.Order.{without};
 
     /// The number of objects in memory: never more than the capacity that the store was opened with.
@@ -156,13 +153,10 @@ impl<D: Device, P: Policy> Store<D, P> {
         requires fetched { IsFetchedIn self.old number }
         requires dirty { mark_at self.old.dirty number ≡ true }
         requires keepable { IsKeepableIn D.disk self.old number }
-        ensures put { OnOk result (self.new ≡ record self.old {
-          durable = self.new.durable;
-          dirty = slice_set self.old.dirty number false;
-        }) }
-        ensures unput { OnErr result (self.new ≡ record self.old { durable = self.new.durable }) }
-        ensures continues { GoesOnIn D.disk self.old self.new }
-        ensures cause { Counts (D.disk self.old.durable.beneath) (D.disk self.new.durable.beneath) result }
+        ensures clean { OnOk result (mark_at self.new.dirty number ≡ false) }
+        ensures frozen_state { self.new.frozen_state ≡ self.old.frozen_state }
+        ensures staging { self.new.staging ≡ self.old.staging }
+        ensures moves { Moves D.disk on_device self.old self.new result }
     {
         let header = self.table.header(number);
         self.durable
@@ -182,9 +176,8 @@ impl<D: Device, P: Policy> Store<D, P> {
           staging = released number self.old.staging;
         }) }
         ensures fewer { OnOk result (pending_count self.new < pending_count self.old) }
-        ensures unput { OnErr result (self.new ≡ record self.old { durable = self.new.durable }) }
-        ensures continues { GoesOnIn D.disk self.old self.new }
-        ensures cause { Counts (D.disk self.old.durable.beneath) (D.disk self.new.durable.beneath) result }
+        ensures empty { self.old.staging ≡ None → self.new.staging ≡ None }
+        ensures moves { Moves D.disk on_device self.old self.new result }
     {
         let header = self.frozen_headers.header(number);
         let content = own_body(&self.entries, number);
@@ -213,10 +206,8 @@ impl<D: Device, P: Policy> Store<D, P> {
     fn write_frozen(&mut self, number: u64) -> Result<(), Failed>
         requires { IsFetchedIn self.old number }
         ensures frozen_written { OnOk result (frozen_state_at self.new.frozen_state number ≡ Nothing) }
-        ensures put { self.new ≡ on_device self.old self.new }
         ensures empty { self.old.staging ≡ None → self.new.staging ≡ None }
-        ensures continues { GoesOnIn D.disk self.old self.new }
-        ensures cause { Counts (D.disk self.old.durable.beneath) (D.disk self.new.durable.beneath) result }
+        ensures moves { Moves D.disk on_device self.old self.new result }
     {
         match self.frozen_state(number) {
             FrozenState::Nothing => Ok(()),
@@ -230,10 +221,8 @@ impl<D: Device, P: Policy> Store<D, P> {
         requires keepable { IsKeepableIn D.disk self.old number }
         ensures clean { OnOk result (mark_at self.new.dirty number ≡ false) }
         ensures frozen_state { self.new.frozen_state ≡ self.old.frozen_state }
-        ensures put { self.new ≡ on_device self.old self.new }
         ensures staging { self.new.staging ≡ self.old.staging }
-        ensures continues { GoesOnIn D.disk self.old self.new }
-        ensures cause { Counts (D.disk self.old.durable.beneath) (D.disk self.new.durable.beneath) result }
+        ensures moves { Moves D.disk on_device self.old self.new result }
     {
         if self.dirty.contains(number as usize) {
             return self.put_present(number);
@@ -247,10 +236,8 @@ impl<D: Device, P: Policy> Store<D, P> {
         requires keepable { IsKeepableIn D.disk self.old number }
         requires some { P.KEEPS_ALL ≡ false }
         ensures away { OnOk result (self.new ≡ without_cached number (on_device self.old self.new)) }
-        ensures stays { OnErr result (self.new ≡ on_device self.old self.new) }
         ensures empty { self.old.staging ≡ None → self.new.staging ≡ None }
-        ensures continues { GoesOnIn D.disk self.old self.new }
-        ensures cause { Counts (D.disk self.old.durable.beneath) (D.disk self.new.durable.beneath) result }
+        ensures moves { Moves D.disk on_device_with self.old self.new result }
     {
         self.write_frozen(number)?;
         self.write_back(number)?;
@@ -263,14 +250,11 @@ impl<D: Device, P: Policy> Store<D, P> {
         requires keepable { AreKeepableIn D.disk self.old }
         requires some { P.KEEPS_ALL ≡ false }
         ensures room { OnOk result (length self.new.order < self.new.capacity) }
-        ensures uncached { (n : ℕ) → cached_at self.old.cached n ≡ false
-            → cached_at self.new.cached n ≡ false }
+        ensures uncached { OnOk result ((n : ℕ) → cached_at self.old.cached n ≡ false
+            → cached_at self.new.cached n ≡ false) }
         ensures least { OnOk result (self.new.order ≡ take (self.old.capacity - 1) self.old.order) }
-        ensures unchanged { length self.old.order < self.old.capacity → self.new ≡ self.old }
-        ensures rest { self.new ≡ on_device_with self.old self.new }
         ensures empty { self.old.staging ≡ None → self.new.staging ≡ None }
-        ensures continues { GoesOnIn D.disk self.old self.new }
-        ensures cause { Counts (D.disk self.old.durable.beneath) (D.disk self.new.durable.beneath) result }
+        ensures moves { Moves D.disk on_device_with self.old self.new result }
     {
         if self.entries.is_full() {
             let Some(oldest) = self.entries.least() else {

@@ -1,14 +1,12 @@
 // Fetching bodies into memory, and evicting those used longest ago.
-ghost use Rattle.std.specs.Prelude.{◌≡◌, ℕ, ◌<◌, ◌≤◌, ◌+◌, ◌∷◌, None, false, true, length, take, OnOk, OnErr};
+ghost use Rattle.std.specs.Prelude.{◌≡◌, ℕ, ◌<◌, ◌≤◌, ◌∷◌, None, false, true, length, take, OnOk};
 ghost use Rattle.std.specs.List.{All, Contains};
-ghost use Rattle.device.specs.Calls.{Counts};
 ghost use Rattle.cache_entries.specs.Entries.{entry_at};
 ghost use Rattle.cache_entries.specs.Order.{used_in_turn, with_new, without};
 ghost use Rattle.layout.specs.Frame.{content_of};
 ghost use Rattle.object_cache.specs.Memory.{masked};
-ghost use Rattle.checkpoint.specs.Saved.{most};
-ghost use Rattle.object_cache.specs.StoreState.{GoesOnIn, IsFetchedIn, cached_at, with_cached, AreKeepableIn};
-ghost use Rattle.object_cache.specs.Prepared.{on_device_with};
+ghost use Rattle.object_cache.specs.StoreState.{on_device_with};
+ghost use Rattle.object_cache.specs.StoreState.{GoesOnIn, IsFetchedIn, Moves, cached_at, with_cached, AreKeepableIn};
 
 use crate::frozen::mask;
 use crate::policy::Policy;
@@ -38,9 +36,8 @@ impl<D: Device, P: Policy> Store<D, P> {
         requires room { length self.old.order < self.old.capacity }
         ensures cached { OnOk result (self.new
             ≡ with_cached number (record self.old { durable = self.new.durable })) }
-        ensures unread { OnErr result (self.new ≡ record self.old { durable = self.new.durable }) }
-        ensures continues { GoesOnIn D.disk self.old self.new }
-        ensures cause { Counts (D.disk self.old.durable.beneath) (D.disk self.new.durable.beneath) result }
+        ensures empty { self.new.staging ≡ None }
+        ensures moves { Moves D.disk on_device_with self.old self.new result }
     {
         let read = self.durable.fetch(number, &mut self.scratch)?;
         let header = self.table.header(number);
@@ -64,10 +61,8 @@ impl<D: Device, P: Policy> Store<D, P> {
         requires keepable { AreKeepableIn D.disk self.old }
         requires some { P.KEEPS_ALL ≡ false }
         ensures order { OnOk result (self.new.order ≡ take self.old.capacity (number ∷ self.old.order)) }
-        ensures rest { self.new ≡ on_device_with self.old self.new }
         ensures empty { self.new.staging ≡ None }
-        ensures continues { GoesOnIn D.disk self.old self.new }
-        ensures cause { Counts (D.disk self.old.durable.beneath) (D.disk self.new.durable.beneath) result }
+        ensures moves { Moves D.disk on_device_with self.old self.new result }
     {
         self.make_room()?;
         self.read(number)
@@ -81,10 +76,8 @@ impl<D: Device, P: Policy> Store<D, P> {
         requires some { P.KEEPS_ALL ≡ false }
         ensures order { OnOk result (self.new.order
             ≡ take self.old.capacity (number ∷ without number self.old.order)) }
-        ensures rest { self.new ≡ on_device_with self.old self.new }
         ensures empty { self.new.staging ≡ None }
-        ensures continues { GoesOnIn D.disk self.old self.new }
-        ensures cause { Counts (D.disk self.old.durable.beneath) (D.disk self.new.durable.beneath) result }
+        ensures moves { Moves D.disk on_device_with self.old self.new result }
     {
         if self.use_now(number) {
             return Ok(());
@@ -116,9 +109,7 @@ impl<D: Device, P: Policy> Store<D, P> {
         requires some { P.KEEPS_ALL ≡ false }
         ensures order { OnOk result (self.new.order
             ≡ take self.old.capacity (used_in_turn fetched.now self.old.order)) }
-        ensures rest { self.new ≡ on_device_with self.old self.new }
-        ensures continues { GoesOnIn D.disk self.old self.new }
-        ensures cause { Counts (D.disk self.old.durable.beneath) (D.disk self.new.durable.beneath) result }
+        ensures moves { Moves D.disk on_device_with self.old self.new result }
     {
         self.empty_staging()?;
         for number in fetched {

@@ -1,21 +1,14 @@
 // Saving the present words of one page without a checkpoint.
-ghost use Rattle.std.specs.Prelude.{◌≡◌, ◌⊎◌, ◌<◌, ◌≤◌, ◌^◌, None, length, nat_lt, option_map, true, IfOk, OnOk, OnErr};
-ghost use Rattle.std.specs.Prelude.{Bool, IsErrOf, Err, IfErr};
+ghost use Rattle.std.specs.Prelude.{◌≡◌, ◌<◌, ◌≤◌, ◌^◌, None, length, nat_lt, option_map, true, IfOk, OnOk};
+ghost use Rattle.std.specs.Prelude.{Bool, Err, IfErr};
 ghost use Rattle.model.specs.Frame.{frame_at, header_at, content_behind};
-ghost use Rattle.model.specs.Keepable.{AreKeepable};
 ghost use Rattle.model.specs.Object.{is_page, words_in};
 ghost use Rattle.model.specs.Sound.{object_count};
-ghost use Rattle.device.specs.Calls.{Counts};
-ghost use Rattle.capability.specs.Parts.{frames_of};
-ghost use Rattle.checkpoint.specs.Saved.{LeavesOneOf};
-ghost use Rattle.checkpoint.specs.Snapshots.{journaled, left_in};
-ghost use Rattle.checkpoint.specs.Store.{whole};
+ghost use Rattle.checkpoint.specs.Snapshots.{journaled};
 ghost use Rattle.migrator.specs.Durable.{stored_of, is_sound, left_of, newest, ReadsStore};
 ghost use Rattle.checkpoint.specs.Refused.{IsJournalAnswer, IsTurnedAway, IsJournalCheck};
-ghost use Rattle.checkpoint.specs.Journal.{is_page_now, is_page_role, is_same_page, is_still_saved, next_journaled};
-ghost use Rattle.checkpoint.specs.Journal.{words_now};
+ghost use Rattle.checkpoint.specs.Journal.{is_page_role, is_same_page};
 ghost use Rattle.object_cache.specs.Journaled.{JournalsPage, MaySave, SavesPage, held_now};
-ghost use Rattle.object_cache.specs.StoreState.{parts_of, view_of};
 ghost use Rattle.layout.specs.Frames.{IsObject};
 
 use cache_entries::Entries;

@@ -1,5 +1,5 @@
 // Fetching bodies and announcing numbers, before a step reads or changes them.
-ghost use Rattle.std.specs.Prelude.{◌≡◌, ◌≢◌, ◌↔◌, ℕ, ◌<◌, false, true, length, IfErr, OnOk, OnErr, IsErrOf};
+ghost use Rattle.std.specs.Prelude.{◌≡◌, ◌≢◌, ◌↔◌, ℕ, ◌<◌, true, length, IfErr, OnOk, OnErr, IsErrOf};
 ghost use Rattle.std.specs.List.{All, Contains};
 ghost use Rattle.capability.specs.Parts.{IsUnprepared, Prepares};
 ghost use Rattle.model.specs.Machine.{touching, touched_count};

@@ -1,14 +1,11 @@
 // Writing frozen frames to the log, in turn.
-ghost use Rattle.std.specs.Prelude.{◌≡◌, ◌≢◌, ℕ, ◌-◌, ◌<◌, ◌≤◌, None, Some, true, IfErr, OnOk, OnErr};
+ghost use Rattle.std.specs.Prelude.{◌≡◌, ◌≢◌, ◌-◌, ◌<◌, ◌≤◌, None, Some, true, IfErr, OnOk};
 ghost use Rattle.device.specs.Calls.{Counts};
-ghost use Rattle.migrator.specs.Durable.{is_sound};
-ghost use Rattle.checkpoint.specs.Refused.{IsRefused};
-ghost use Rattle.checkpoint.specs.Saved.{LeavesSaved};
-ghost use Rattle.checkpoint.specs.Snapshots.{left_in};
-ghost use Rattle.checkpoint.specs.Store.{whole, FrozenFrames, IsStabilizeAnswer, stabilized};
+ghost use Rattle.migrator.specs.Durable.{GoesOn};
+ghost use Rattle.checkpoint.specs.Store.{FrozenFrames};
 ghost use Rattle.object_cache.specs.Memory.{Held, Nothing, mark_at};
-ghost use Rattle.object_cache.specs.StoreState.{GoesOnIn, PutsBy, on_device, on_device_frozen, frozen_state_at};
-ghost use Rattle.object_cache.specs.StoreState.{parts_of, pending_count, view_of};
+ghost use Rattle.object_cache.specs.StoreState.{Moves, PutsBy, on_device, frozen_state_at};
+ghost use Rattle.object_cache.specs.StoreState.{pending_count};
 
 use crate::frozen::put_body;
 use crate::frozen_state::FrozenState;
@@ -25,9 +22,7 @@ impl<D: Device, P: Policy> Store<D, P> {
             × (frozen_state_at self.old.frozen_state h.number ≡ Nothing) }
         ensures empty { OnOk result (self.new.staging ≡ None) }
         ensures fewer { OnOk result (pending_count self.new < pending_count self.old) }
-        ensures put { self.new ≡ on_device self.old self.new }
-        ensures continues { GoesOnIn D.disk self.old self.new }
-        ensures cause { Counts (D.disk self.old.durable.beneath) (D.disk self.new.durable.beneath) result }
+        ensures moves { Moves D.disk on_device self.old self.new result }
     {
         let Some(held) = self.staging.get() else {
             unreachable!()
@@ -44,9 +39,7 @@ impl<D: Device, P: Policy> Store<D, P> {
     pub(crate) fn empty_staging(&mut self) -> Result<(), Failed>
         ensures empty { OnOk result (self.new.staging ≡ None) }
         ensures fewer { OnOk result (self.old.staging ≢ None → pending_count self.new < pending_count self.old) }
-        ensures put { self.new ≡ on_device self.old self.new }
-        ensures continues { GoesOnIn D.disk self.old self.new }
-        ensures cause { Counts (D.disk self.old.durable.beneath) (D.disk self.new.durable.beneath) result }
+        ensures moves { Moves D.disk on_device self.old self.new result }
     {
         let Some(held) = self.staging.get() else {
             return Ok(());
@@ -64,8 +57,7 @@ impl<D: Device, P: Policy> Store<D, P> {
         requires empty { self.old.staging ≡ None }
         ensures held { OnOk result ((h : Held) × (self.new.staging ≡ Some h) × (h.number ≡ number)) }
         ensures rest { self.new ≡ record self.old { durable = self.new.durable; staging = self.new.staging } }
-        ensures continues { GoesOnIn D.disk self.old self.new }
-        ensures cause { Counts (D.disk self.old.durable.beneath) (D.disk self.new.durable.beneath) result }
+        ensures moves { Moves D.disk on_device self.old self.new result }
     {
         let read = self.durable.fetch_below(number, &mut self.scratch)?;
         self.staging.take_up(number, read.1, &mut self.scratch);
@@ -77,9 +69,7 @@ impl<D: Device, P: Policy> Store<D, P> {
         requires pending { mark_at self.old.pending number ≡ true }
         requires empty { self.old.staging ≡ None }
         ensures fewer { OnOk result (pending_count self.new < pending_count self.old) }
-        ensures put { self.new ≡ on_device self.old self.new }
-        ensures continues { GoesOnIn D.disk self.old self.new }
-        ensures cause { Counts (D.disk self.old.durable.beneath) (D.disk self.new.durable.beneath) result }
+        ensures moves { Moves D.disk on_device self.old self.new result }
     {
         // Proof only: brings in the invariant.
         let _ = &self.durable;
@@ -94,9 +84,7 @@ impl<D: Device, P: Policy> Store<D, P> {
     fn put_next(&mut self) -> Result<(), Failed>
         ensures fewer { OnOk result (pending_count self.new ≤ pending_count self.old - 1) }
         ensures few { (f : FrozenFrames) → self.old.frozen ≡ Some f → pending_count self.old ≤ f.left }
-        ensures put { self.new ≡ on_device self.old self.new }
-        ensures continues { GoesOnIn D.disk self.old self.new }
-        ensures cause { Counts (D.disk self.old.durable.beneath) (D.disk self.new.durable.beneath) result }
+        ensures moves { Moves D.disk on_device self.old self.new result }
     {
         if self.staging.is_held() {
             return self.empty_staging();
@@ -111,7 +99,7 @@ impl<D: Device, P: Policy> Store<D, P> {
     fn put_one(&mut self) -> Result<(), Refusal>
         requires { (f : FrozenFrames) × (self.old.frozen ≡ Some f) × (0 < f.left) }
         ensures put { OnOk result (PutsBy D.disk self.old self.new 1) }
-        ensures unput { OnErr result (PutsBy D.disk self.old self.new 0) }
+        ensures goes_on { GoesOn D.disk self.old.durable self.new.durable }
         ensures failed { IfErr result (λ e. e ≡ Refusal.Fault) }
         ensures cause { Counts (D.disk self.old.durable.beneath) (D.disk self.new.durable.beneath) result }
     {
@@ -124,7 +112,7 @@ impl<D: Device, P: Policy> Store<D, P> {
     pub(crate) fn put_some(&mut self, count: u64) -> Result<(), Refusal>
         requires { (f : FrozenFrames) × (self.old.frozen ≡ Some f) × (count ≤ f.left) }
         ensures put { OnOk result (PutsBy D.disk self.old self.new count) }
-        ensures unput { OnErr result ((k : ℕ) × (k ≤ count) × PutsBy D.disk self.old self.new k) }
+        ensures goes_on { GoesOn D.disk self.old.durable self.new.durable }
         ensures failed { IfErr result (λ e. e ≡ Refusal.Fault) }
         ensures cause { Counts (D.disk self.old.durable.beneath) (D.disk self.new.durable.beneath) result }
     {

@@ -1,5 +1,5 @@
-use Rattle.std.proofs.Common.{rules, ap, arith, sym, ◌∙◌, ◌≡◌, ◌<◌, set, true, false, get_or, length, length-set}
-use Rattle.object_cache.proofs.Names.{touched_count}
+use Rattle.object_cache.proofs.Names.{rules, ap, arith, sym, set, true, false, get_or, length, length-set, touched_count}
+use Rattle.std.proofs.Common.{◌∙◌, ◌≡◌, ◌<◌}
 use Rattle.object_cache.proofs.Marking.{touching_more, touched_count-set, set-marked}
 use Rattle.object_cache.proofs.number_sets.add_all.Goals as goal
 use Rattle.object_cache.proofs.number_sets.add_all.Goals.{then-add, else-add}

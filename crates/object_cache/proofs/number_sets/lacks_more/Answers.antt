@@ -1,5 +1,4 @@
-use Rattle.object_cache.proofs.Names.{rules, arith}
-use Rattle.std.proofs.lemmas.Bool.Decides.{nat_tests}
+use Rattle.object_cache.proofs.Names.{rules, arith, nat_tests}
 use Rattle.object_cache.proofs.Marking.{at_most_the_length}
 use Rattle.object_cache.proofs.number_sets.lacks_more.Goals as goal
 

@@ -1,8 +1,7 @@
-use Rattle.object_cache.proofs.Names.{Counts, rules, arith, None, sym, ap, length, subst, OnOk, OnErr, header_at, held_at, IsKeepable, most, stored_of}
-use Rattle.object_cache.proofs.Names.{keepable_at, GoesOnIn, IsFetchedIn, cache_of, on_device, parts_of, without_cached, memory_of, goes_on_same, ok_counts}
-use Rattle.object_cache.proofs.Names.{refl}
+use Rattle.object_cache.proofs.Names.{rules, None, sym, ap, length, subst, OnOk, header_at, held_at, IsKeepable, most, stored_of, on_device_with, keepable_at}
+use Rattle.object_cache.proofs.Names.{IsFetchedIn, Moves, cache_of, on_device, parts_of, without_cached, memory_of, refl}
 use Rattle.std.proofs.Common.{◌∙◌, ◌≡◌, ◌≤◌}
-use Rattle.object_cache.proofs.Outcomes.{away_rest}
+use Rattle.object_cache.proofs.Exits.{moves_none}
 use Rattle.object_cache.proofs.FrozenStates.{evicted, is_least, some_least}
 use Rattle.object_cache.proofs.store.Store.make_room.Goals as goal
 
@@ -39,35 +38,22 @@ returns-then-is_full g c =
     let u = c.write_and_evict.new.self in
     let said = c.write_and_evict.ensures in
     let away = subst (λ t. OnOk r (u ≡ without_cached c.in-Some.oldest (on_device t u))) seen said.away in
-    let stays = subst (λ t. OnErr r (u ≡ on_device t u)) seen said.stays in
     let now = evicted r c.args.self.now u c.in-Some.oldest
     (is_least g.D.Device.disk c.self.view_is c.self.invariant c.least.ensures.ordered full c.in-Some.oldest
-    (sym c.in-Some.is ∙ c.least.ensures.least)) away stays in
+    (sym c.in-Some.is ∙ c.least.ensures.least)) away in
     record {
       room = now.0;
       uncached = now.1;
       least = now.2;
-      unchanged = λ less. absurd (omega (arith, full, less));
-      rest = away_rest r c.args.self.now u c.in-Some.oldest away stays;
       empty = subst (λ t. t.staging ≡ None → u.staging ≡ None) seen said.empty;
-      continues = subst (λ t. GoesOnIn g.D.Device.disk t u) seen said.continues;
-      cause = subst (λ t. Counts (g.D.Device.disk t.durable.beneath) (g.D.Device.disk u.durable.beneath) r) seen said.cause;
+      moves = subst (λ t. Moves g.D.Device.disk on_device_with t u r) seen said.moves;
     }
 
 pub returns-clause-uncached : goal.returns-clause-uncached
 returns-clause-uncached g c = λ n none. none
 
-pub returns-clause-unchanged : goal.returns-clause-unchanged
-returns-clause-unchanged g c = λ less. refl
-
-pub returns-clause-rest : goal.returns-clause-rest
-returns-clause-rest g c = refl
-
 pub returns-clause-empty : goal.returns-clause-empty
 returns-clause-empty g c = λ empty. empty
 
-pub returns-clause-continues : goal.returns-clause-continues
-returns-clause-continues g c = goes_on_same g.D.Device.disk g.met.D.Device.only_now c.args.self.now
-
-pub returns-clause-cause : goal.returns-clause-cause
-returns-clause-cause g c = ok_counts refl
+pub returns-clause-moves : goal.returns-clause-moves
+returns-clause-moves g c = moves_none g.met.D.Device.only_now c.args.self.now refl

@@ -1,6 +1,7 @@
 use Rattle.object_cache.proofs.Names.{refl, sym, ap, none-some, option_map, held_behind}
 use Rattle.std.proofs.Common.{◌∙◌}
-use Rattle.object_cache.proofs.Outcomes.{counts_ok, on_device_as}
+use Rattle.object_cache.proofs.Exits.{moves_next}
+use Rattle.object_cache.proofs.Outcomes.{counts_err, counts_ok}
 use Rattle.object_cache.proofs.PutsOut.{held_fewer, held_frozen, held_in_marks, held_ready, held_torn, settled_next}
 use Rattle.object_cache.proofs.store.Store.put_held.Goals as goal
 
@@ -41,23 +42,17 @@ returns g c =
       fewer =
           held_fewer g.D.Device.disk c.self.view_is c.self.invariant (held_behind c.in-Some.held)
           (sym c.get.ensures ∙ ap (option_map held_behind) c.in-Some.is) c.set.ensures;
-      put = on_device_as c.args.self.now next.view refl;
-      continues = next.continues;
-      cause = counts_ok g.D.Device.disk c.self.view_is c.in_ok-put_body.ensures.cause;
+      moves = moves_next next refl _ (counts_ok g.D.Device.disk c.self.view_is c.in_ok-put_body.ensures.cause);
     }
+
+pub returns-in_err-put_body-clause-moves : goal.returns-in_err-put_body-clause-moves
+returns-in_err-put_body-clause-moves g c =
+    moves_next
+    (held_torn g.D.Device.disk c.self.view_is c.self.invariant (held_behind c.in-Some.held)
+    (sym c.get.ensures ∙ ap (option_map held_behind) c.in-Some.is)
+    c.requires c.put_body.ensures.goes_on c.put_body.ensures.cause.never_falls c.in_err-put_body.ensures.broken) refl c.from_residual.result
+    (counts_err g.D.Device.disk c.from_residual.result _ c.self.view_is c.from_residual.ensures.1 c.in_err-put_body.ensures.cause)
 
 pub unreachable-requires : goal.unreachable-requires
 unreachable-requires g c =
     none-some c.requires.0 (sym (sym c.get.ensures ∙ ap (option_map held_behind) c.in_default.is) ∙ ap (λ t. t.staging) c.self.view_is ∙ c.requires.1)
-
-pub returns-in_err-put_body-clause-put : goal.returns-in_err-put_body-clause-put
-returns-in_err-put_body-clause-put g c = on_device_as c.args.self.now
-    (held_torn g.D.Device.disk c.self.view_is c.self.invariant (held_behind c.in-Some.held)
-    (sym c.get.ensures ∙ ap (option_map held_behind) c.in-Some.is)
-    c.requires c.put_body.ensures.goes_on c.put_body.ensures.cause.never_falls c.in_err-put_body.ensures.broken).view refl
-
-pub returns-in_err-put_body-clause-continues : goal.returns-in_err-put_body-clause-continues
-returns-in_err-put_body-clause-continues g c =
-    (held_torn g.D.Device.disk c.self.view_is c.self.invariant (held_behind c.in-Some.held)
-    (sym c.get.ensures ∙ ap (option_map held_behind) c.in-Some.is)
-    c.requires c.put_body.ensures.goes_on c.put_body.ensures.cause.never_falls c.in_err-put_body.ensures.broken).continues

@@ -1,6 +1,7 @@
-use Rattle.object_cache.proofs.Names.{on_ok_weaker, true≢false, sym, ap, arith, pending_count, goes_on_same, ok_counts, refl}
+use Rattle.object_cache.proofs.Names.{on_ok_weaker, true≢false, sym, ap, arith, pending_count, refl}
 use Rattle.std.proofs.Common.{◌∙◌}
 use Rattle.std.specs.Prelude.{is_some}
+use Rattle.object_cache.proofs.Exits.{moves_none}
 use Rattle.object_cache.proofs.Turns.{few_left, none_marked}
 use Rattle.object_cache.proofs.store.Store.put_next.Goals as goal
 
@@ -8,9 +9,7 @@ pub returns-in-None : goal.returns-in-None
 returns-in-None g c = record {
   fewer = omega (arith, none_marked c.self.inside.pending (c.next.ensures.none c.in-None.is), ap (λ t. pending_count t) c.self.view_is);
   few = λ f f_is. few_left g.D.Device.disk c.self.view_is c.self.invariant f f_is;
-  put = refl;
-  continues = goes_on_same g.D.Device.disk g.met.D.Device.only_now c.args.self.now;
-  cause = ok_counts refl;
+  moves = moves_none g.met.D.Device.only_now c.args.self.now refl;
 }
 
 pub returns-then-is_held : goal.returns-then-is_held
@@ -20,16 +19,12 @@ returns-then-is_held g c = record {
       on_ok_weaker c.empty_staging.result
       (λ fewer. let less = fewer (λ none. true≢false (sym held ∙ ap is_some none)) in omega (arith, less)) c.empty_staging.ensures.fewer;
   few = λ f f_is. few_left g.D.Device.disk c.self.view_is c.self.invariant f f_is;
-  put = c.empty_staging.ensures.put;
-  continues = c.empty_staging.ensures.continues;
-  cause = c.empty_staging.ensures.cause;
+  moves = c.empty_staging.ensures.moves;
 }
 
 pub returns-in-Some : goal.returns-in-Some
 returns-in-Some g c = record {
   few = λ f f_is. few_left g.D.Device.disk c.self.view_is c.self.invariant f f_is;
   fewer = on_ok_weaker c.put_pending.result (λ less. omega (arith, less)) c.put_pending.ensures.fewer;
-  put = c.put_pending.ensures.put;
-  continues = c.put_pending.ensures.continues;
-  cause = c.put_pending.ensures.cause;
+  moves = c.put_pending.ensures.moves;
 }

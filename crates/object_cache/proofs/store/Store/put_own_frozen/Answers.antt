@@ -1,5 +1,7 @@
-use Rattle.object_cache.proofs.Names.{on_err}
-use Rattle.object_cache.proofs.Outcomes.{counts_ok}
+use Rattle.object_cache.proofs.Names.{ap, refl, released}
+use Rattle.std.proofs.Common.{◌∙◌}
+use Rattle.object_cache.proofs.Exits.{moves_next, no_ok}
+use Rattle.object_cache.proofs.Outcomes.{counts_err, counts_ok}
 use Rattle.object_cache.proofs.PutsOut.{own_fewer, own_ready, own_torn, out_next}
 use Rattle.object_cache.proofs.store.Store.put_own_frozen.Goals as goal
 use Rattle.object_cache.proofs.Objects.{entry_some}
@@ -28,20 +30,22 @@ returns g c =
     record {
       put = next.view;
       fewer = own_fewer g.D.Device.disk c.self.view_is c.self.invariant c.requires.fetched c.requires.frozen_state c.set.ensures;
-      unput = tt;
-      continues = next.continues;
-      cause = counts_ok g.D.Device.disk c.self.view_is c.in_ok-put_body.ensures.cause;
+      empty = λ empty. ap (λ t. t.staging) next.view ∙ ap (released c.args.number) empty;
+      moves = moves_next next refl _ (counts_ok g.D.Device.disk c.self.view_is c.in_ok-put_body.ensures.cause);
     }
 
-pub returns-in_err-put_body-clause-unput : goal.returns-in_err-put_body-clause-unput
-returns-in_err-put_body-clause-unput g c = on_err c.from_residual.result
-    (own_torn g.D.Device.disk c.self.view_is c.self.invariant c.requires.fetched c.requires.frozen_state c.put_body.ensures.goes_on
-    c.put_body.ensures.cause.never_falls c.in_err-put_body.ensures.broken).view
-
-pub returns-in_err-put_body-clause-continues : goal.returns-in_err-put_body-clause-continues
-returns-in_err-put_body-clause-continues g c =
-    (own_torn g.D.Device.disk c.self.view_is c.self.invariant c.requires.fetched c.requires.frozen_state c.put_body.ensures.goes_on
-    c.put_body.ensures.cause.never_falls c.in_err-put_body.ensures.broken).continues
+pub returns-in_err-put_body : goal.returns-in_err-put_body
+returns-in_err-put_body g c =
+    let r = c.from_residual.result in
+    let failed = c.from_residual.ensures.1 in
+    let next = own_torn g.D.Device.disk c.self.view_is c.self.invariant c.requires.fetched c.requires.frozen_state c.put_body.ensures.goes_on
+    c.put_body.ensures.cause.never_falls c.in_err-put_body.ensures.broken in
+    record {
+      put = no_ok r _ _ failed;
+      fewer = no_ok r _ _ failed;
+      empty = λ empty. ap (λ t. t.staging) next.view ∙ empty;
+      moves = moves_next next refl r (counts_err g.D.Device.disk r _ c.self.view_is failed c.in_err-put_body.ensures.cause);
+    }
 
 pub invariant_of-self : goal.invariant_of-self
 invariant_of-self g c =

@@ -1,8 +1,7 @@
-use Rattle.object_cache.proofs.Names.{ap, frozen_state_at, goes_on_twice, sym, on_ok_weaker, counts_on, counted_ok, arith, refl, pending_count}
+use Rattle.object_cache.proofs.Names.{ap, frozen_state_at, sym, on_ok_weaker, arith, pending_count}
 use Rattle.std.proofs.Common.{◌∙◌}
+use Rattle.object_cache.proofs.Exits.{moves_err, no_ok, writes_on}
 use Rattle.object_cache.proofs.Fetched.{pending_known}
-use Rattle.object_cache.proofs.Exits.{no_ok, counts_as}
-use Rattle.object_cache.proofs.Outcomes.{frozen_written, on_device_as, put_on}
 use Rattle.object_cache.proofs.store.Store.put_pending.Goals as goal
 
 pub frozen_state-requires : goal.frozen_state-requires
@@ -18,28 +17,18 @@ put_held-requires g c =
     )
 
 pub returns-in-Nothing : goal.returns-in-Nothing
-returns-in-Nothing g c = record {
-  continues =
-      goes_on_twice g.D.Device.disk g.met.D.Device.counts_now c.args.self.now c.take_below.new.self c.put_held.new.self c.take_below.ensures.continues
-      c.put_held.ensures.continues;
-  fewer = on_ok_weaker c.put_held.result (λ less. omega (arith, less, ap (λ t. pending_count t) c.take_below.ensures.rest)) c.put_held.ensures.fewer;
-  put = put_on c.args.self.now c.take_below.new.self c.put_held.new.self (on_device_as c.args.self.now c.take_below.ensures.rest refl) c.put_held.ensures.put;
-  cause = counts_on (counted_ok c.in_ok-take_below.ensures.cause) c.put_held.ensures.cause;
-}
+returns-in-Nothing g c =
+    let taken = c.in_ok-take_below.ensures in
+    record {
+      fewer = on_ok_weaker c.put_held.result (λ less. omega (arith, less, ap (λ t. pending_count t) taken.rest)) c.put_held.ensures.fewer;
+      moves = writes_on g.met.D.Device.counts_now taken.moves c.put_held.ensures.moves;
+    }
 
 pub returns-in_err-take_below : goal.returns-in_err-take_below
-returns-in_err-take_below g c = record {
-  fewer = no_ok c.from_residual.result _ _ c.from_residual.ensures.1;
-  put = on_device_as c.args.self.now c.take_below.ensures.rest refl;
-  continues = c.take_below.ensures.continues;
-  cause = counts_as c.from_residual.result _ c.from_residual.ensures.1 c.in_err-take_below.ensures.cause;
-}
+returns-in_err-take_below g c =
+    let r = c.from_residual.result in
+    let failed = c.from_residual.ensures.1 in
+    record { fewer = no_ok r _ _ failed; moves = moves_err r _ failed c.in_err-take_below.ensures.moves }
 
 pub returns : goal.returns
-returns g c = record {
-  fewer = c.put_own_frozen.ensures.fewer;
-  put = (frozen_written c.put_own_frozen.result c.args.self.now c.put_own_frozen.new.self c.args.number c.put_own_frozen.ensures.put
-      c.put_own_frozen.ensures.unput).1;
-  continues = c.put_own_frozen.ensures.continues;
-  cause = c.put_own_frozen.ensures.cause;
-}
+returns g c = record { fewer = c.put_own_frozen.ensures.fewer; moves = c.put_own_frozen.ensures.moves }

@@ -1,4 +1,5 @@
 use Rattle.object_cache.proofs.Names.{ap, content_of, refl}
+use Rattle.object_cache.proofs.Exits.{moves_next}
 use Rattle.object_cache.proofs.Outcomes.{counts_err, counts_ok}
 use Rattle.object_cache.proofs.Fetched.{read_next, taken_next}
 use Rattle.object_cache.proofs.store.Store.take_below.Goals as goal
@@ -19,18 +20,14 @@ returns g c =
     record {
       held = (_, c.take_up.ensures, refl);
       rest = next.view;
-      continues = next.continues;
-      cause = counts_ok g.D.Device.disk c.self.view_is c.in_ok-read.ensures.cause;
+      moves = moves_next next refl _ (counts_ok g.D.Device.disk c.self.view_is c.in_ok-read.ensures.cause);
     }
-
-pub returns-in_err-read-clause-continues : goal.returns-in_err-read-clause-continues
-returns-in_err-read-clause-continues g c =
-    (read_next g.D.Device.disk c.self.view_is c.self.invariant c.fetch_below.ensures.reads c.fetch_below.ensures.cause.never_falls).continues
 
 pub invariant_of-self : goal.invariant_of-self
 invariant_of-self g c =
     (read_next g.D.Device.disk c.self.view_is c.self.invariant c.fetch_below.ensures.reads c.fetch_below.ensures.cause.never_falls).is
 
-pub returns-in_err-read-clause-cause : goal.returns-in_err-read-clause-cause
-returns-in_err-read-clause-cause g c =
-    counts_err g.D.Device.disk c.from_residual.result _ c.self.view_is c.from_residual.ensures.1 c.in_err-read.ensures.cause
+pub returns-in_err-read-clause-moves : goal.returns-in_err-read-clause-moves
+returns-in_err-read-clause-moves g c =
+    moves_next (read_next g.D.Device.disk c.self.view_is c.self.invariant c.fetch_below.ensures.reads c.fetch_below.ensures.cause.never_falls) refl
+    c.from_residual.result (counts_err g.D.Device.disk c.from_residual.result _ c.self.view_is c.from_residual.ensures.1 c.in_err-read.ensures.cause)

@@ -1,5 +1,5 @@
-use Rattle.object_cache.proofs.Names.{length, sym, ap, subst, All-contains, memory_of, used_in_turn, StoreState, GoesOnIn}
-use Rattle.object_cache.proofs.Names.{IsFetchedIn, cache_of, goes_on_same, take}
+use Rattle.object_cache.proofs.Names.{length, sym, ap, subst, All-contains, memory_of, used_in_turn, StoreState, GoesOnIn, IsFetchedIn, cache_of, goes_on_same}
+use Rattle.object_cache.proofs.Names.{take}
 use Rattle.std.proofs.Common.{◌<◌, ◌∙◌}
 use Rattle.object_cache.proofs.Outcomes.{continues_with}
 use Rattle.object_cache.proofs.FrozenStates.{fetched_by}

@@ -1,9 +1,9 @@
-use Rattle.object_cache.proofs.Names.{on_ok_weaker, ok_counts, refl, false, true≢false, sym, ap, most, stored_of, keepable_at, parts_of, continues_same, cached_at}
+use Rattle.object_cache.proofs.Names.{on_ok_weaker, ok_counts, refl, false, true≢false, sym, ap, most, stored_of, keepable_at, parts_of, continues_same}
+use Rattle.object_cache.proofs.Names.{cached_at}
 use Rattle.std.proofs.Common.{◌∙◌}
 use Rattle.object_cache.proofs.Exits.{continues_some, fetches_only}
 use Rattle.object_cache.proofs.FrozenStates.{fetched_by, uncached_by}
 use Rattle.object_cache.proofs.Marking.{set_there}
-use Rattle.object_cache.proofs.Outcomes.{away_rest}
 use Rattle.object_cache.proofs.store.durable.StoreObjectStore.evict.Goals as goal
 
 pub write_and_evict-requires : goal.write_and_evict-requires
@@ -42,9 +42,9 @@ returns-then-holds g c =
       away = on_ok_weaker r (λ away some there. away) said.away;
       none = λ none. absurd (true≢false (sym there.cached ∙ none));
       all = λ all. absurd (true≢false (sym all ∙ some));
-      same = (fetches_only some (away_rest r s u n said.away said.stays) said.continues).same;
-      continues = continues_some some said.continues;
-      cause = said.cause;
+      same = (fetches_only some said.moves).same;
+      continues = continues_some some said.moves.continues;
+      cause = said.moves.cause;
     }
 
 pub returns : goal.returns

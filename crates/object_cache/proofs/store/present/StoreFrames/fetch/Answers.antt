@@ -1,9 +1,8 @@
-use Rattle.object_cache.proofs.Names.{on_ok_weaker, ap, arith, length, take, used_in_turn, counts_on, goes_on_twice, sym, true≢false, parts_of}
-use Rattle.object_cache.proofs.Names.{All-contains, Counts, OnlyFetches, ContinuesIn}
+use Rattle.object_cache.proofs.Names.{on_ok_weaker, ap, arith, length, take, used_in_turn, sym, true≢false, parts_of, All-contains, OnlyFetches, ContinuesIn}
 use Rattle.std.proofs.Common.{◌∙◌, ◌<◌}
-use Rattle.object_cache.proofs.Fetched.{all_fetched, rest_on, same_front, used_then}
+use Rattle.object_cache.proofs.Fetched.{all_fetched, same_front, used_then}
 use Rattle.object_cache.proofs.FrozenStates.{fetched_whole}
-use Rattle.object_cache.proofs.Exits.{all_keepable, counts_same, fetches_only, used_rest}
+use Rattle.object_cache.proofs.Exits.{all_keepable, counts_same, fetches_only, moves_on, moves_used}
 use Rattle.object_cache.proofs.store.present.StoreFrames.fetch.Goals as goal
 
 pub returns-then-KEEPS_ALL-clause-fetched : goal.returns-then-KEEPS_ALL-clause-fetched
@@ -26,7 +25,7 @@ returns-then-use_again g c =
       all = λ all. absurd (true≢false (sym all ∙ some));
       same = ap (parts_of disk) rest;
       cause = (λ failed. absurd (true≢false (sym failed)), λ rose. absurd (omega (arith, rose, ap (λ t. (disk t.durable.beneath).failures) rest)));
-      snapshots = fetches_only some (used_rest s t rest) c.use_again.ensures.continues;
+      snapshots = fetches_only some (moves_used rest c.use_again.ensures.continues);
     }
 
 pub returns : goal.returns
@@ -40,19 +39,17 @@ returns g c =
     let r = c.read_all_in-read.result in
     let used = c.use_again.ensures in
     let read = c.read_all_in-read.ensures in
-    let counts : Counts (disk s.durable.beneath) (disk u.durable.beneath) r = counts_on (ap (λ t. (disk t.durable.beneath).failures) used.rest) read.cause in
-    let only : OnlyFetches (parts_of disk) (ContinuesIn g.P.Policy.KEEPS_ALL disk) s u = fetches_only some
-    (rest_on s t u (used_rest s t used.rest) read.rest)
-    (goes_on_twice disk g.met.D.Device.counts_now s t u used.continues read.continues) in
+    let moves = moves_on g.met.D.Device.counts_now (moves_used used.rest used.continues) read.moves in
+    let only : OnlyFetches (parts_of disk) (ContinuesIn g.P.Policy.KEEPS_ALL disk) s u = fetches_only some moves in
     record {
       fetched = on_ok_weaker r
-          (all_fetched s t u ns used.rest read.rest used.each c.requires.known c.requires.few used.least c.len.ensures.bounded) read.order;
+          (all_fetched s t u ns used.rest read.moves.rest used.each c.requires.known c.requires.few used.least c.len.ensures.bounded) read.order;
       order = λ some. on_ok_weaker r (λ is.
           used_then s.capacity used.prefix.0 ns s.order t.order u.order used.prefix.1
           (is ∙ ap (λ x. take x.capacity (used_in_turn ns t.order)) used.rest)) read.order;
       all = λ all. absurd (true≢false (sym all ∙ some));
-      same = on_ok_weaker r only.same (counts_same r counts);
-      cause = counts.cause;
+      same = on_ok_weaker r only.same (counts_same r moves.cause);
+      cause = moves.cause.cause;
       snapshots = only;
     }
 
@@ -61,4 +58,4 @@ read_all_in-read-requires-clause-bounded g c = c.use_again.ensures.few
 
 pub read_all_in-read-requires-clause-keepable : goal.read_all_in-read-requires-clause-keepable
 read_all_in-read-requires-clause-keepable g c =
-    all_keepable c.use_again.ensures.continues (used_rest c.args.self.now c.use_again.new.self c.use_again.ensures.rest) c.requires.keepable
+    all_keepable c.use_again.ensures.continues (moves_used c.use_again.ensures.rest c.use_again.ensures.continues).rest c.requires.keepable
