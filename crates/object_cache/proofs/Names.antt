@@ -70,11 +70,11 @@ pub use Rattle.std.specs.Cmp.{nat_eq_equiv}
 pub use Rattle.std.specs.List.{All, Contains, list_any, range_with_len, slice_get}
 pub use Rattle.std.specs.Prelude.{IfErr, IsErrAnd, IsErrOf, OnOk, count_by, is_err, slice_index_or}
 pub use Rattle.object_cache.specs.Journaled.{JournalsPage, MaySave, SavesPage, entry_body, held_now, is_saved_page}
+pub use Rattle.object_cache.specs.Laws.{continues_same, continues_twice, goes_on_same, goes_on_twice}
 pub use Rattle.object_cache.specs.Memory.{Apart, FrozenState, Held, Memory, Nothing, Shared, apart_body, below_body, content_at, frozen_at, frozen_body}
 pub use Rattle.object_cache.specs.Memory.{frozen_frame, frozen_state_by, frozen_state_in_memory, frozen_state_of, held_behind, in_staging, mark_at, masked}
 pub use Rattle.object_cache.specs.Memory.{memory_of, newest_body, own_body, own_body_of, own_frame, present_at, present_body, put_body, released}
 unfoldable pub use Rattle.object_cache.specs.Memory.{contents_in, frozen_in, frozen_states_in}
-pub use Rattle.object_cache.specs.PresentLaws.{continues_same, continues_twice, goes_on_same, goes_on_twice}
 pub use Rattle.object_cache.specs.StoreState.{AreAll, AreFrozen, AreInserted, AreKeepableIn, AreTaken, ContinuesIn, GoesOnIn, HaveRoom, HoldBodies}
 pub use Rattle.object_cache.specs.StoreState.{IsAnnouncedIn, IsBounded, IsCache, IsFetchedIn, IsJustOpened, IsKeepableIn, IsOpenOver, IsUnkept, MayPutFrozen}
 pub use Rattle.object_cache.specs.StoreState.{Moves, PutsBy, StoreState, TakenState, all_of, bodies_of, cache_of, cached_at, frozen_seen, frozen_state_at}

@@ -5,5 +5,4 @@ pub mod Names
 pub mod Memory
 pub mod StoreState
 pub mod Journaled
-pub mod PresentLaws
-pub mod StoreLaws
+pub mod Laws

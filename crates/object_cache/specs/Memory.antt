@@ -6,8 +6,8 @@ use Rattle.object_cache.specs.Names.{Body, Scratch, content_behind, ContentRef}
 use Rattle.std.specs.Prelude.{◌==◌, if◌then◌else◌}
 use Rattle.model.specs.declared.object.Content.TheVariants as content
 use Rattle.model.specs.declared.object.Role.TheVariants as role
-pub use Rattle.object_cache.specs.declared.frozen_state.FrozenState.{FrozenState}
-pub use Rattle.object_cache.specs.declared.frozen_state.FrozenState.TheVariants.{Nothing, Shared, Apart}
+pub use Rattle.object_cache.specs.declared.frozen.FrozenState.{FrozenState}
+pub use Rattle.object_cache.specs.declared.frozen.FrozenState.TheVariants.{Nothing, Shared, Apart}
 
 -- a body in no entry: what an object was frozen as, read so that its frame can be written again under a newer header
 pub record Held : Type 0 where

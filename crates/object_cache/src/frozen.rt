@@ -1,17 +1,41 @@
-// Writing frozen frames.
+// Frozen frames: what an entry has of one, and writing one.
 ghost use Rattle.std.specs.Prelude.{◌≡◌, Some, option_map, IsSome, OnOk, OnErr};
 ghost use Rattle.model.specs.Frame.{content_behind};
 ghost use Rattle.device.specs.Calls.{Counts};
 ghost use Rattle.migrator.specs.Put.{Broken, Kept};
 ghost use Rattle.migrator.specs.Durable.{stored_of, with_frozen, GoesOn};
 ghost use Rattle.cache_entries.specs.Entries.{entry_at};
-ghost use Rattle.object_cache.specs.Memory.{masked, own_body_of};
+ghost use Rattle.object_cache.specs.Memory.{frozen_state_by, masked, own_body_of};
 ghost use Rattle.object_cache.specs.StoreState.{MayPutFrozen};
 
 use cache_entries::Entries;
 use device::{Device, Failed};
 use migrator::Durable;
 use model::{ContentRef, ObjectHeader, Role};
+
+/// What an entry has of a frozen frame that isn't in the log: nothing, the present body, or a frozen copy.
+#[derive(Drop)]
+pub(crate) enum FrozenState {
+    Nothing,
+    Shared,
+    Apart,
+}
+
+// By whether the frozen frame is pending, whether there is a frozen copy, and whether the object was written since.
+pub(crate) fn state_by(is_pending: bool, is_kept: bool, is_touched: bool) -> FrozenState
+    ensures { result ≡ frozen_state_by is_pending is_kept is_touched }
+{
+    if !is_pending {
+        return FrozenState::Nothing;
+    }
+    if is_kept {
+        return FrozenState::Apart;
+    }
+    if is_touched {
+        return FrozenState::Nothing;
+    }
+    FrozenState::Shared
+}
 
 // The body of an object by its role: `Free` if the role is free.
 pub(crate) fn mask(role: Role, content: ContentRef<'_>) -> ContentRef<'_>

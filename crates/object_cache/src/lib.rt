@@ -4,7 +4,6 @@
 
 mod all_objects;
 mod frozen;
-mod frozen_state;
 mod headers;
 mod number_sets;
 mod policy;

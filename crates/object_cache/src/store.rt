@@ -4,8 +4,7 @@ ghost use Rattle.model.specs.Frame.{header_at, held_at};
 ghost use Rattle.migrator.specs.Durable.{stored_of};
 
 use crate::all_objects::copy_objects;
-use crate::frozen::{own_body, put_body};
-use crate::frozen_state::{FrozenState, state_by};
+use crate::frozen::{FrozenState, own_body, put_body, state_by};
 use crate::headers::FrozenHeaders;
 use crate::policy::{KeepAll, KeepRecent, Policy};
 use crate::staging::Staging;
@@ -76,8 +75,8 @@ impl<D: Device, P: Policy> Model for Store<D, P> {
 impl<D: Device, P: Policy> Store<D, P> {
     ghost use Rattle.object_cache.specs.Memory.{Nothing, Shared, Apart, released, mark_at, masked};
     ghost use Rattle.object_cache.specs.StoreState.{IsBounded, IsFetchedIn, Moves, on_device, on_device_with};
-    ghost use Rattle.object_cache.specs.StoreState.{AreKeepableIn, IsKeepableIn, frozen_state_at};
-    ghost use Rattle.object_cache.specs.StoreState.{cached_at, pending_count, without_cached};
+    ghost use Rattle.object_cache.specs.StoreState.{AreKeepableIn, IsKeepableIn, frozen_state_at, cached_at};
+    ghost use Rattle.object_cache.specs.StoreState.{pending_count, without_cached};
     ghost use Rattle.cache_entries.specs.Order.{without};
 
     /// The number of objects in memory: never more than the capacity that the store was opened with.

@@ -188,7 +188,7 @@ impl<D: Device, P: Policy> ObjectStore<D> for Store<D, P> {
     }
 
     ghost use Rattle.std.proofs.Common.{refl};
-    ghost use Rattle.object_cache.specs.StoreLaws.{continues_by, holds_by};
+    ghost use Rattle.object_cache.specs.Laws.{continues_by, holds_by};
 
     ghost continues = { λ s t h. continues_by D.disk s t h.goes_on };
 

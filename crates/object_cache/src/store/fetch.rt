@@ -5,8 +5,8 @@ ghost use Rattle.cache_entries.specs.Entries.{entry_at};
 ghost use Rattle.cache_entries.specs.Order.{used_in_turn, with_new, without};
 ghost use Rattle.layout.specs.Frame.{content_of};
 ghost use Rattle.object_cache.specs.Memory.{masked};
-ghost use Rattle.object_cache.specs.StoreState.{on_device_with};
-ghost use Rattle.object_cache.specs.StoreState.{GoesOnIn, IsFetchedIn, Moves, cached_at, with_cached, AreKeepableIn};
+ghost use Rattle.object_cache.specs.StoreState.{on_device_with, GoesOnIn, IsFetchedIn, Moves, cached_at, with_cached};
+ghost use Rattle.object_cache.specs.StoreState.{AreKeepableIn};
 
 use crate::frozen::mask;
 use crate::policy::Policy;

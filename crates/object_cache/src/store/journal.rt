@@ -1,6 +1,6 @@
 // Saving the present words of one page without a checkpoint.
-ghost use Rattle.std.specs.Prelude.{◌≡◌, ◌<◌, ◌≤◌, ◌^◌, None, length, nat_lt, option_map, true, IfOk, OnOk};
-ghost use Rattle.std.specs.Prelude.{Bool, Err, IfErr};
+ghost use Rattle.std.specs.Prelude.{◌≡◌, ◌<◌, ◌≤◌, ◌^◌, None, length, nat_lt, option_map, true, IfOk, OnOk, Bool};
+ghost use Rattle.std.specs.Prelude.{Err, IfErr};
 ghost use Rattle.model.specs.Frame.{frame_at, header_at, content_behind};
 ghost use Rattle.model.specs.Object.{is_page, words_in};
 ghost use Rattle.model.specs.Sound.{object_count};

@@ -5,10 +5,10 @@ ghost use Rattle.capability.specs.Parts.{IsUnprepared, Prepares};
 ghost use Rattle.model.specs.Machine.{touching, touched_count};
 ghost use Rattle.migrator.specs.Durable.{stored_of};
 ghost use Rattle.object_cache.specs.Memory.{Shared};
-ghost use Rattle.object_cache.specs.StoreState.{GoesOnIn, IsAnnouncedIn, IsFetchedIn, frozen_state_at};
-ghost use Rattle.object_cache.specs.StoreState.{ContinuesIn, IsWithinLog, parts_of};
+ghost use Rattle.object_cache.specs.StoreState.{GoesOnIn, IsAnnouncedIn, IsFetchedIn, frozen_state_at, ContinuesIn};
+ghost use Rattle.object_cache.specs.StoreState.{IsWithinLog, parts_of};
 
-use crate::frozen_state::FrozenState;
+use crate::frozen::FrozenState;
 use crate::number_sets::{add_all, contains_all, lacks_more};
 use crate::policy::Policy;
 use crate::store::Store;

@@ -76,7 +76,7 @@ impl<D: Device, P: Policy> Frames for Store<D, P> {
         self.entries.present(number)
     }
 
-    ghost use Rattle.object_cache.specs.PresentLaws.{continues_same, continues_twice};
+    ghost use Rattle.object_cache.specs.Laws.{continues_same, continues_twice};
 
     ghost known_fetched = { λ s n there. (there.header, there.content) };
 

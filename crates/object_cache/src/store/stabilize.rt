@@ -4,11 +4,9 @@ ghost use Rattle.device.specs.Calls.{Counts};
 ghost use Rattle.migrator.specs.Durable.{GoesOn};
 ghost use Rattle.checkpoint.specs.Store.{FrozenFrames};
 ghost use Rattle.object_cache.specs.Memory.{Held, Nothing, mark_at};
-ghost use Rattle.object_cache.specs.StoreState.{Moves, PutsBy, on_device, frozen_state_at};
-ghost use Rattle.object_cache.specs.StoreState.{pending_count};
+ghost use Rattle.object_cache.specs.StoreState.{Moves, PutsBy, on_device, frozen_state_at, pending_count};
 
-use crate::frozen::put_body;
-use crate::frozen_state::FrozenState;
+use crate::frozen::{FrozenState, put_body};
 use crate::policy::Policy;
 use crate::store::Store;
 use device::{Device, Failed};

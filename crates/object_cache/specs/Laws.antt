@@ -1,8 +1,9 @@
--- The laws of `ContinuesIn`.
+-- The laws of a store.
 use Rattle.object_cache.specs.Names.{refl, ap, arith, Image, Disk, ends, leaves_on, leaves_weaker, peeks_started}
-use Rattle.object_cache.specs.Names.{Snapshots, FrozenFrames, goes_trans, goes_none}
+use Rattle.object_cache.specs.Names.{Snapshots, FrozenFrames, goes_trans, goes_none, saved_state, seen_of, stored_of}
+use Rattle.object_cache.specs.Names.{is_sound, Holds, Continues}
 use Rattle.std.proofs.Common.{◌≤◌, ◌∙◌, ℕ, Bool}
-use Rattle.object_cache.specs.StoreState.{StoreState, GoesOnIn, ContinuesIn}
+use Rattle.object_cache.specs.StoreState.{StoreState, GoesOnIn, ContinuesIn, view_of}
 
 module _ {D : Type 0} (disk : D → Disk) where
   pub goes_on_same : ((d : D) (c : Image) → (disk d).left_since (disk d).moment c → (disk d).may_leave c) →
@@ -49,3 +50,17 @@ module _ {D : Type 0} (disk : D → Disk) where
     goes_on = goes_on_twice counts_now s t u first.goes_on second.goes_on;
     still = λ is. second.still is ∙ first.still is;
   }
+
+  -- the saved frames while present objects change
+  pub continues_by : (s t : StoreState D) → GoesOnIn disk s t → Continues disk (view_of disk s) (view_of disk t)
+  continues_by s t goes = record {
+    snapshots = λ stayed. goes.snapshots;
+    usable = λ stayed. goes.goes_on.sound;
+    size = goes.goes_on.size;
+    later = goes.later;
+    any_moment = goes.goes_on.any_moment;
+  }
+
+  pub holds_by : (s : StoreState D) (c : Image) → is_sound disk s.durable → (disk s.durable.beneath).may_leave c →
+      Holds (disk s.durable.beneath).sectors c (stored_of disk s.durable).saved
+  holds_by s c sound left = (saved_state (seen_of disk s.durable) s.durable.books, sound c left, refl)
