@@ -17,6 +17,7 @@ pub use Rattle.layout.specs.declared.open_fault.OpenFault.{OpenFault}
 pub use Rattle.model.specs.Machine.{Up, opened}
 pub use Rattle.model.specs.Run.{Turn}
 pub use Rattle.model.specs.Text.{line_of}
+pub use Rattle.model.specs.declared.answer.Answer.{Answer}
 pub use Rattle.model.specs.declared.geometry.Geometry.{Geometry}
 pub use Rattle.recovery.specs.Denotes.{saved_of}
 pub use Rattle.recovery.specs.Recovered.{Recovers}
@@ -27,10 +28,11 @@ pub use Rattle.runs.specs.declared.cause.Stop.{Stop}
 pub use Rattle.runs.specs.declared.tracer.Tracer.{Tracer}
 pub use Rattle.script.specs.Writing.{Writes, Written, Wrote, WroteFront}
 pub use Rattle.script.specs.declared.fault.RunFault.{RunFault}
-pub use Rattle.std.proofs.Common.{Bool, Err, List, None, Ok, Option, Result, Some, [], ap, false, length, refl, subst, sym, true, ℕ, ⊎_elim}
+pub use Rattle.std.proofs.Common.{Bool, Err, List, None, Ok, Option, Result, Some, [], ap, false, refl, subst, sym, true, ℕ, ⊎_elim}
 pub use Rattle.std.specs.Prelude.{IfErr, IsErrOf, OnErr, OnOk}
 pub use Rattle.toml.specs.Data.{Members}
 pub use Rattle.jobs.specs.Faults.{HasStop, IsRunEnd, after_write}
 pub use Rattle.jobs.specs.Images.{BuildsImage, ChecksImage, OpensAndRuns, OpensAndSees, RunsImage, SeesImage, TellsSaved, TellsTotal, UpgradesAndTells}
 pub use Rattle.jobs.specs.Images.{UpgradesImage, built_text, checked_text, old_failed, upgraded_text}
+pub use Rattle.jobs.specs.Saving.{SavesImage, saved_end}
 pub use Rattle.jobs.specs.declared.fault.Fault.{Fault}

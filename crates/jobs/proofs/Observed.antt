@@ -1,10 +1,9 @@
 -- What an observer made of a run, and how the command ends.
 use Rattle.jobs.proofs.Names.{Written, ℕ, Bool, true, false, List, [], Option, None, Some, Ok, Err, refl, sym, ⊎_elim, Geometry, Up, opened, Turn, Disk, Parts}
 use Rattle.jobs.proofs.Names.{OpenFault, View, Stop, Tracer, AreSeen, Ends, Sees, RunFault, Fault, HasStop, IsRunEnd, OpensAndRuns, OpensAndSees, RunsImage}
-use Rattle.jobs.proofs.Names.{SeesImage, Result}
-use Rattle.std.proofs.Common.{◌≡◌, ◌∷◌, ◌∙◌}
+use Rattle.jobs.proofs.Names.{SeesImage, Result, IfErr, SavesImage}
+use Rattle.std.proofs.Common.{◌≡◌, ◌≢◌, ◌∷◌, ◌∙◌}
 use Rattle.script.specs.declared.fault.RunFault.TheVariants as run
-use Rattle.jobs.specs.Saving.{SavesImage}
 
 -- an observer that lets each run go on never ends one
 goes_on_to_end : {O : Type 0} (sees : Turn → O → O → Bool → Type 0) → ((t : Turn) (old new : O) (on : Bool) → sees t old new on → on ≡ true) →
@@ -25,6 +24,13 @@ has_ended written g first last (t ∷ ts) on seen ended =
     found false stop place never = absurd cc
     found true None place never = absurd never
     found true (Some stop) place ends = (stop, refl)
+
+-- an outcome that isn't the observer's needs no place
+pub unstopped : (outcome : Result (Unit {0}) RunFault) → IfErr outcome (λ e. e ≢ run.Stopped) → HasStop (Ok outcome) None
+unstopped (Ok u) is = tt
+unstopped (Err run.Read) is = tt
+unstopped (Err run.Write) is = tt
+unstopped (Err run.Stopped) is = absurd (is refl)
 
 module _ {D S : Type 0} (disk : D → Disk) (view : S → View D) (parts : S → Parts) (device back : D) where
   module _ {O : Type 0} (sees : Geometry → Turn → O → O → Bool → Type 0) (before after : O) (input input_left : Option (List ℕ))

@@ -1,6 +1,7 @@
 -- A script after which all is saved.
-use Rattle.jobs.specs.Names.{Answer, Bool, Err, Geometry, IsDeviceOf, List, Ok, OpenFault, Opens, Option, Parts, Power, Refusal, RefusesToOpen, Result}
-use Rattle.jobs.specs.Names.{RunFault, RunsSeen, Saves, Stop, Turn, View, Disk, Writes, Written, line_of, printed, refusal_text, ℕ}
+use Rattle.jobs.specs.Names.{Answer, Bool, Err, Geometry, IsDeviceOf, List, Ok, OpenFault, Opens, Option, Parts, Power}
+use Rattle.jobs.specs.Names.{Refusal, RefusesToOpen, Result, RunFault, RunsSeen, Saves, Stop, Turn, View, Disk, Writes}
+use Rattle.jobs.specs.Names.{Written, line_of, printed, refusal_text, ℕ}
 use Rattle.std.specs.Prelude.{◌≡◌}
 use Rattle.jobs.specs.declared.fault.Fault.{Fault}
 use Rattle.jobs.specs.declared.fault.Fault.TheVariants as fault

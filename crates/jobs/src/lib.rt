@@ -10,7 +10,7 @@ pub mod laws;
 mod output;
 mod running;
 mod saving;
-mod shell;
+mod serving;
 mod upgrading;
 
 pub use building::build_image;
@@ -18,6 +18,7 @@ pub use checking::check_image;
 pub use done::Done;
 pub use fault::{Fault, of_write, status};
 pub use output::finish;
-pub use running::{run_image, run_shell, run_traced};
+pub use running::{run_image, run_traced};
 pub use saving::run_and_save;
+pub use serving::run_shell;
 pub use upgrading::upgrade_opened;

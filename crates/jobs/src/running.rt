@@ -1,20 +1,15 @@
 // The commands that run a script over an image.
-ghost use Rattle.std.specs.Prelude.{◌≡◌, Result, None};
+ghost use Rattle.std.specs.Prelude.{◌≡◌, Result};
 ghost use Rattle.jobs.specs.Faults.{IsEnd, IsReported};
 ghost use Rattle.jobs.specs.Images.{EndsAs, RunsImage, SeesImage};
-ghost use Rattle.jobs.specs.Shell.{TellsUnsaved};
 ghost use Rattle.runs.specs.Tracing.{Sees, stop_of};
-ghost use Rattle.runs.specs.Unsaved.{Notes, nothing_unsaved};
-ghost use Rattle.runs.specs.declared.unsaved.Unsaved.{Unsaved};
-ghost use Rattle.script.specs.Writing.{Written};
 
 use crate::done::Done;
 use crate::fault::{Fault, of_run};
-use crate::shell::tell_unsaved;
 use checkpoint::{ObjectStore, OpenFault};
 use device::Device;
 use kernel::Kernel;
-use runs::{Observer, Script, Silent, Tracer, Unsaved, run_observed};
+use runs::{Observer, Script, Silent, Tracer, run_observed};
 use script::{Output, RunFault};
 use std::alloc::Global;
 
@@ -95,34 +90,4 @@ pub fn run_traced<D: Device, S: ObjectStore<D>, R: Script, W: Output, T: Output,
         alloc, device, setting, reader, writer, tracer,
     );
     Done::report(of_run(outcome, tracer.stop()), device, errors)
-}
-
-/// Runs what a shell is given as `run_image` does. If a process did something that isn't committed,
-/// one line in the end says so.
-pub fn run_shell<D: Device, S: ObjectStore<D>, R: Script, W: Output, V: Output>(
-    alloc: Global,
-    device: D,
-    setting: S::Setting,
-    reader: &mut R,
-    writer: &mut W,
-    errors: &mut V,
-) -> Done<D>
-    ensures { (outcome : Result (Unit {0}) Fault) × (reported : Written) × (before : Unsaved)
-        × (after : Unsaved)
-        × IsEnd outcome result.status result.fault × (before ≡ nothing_unsaved)
-        × TellsUnsaved after (V.written errors.old) reported × IsReported outcome reported (V.written errors.new)
-        × EndsAs D.disk S.view S.parts Notes (λ _. None) device result.device before after
-        (R.unread reader.old) (R.unread reader.new) (W.written writer.old) (W.written writer.new) outcome }
-{
-    let mut observer = Unsaved::new();
-    let (outcome, device) = open_and_run::<D, S, R, W, Unsaved>(
-        alloc,
-        device,
-        setting,
-        reader,
-        writer,
-        &mut observer,
-    );
-    tell_unsaved(&observer, errors);
-    Done::report(of_run(outcome, None), device, errors)
 }

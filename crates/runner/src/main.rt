@@ -21,7 +21,7 @@ use queries::{Focus, ReachQuestion, explain_description};
 use reach::Purpose;
 use runs::{ScriptReader, TraceOptions, Tracer};
 use script::{BufferedOutput, CountedWriter, Output};
-use shell::{ShellInput, TOPICS};
+use shell::{Shell, TOPICS, TypedLines};
 use std::alloc::Global;
 use std::fmt::Display;
 use std::fs::{self, File};
@@ -161,20 +161,29 @@ fn trace_by<D: Device, S: ObjectStore<D>, R: Read, W: Output, V: Output + Drop>(
     End::of_done(done)
 }
 
-// Runs the lines that a shell is given over the image on a device, and returns its end. It prompts in `notes`
+// Serves the lines that a shell is given over the image on a device, and returns its end. It prompts in `notes`
 // if standard input and standard error are a terminal.
 fn shell_by<D: Device, S: ObjectStore<D>, R: Read + Drop, W: Output, V: Output + Drop>(
     rt: &HostRuntime,
     device: D,
     setting: S::Setting,
-    lines: R,
+    input: R,
     notes: V,
     streams: &mut Streams<W, V>,
 ) -> End {
     let is_prompting = rt.stdin().is_terminal() && rt.stderr().is_terminal();
-    let mut input = ShellInput::new(lines, notes, TOPICS, is_prompting);
+    let mut lines = TypedLines::new(input);
+    let mut shell = Shell::new(notes, TOPICS, is_prompting);
     let Streams { output, errors } = streams;
-    let done = run_shell::<_, S, _, _, _>(rt.alloc(), device, setting, &mut input, output, errors);
+    let done = run_shell::<_, S, _, _, _, _>(
+        rt.alloc(),
+        device,
+        setting,
+        &mut lines,
+        &mut shell,
+        output,
+        errors,
+    );
     End::of_done(done)
 }
 

@@ -3,9 +3,11 @@ pub mod Confining
 mod Newlines
 mod ScriptLines
 mod Tracing
-mod TurnLists
+pub mod TurnLists
 mod Turning
 pub mod SavedRuns
+pub mod OneLine
+pub mod Joined
 mod Agreeing
 mod ConfinedRuns
 mod Surviving

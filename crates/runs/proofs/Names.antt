@@ -13,8 +13,8 @@ pub use Rattle.model.specs.Machine.{Down, Machine, Running, Saved, Up, candidate
 pub use Rattle.model.specs.Run.{BadLine, IsRun, IsTurn, Nothing, Replies, Reply, Reported, Turn, lines_of, output_of, reply_text}
 pub use Rattle.model.specs.Sound.{IsSound}
 pub use Rattle.model.specs.Step.{Answers, Outcome, Step, second, takes_memory}
-pub use Rattle.model.specs.Text.{Says, line_of, spaced}
-unfoldable pub use Rattle.model.specs.Text.{bad_line}
+pub use Rattle.model.specs.Text.{Fits, Says, line_of, spaced}
+unfoldable pub use Rattle.model.specs.Text.{bad_line, spelling}
 pub use Rattle.model.specs.declared.answer.Answer.{Answer}
 pub use Rattle.model.specs.declared.answer.Refusal.{Refusal}
 pub use Rattle.model.specs.declared.command.Command.{Command}
@@ -50,6 +50,8 @@ pub use Rattle.std.specs.Prelude.{IfNone, IfSome, IsTrue, Result, slice_index_or
 pub use Rattle.runs.specs.KernelRuns.{AreAll, AreFirst, AreLines, AreLinesBy, AreSeen, AreTurnsOf, BeginsWith, Does, EndsBy, IsConfined, IsCutShort, IsLeftIn}
 pub use Rattle.runs.specs.KernelRuns.{IsReportedBy, IsRunOf, IsTurnOf, MaySaveIn, RunsOver, RunsSeen, lines_in, tells_fault}
 pub use Rattle.runs.specs.Laws.{CrashesAreSurvived, CrashesInRunsAreSurvived, IsOpenedAt, IsSteady, IsSurvived, MaySave, RunsAreConfined, SteadyRunsAgree}
+pub use Rattle.runs.specs.OneLine.{RunsLine}
+pub use Rattle.runs.specs.Saving.{CarriesOut, IsStage}
 pub use Rattle.runs.specs.Taking.{Ended, IsWritten, ReadsPiece, SoFar, Stopped, StopsBy, TakesLine, TakesTurn}
 pub use Rattle.runs.specs.Tracing.{Ends, EndsIf, IsCauseIn, IsCauseOf, IsOutcome, IsTrace, Notes, Sees, cause_text, place_text}
 pub use Rattle.runs.specs.declared.cause.Cause.{Cause}

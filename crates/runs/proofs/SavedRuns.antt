@@ -1,11 +1,10 @@
 -- A command that is carried out is a run of one turn.
 use Rattle.runs.proofs.Names.{Answer, Command, DenotesOne, Disk, Err, Geometry, IsCaused, IsLeftIn, IsRunOf, IsTurnOf, List, Machine, Ok, Parts, Power, Refusal}
-use Rattle.runs.proofs.Names.{Reported, Result, Serves, Stands, Turn, View, candidates, disk_of, leaves_weaker, refl, second, subst, [], ℕ}
+use Rattle.runs.proofs.Names.{Reported, Result, Serves, Stands, Turn, View, candidates, disk_of, leaves_weaker, refl, second, subst, [], ℕ, Fits, spelling}
+use Rattle.runs.proofs.Names.{CarriesOut, IsStage}
 use Rattle.std.proofs.Common.{◌≡◌, ◌≢◌, ◌++◌, ◌∷◌}
-use Rattle.model.specs.Text.{Fits, spelling}
 use Rattle.model.specs.declared.answer.Answer.TheVariants as answer
 use Rattle.model.specs.declared.line.Line.TheVariants as line
-use Rattle.runs.specs.Saving.{CarriesOut, IsStage}
 use Rattle.runs.proofs.Turning.{answer_reported, left_by}
 
 module _ {D S : Type 0} (disk : D → Disk) (view : S → View D) (parts : S → Parts) where

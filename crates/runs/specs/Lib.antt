@@ -2,6 +2,7 @@ pub use Rattle.kernel.specs.Standing
 pub mod Names
 pub mod KernelRuns
 pub mod Taking
+pub mod OneLine
 pub mod Tracing
 pub mod Reader
 pub mod Unsaved

@@ -15,9 +15,9 @@ pub use Rattle.model.specs.Run.{reply_text}
 pub use Rattle.model.specs.Step.{second, takes_memory}
 pub use Rattle.model.specs.Text.{Says, line_of, refusal_text, spaced}
 unfoldable pub use Rattle.model.specs.Text.{spelling}
-pub use Rattle.model.specs.declared.answer.Refusal.{Refusal}
 pub use Rattle.model.specs.World.{object_at}
 pub use Rattle.model.specs.declared.answer.Answer.{Answer}
+pub use Rattle.model.specs.declared.answer.Refusal.{Refusal}
 pub use Rattle.model.specs.declared.command.Command.{Command}
 pub use Rattle.model.specs.declared.geometry.Geometry.{Geometry}
 pub use Rattle.model.specs.declared.line.Line.{Line}

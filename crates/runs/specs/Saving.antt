@@ -1,6 +1,6 @@
 -- Saving all: the stages of a checkpoint, one after another.
-use Rattle.runs.specs.Names.{ℕ, List, [], Result, Ok, Err, Answer, Command, Disk, Geometry, Machine, Parts, Power, Reported, Stands, Turn, View}
-use Rattle.runs.specs.Names.{Refusal, spelling}
+use Rattle.runs.specs.Names.{ℕ, List, [], Result, Ok, Err, Answer, Command, Disk, Geometry, Machine, Parts, Power}
+use Rattle.runs.specs.Names.{Reported, Stands, Turn, View, Refusal, spelling}
 use Rattle.std.specs.Prelude.{◌≡◌, ◌≢◌, ◌⊎◌, ◌-◌, ◌^◌, ◌∷◌}
 use Rattle.model.specs.declared.answer.Answer.TheVariants as answer
 use Rattle.model.specs.declared.command.Command.TheVariants as command
@@ -19,6 +19,10 @@ IsStage c t (Err why) = (t.line ≡ spelling c) × (t.reply ≡ Reported (answer
 abbrev pub after_migration : Answer → Result Answer Refusal → Result Answer Refusal
 after_migration committed (Ok a) = Ok committed
 after_migration committed (Err why) = Err why
+
+-- the commands that save the present state: what an earlier save left goes home first
+abbrev pub commit_stages : List Command
+commit_stages = command.Migrate all_objects ∷ command.Checkpoint ∷ command.Stabilize all_objects ∷ command.Commit ∷ []
 
 -- The parameters are ghost members of a device and of an object store.
 module _ {D S : Type 0} (disk : D → Disk) (view : S → View D) (parts : S → Parts) where
@@ -44,5 +48,5 @@ module _ {D S : Type 0} (disk : D → Disk) (view : S → View D) (parts : S →
   -- all was saved, with the answer to the commit; or a stage was refused, and none was begun after it
   abbrev pub Saves : Power D S → Power D S → Result Answer Refusal → Type 0
   Saves old new r = (next : Power D S) × (committed : Result Answer Refusal)
-      × CarriesOutAll old (command.Checkpoint ∷ command.Stabilize all_objects ∷ command.Commit ∷ []) next committed
+      × CarriesOutAll old commit_stages next committed
       × Moves committed next new r

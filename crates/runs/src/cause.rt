@@ -1,9 +1,12 @@
 // Why a strict run ends at a line.
-ghost use Rattle.std.specs.Prelude.{◌≡◌, ◌+◌, ◌≤◌, ◌∷◌, ◌++◌, length};
+ghost use Rattle.std.specs.Prelude.{◌≡◌, ◌+◌, ◌≤◌, ◌∷◌, ◌++◌, IfSome, List, ℕ, length, option_map};
+ghost use Rattle.model.specs.Text.{Says};
+ghost use Rattle.script.specs.LineFaults.{IsFaultOf};
+ghost use Rattle.script.specs.Lines.{IsTextOf};
 ghost use Rattle.runs.specs.Tracing.{cause_text, code_text, code_word};
 
-use model::{Refusal, ResultCode};
-use script::{LineFault, LineText, refusal_line};
+use model::{Line, Refusal, ResultCode};
+use script::{LineFault, LineText, refusal_line, why_bad};
 
 /// Why a strict run ends at a line.
 #[derive(Clone, Copy)]
@@ -45,7 +48,7 @@ fn word_of(code: ResultCode) -> &'static [u8]
 }
 
 /// Adds a space and a result code, in words and as its number.
-pub(crate) fn add_code(line: &mut LineText, code: ResultCode)
+pub fn add_code(line: &mut LineText, code: ResultCode)
     requires { length line.old ≤ 200 }
     ensures text { line.new ≡ line.old ++ 32 ∷ code_text code }
     ensures short { length line.new ≤ length line.old + 43 }
@@ -54,6 +57,17 @@ pub(crate) fn add_code(line: &mut LineText, code: ResultCode)
     line.push(b" (");
     line.digits(code.number());
     line.push(b")");
+}
+
+/// Why a line is bad. `text` is its text, or `None` where it is too long.
+pub fn fault_of(text: Option<&[u8]>) -> LineFault
+    requires { IfSome text (λ t. Says t.now Line.Bad) }
+    ensures { (line : List ℕ) → IsTextOf (option_map (λ t. t.now) text.entry) line → IsFaultOf line result }
+{
+    match text {
+        Some(text) => why_bad(text),
+        None => LineFault::Long,
+    }
 }
 
 impl Cause {

@@ -10,6 +10,7 @@ ghost use Rattle.model.specs.Text.{Says};
 ghost use Rattle.script.specs.Lines.{Holds, IsTextOf};
 ghost use Rattle.script.specs.Writing.{Written};
 ghost use Rattle.runs.specs.KernelRuns.{BeginsWith, IsConfined, IsCounted, RunsOver, RunsSeen};
+ghost use Rattle.runs.specs.OneLine.{RunsLine};
 ghost use Rattle.runs.specs.Taking.{Ended, SoFar, Stopped, TakesLine, TakesTurn};
 
 use crate::observer::{Observer, Silent};
@@ -260,4 +261,27 @@ pub fn run_observed<D: Device, S: ObjectStore<D>, R: Script, W: Output, O: Obser
         (R.unread reader.old) (R.unread reader.new) (W.written writer.old) (W.written writer.new) result }
 {
     run_turns(kernel, reader, writer, observer)
+}
+
+/// Runs one line over a kernel: does what it says, shows an observer the turn, writes the answer and passes it on.
+/// Returns whether the observer lets a run go on.
+///
+/// `RunFault::Write` exactly where a call of the writer failed: then the answer may be cut short, and the kernel stands
+/// where the line left it.
+pub fn run_line<D: Device, S: ObjectStore<D>, W: Output, O: Observer>(
+    kernel: &mut Kernel<D, S>,
+    line: &[u8],
+    writer: &mut W,
+    observer: &mut O,
+) -> Result<bool, RunFault>
+    ensures runs { RunsLine D.disk S.view S.parts O.sees line.now kernel.old kernel.new observer.old observer.new
+        (W.written writer.old) (W.written writer.new) result }
+    ensures none_waits { OnOk result (W.waiting writer.new ≡ []) }
+    ensures goes_on { IfOk result (λ on. O.may_end ≡ false → on ≡ true) }
+    ensures fault { IfErr result (λ e. e ≡ RunFault.Write) }
+{
+    let says = parse_line(line);
+    let goes_on = take(kernel, Some(line), &says, writer, observer)?;
+    writer.pass_on()?;
+    Ok(goes_on)
 }

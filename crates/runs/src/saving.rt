@@ -1,8 +1,7 @@
 // Saving all that a machine did.
-ghost use Rattle.std.specs.Prelude.{[], ◌∷◌};
+ghost use Rattle.std.specs.Prelude.{Ok};
 ghost use Rattle.model.specs.Text.{Fits};
-ghost use Rattle.model.specs.declared.command.Command.TheVariants as command;
-ghost use Rattle.runs.specs.Saving.{CarriesOut, CarriesOutAll, Saves, all_objects};
+ghost use Rattle.runs.specs.Saving.{CarriesOut, CarriesOutAll, Moves, Saves, commit_stages};
 
 use checkpoint::ObjectStore;
 use device::Device;
@@ -24,26 +23,41 @@ fn carry_out<D: Device, S: ObjectStore<D>>(
     Ok(answer)
 }
 
-// Makes the present state the saved one. Fails with the first refusal.
-fn commit_all<D: Device, S: ObjectStore<D>>(kernel: &mut Kernel<D, S>) -> Result<Answer, Refusal>
-    ensures { CarriesOutAll D.disk S.view S.parts kernel.old
-        (command.Checkpoint ∷ command.Stabilize all_objects ∷ command.Commit ∷ []) kernel.new result }
+/// Makes the present state the saved one: copies home what an earlier save left, freezes the machine, writes each frozen
+/// object to the log, and commits. Returns the answer to the commit.
+///
+/// Fails with the first refusal, and begins no stage after it.
+pub fn commit_all<D: Device, S: ObjectStore<D>>(
+    kernel: &mut Kernel<D, S>,
+) -> Result<Answer, Refusal>
+    ensures { CarriesOutAll D.disk S.view S.parts kernel.old commit_stages kernel.new result }
 {
+    carry_out(kernel, Command::Migrate { count: u64::MAX })?;
     carry_out(kernel, Command::Checkpoint)?;
     carry_out(kernel, Command::Stabilize { count: u64::MAX })?;
     carry_out(kernel, Command::Commit)
 }
 
-/// Saves all: freezes the machine, writes each frozen object to the log, commits, and copies each saved object to its
-/// home. Returns the answer to the commit.
+/// Copies each saved object to its home, and returns the answer to the commit. Fails with a refusal.
+pub fn migrate_all<D: Device, S: ObjectStore<D>>(
+    kernel: &mut Kernel<D, S>,
+    committed: Answer,
+) -> Result<Answer, Refusal>
+    ensures { Moves D.disk S.view S.parts (Ok committed) kernel.old kernel.new result }
+{
+    match carry_out(kernel, Command::Migrate { count: u64::MAX }) {
+        Ok(_) => Ok(committed),
+        Err(refusal) => Err(refusal),
+    }
+}
+
+/// Saves all: copies home what an earlier save left, freezes the machine, writes each frozen object to the log, commits,
+/// and copies each saved object to its home. Returns the answer to the commit.
 ///
 /// Fails with the first refusal, and begins no stage after it.
 pub fn save<D: Device, S: ObjectStore<D>>(kernel: &mut Kernel<D, S>) -> Result<Answer, Refusal>
     ensures { Saves D.disk S.view S.parts kernel.old kernel.new result }
 {
     let committed = commit_all(kernel)?;
-    match carry_out(kernel, Command::Migrate { count: u64::MAX }) {
-        Ok(_) => Ok(committed),
-        Err(refusal) => Err(refusal),
-    }
+    migrate_all(kernel, committed)
 }

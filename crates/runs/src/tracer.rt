@@ -1,17 +1,15 @@
 // What becomes of each line of a run, on standard error.
 ghost use Rattle.std.specs.Prelude.{◌≡◌, ◌+◌, ◌-◌, ◌<◌, ◌≤◌, ◌^◌, ◌∷◌, [], ◌++◌, List, ℕ, IfNone, IfSome, Some, codes};
-ghost use Rattle.std.specs.Prelude.{length, min, option_map, true};
-ghost use Rattle.model.specs.Text.{Says, line_of, spaced};
+ghost use Rattle.std.specs.Prelude.{length, min, true};
+ghost use Rattle.model.specs.Text.{line_of, spaced};
 ghost use Rattle.script.specs.Keywords.{command_name};
-ghost use Rattle.script.specs.LineFaults.{IsFaultOf};
-ghost use Rattle.script.specs.Lines.{IsTextOf};
 ghost use Rattle.runs.specs.Tracing.{EndsIf, IsCauseIn, IsNewTracer, IsOutcome, IsSame, IsTraced, Notes, Sees};
 ghost use Rattle.runs.specs.Tracing.{cause_text, place_text};
 
-use crate::cause::{Cause, Stop, add_code};
+use crate::cause::{Cause, Stop, add_code, fault_of};
 use crate::observer::Observer;
-use model::{Answer, Command, Line, ResultCode};
-use script::{LineFault, LineText, Output, answer_line, command_word, why_bad};
+use model::{Answer, Command, ResultCode};
+use script::{LineFault, LineText, Output, answer_line, command_word};
 
 /// What a run does beside writing the answers.
 #[derive(Clone, Copy)]
@@ -157,17 +155,6 @@ fn answer_trace(
         None => line.word(answer_line(answer).as_bytes()),
     }
     line
-}
-
-// Why a line is bad: `text` is its text, or `None` where it is too long.
-fn fault_of(text: Option<&[u8]>) -> LineFault
-    requires { IfSome text (λ t. Says t.now Line.Bad) }
-    ensures { (line : List ℕ) → IsTextOf (option_map (λ t. t.now) text.entry) line → IsFaultOf line result }
-{
-    match text {
-        Some(text) => why_bad(text),
-        None => LineFault::Long,
-    }
 }
 
 // Why a strict run ends at a command, if it does.

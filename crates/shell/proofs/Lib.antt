@@ -1,2 +1,4 @@
+pub mod Sessions
+pub mod SessionRuns
 pub mod ShellLines
 pub mod Words

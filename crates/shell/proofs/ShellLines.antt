@@ -1,4 +1,4 @@
--- The lines that a shell will read, as bytes are read, and the text that the machine will be given.
+-- The lines that a shell will read, as bytes are read.
 use Rattle.std.proofs.Common.{◌≡◌, ◌≢◌, ◌⊎◌, ◌≤◌, ◌<◌, ◌+◌, ◌∷◌, ◌++◌, ◌==◌, ◌∙◌, ℕ, Bool, true, false, List, [], Option, None, Some, length, take, drop, map, refl}
 use Rattle.std.proofs.Common.{sym, ap, subst, arith, append-nil, append_assoc, ⊎_elim}
 use Rattle.std.proofs.lemmas.Bool.Decides.{nat_tests}
@@ -16,13 +16,10 @@ use Rattle.std.specs.List.{flat_map}
 use Rattle.script.specs.Writing.{Written}
 use Rattle.model.specs.Run.{lines_of, onto_first}
 use Rattle.model.specs.Text.{line_of, spaced}
-use Rattle.shell.specs.Lines.{IsKept, Takes, NoneAhead, before_comment, ends_shell, for_machine, lines_ahead, lines_from, machine_text, read_as, requests_help, words_in}
-use Rattle.shell.specs.Served.{IsServed, Notes, ReadsLine, Serves, is_end, lines_to}
-use Rattle.shell.specs.declared.help.Topic.{Topic}
-use Rattle.shell.specs.declared.input.LineEnd.{LineEnd}
-use Rattle.shell.specs.declared.input.LineEnd.TheVariants as end
-use Rattle.shell.specs.declared.input.Next.{Next}
-use Rattle.shell.specs.declared.input.Next.TheVariants as next
+use Rattle.shell.specs.Lines.{IsKept, Takes, NoneAhead, before_comment, lines_ahead, lines_from, read_as, words_in}
+use Rattle.shell.specs.Served.{ReadsLine, lines_to}
+use Rattle.shell.specs.declared.typed_lines.LineEnd.{LineEnd}
+use Rattle.shell.specs.declared.typed_lines.LineEnd.TheVariants as end
 
 -- one byte more of a line, which isn't its end
 byte_more : (begun rest : List ℕ) (b : ℕ) → b ≢ 10 → lines_from begun (b ∷ rest) ≡ lines_from (begun ++ b ∷ []) rest
@@ -135,41 +132,12 @@ module _ (first : Option (List (List ℕ))) (begun : List ℕ) where
           ∙ sym (append-nil (map read_as (lines_to end.Input begun)))
           ∙ ap (λ (t : List ℕ). map read_as (lines_to end.Input begun) ++ map read_as (lines_of t)) (sym read.1)
 
--- ---- a line that was served
+-- ---- a line that was taken
 
--- the machine's text after a line, as before it
-pub text_served : (topics : List Topic) (prompts : Bool) (old new : Option (List (List ℕ))) (before after : Written) (n : Next) (waiting : List ℕ)
-    (over : Bool) → Serves topics prompts old new before after n waiting over →
-    Consumes (option_map (machine_text false []) old) (option_map (machine_text over waiting) new) []
-text_served topics prompts None new before after n waiting over serves = tt
-text_served topics prompts (Some ls) None before after n waiting over serves = ⊎_elim (λ s. absurd s.1) (λ s. absurd s.0) serves
-text_served topics prompts (Some ls) (Some others) before after n waiting over serves = ⊎_elim
-    (λ s. taken n s.0 s.1 s.2 s.3)
-    (λ s. rw (s.4, s.5) (ap (λ (xs : List (List ℕ)). flat_map line_of (for_machine xs)) s.0))
-    serves
-  where
-    taken : (n : Next) (line : List ℕ) → ls ≡ line ∷ others → IsServed topics line before after n waiting → over ≡ is_end n →
-        flat_map line_of (for_machine ls) ≡ machine_text over waiting others
-    taken next.Line line is served goes = rw (is, served.0, served.1, served.3, goes) refl
-    taken next.Own line is served goes = rw (is, served.0, served.1, served.3, goes) refl
-    taken next.End line is served goes = rw (is, served.0, served.2, goes) refl
-
--- no text is left where the shell has ended
-pub text_ended : (topics : List Topic) (prompts : Bool) (old new : Option (List (List ℕ))) (before after : Written) (waiting : List ℕ)
-    (over : Bool) → Serves topics prompts old new before after next.End waiting over → IsAtEnd (option_map (machine_text over waiting) new)
-text_ended topics prompts old None before after waiting over serves = tt
-text_ended topics prompts old (Some others) before after waiting over serves = ⊎_elim
-    (λ s. rw (s.2.2, s.3) refl)
-    (λ s. rw (s.4, s.5) (ap (λ (xs : List (List ℕ)). flat_map line_of (for_machine xs)) s.1))
-    serves
-
--- what was read of a line is served
-pub line_served : (topics : List Topic) (prompts : Bool) (old : Option (List (List ℕ))) (rest : Option (List ℕ)) (before after : Written)
-    (n : Next) (waiting line : List ℕ) (e : LineEnd) (over : Bool) → ReadsLine old rest line e → (e ≡ end.Input → line ≡ [] → ⊥) →
-    IsServed topics (read_as line) before after n waiting → over ≡ is_end n →
-    Serves topics prompts old (lines_ahead [] rest) before after n waiting over
-line_served topics prompts old rest before after n waiting line e over reads some served goes =
-    inl (read_as line, taken e line reads.0 some, served, goes)
+-- what was read is the next line
+pub line_taken : (old : Option (List (List ℕ))) (rest : Option (List ℕ)) (line : List ℕ) (e : LineEnd) → ReadsLine old rest line e →
+    (e ≡ end.Input → line ≡ [] → ⊥) → Takes old (lines_ahead [] rest) (read_as line ∷ [])
+line_taken old rest line e reads some = taken e line reads.0 some
   where
     taken : (e : LineEnd) (line : List ℕ) → Takes old (lines_ahead [] rest) (map read_as (lines_to e line)) → (e ≡ end.Input → line ≡ [] → ⊥) →
         Takes old (lines_ahead [] rest) (read_as line ∷ [])
@@ -192,49 +160,19 @@ read_short line words short is =
 pub not_last : (r : Bool) (A B : Type 0) → IsTrue r ↔ (A × B) → r ≡ false → A → B → ⊥
 not_last r A B is none a b = let holds : IsTrue r = is.1 (a, b) in cc
 
+pub is_read : (r : Bool) (A B : Type 0) → IsTrue r ↔ (A × B) → r ≡ true → A × B
+is_read r A B is holds = is.0 holds
+
 -- there was no line
 none_ahead : (rest : Option (List ℕ)) → IsAtEnd rest → NoneAhead (lines_ahead [] rest)
 none_ahead None ends = tt
 none_ahead (Some xs) ends = ap (λ (t : List ℕ). map read_as (lines_of t)) ends
 
-pub none_served : (topics : List Topic) (prompts : Bool) (old : Option (List (List ℕ))) (rest : Option (List ℕ)) (before after : Written)
-    (n : Next) (waiting line : List ℕ) (e : LineEnd) (over : Bool) → ReadsLine old rest line e → e ≡ end.Input → line ≡ [] → n ≡ next.End →
-    Notes prompts (codes "\n") before after → waiting ≡ [] → over ≡ false → Serves topics prompts old (lines_ahead [] rest) before after n waiting over
-none_served topics prompts old rest before after n waiting line e over reads ended empty is noted none goes =
+pub none_taken : (old : Option (List (List ℕ))) (rest : Option (List ℕ)) (line : List ℕ) (e : LineEnd) → ReadsLine old rest line e → e ≡ end.Input →
+    line ≡ [] → Takes old (lines_ahead [] rest) [] × NoneAhead (lines_ahead [] rest)
+none_taken old rest line e reads ended empty =
     let read = subst (λ (l : List ℕ). ReadsLine old rest l end.Input) empty (subst (ReadsLine old rest line) ended reads) in
-    inr (read.0, none_ahead rest read.1, is, noted, none, goes)
-
--- ---- bytes that are passed on
-
-pub passed_on : (over : Bool) (waiting left front : List ℕ) (ahead : Option (List (List ℕ))) → waiting ≡ front ++ left →
-    Consumes (option_map (machine_text over waiting) ahead) (option_map (machine_text over left) ahead) front
-passed_on over waiting left front None is = tt
-passed_on true waiting left front (Some ls) is = is
-passed_on false waiting left front (Some ls) is =
-    ap (λ (w : List ℕ). w ++ flat_map line_of (for_machine ls)) is ∙ append_assoc front left (flat_map line_of (for_machine ls))
-
--- what is left of a line whose front was passed on
-pub passed_more : (items front : List ℕ) (sent n : ℕ) → front ≡ take n (drop sent items) → drop sent items ≡ front ++ drop (sent + n) items
-passed_more items front sent n is =
-    sym (take-append-drop n (drop sent items)) ∙ ap (λ (l : List ℕ). l ++ drop n (drop sent items)) (sym is)
-    ∙ ap (λ (l : List ℕ). front ++ l) (drop-drop n sent items)
-
--- bytes wait where not all were passed on
-pub some_wait : (items : List ℕ) (sent : ℕ) → sent < length items → drop sent items ≡ [] → ⊥
-some_wait items sent within none = let short : length (drop sent items) ≡ 0 = ap length none in omega (arith, within, short, length-drop sent items)
-
--- what is read after the end is no text for the machine
-pub read_over : (begun after : List ℕ) (old new : Option (List ℕ)) (bytes waiting : List ℕ) (r : Result Piece RunFault) → ReadsPiece old new bytes r →
-    waiting ≡ [] →
-    Consumes (option_map (machine_text true waiting) (lines_ahead begun old)) (option_map (machine_text true waiting) (lines_ahead after new)) []
-    × IsAtEnd (option_map (machine_text true waiting) (lines_ahead after new))
-read_over begun after None None bytes waiting r reads none = (tt, tt)
-read_over begun after None (Some ys) bytes waiting r reads none = (tt, none)
-read_over begun after (Some xs) None bytes waiting (Ok (piece.Bytes n)) reads none = absurd reads.1
-read_over begun after (Some xs) None bytes waiting (Ok piece.End) reads none = absurd reads.0
-read_over begun after (Some xs) None bytes waiting (Ok piece.Nothing) reads none = absurd reads
-read_over begun after (Some xs) None bytes waiting (Err e) reads none = absurd reads.1
-read_over begun after (Some xs) (Some ys) bytes waiting r reads none = (refl, none)
+    (read.0, none_ahead rest read.1)
 
 -- a byte alone
 pub one_byte : (old new : Option (List ℕ)) (bytes : List ℕ) (p : Piece) (b d : ℕ) → ReadsPiece old new bytes (Ok p) → p ≡ piece.Bytes 1 → length bytes ≡ 1 →
@@ -250,10 +188,3 @@ kept_length old new b is = ⊎_elim
     (λ fits. omega (arith, ap length fits.1, length-append old (b ∷ [])))
     (λ full. omega (arith, ap length full.1))
     is
-
--- no byte was read of a text
-pub nothing_lost : (over : Bool) (waiting : List ℕ) (old new : Option (List (List ℕ))) → Takes old new [] →
-    Consumes (option_map (machine_text over waiting) old) (option_map (machine_text over waiting) new) []
-nothing_lost over waiting None new takes = tt
-nothing_lost over waiting (Some ls) None takes = absurd takes
-nothing_lost over waiting (Some ls) (Some others) takes = ap (machine_text over waiting) takes

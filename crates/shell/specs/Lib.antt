@@ -1,3 +1,5 @@
-pub mod Input
 pub mod Lines
 pub mod Served
+pub mod Watching
+pub mod Sessions
+pub mod Laws

@@ -1,10 +1,12 @@
--- The lines that a shell is given, and those of them that it passes on to the machine.
+-- The lines that a shell is given, and what they request.
 use Rattle.std.specs.Prelude.{◌≡◌, ◌⊎◌, ◌||◌, ◌==◌, ◌<◌, ◌≤◌, ◌++◌, ◌∷◌, if◌then◌else◌, ℕ, Bool, true, false, List, [], codes, length, nat_lt, take}
 use Rattle.std.specs.Prelude.{drop, map, Option, None, Some, option_map, unwrap_or, ⊤}
 use Rattle.std.specs.List.{filter, flat_map, position, slice_split}
 use Rattle.std.specs.Str.{bytes_eq}
 use Rattle.model.specs.Run.{lines_of, onto_first}
 use Rattle.model.specs.Text.{line_of, spaced}
+use Rattle.runs.specs.Reader.{read_from}
+use Rattle.shell.specs.declared.typed_lines.TypedLines.{TypedLines}
 use Rattle.shell.specs.declared.request.Request.{Request}
 use Rattle.shell.specs.declared.request.Request.TheVariants as request
 
@@ -37,17 +39,16 @@ requests_help line = bytes_eq line (codes "help") || bytes_eq (codes "help ") (t
 abbrev pub IsKept : List ℕ → ℕ → List ℕ → Type 0
 IsKept old b new = ((length old < 257) × (new ≡ old ++ b ∷ [])) ⊎ ((257 ≤ length old) × (new ≡ old))
 
+-- to save all
+abbrev pub requests_save : List ℕ → Bool
+requests_save line = bytes_eq line (codes "save")
+
 -- what a line requests; the word of `help` is what follows the space
 abbrev pub IsRequest : List ℕ → Request → Type 0
 IsRequest line request.Quit = ends_shell line ≡ true
-IsRequest line (request.Help word) = (ends_shell line ≡ false) × (requests_help line ≡ true) × (word.now ≡ drop 5 line)
-IsRequest line request.Pass = (ends_shell line ≡ false) × (requests_help line ≡ false)
-
--- the lines for the machine: all before the one that ends the shell, but those that request help
-abbrev pub for_machine : List (List ℕ) → List (List ℕ)
-for_machine [] = []
-for_machine (l ∷ ls) =
-    if ends_shell l then [] else (if requests_help l then for_machine ls else l ∷ for_machine ls)
+IsRequest line request.Save = requests_save line ≡ true
+IsRequest line (request.Help word) = (requests_help line ≡ true) × (word.now ≡ drop 5 line)
+IsRequest line request.Pass = (ends_shell line ≡ false) × (requests_save line ≡ false) × (requests_help line ≡ false)
 
 -- the lines of an input, of whose first line these bytes were read before
 abbrev pub lines_from : List ℕ → List ℕ → List (List ℕ)
@@ -57,11 +58,6 @@ lines_from (b ∷ begun) rest = onto_first b (lines_from begun rest)
 -- the lines that a shell will read, where its input is known
 abbrev pub lines_ahead : List ℕ → Option (List ℕ) → Option (List (List ℕ))
 lines_ahead begun rest = option_map (λ text. map read_as (lines_from begun text)) rest
-
--- the text that the machine will be given: what waits, and the lines for it, unless the shell has ended
-abbrev pub machine_text : Bool → List ℕ → List (List ℕ) → List ℕ
-machine_text true waiting ahead = waiting
-machine_text false waiting ahead = waiting ++ flat_map line_of (for_machine ahead)
 
 -- known lines begin with these, and lose them
 abbrev pub Takes : Option (List (List ℕ)) → Option (List (List ℕ)) → List (List ℕ) → Type 0
@@ -73,3 +69,7 @@ Takes (Some ls) (Some others) taken = ls ≡ taken ++ others
 abbrev pub NoneAhead : Option (List (List ℕ)) → Type 0
 NoneAhead None = ⊤
 NoneAhead (Some ls) = ls ≡ []
+
+-- the lines that will be read, where the input is known
+abbrev pub ahead_of : {R : Type 0} → (R → Option (List ℕ)) → TypedLines R → Option (List (List ℕ))
+ahead_of rest typed = lines_ahead typed.line.items (rest (read_from typed.reader))

@@ -25,6 +25,7 @@ show O, evict O                     prints object O; lets it leave memory
 checkpoint, stabilize N, commit     freezes the machine, writes N objects to the log, saves
 migrate N, journal O                copies N saved objects home; saves page O alone
 restart, cut                        opens the image again; cuts the power first
+save                                saves all that was done
 quit, exit                          ends the shell
 help WORD                           explains a command, or the orders of number, page, node, space,
                                     discrim, process or bank
@@ -36,7 +37,7 @@ help WORD                           explains a command, or the orders of number,
 call P R W0 W1 W2 W3 C0 C1 C2 C3: process P invokes the capability in its register R, and gets the
 reply. It sends four words and the capabilities in four registers; register 0 is void. Through a start
 or resume capability it waits for the answer. A kernel object carries out order W0 at once. The answer
-is done; show P prints the result code, the first of its words.
+is done, and a second line has the result code of the order.
 ",
     },
     Topic {
@@ -95,8 +96,15 @@ before the next checkpoint.
         text: b"cut: cuts the power, then opens the image again, at the last commit.\n",
     },
     Topic {
+        word: b"save",
+        text: b"\
+save: saves all that was done. It carries out migrate, checkpoint, stabilize, commit and migrate for
+all objects. The answer is saved, or the first refusal.
+",
+    },
+    Topic {
         word: b"quit",
-        text: b"quit: ends the shell. What is not committed is lost.\n",
+        text: b"quit: ends the shell. What is not committed is lost. On a terminal the shell asks first.\n",
     },
     Topic {
         word: b"exit",

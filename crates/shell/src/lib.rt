@@ -1,10 +1,15 @@
-//! What a person types at a shell: which lines are for the machine, and what the shell answers itself.
+//! A shell over a kernel: what is typed, and what the shell answers itself.
 #![tactic(auto)]
 
 mod help;
-mod input;
+pub mod laws;
 mod reading;
 mod request;
+mod saving;
+mod session;
+mod typed_lines;
+mod watch;
 
 pub use help::{TOPICS, Topic};
-pub use input::ShellInput;
+pub use session::Shell;
+pub use typed_lines::TypedLines;

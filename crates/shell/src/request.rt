@@ -7,6 +7,8 @@ pub(crate) enum Request<'a> {
     Pass,
     /// To explain a word, or to list all commands where the word is empty.
     Help(&'a [u8]),
+    /// To save all.
+    Save,
     /// To end.
     Quit,
 }
@@ -17,6 +19,8 @@ pub(crate) fn request_of(line: &[u8]) -> Request<'_>
 {
     if line == b"quit".as_slice() || line == b"exit".as_slice() {
         Request::Quit
+    } else if line == b"save".as_slice() {
+        Request::Save
     } else if line == b"help".as_slice() {
         Request::Help(&[])
     } else if line.starts_with(b"help ".as_slice()) {

@@ -1,7 +1,5 @@
-use Rattle.jobs.proofs.Names.{Err, Ok, Result, RunFault, after_write, refl}
+use Rattle.jobs.proofs.Names.{Err, Ok, Result, RunFault, after_write, refl, Answer, saved_end}
 use Rattle.std.proofs.Common.{◌≡◌, ◌∙◌}
-use Rattle.model.specs.declared.answer.Answer.{Answer}
-use Rattle.jobs.specs.Saving.{saved_end}
 use Rattle.jobs.proofs.saving.save_and_tell.Goals as goal
 
 answered : (a : Answer) (wrote : Result (Unit {0}) RunFault) → after_write wrote ≡ saved_end (Ok a) wrote

@@ -1,0 +1,76 @@
+// The command that serves the lines of a shell.
+ghost use Rattle.std.specs.Prelude.{◌≡◌, None, Result};
+ghost use Rattle.layout.specs.declared.open_fault.OpenFault.{OpenFault};
+ghost use Rattle.jobs.specs.Faults.{HasStop, IsEnd, IsReported, IsRunEnd};
+ghost use Rattle.jobs.specs.Shell.{ServesImage, TellsUnsaved};
+ghost use Rattle.script.specs.Writing.{Written};
+ghost use Rattle.script.specs.declared.fault.RunFault.{RunFault};
+ghost use Rattle.shell.specs.Lines.{ahead_of};
+
+use crate::done::Done;
+use crate::fault::{Fault, of_run};
+use checkpoint::{ObjectStore, OpenFault};
+use device::Device;
+use kernel::Kernel;
+use runs::{RawReader, Unsaved};
+use script::{Output, RunFault};
+use shell::{Shell, TypedLines};
+use std::alloc::Global;
+
+// Opens a device, serves lines over it, and gives it back.
+fn open_and_serve<D: Device, S: ObjectStore<D>, R: RawReader, N: Output, W: Output>(
+    alloc: Global,
+    device: D,
+    setting: S::Setting,
+    lines: &mut TypedLines<R>,
+    shell: &mut Shell<N>,
+    writer: &mut W,
+) -> (Result<Result<(), RunFault>, OpenFault>, D)
+    ensures serves { ServesImage D.disk S.view S.parts N.written device result.1 shell.old shell.new (ahead_of R.rest lines.old)
+        (ahead_of R.rest lines.new) (W.written writer.old) (W.written writer.new) result.0 }
+    ensures stop { HasStop result.0 None }
+{
+    let mut kernel = match Kernel::<D, S>::open(alloc, device, setting) {
+        Ok(kernel) => kernel,
+        Err(refused) => return (Err(refused.fault), refused.device),
+    };
+    let outcome = shell.serve_all(lines, &mut kernel, writer);
+    (Ok(outcome), kernel.into_device())
+}
+
+// Says in the end that something isn't committed, if so. A line that can't be written is left out.
+fn tell_unsaved<V: Output>(unsaved: Unsaved, errors: &mut V)
+    ensures { TellsUnsaved unsaved (V.written errors.old) (V.written errors.new) }
+{
+    if unsaved.is_some() {
+        let _reported = errors.write_fully(b"eros: some invocations or stores are not committed\n");
+    }
+}
+
+/// Opens a device that holds an image, and serves a shell's lines over it; then the status is 0, whatever the answers are.
+/// After a fault one line is written to `errors`, and the status is 1: `bad image` with a number from 1 to 10, `device
+/// failed` or `no memory` where the device isn't opened, and nothing was read or written; `cannot read script` and `cannot
+/// write output` where the reader or the writer fails. If a process did something that isn't committed, one line says so.
+///
+/// The device is given back as the last line left it. One that isn't opened is as it was.
+pub fn run_shell<D: Device, S: ObjectStore<D>, R: RawReader, N: Output, W: Output, V: Output>(
+    alloc: Global,
+    device: D,
+    setting: S::Setting,
+    lines: &mut TypedLines<R>,
+    shell: &mut Shell<N>,
+    writer: &mut W,
+    errors: &mut V,
+) -> Done<D>
+    ensures { (outcome : Result (Result (Unit {0}) RunFault) OpenFault) × (end : Result (Unit {0}) Fault) × (reported : Written)
+        × ServesImage D.disk S.view S.parts N.written device result.device shell.old shell.new (ahead_of R.rest lines.old)
+        (ahead_of R.rest lines.new) (W.written writer.old) (W.written writer.new) outcome
+        × IsRunEnd outcome None end × IsEnd end result.status result.fault
+        × TellsUnsaved shell.new.unsaved (V.written errors.old) reported × IsReported end reported (V.written errors.new) }
+{
+    let (outcome, device) = open_and_serve::<D, S, R, N, W>(
+        alloc, device, setting, lines, shell, writer,
+    );
+    tell_unsaved(shell.unsaved(), errors);
+    Done::report(of_run(outcome, None), device, errors)
+}

@@ -1,0 +1,149 @@
+-- What a shell does over a kernel, line by line.
+use Rattle.std.specs.Prelude.{◌≡◌, ◌⊎◌, ◌&&◌, ◌||◌, ◌∷◌, ◌++◌, ℕ, Bool, true, false, not, List, [], codes, Option, None, Result, Ok, Err}
+use Rattle.capability.specs.Parts.{Parts}
+use Rattle.checkpoint.specs.Store.{View}
+use Rattle.device.specs.Disk.{Disk}
+use Rattle.kernel.specs.Power.{Power}
+use Rattle.model.specs.Text.{line_of, refusal_text}
+use Rattle.model.specs.declared.answer.Answer.{Answer}
+use Rattle.model.specs.declared.answer.Refusal.{Refusal}
+use Rattle.runs.specs.OneLine.{RunsLine}
+use Rattle.runs.specs.Saving.{CarriesOutAll, Moves, commit_stages}
+use Rattle.runs.specs.Unsaved.{nothing_unsaved}
+use Rattle.runs.specs.declared.unsaved.Unsaved.{Unsaved}
+use Rattle.script.specs.Writing.{Writes, Written, Wrote, WroteFront}
+use Rattle.script.specs.declared.fault.RunFault.{RunFault}
+use Rattle.script.specs.declared.fault.RunFault.TheVariants as fault
+use Rattle.shell.specs.Lines.{IsRequest, NoneAhead, Takes}
+use Rattle.shell.specs.Served.{Notes, WritesHelp, question}
+use Rattle.shell.specs.Watching.{NotesRemark, Watches}
+use Rattle.shell.specs.declared.help.Topic.{Topic}
+use Rattle.shell.specs.declared.request.Request.{Request}
+use Rattle.shell.specs.declared.request.Request.TheVariants as request
+use Rattle.shell.specs.declared.session.Shell.{Shell}
+use Rattle.shell.specs.declared.watch.Remark.{Remark}
+use Rattle.shell.specs.declared.watch.Watch.{Watch}
+
+-- Where a session stands: the kernel, what isn't committed, whether the shell just asked, and what was written.
+pub record Session (D S : Type 0) : Type 0 where
+  pub kernel : Power D S
+  pub unsaved : Unsaved
+  pub is_asked : Bool
+  pub notes : Written
+  pub output : Written
+
+abbrev pub session_at : {V D S : Type 0} → (V → Written) → Shell V → Power D S → Written → Session D S
+session_at written shell kernel output = record {
+  kernel = kernel;
+  unsaved = shell.unsaved;
+  is_asked = shell.is_asked;
+  notes = written shell.notes;
+  output = output;
+}
+
+-- after these notes
+abbrev pub noting : {D S : Type 0} → Session D S → Written → Session D S
+noting s notes = record s { notes = notes }
+
+abbrev pub watching : Unsaved → Watch
+watching unsaved = record { unsaved = unsaved; remark = None }
+
+-- what is to be said of a line that was answered was noted
+abbrev pub Remarks : Result Bool RunFault → Option Remark → Written → Written → Type 0
+Remarks (Ok on) remark old new = NotesRemark remark old new
+Remarks (Err e) remark old new = new ≡ old
+
+abbrev pub saved_text : Result Answer Refusal → List ℕ
+saved_text (Ok a) = codes "saved"
+saved_text (Err why) = refusal_text why
+
+-- once all is committed nothing is unsaved
+abbrev pub unsaved_if : Result Answer Refusal → Unsaved → Unsaved
+unsaved_if (Ok a) before = nothing_unsaved
+unsaved_if (Err why) before = before
+
+-- the shell goes on where the answer was written
+abbrev pub goes_on_if : Result (Unit {0}) RunFault → Result Bool RunFault
+goes_on_if (Ok u) = Ok true
+goes_on_if (Err e) = Err e
+
+-- where something isn't committed a shell that prompts asks, unless it just did
+abbrev pub is_to_ask : Bool → Unsaved → Bool → Bool
+is_to_ask prompts unsaved asked = (prompts && not asked) && (unsaved.present || unsaved.frozen)
+
+-- it asked, and goes on; or it ends
+abbrev pub Quits : Bool → Unsaved → Bool → Bool → Written → Written → Bool → Type 0
+Quits prompts unsaved was_asked is_asked before after on =
+    (on ≡ is_to_ask prompts unsaved was_asked) × (is_asked ≡ on) × Notes on question before after
+
+-- The parameters are ghost members of a device and of an object store.
+module _ {D S : Type 0} (disk : D → Disk) (view : S → View D) (parts : S → Parts) where
+  -- all was saved, by the stages of `eros run --save`; or one was refused, and none was begun after it
+  abbrev pub SavesAll : Power D S → Power D S → Unsaved → Unsaved → Result Answer Refusal → Type 0
+  SavesAll old new before after r = (next : Power D S) × (committed : Result Answer Refusal)
+      × CarriesOutAll disk view parts old commit_stages next committed × Moves disk view parts committed next new r
+      × (after ≡ unsaved_if committed before)
+
+  -- the machine ran the line alone; what is to be said of it was noted
+  abbrev pub RunsIn : List ℕ → Session D S → Session D S → Result Bool RunFault → Type 0
+  RunsIn line s t r = (seen : Watch)
+      × RunsLine disk view parts Watches line s.kernel t.kernel (watching s.unsaved) seen s.output t.output r
+      × (t.unsaved ≡ seen.unsaved) × Remarks r seen.remark s.notes t.notes × (t.is_asked ≡ false)
+
+  -- all was saved, or not, and that was answered
+  abbrev pub SavesIn : Session D S → Session D S → Result Bool RunFault → Type 0
+  SavesIn s t r = (saved : Result Answer Refusal) × SavesAll s.kernel t.kernel s.unsaved t.unsaved saved
+      × (wrote : Result (Unit {0}) RunFault) × Writes s.output t.output wrote (line_of (saved_text saved)) × (r ≡ goes_on_if wrote)
+      × (t.notes ≡ s.notes) × (t.is_asked ≡ false)
+
+  -- a request was served
+  abbrev pub Serves : List Topic → Bool → Request → List ℕ → Session D S → Session D S → Result Bool RunFault → Type 0
+  Serves topics prompts request.Pass line s t r = RunsIn line s t r
+  Serves topics prompts (request.Help word) line s t r = WritesHelp topics word.now s.notes t.notes × (r ≡ Ok true)
+      × (t.is_asked ≡ false) × (t.kernel ≡ s.kernel) × (t.unsaved ≡ s.unsaved) × (t.output ≡ s.output)
+  Serves topics prompts request.Save line s t r = SavesIn s t r
+  Serves topics prompts request.Quit line s t r =
+      (on : Bool) × Quits prompts s.unsaved s.is_asked t.is_asked s.notes t.notes on × (r ≡ Ok on)
+      × (t.kernel ≡ s.kernel) × (t.unsaved ≡ s.unsaved) × (t.output ≡ s.output)
+
+  -- what a line requests was served; the result says whether the shell goes on
+  abbrev pub ServesLine : List Topic → Bool → List ℕ → Session D S → Session D S → Result Bool RunFault → Type 0
+  ServesLine topics prompts line s t r =
+      (request : Request) × IsRequest line request × Serves topics prompts request line s t r
+
+  -- it prompted first
+  abbrev pub StepsBy : List Topic → Bool → List ℕ → Session D S → Session D S → Result Bool RunFault → Type 0
+  StepsBy topics prompts line s t r = (prompted : Written) × Notes prompts (codes "eros> ") s.notes prompted
+      × ServesLine topics prompts line (noting s prompted) t r
+
+  -- lines were served one after another, and it went on after each
+  abbrev pub AreServed : List Topic → Bool → List (List ℕ) → Session D S → Session D S → Type 0
+  AreServed topics prompts [] s t = t ≡ s
+  AreServed topics prompts (l ∷ ls) s t =
+      (next : Session D S) × StepsBy topics prompts l s next (Ok true) × AreServed topics prompts ls next t
+
+  -- How a session ends: by its last line, or with none at the end of the input, or where a read failed. At the end of the
+  -- input the line that a person is on was ended.
+  abbrev pub Finishes : List Topic → Bool → List (List ℕ) → Option (List (List ℕ)) → Session D S → Session D S →
+      Result (Unit {0}) RunFault → Type 0
+  Finishes topics prompts [] ahead s t (Ok u) = NoneAhead ahead × (prompted : Written)
+      × Notes prompts (codes "eros> ") s.notes prompted × Notes prompts (codes "\n") prompted t.notes × (t ≡ noting s t.notes)
+  Finishes topics prompts [] ahead s t (Err e) = (e ≡ fault.Read) × Notes prompts (codes "eros> ") s.notes t.notes
+      × (t ≡ noting s t.notes)
+  Finishes topics prompts (l ∷ []) ahead s t (Ok u) = StepsBy topics prompts l s t (Ok false)
+  Finishes topics prompts (l ∷ []) ahead s t (Err e) = StepsBy topics prompts l s t (Err e)
+  Finishes topics prompts (l ∷ k ∷ ls) ahead s t r = ⊥
+
+  -- the lines that were taken of those ahead were served, the last of them as it ended
+  abbrev pub HasServed : List Topic → Bool → Option (List (List ℕ)) → Option (List (List ℕ)) → Session D S → Session D S →
+      Result (Unit {0}) RunFault → Type 0
+  HasServed topics prompts ahead ahead_left s t r = (lines : List (List ℕ)) × (last : List (List ℕ)) × (between : Session D S)
+      × Takes ahead ahead_left (lines ++ last) × AreServed topics prompts lines s between
+      × Finishes topics prompts last ahead_left between t r
+
+  -- so it was, once what had been written was passed on; or that couldn't be, and no line was taken
+  abbrev pub ServesFrom : List Topic → Bool → Option (List (List ℕ)) → Option (List (List ℕ)) → Session D S → Session D S →
+      Result (Unit {0}) RunFault → Type 0
+  ServesFrom topics prompts ahead ahead_left s t r =
+      ((begun : Written) × Wrote s.output begun [] × HasServed topics prompts ahead ahead_left (record s { output = begun }) t r)
+      ⊎ ((r ≡ Err fault.Write) × (ahead_left ≡ ahead) × WroteFront s.output t.output [] × (t ≡ record s { output = t.output }))

@@ -1,0 +1,214 @@
+// What a shell does with each line.
+ghost use Rattle.std.specs.Prelude.{◌≡◌, ◌≢◌, ◌&&◌, ◌||◌, [], IfErr, OnOk, codes, false, not};
+ghost use Rattle.script.specs.Writing.{Writes};
+ghost use Rattle.runs.specs.Unsaved.{nothing_unsaved};
+ghost use Rattle.shell.specs.Lines.{ahead_of};
+ghost use Rattle.shell.specs.Served.{Notes, greeting, question};
+ghost use Rattle.shell.specs.Sessions.{HasServed, Quits, RunsIn, SavesIn, ServesFrom, ServesLine, session_at};
+
+use crate::help::{Topic, help_on};
+use crate::request::{Request, request_of};
+use crate::saving::{print_line, save_all, saved_line};
+use crate::typed_lines::TypedLines;
+use crate::watch::{Watch, note_remark};
+use checkpoint::ObjectStore;
+use device::Device;
+use kernel::Kernel;
+use runs::{RawReader, Unsaved, run_line};
+use script::{Output, RunFault};
+
+/// A shell over a kernel. It answers `help`, `help WORD`, `save`, `quit` and `exit` itself, and gives all other lines to
+/// the machine. Help, prompts and remarks go to `notes`.
+#[derive(Drop)]
+pub struct Shell<V> {
+    notes: V,
+    topics: &'static [Topic],
+    is_prompting: bool,
+    // What the lines so far did that isn't committed.
+    unsaved: Unsaved,
+    // The last line was to end it, and it asked.
+    is_asked: bool,
+}
+
+// Writes a text for a person, if one is there.
+fn note<V: Output>(is_there: bool, text: &[u8], notes: &mut V)
+    ensures { Notes is_there text.now (V.written notes.old) (V.written notes.new) }
+{
+    if is_there {
+        let _reported = notes.write_fully(text);
+    }
+}
+
+impl<V: Output> Shell<V> {
+    /// A shell that served no line, and explains these topics. It greets, prompts and asks if `is_prompting`.
+    pub fn new(mut notes: V, topics: &'static [Topic], is_prompting: bool) -> Shell<V>
+        ensures topics { result.topics.now ≡ topics.now }
+        ensures prompts { result.is_prompting ≡ is_prompting }
+        ensures unsaved { result.unsaved ≡ nothing_unsaved }
+        ensures unasked { result.is_asked ≡ false }
+        ensures greets { Notes is_prompting greeting (V.written notes) (V.written result.notes) }
+    {
+        note(
+            is_prompting,
+            b"Type help for the commands, and quit or Control-D to end.\n",
+            &mut notes,
+        );
+        Shell {
+            notes,
+            topics,
+            is_prompting,
+            unsaved: Unsaved::new(),
+            is_asked: false,
+        }
+    }
+
+    /// What the lines so far did that isn't committed.
+    pub fn unsaved(&self) -> Unsaved
+        ensures { result ≡ self.now.unsaved }
+    {
+        self.unsaved
+    }
+
+    // Gives a line to the machine, and says of it what there is to say.
+    fn run<D: Device, S: ObjectStore<D>, W: Output>(
+        &mut self,
+        line: &[u8],
+        kernel: &mut Kernel<D, S>,
+        writer: &mut W,
+    ) -> Result<bool, RunFault>
+        ensures runs { RunsIn D.disk S.view S.parts line.now (session_at V.written self.old kernel.old (W.written writer.old))
+            (session_at V.written self.new kernel.new (W.written writer.new)) result }
+        ensures topics { self.new.topics ≡ self.old.topics }
+        ensures prompts { self.new.is_prompting ≡ self.old.is_prompting }
+        ensures none_waits { OnOk result (W.waiting writer.new ≡ []) }
+        ensures fault { IfErr result (λ e. e ≡ RunFault.Write) }
+    {
+        let mut watch = Watch::new(self.unsaved);
+        let ran = run_line(kernel, line, writer, &mut watch);
+        self.unsaved = watch.unsaved;
+        self.is_asked = false;
+        if ran.is_ok() {
+            note_remark(watch.remark, &mut self.notes);
+        }
+        ran
+    }
+
+    // Saves all, and writes the answer.
+    fn save<D: Device, S: ObjectStore<D>, W: Output>(
+        &mut self,
+        kernel: &mut Kernel<D, S>,
+        writer: &mut W,
+    ) -> Result<bool, RunFault>
+        ensures saves { SavesIn D.disk S.view S.parts (session_at V.written self.old kernel.old (W.written writer.old))
+            (session_at V.written self.new kernel.new (W.written writer.new)) result }
+        ensures topics { self.new.topics ≡ self.old.topics }
+        ensures prompts { self.new.is_prompting ≡ self.old.is_prompting }
+        ensures none_waits { OnOk result (W.waiting writer.new ≡ []) }
+        ensures fault { IfErr result (λ e. e ≡ RunFault.Write) }
+    {
+        self.is_asked = false;
+        let saved = save_all(kernel, &mut self.unsaved);
+        match print_line(saved_line(saved), writer) {
+            Ok(()) => Ok(true),
+            Err(fault) => Err(fault),
+        }
+    }
+
+    // Asks, if something isn't committed and it didn't just ask. Returns whether it asked.
+    fn asks(&mut self) -> bool
+        ensures quits { Quits self.old.is_prompting self.old.unsaved self.old.is_asked self.new.is_asked
+            (V.written self.old.notes) (V.written self.new.notes) result }
+        ensures topics { self.new.topics ≡ self.old.topics }
+        ensures prompts { self.new.is_prompting ≡ self.old.is_prompting }
+        ensures unsaved { self.new.unsaved ≡ self.old.unsaved }
+    {
+        let asks = self.is_prompting && !self.is_asked && self.unsaved.is_some();
+        self.is_asked = asks;
+        note(
+            asks,
+            b"Some invocations or stores are not saved: type save to keep them, or quit again to lose them.\n",
+            &mut self.notes,
+        );
+        asks
+    }
+
+    // Serves a line, and returns whether the shell goes on. `RunFault::Write` if an answer couldn't be written.
+    fn serve<D: Device, S: ObjectStore<D>, W: Output>(
+        &mut self,
+        line: &[u8],
+        kernel: &mut Kernel<D, S>,
+        writer: &mut W,
+    ) -> Result<bool, RunFault>
+        requires { W.waiting writer.old ≡ [] }
+        ensures served { ServesLine D.disk S.view S.parts self.old.topics.now self.old.is_prompting line.now
+            (session_at V.written self.old kernel.old (W.written writer.old))
+            (session_at V.written self.new kernel.new (W.written writer.new)) result }
+        ensures topics { self.new.topics ≡ self.old.topics }
+        ensures prompts { self.new.is_prompting ≡ self.old.is_prompting }
+        ensures none_waits { OnOk result (W.waiting writer.new ≡ []) }
+        ensures fault { IfErr result (λ e. e ≡ RunFault.Write) }
+    {
+        match request_of(line) {
+            Request::Pass => self.run(line, kernel, writer),
+            Request::Help(word) => {
+                self.is_asked = false;
+                help_on(self.topics, word, &mut self.notes);
+                Ok(true)
+            }
+            Request::Save => self.save(kernel, writer),
+            Request::Quit => Ok(self.asks()),
+        }
+    }
+
+    // Serves lines up to one that ends the shell, or the end of the input.
+    fn serve_lines<D: Device, S: ObjectStore<D>, R: RawReader, W: Output>(
+        &mut self,
+        lines: &mut TypedLines<R>,
+        kernel: &mut Kernel<D, S>,
+        writer: &mut W,
+    ) -> Result<(), RunFault>
+        requires { W.waiting writer.old ≡ [] }
+        ensures served { HasServed D.disk S.view S.parts self.old.topics.now self.old.is_prompting (ahead_of R.rest lines.old)
+            (ahead_of R.rest lines.new) (session_at V.written self.old kernel.old (W.written writer.old))
+            (session_at V.written self.new kernel.new (W.written writer.new)) result }
+        ensures unstopped { IfErr result (λ e. e ≢ RunFault.Stopped) }
+    {
+        loop {
+            note(self.is_prompting, b"eros> ", &mut self.notes);
+            match lines.next(writer)? {
+                Some(line) => {
+                    let goes_on = self.serve(line.as_slice(), kernel, writer)?;
+                    if !goes_on {
+                        return Ok(());
+                    }
+                }
+                None => {
+                    note(self.is_prompting, b"\n", &mut self.notes);
+                    return Ok(());
+                }
+            }
+        }
+    }
+
+    /// Serves lines over a kernel, each before it reads the next, up to `quit`, `exit` or the end of the input. The
+    /// answers go to `writer`. Each is passed on before the next line is read, and before what is noted of its line.
+    ///
+    /// Where something isn't committed, `quit` asks once if the shell prompts.
+    ///
+    /// `RunFault::Read` if a read failed: then no line was taken. `RunFault::Write` if a call of the writer failed: then
+    /// only the answer to the last line may be cut short.
+    pub fn serve_all<D: Device, S: ObjectStore<D>, R: RawReader, W: Output>(
+        &mut self,
+        lines: &mut TypedLines<R>,
+        kernel: &mut Kernel<D, S>,
+        writer: &mut W,
+    ) -> Result<(), RunFault>
+        ensures served { ServesFrom D.disk S.view S.parts self.old.topics.now self.old.is_prompting (ahead_of R.rest lines.old)
+            (ahead_of R.rest lines.new) (session_at V.written self.old kernel.old (W.written writer.old))
+            (session_at V.written self.new kernel.new (W.written writer.new)) result }
+        ensures unstopped { IfErr result (λ e. e ≢ RunFault.Stopped) }
+    {
+        writer.pass_on()?;
+        self.serve_lines(lines, kernel, writer)
+    }
+}

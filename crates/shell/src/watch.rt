@@ -1,0 +1,91 @@
+// What a shell sees of each line.
+ghost use Rattle.std.specs.Prelude.{◌≡◌, ◌≤◌, None, false, length};
+ghost use Rattle.shell.specs.Watching.{NotesRemark, Watches, remark_text};
+
+use model::{Answer, Command, ResultCode};
+use runs::{Observer, Unsaved, add_code, fault_of};
+use script::{LineFault, LineText, Output};
+
+/// What a shell says of a line beside its answer.
+#[derive(Clone, Copy)]
+pub(crate) enum Remark {
+    /// Why it is bad.
+    Fault(LineFault),
+    /// The result code of its order.
+    Code(ResultCode),
+}
+
+/// Watches the lines of a shell, and lets each run go on.
+#[derive(Clone, Copy)]
+pub(crate) struct Watch {
+    /// What isn't committed.
+    pub(crate) unsaved: Unsaved,
+    /// What is to be said of the last line.
+    pub(crate) remark: Option<Remark>,
+}
+
+impl Remark {
+    fn line(self) -> LineText
+        ensures text { result ≡ remark_text self }
+        ensures short { length result ≤ 100 }
+    {
+        match self {
+            Remark::Fault(fault) => {
+                let mut line = LineText::new(b"reason:");
+                fault.add_to(&mut line);
+                line
+            }
+            Remark::Code(code) => {
+                let mut line = LineText::new(b"result:");
+                add_code(&mut line, code);
+                line
+            }
+        }
+    }
+}
+
+/// Writes what is to be said of a line, if anything is. A text that can't be written is left out.
+pub(crate) fn note_remark<V: Output>(remark: Option<Remark>, notes: &mut V)
+    ensures { NotesRemark remark (V.written notes.old) (V.written notes.new) }
+{
+    if let Some(remark) = remark {
+        let _reported = remark.line().write_to(notes);
+    }
+}
+
+impl Watch {
+    /// Watches the line that follows one after which this isn't committed.
+    pub(crate) fn new(unsaved: Unsaved) -> Watch
+        ensures unsaved { result.unsaved ≡ unsaved }
+        ensures remark { result.remark ≡ None }
+    {
+        Watch {
+            unsaved,
+            remark: None,
+        }
+    }
+}
+
+impl Observer for Watch {
+    ghost sees = { Watches };
+
+    ghost may_end = { false };
+
+    fn skip(&mut self) -> bool {
+        self.remark = None;
+        self.unsaved.skip()
+    }
+
+    fn bad(&mut self, text: Option<&[u8]>) -> bool {
+        self.remark = Some(Remark::Fault(fault_of(text)));
+        self.unsaved.bad(text)
+    }
+
+    fn answer(&mut self, command: &Command, answer: &Answer, code: Option<ResultCode>) -> bool {
+        self.remark = match code {
+            Some(code) => Some(Remark::Code(code)),
+            None => None,
+        };
+        self.unsaved.answer(command, answer, code)
+    }
+}
