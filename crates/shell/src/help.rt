@@ -29,6 +29,7 @@ save                                saves all that was done
 quit, exit                          ends the shell
 help WORD                           explains a command, or the orders of number, page, node, space,
                                     discrim, process or bank
+For history and line editing start the shell as: rlwrap eros shell IMAGE
 ",
     },
     Topic {

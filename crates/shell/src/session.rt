@@ -1,6 +1,8 @@
 // What a shell does with each line.
-ghost use Rattle.std.specs.Prelude.{◌≡◌, ◌≢◌, ◌&&◌, ◌||◌, [], IfErr, OnOk, codes, false, not};
+ghost use Rattle.std.specs.Prelude.{◌≡◌, ◌≢◌, ◌&&◌, ◌||◌, [], IfErr, IsErrOf, OnOk, codes, false, not};
 ghost use Rattle.script.specs.Writing.{Writes};
+ghost use Rattle.runs.specs.KernelRuns.{IsCounted};
+ghost use Rattle.runs.specs.Reader.{failed_reads};
 ghost use Rattle.runs.specs.Unsaved.{nothing_unsaved};
 ghost use Rattle.shell.specs.Lines.{ahead_of};
 ghost use Rattle.shell.specs.Served.{Notes, greeting, question};
@@ -171,6 +173,9 @@ impl<V: Output> Shell<V> {
         ensures served { HasServed D.disk S.view S.parts self.old.topics.now self.old.is_prompting (ahead_of R.rest lines.old)
             (ahead_of R.rest lines.new) (session_at V.written self.old kernel.old (W.written writer.old))
             (session_at V.written self.new kernel.new (W.written writer.new)) result }
+        ensures none_waits { OnOk result (W.waiting writer.new ≡ []) }
+        ensures read_failed { IsCounted (IsErrOf result RunFault.Read) (failed_reads lines.old.reader)
+            (failed_reads lines.new.reader) }
         ensures unstopped { IfErr result (λ e. e ≢ RunFault.Stopped) }
     {
         loop {
@@ -195,8 +200,8 @@ impl<V: Output> Shell<V> {
     ///
     /// Where something isn't committed, `quit` asks once if the shell prompts.
     ///
-    /// `RunFault::Read` if a read failed: then no line was taken. `RunFault::Write` if a call of the writer failed: then
-    /// only the answer to the last line may be cut short.
+    /// `RunFault::Read` exactly if a read failed: then no line was taken. `RunFault::Write` exactly if a call of the writer
+    /// failed: then only the answer to the last line may be cut short.
     pub fn serve_all<D: Device, S: ObjectStore<D>, R: RawReader, W: Output>(
         &mut self,
         lines: &mut TypedLines<R>,
@@ -206,6 +211,9 @@ impl<V: Output> Shell<V> {
         ensures served { ServesFrom D.disk S.view S.parts self.old.topics.now self.old.is_prompting (ahead_of R.rest lines.old)
             (ahead_of R.rest lines.new) (session_at V.written self.old kernel.old (W.written writer.old))
             (session_at V.written self.new kernel.new (W.written writer.new)) result }
+        ensures none_waits { OnOk result (W.waiting writer.new ≡ []) }
+        ensures read_failed { IsCounted (IsErrOf result RunFault.Read) (failed_reads lines.old.reader)
+            (failed_reads lines.new.reader) }
         ensures unstopped { IfErr result (λ e. e ≢ RunFault.Stopped) }
     {
         writer.pass_on()?;

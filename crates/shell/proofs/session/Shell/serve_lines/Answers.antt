@@ -1,4 +1,4 @@
-use Rattle.std.proofs.Common.{◌≡◌, ◌∙◌, ◌∷◌, List, [], Err, Ok, Bor, ap, refl, subst, sym, ℕ}
+use Rattle.std.proofs.Common.{◌≡◌, ◌∙◌, ◌∷◌, List, [], Err, Ok, Bor, ap, refl, rules, subst, sym, ℕ}
 use Rattle.std.proofs.lemmas.Result.{err_from_is_err_and}
 use Rattle.shell.specs.Lines.{Takes, ahead_of}
 use Rattle.shell.specs.Sessions.{noting, session_at}
@@ -69,6 +69,7 @@ loop-line-preserved g c =
       topics = c.in_ok-goes_on-in-Some.ensures.topics ∙ c.loop-line.invariant.topics;
       prompts = c.in_ok-goes_on-in-Some.ensures.prompts ∙ c.loop-line.invariant.prompts;
       none_waits = c.in_ok-goes_on-in-Some.ensures.none_waits;
+      none_failed = search rules;
     }
 
 pub returns-in-None-clause-served : goal.returns-in-None-clause-served

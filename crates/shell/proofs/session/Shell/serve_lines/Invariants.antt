@@ -1,5 +1,5 @@
 use Rattle.std.proofs.Common.{◌≡◌, ◌+◌, [], length}
-use Rattle.runs.specs.Reader.{left_to_read}
+use Rattle.runs.specs.Reader.{failed_reads, left_to_read}
 use Rattle.shell.specs.Lines.{ahead_of}
 use Rattle.shell.specs.Sessions.{session_at}
 use Rattle.shell.proofs.Sessions.{SoFar}
@@ -14,6 +14,7 @@ invariant-loop-line g l = record {
   topics : l.self.topics ≡ l.fn.self.topics;
   prompts : l.self.is_prompting ≡ l.fn.self.is_prompting;
   none_waits : g.W.Output.waiting l.writer ≡ [];
+  none_failed : failed_reads l.lines.reader ≡ failed_reads l.fn.lines.reader;
 }
 
 abbrev pub decreases-loop-line : goal.decreases-loop-line
