@@ -52,10 +52,11 @@ impl Blueprint {
         })
     }
 
-    /// How many sectors a device needs for the image.
+    /// How many sectors a device needs for the image. No image needs more than a device may have.
     pub fn sectors(&self) -> u64
         ensures value { result ≡ (plan_for self.now).total }
         ensures within { IsWithinLimits self.now }
+        ensures few { result ≤ 131072 }
     {
         self.superblock.total()
     }

@@ -21,7 +21,7 @@ module _ (hs : List ObjectHeader) (r : Role) where
       ∙ role_sum fs (n + cond (role_number (role_of (map_content (conveyed hs) f.content)) == role_number r) 1 0) (λ i. roles (suc i))
 
 -- as many objects as headers have a role
-role_counted : (fs : List Frame) (age : ℕ) (r : Role) → HaveTheirRoles fs → headers_with r (headers fs) ≡ objects_with r (world_at age fs)
+pub role_counted : (fs : List Frame) (age : ℕ) (r : Role) → HaveTheirRoles fs → headers_with r (headers fs) ≡ objects_with r (world_at age fs)
 unfolding objects_of
 role_counted fs age r roles = role_sum (headers fs) r fs 0 roles
 

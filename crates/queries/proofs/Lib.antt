@@ -3,5 +3,5 @@ mod AcceptedDescriptions
 mod DescribedImages
 mod DrawnImages
 mod GrownImages
-mod InfoImages
+pub mod InfoImages
 mod ReachedImages

@@ -11,8 +11,8 @@ use migrator::WholeStore;
 use script::{LineText, Output};
 use std::alloc::Global;
 
-// The line about an image.
-fn explanation_line(found: Option<ImageFault>) -> LineText
+/// The line about an image: `ok`, or the place that breaks a rule and the reason that `check` answers.
+pub fn explanation_line(found: Option<ImageFault>) -> LineText
     ensures text { result ≡ explanation_text found }
     ensures short { length result ≤ 260 }
 {

@@ -56,8 +56,9 @@ fn syntax_line(alloc: Global, text: &str, error: &Error) -> Result<String, Alloc
     format!(in alloc; "line {line}, column {column}: {why} (bad description)")
 }
 
-// The line about the description in a text, and whether the description is accepted.
-fn explained(alloc: Global, text: &str) -> Result<(String, bool), AllocError>
+/// The line about the description in a text, and whether `build` accepts it on a device that is large enough. Fails only
+/// if memory runs out.
+pub fn explained(alloc: Global, text: &str) -> Result<(String, bool), AllocError>
     ensures { IfOk result (λ answer. TellsOf text.now (string_bytes answer.0) answer.1) }
 {
     let table = match toml::table_from_str(alloc, text) {

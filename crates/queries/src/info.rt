@@ -89,8 +89,8 @@ pub(crate) fn print_lines<W: Output>(lines: &[InfoLine], writer: &mut W) -> Resu
     Ok(())
 }
 
-// How many headers have a role.
-fn count_role(headers: &[ObjectHeader], role: Role) -> u64
+/// How many headers have a role.
+pub fn count_role(headers: &[ObjectHeader], role: Role) -> u64
     ensures { result ≡ headers_with role headers.now }
 {
     let number = role.number();

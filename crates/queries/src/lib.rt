@@ -13,8 +13,10 @@ mod reaching;
 mod saved;
 
 pub use describing::describe_image;
-pub use diagnosing::explain_image;
+pub use diagnosing::{explain_image, explanation_line};
 pub use drawing::{Focus, draw_image};
-pub use explaining::explain_description;
+pub use explaining::{explain_description, explained};
+pub use info::count_role;
 pub use inspecting::info_image;
 pub use reaching::{ReachQuestion, reach_image};
+pub use saved::{SavedPart, read_saved};

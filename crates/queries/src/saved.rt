@@ -23,7 +23,7 @@ use recovery::recover;
 use std::alloc::{AllocError, Global};
 
 /// A part of what a device saves.
-pub(crate) trait SavedPart: Drop + Sized {
+pub trait SavedPart: Drop + Sized {
     /// It is this part of what is saved.
     ghost is_part: { SavedState → Self → Type 0 };
 
@@ -90,7 +90,7 @@ impl SavedPart for Vec<InfoLine> {
 }
 
 /// Opens a device as a run does, reads a part of what it saves, and gives it back.
-pub(crate) fn read_saved<T: SavedPart, D: Device, S: WholeStore<D>>(
+pub fn read_saved<T: SavedPart, D: Device, S: WholeStore<D>>(
     alloc: Global,
     device: D,
     setting: S::Setting,

@@ -25,7 +25,7 @@ impl Model for History {
 
 /// What happens to the storage.
 #[derive(Clone, Copy, Drop)]
-pub(crate) enum Step<'a> {
+pub enum Step<'a> {
     /// A write of these sectors from `at` on is recorded.
     Write { at: u64, bytes: &'a [u8] },
     /// A sync is recorded.
@@ -44,14 +44,14 @@ impl History {
     ghost use Rattle.vezhnake.specs.Steps.{fresh, stepped};
 
     /// The storage holds these bytes, and nothing has happened to it.
-    pub(crate) fn new(_bytes: &[u8]) -> History
+    pub fn new(_bytes: &[u8]) -> History
         ensures { result ≡ fresh _bytes.now }
     {
         History {}
     }
 
     /// The history after one more step.
-    pub(crate) fn then(&self, _step: &Step<'_>) -> History
+    pub fn then(&self, _step: &Step<'_>) -> History
         ensures { result ≡ stepped self.now _step.now }
     {
         History {}

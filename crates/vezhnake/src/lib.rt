@@ -19,7 +19,9 @@ mod text_script;
 
 pub use batch::{Batch, run_batch};
 pub use handle::Handle;
+pub use history::{History, Step};
 pub use raw_command::RawCommand;
 pub use raw_object::{RawCapability, RawObject, RawPage};
 pub use raw_reply::{RawReply, replies_tell_answers};
+pub use session::copy_out;
 pub use status::Status;

@@ -13,7 +13,7 @@ use model::Command;
 use runs::laws::crashes_in_runs_are_survived;
 
 /// Serves a command, as a run serves the line that spells it.
-#[inline(never)]
+#[inline(always)]
 pub fn serve<S: ObjectStore<HostDevice>>(
     kernel: &mut Kernel<HostDevice, S>,
     command: &Command,

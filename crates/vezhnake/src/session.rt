@@ -23,8 +23,9 @@ pub struct Session {
     taken: u64,
 }
 
-// Copies the bytes to the front of the buffer, if they fit. Sets `size` to their number in any case.
-fn copy_out(bytes: &[u8], buffer: &mut [u8], size: &mut usize) -> bool
+/// Copies the bytes to the front of the buffer, if they fit, and returns whether they do. Sets `size` to their number in
+/// any case.
+pub fn copy_out(bytes: &[u8], buffer: &mut [u8], size: &mut usize) -> bool
     ensures { CopiesOut bytes.now buffer.old buffer.new size.new result }
 {
     *size = bytes.len();
