@@ -1,0 +1,5 @@
+pub mod ImageStatuses
+pub mod ImageBytes
+pub mod BuiltBytes
+pub mod RawInfos
+pub mod ReadBytes

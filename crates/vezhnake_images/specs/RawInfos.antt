@@ -1,0 +1,48 @@
+-- The numbers of what an image has.
+use Rattle.std.specs.Prelude.{ℕ, ◌-◌, ◌++◌, List, length, map, replicate}
+use Rattle.checkpoint.specs.declared.committed.Checkpoint.{Checkpoint}
+use Rattle.layout.specs.Superblock.{Plan, version_number}
+use Rattle.layout.specs.declared.extent.HomeRange.{HomeRange}
+use Rattle.model.specs.Machine.{Saved}
+use Rattle.model.specs.declared.object.Role.{Role}
+use Rattle.model.specs.declared.object.Role.TheVariants as role
+use Rattle.queries.specs.Info.{objects_with}
+use Rattle.vezhnake_images.specs.declared.raw_info.RawInfo.{RawInfo}
+use Rattle.vezhnake_images.specs.declared.raw_info.RawRange.{RawRange}
+
+-- the numbers of a home range
+abbrev pub raw_range : HomeRange → RawRange
+raw_range r = record { first = r.first; count = r.count }
+
+abbrev pub no_range : RawRange
+no_range = record { first = 0; count = 0 }
+
+-- the numbers of home ranges, and zeros behind them
+abbrev pub raw_ranges : List HomeRange → List RawRange
+raw_ranges ranges = map raw_range ranges ++ replicate (8 - length ranges) no_range
+
+-- what the image of a plan has with a checkpoint, and as many objects of each role as a function says
+abbrev pub info_with : Plan → Checkpoint → (Role → ℕ) → RawInfo
+info_with p saved count = record {
+  layout = version_number p.version;
+  nodes = p.geometry.nodes;
+  pages = p.geometry.pages;
+  log = p.geometry.log;
+  sectors = p.total;
+  generation = saved.generation;
+  age = saved.age;
+  entries = saved.entries;
+  free = count role.Free;
+  page_objects = count role.Page;
+  node_objects = count role.Node;
+  processes = count role.Root;
+  banks = count role.Bank;
+  ranges_count = length p.ranges;
+  ranges = raw_ranges p.ranges;
+}
+
+-- what the image of a plan has that saves this; a process is counted by its root
+abbrev pub info_of : Plan → Saved → RawInfo
+info_of p saved = info_with p
+    (record { generation = saved.generation; age = saved.world.age; entries = saved.entries })
+    (λ r. objects_with r saved.world)
