@@ -1,5 +1,5 @@
 /* Opens, steps and closes machines of the library many times, for checks/library, which compiles this under sanitizers: each
- * status, buffers of exactly the size that fits, a handle that is closed twice.
+ * status, buffers of exactly the size that fits, a handle that is closed twice, images as bytes.
  * usage: PROGRAM IMAGE TIMES, with an image of examples/embed/counter.toml */
 #include "vezhnake.h"
 
@@ -56,6 +56,42 @@ static void try_refusals(vezhnake_machine *machine) {
     NEED(vezhnake_open(image + 512, image_size - 512, 0, machine) == VEZHNAKE_NOT_A_SUPERBLOCK && !machine->is_open);
 }
 
+/* What is made of bytes, each first without enough room and then into exactly as many bytes as there are. */
+static uint8_t *copied(uint32_t (*call)(const uint8_t *, size_t, uint8_t *, size_t, size_t *), const uint8_t *from, size_t from_size, size_t *size) {
+    size_t wanted = 0;
+    NEED(call(from, from_size, NULL, 0, &wanted) == VEZHNAKE_SMALL_BUFFER && wanted > 0);
+    NEED(call(from, from_size, buffer, wanted - 1, size) == VEZHNAKE_SMALL_BUFFER && *size == wanted);
+    uint8_t *exact = malloc(wanted);
+    NEED(call(from, from_size, exact, wanted, size) == VEZHNAKE_OK && *size == wanted);
+    return exact;
+}
+
+/* The description of the image, and what is built of it. The image is that of a build, so both are the same. */
+static void try_images(void) {
+    static const uint8_t no_table[] = "nodes = ", no_utf8[] = {255}, no_shape[] = "nodes = 16";
+    static const char *ok = "ok";
+    vezhnake_info info;
+    size_t size, text_size;
+    uint8_t *description = copied(vezhnake_describe, image, image_size, &text_size);
+    uint8_t *built = copied(vezhnake_build, description, text_size, &size);
+    NEED(size == image_size && !memcmp(built, image, size));
+    free(built);
+    free(description);
+    uint8_t *line = copied(vezhnake_explain, image, image_size, &size);
+    NEED(size == strlen(ok) && !memcmp(line, ok, size));
+    free(line);
+    free(copied(vezhnake_explain_text, no_shape, sizeof no_shape - 1, &size));
+    NEED(vezhnake_check(image, image_size, &info) == VEZHNAKE_OK && 512 * info.sectors == image_size && info.ranges_count == 2);
+    size = 7;
+    NEED(vezhnake_build(no_table, sizeof no_table - 1, buffer, sizeof buffer, &size) == VEZHNAKE_NOT_TOML);
+    NEED(vezhnake_build(no_utf8, 1, buffer, sizeof buffer, &size) == VEZHNAKE_NOT_TOML);
+    NEED(vezhnake_build(no_shape, sizeof no_shape - 1, buffer, sizeof buffer, &size) == VEZHNAKE_BAD_SHAPE);
+    NEED(vezhnake_explain_text(no_utf8, 1, buffer, sizeof buffer, &size) == VEZHNAKE_NOT_TOML);
+    NEED(vezhnake_check(image, 511, &info) == VEZHNAKE_BAD_SIZE);
+    NEED(vezhnake_describe(image, image_size - 512, buffer, sizeof buffer, &size) == VEZHNAKE_SMALL);
+    NEED(vezhnake_explain(image, 1, buffer, sizeof buffer, &size) == VEZHNAKE_BAD_SIZE && size == 7);
+}
+
 static uint32_t run(size_t answers, size_t room, vezhnake_batch *batch) {
     return vezhnake_run(image, image_size, 0, (const uint8_t *)text, strlen(text), buffer, answers, calls, room, batch);
 }
@@ -75,6 +111,7 @@ int main(int words, char **word) {
         NEED(vezhnake_close(&machine) == VEZHNAKE_OK && !machine.is_open);
         try_closed(&machine);
         try_refusals(&machine);
+        if (i % 10 == 0) try_images();
         NEED(run(sizeof buffer, sizeof calls, &batch) == VEZHNAKE_OK);
         NEED(run(1, 1, &batch) == VEZHNAKE_SMALL_BUFFER && batch.answers > 1 && batch.calls > 1);
     }

@@ -1,10 +1,10 @@
 /* Vezhnake in a C program: a persistent machine of objects over your storage.
  *
- * The library never touches your storage. vezhnake_open copies an image that you pass as bytes. vezhnake_step runs
- * lines of a script and returns their answers; vezhnake_serve takes commands and returns answers as numbers.
- * vezhnake_calls then returns the device calls that these made: writes and syncs. Carry them out on your storage, in
- * this order, before you trust the answers. If your storage fails, close the handle, and open it again from what the
- * storage holds.
+ * The library never touches your storage. vezhnake_build makes an image of a description. vezhnake_open copies an image
+ * that you pass as bytes. vezhnake_step runs lines of a script and returns their answers; vezhnake_serve takes commands
+ * and returns answers as numbers. vezhnake_calls then returns the device calls that these made: writes and syncs. Carry
+ * them out on your storage, in this order, before you trust the answers. If your storage fails, close the handle, and
+ * open it again from what the storage holds.
  *
  * You must keep these rules. Nothing checks them:
  *   - Each pointer has as many bytes behind it as its size says. The arguments of one call don't overlap.
@@ -45,10 +45,18 @@ enum vezhnake_status {
     VEZHNAKE_BAD_CACHE = 13,        /* the cache is neither 0 nor 8 to 8192 */
     VEZHNAKE_ALREADY_OPEN = 14,     /* the handle is open already */
     VEZHNAKE_NOT_OPEN = 15,         /* the handle is not open */
-    VEZHNAKE_SMALL_BUFFER = 16,     /* the buffer is too small: *size is the size that fits, and nothing is lost */
-    VEZHNAKE_CALLS_LOST = 17,       /* the calls are no longer kept: close the handle */
+    VEZHNAKE_SMALL_BUFFER = 16,     /* the buffer is too small: *size is the size that fits */
+    VEZHNAKE_CALLS_LOST = 17,       /* the calls are no longer kept: close the handle. Tests never see it */
     VEZHNAKE_FAILED = 18,           /* memory ran out in opening, or the text could not be read: close the handle */
-    VEZHNAKE_BAD_COMMAND = 19       /* a command's kind or register is out of range */
+    VEZHNAKE_BAD_COMMAND = 19,      /* a command's kind or register is out of range */
+    /* A description is refused. 21 to 26 are `bad description` 1 to 6 of `eros build`. */
+    VEZHNAKE_NOT_TOML = 20,         /* the text is no UTF-8, or no TOML */
+    VEZHNAKE_BAD_SHAPE = 21,        /* the table isn't that of a description */
+    VEZHNAKE_BAD_LIMITS = 22,       /* no image has these sizes, ranges, age or layout */
+    VEZHNAKE_BAD_OBJECT = 23,       /* a number isn't one of its kind, or is named twice */
+    VEZHNAKE_BAD_FIELD = 24,        /* a field of a process, node or page is bad */
+    VEZHNAKE_BAD_TARGET = 25,       /* a capability names an object that it can't name */
+    VEZHNAKE_BAD_OWNER = 26         /* an object has no owner within its limit */
 };
 
 /* A handle. Its fields are the library's. */
@@ -232,7 +240,7 @@ static inline uint32_t vezhnake_restart(vezhnake_machine *handle, vezhnake_reply
     return vezhnake_numbered(handle, VEZHNAKE_RESTART, 0, 0, 0, reply);
 }
 
-/* Closes the handle and frees its memory. */
+/* Closes the handle. It frees its memory, which is tested and not proved. */
 uint32_t vezhnake_close(vezhnake_machine *handle);
 
 /* How many bytes the answers and the calls of a batch have. */
@@ -245,6 +253,53 @@ typedef struct vezhnake_batch {
  * nothing. After VEZHNAKE_SMALL_BUFFER call it again with buffers of the sizes in the batch. */
 uint32_t vezhnake_run(const uint8_t *image, size_t image_size, uint64_t cache, const uint8_t *script, size_t script_size,
                       uint8_t *answers, size_t answers_size, uint8_t *calls, size_t calls_size, vezhnake_batch *batch);
+
+/* ---- Images as bytes. These need no handle, and keep nothing. */
+
+/* Builds the image of a description's text, as `eros build` does, copies it to the buffer, and sets *size to its length.
+ * After VEZHNAKE_SMALL_BUFFER *size is the size that fits; the image was not built, so a rule may still be broken. After
+ * another status the buffer and *size are unchanged. */
+uint32_t vezhnake_build(const uint8_t *text, size_t text_size, uint8_t *image, size_t image_size, size_t *size);
+
+/* A home range: its first number, and how many numbers it has. */
+typedef struct vezhnake_range {
+    uint64_t first;
+    uint64_t count;
+} vezhnake_range;
+
+/* What an image has, as `eros info` prints it. */
+typedef struct vezhnake_info {
+    uint64_t layout; /* the version of the layout */
+    uint64_t nodes;  /* how many numbers are of nodes, and of pages */
+    uint64_t pages;
+    uint64_t log; /* how many slots each half of the log has */
+    uint64_t sectors;
+    uint64_t generation; /* the checkpoint that it saves: how many were committed */
+    uint64_t age;
+    uint64_t entries;      /* how many of its objects are still in the log */
+    uint64_t free;         /* how many numbers are free */
+    uint64_t page_objects; /* how many objects there are of each kind; a process has two */
+    uint64_t node_objects;
+    uint64_t processes;
+    uint64_t banks;
+    uint64_t ranges_count;
+    vezhnake_range ranges[8]; /* the home ranges; the others are 0 */
+} vezhnake_info;
+
+/* Opens the image in these bytes as vezhnake_open does, and sets *info. A status other than VEZHNAKE_OK says why an image is
+ * refused, and leaves *info alone. */
+uint32_t vezhnake_check(const uint8_t *image, size_t image_size, vezhnake_info *info);
+
+/* Copies the description of all that an image saves to the buffer, as `eros describe` prints it, and sets *size to its
+ * length. After VEZHNAKE_SMALL_BUFFER *size is the size that fits. After another status the buffer and *size are unchanged. */
+uint32_t vezhnake_describe(const uint8_t *image, size_t image_size, uint8_t *text, size_t text_size, size_t *size);
+
+/* Copies the line that `eros explain` prints of an image to the buffer, without its newline: "ok", or where it breaks which
+ * rule, and what is wrong. Buffer and *size are as for vezhnake_describe; 300 bytes fit each line. */
+uint32_t vezhnake_explain(const uint8_t *image, size_t image_size, uint8_t *line, size_t line_size, size_t *size);
+
+/* The same of a description's text. Its line may be longer. VEZHNAKE_NOT_TOML if the text is no UTF-8. */
+uint32_t vezhnake_explain_text(const uint8_t *text, size_t text_size, uint8_t *line, size_t line_size, size_t *size);
 
 /* The version of the library, as in VEZHNAKE_VERSION. The text is never freed. */
 const char *vezhnake_version(void);

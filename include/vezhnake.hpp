@@ -146,6 +146,40 @@ inline std::string text_of(const vezhnake_reply &reply) {
     }
 }
 
+// What a call of the library copies to a buffer, which has `size` bytes at first.
+inline std::vector<uint8_t> copied(uint32_t call(const uint8_t *, size_t, uint8_t *, size_t, size_t *), const uint8_t *data, size_t length,
+                                   size_t size) {
+    std::vector<uint8_t> buffer(size);
+    uint32_t status = 0;
+    while ((status = call(data, length, buffer.data(), buffer.size(), &size)) == VEZHNAKE_SMALL_BUFFER) buffer.resize(size);
+    if (status) throw status_error(status);
+    buffer.resize(size);
+    return buffer;
+}
+inline std::string as_text(const std::vector<uint8_t> &bytes) { return {bytes.begin(), bytes.end()}; }
+
+// The image of a description, which is a text in TOML. The status of the exception says which rule the description breaks.
+inline std::vector<uint8_t> build(std::string_view description) {
+    return copied(vezhnake_build, reinterpret_cast<const uint8_t *>(description.data()), description.size(), 0);
+}
+// What an image has, if it can be opened.
+inline vezhnake_info check(const std::vector<uint8_t> &image) {
+    vezhnake_info info{};
+    if (const uint32_t status = vezhnake_check(image.data(), image.size(), &info)) throw status_error(status);
+    return info;
+}
+// The description of all that an image saves.
+inline std::string describe(const std::vector<uint8_t> &image) {
+    return as_text(copied(vezhnake_describe, image.data(), image.size(), 1 << 16));
+}
+// "ok", or where an image, or a description, breaks which rule, and what is wrong there.
+inline std::string explain(const std::vector<uint8_t> &image) {
+    return as_text(copied(vezhnake_explain, image.data(), image.size(), 1 << 10));
+}
+inline std::string explain(std::string_view description) {
+    return as_text(copied(vezhnake_explain_text, reinterpret_cast<const uint8_t *>(description.data()), description.size(), 1 << 10));
+}
+
 // What an invocation gave. `code` is the result code, if a kernel object replied, and `values` are the other words of its reply.
 struct reply {
     std::optional<uint64_t> code;

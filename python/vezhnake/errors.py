@@ -10,7 +10,10 @@ STATUSES = {
     11: "memory ran out", 12: "the image isn't a whole number of sectors, or is over 64 MiB", 13: "the cache is neither 0 nor 8 to 8192",
     14: "the machine is open already", 15: "the machine is closed", 16: "the buffer is too small", 17: "the calls are no longer kept",
     18: "memory ran out while the image was opened, or the text could not be read",
-    19: "a number or a register is out of range",
+    19: "a number or a register is out of range", 20: "bad description: the text is no UTF-8, or no TOML",
+    21: "bad description 1: not a description's table", 22: "bad description 2: no image has these limits",
+    23: "bad description 3: a bad number", 24: "bad description 4: a bad field", 25: "bad description 5: a bad target",
+    26: "bad description 6: a bad owner",
 }
 
 
@@ -44,6 +47,14 @@ class StatusError(Error):
 
 class BadImage(StatusError):
     """The image is refused. `status` is the reason, 1 to 10."""
+
+
+class BadDescription(StatusError, ValueError):
+    """The description is refused. `number` is the reason of `eros build`, 1 to 6, or 0 if the text isn't TOML."""
+
+    @property
+    def number(self) -> int:
+        return self.status - 20
 
 
 class BadArgument(StatusError, ValueError):
@@ -155,6 +166,8 @@ def status_error(status: int) -> StatusError:
     """The exception for a status other than 0."""
     if status <= 10:
         return BadImage(status)
+    if 20 <= status <= 26:
+        return BadDescription(status)
     kinds = {11: NoMemory, 12: BadArgument, 13: BadArgument, 15: Closed, 17: Closed, 18: NoMemory, 19: BadCommand}
     return kinds.get(status, StatusError)(status)
 

@@ -8,7 +8,7 @@ import struct
 from functools import cache
 from pathlib import Path
 
-OK, NO_MEMORY, ALREADY_OPEN, NOT_OPEN, SMALL_BUFFER, BAD_COMMAND = 0, 11, 14, 15, 16, 19
+OK, NO_MEMORY, ALREADY_OPEN, NOT_OPEN, SMALL_BUFFER, BAD_COMMAND, NOT_TOML = 0, 11, 14, 15, 16, 19, 20
 NO_CODE = 2**32 - 1
 STAGES = 5
 SYNC = 2**64 - 1
@@ -52,6 +52,20 @@ class RawObject(ctypes.Structure):
     ]
 
 
+class RawRange(ctypes.Structure):
+    _fields_ = [("first", ctypes.c_uint64), ("count", ctypes.c_uint64)]
+
+
+class RawInfo(ctypes.Structure):
+    _fields_ = [
+        *((name, ctypes.c_uint64) for name in (
+            "layout", "nodes", "pages", "log", "sectors", "generation", "age", "entries", "free", "page_objects", "node_objects", "processes",
+            "banks", "ranges_count",
+        )),
+        ("ranges", RawRange * 8),
+    ]
+
+
 def find() -> str:
     """The path of the shared object: VEZHNAKE_LIBRARY, the file beside this module, or the repository's."""
     here = Path(__file__).resolve().parent
@@ -79,6 +93,11 @@ def library() -> ctypes.CDLL:
         "save": (handle, reply, size, result),
         "page": (handle, ctypes.c_uint64, ctypes.POINTER(RawPage), reply),
         "show": (handle, ctypes.c_uint64, ctypes.POINTER(RawObject), reply),
+        "build": (data, size, buffer, size, result),
+        "check": (data, size, ctypes.POINTER(RawInfo)),
+        "describe": (data, size, buffer, size, result),
+        "explain": (data, size, buffer, size, result),
+        "explain_text": (data, size, buffer, size, result),
         "run": (data, size, ctypes.c_uint64, data, size, buffer, size, buffer, size, batch),
     }
     for name, arguments in types.items():

@@ -29,6 +29,25 @@ pub enum BadImage {
     BadBank,
 }
 
+/// Why a description is refused.
+#[derive(Debug, Clone, Copy, PartialEq, Eq, Hash)]
+pub enum BadDescription {
+    /// The text isn't TOML.
+    NotToml,
+    /// The table isn't that of a description.
+    Shape,
+    /// No image has these sizes, ranges, age or layout.
+    Limits,
+    /// A number isn't one of its kind, or is named twice.
+    Number,
+    /// A field of a process, a node or a page is bad.
+    Field,
+    /// A capability names an object that it can't name.
+    Target,
+    /// An object has no owner within its limit.
+    Owner,
+}
+
 /// The result code of an order.
 #[derive(Debug, Clone, Copy, PartialEq, Eq, Hash)]
 #[non_exhaustive]
@@ -156,6 +175,8 @@ impl From<&str> for Refusal {
 pub enum Error {
     /// The image is refused.
     BadImage(BadImage),
+    /// The description is refused.
+    BadDescription(BadDescription),
     /// The image isn't a whole number of sectors, or is over 64 MiB.
     BadSize,
     /// The cache is neither 0 nor 8 to 8192.
@@ -192,6 +213,15 @@ impl Error {
             BadProcess,
             BadBank,
         ];
+        const RULES: [BadDescription; 7] = [
+            BadDescription::NotToml,
+            BadDescription::Shape,
+            BadDescription::Limits,
+            BadDescription::Number,
+            BadDescription::Field,
+            BadDescription::Target,
+            BadDescription::Owner,
+        ];
         match status {
             1..=10 => Error::BadImage(REASONS[status as usize - 1]),
             11 | 18 => Error::NoMemory,
@@ -199,6 +229,7 @@ impl Error {
             13 => Error::BadCache,
             15 | 17 => Error::Closed,
             19 => Error::BadCommand,
+            20..=26 => Error::BadDescription(RULES[status as usize - 20]),
             _ => Error::Status(status),
         }
     }
@@ -208,6 +239,9 @@ impl fmt::Display for Error {
     fn fmt(&self, f: &mut fmt::Formatter<'_>) -> fmt::Result {
         match self {
             Error::BadImage(reason) => write!(f, "bad image {}: {reason:?}", *reason as u32),
+            Error::BadDescription(rule) => {
+                write!(f, "bad description {}: {rule:?}", *rule as u32)
+            }
             Error::BadSize => {
                 f.write_str("the image isn't a whole number of sectors, or is over 64 MiB")
             }

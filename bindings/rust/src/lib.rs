@@ -22,7 +22,7 @@
 //! # }
 //! ```
 //!
-//! [`Machine::open`] opens a file, which `eros build` makes:
+//! [`build`] makes the image of a description. [`Machine::open`] opens a file, which `eros build` makes too:
 //!
 //! ```no_run
 //! let mut machine = vezhnake::Machine::open("first.image")?;
@@ -35,14 +35,16 @@
 mod commands;
 mod error;
 mod example;
+mod images;
 mod machine;
 mod message;
 mod storage;
 mod sys;
 
 pub use commands::{Invocation, Kind, Operation, Reply};
-pub use error::{BadImage, Code, Error, Refusal, Result};
+pub use error::{BadDescription, BadImage, Code, Error, Refusal, Result};
 pub use example::example_image;
+pub use images::{build, check, describe, explain, explain_description, Info};
 pub use machine::{Machine, ALL};
 pub use message::{Message, NewMessage};
 pub use storage::{FileStorage, Storage};

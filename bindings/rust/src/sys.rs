@@ -70,7 +70,68 @@ pub struct Object {
     pub slots: [Capability; 32],
 }
 
+/// A home range.
+#[repr(C)]
+#[derive(Debug, Clone, Copy, Default)]
+pub struct Range {
+    pub first: u64,
+    pub count: u64,
+}
+
+/// What an image has.
+#[repr(C)]
+#[derive(Debug, Clone, Copy, Default)]
+pub struct Info {
+    pub layout: u64,
+    pub nodes: u64,
+    pub pages: u64,
+    pub log: u64,
+    pub sectors: u64,
+    pub generation: u64,
+    pub age: u64,
+    pub entries: u64,
+    pub free: u64,
+    pub page_objects: u64,
+    pub node_objects: u64,
+    pub processes: u64,
+    pub banks: u64,
+    pub ranges_count: u64,
+    pub ranges: [Range; 8],
+}
+
+/// A call that copies what it makes of bytes to a buffer.
+pub type Copying = unsafe extern "C" fn(*const u8, usize, *mut u8, usize, *mut usize) -> u32;
+
 extern "C" {
+    pub fn vezhnake_build(
+        text: *const u8,
+        text_size: usize,
+        image: *mut u8,
+        image_size: usize,
+        size: *mut usize,
+    ) -> u32;
+    pub fn vezhnake_check(image: *const u8, image_size: usize, info: *mut Info) -> u32;
+    pub fn vezhnake_describe(
+        image: *const u8,
+        image_size: usize,
+        text: *mut u8,
+        text_size: usize,
+        size: *mut usize,
+    ) -> u32;
+    pub fn vezhnake_explain(
+        image: *const u8,
+        image_size: usize,
+        line: *mut u8,
+        line_size: usize,
+        size: *mut usize,
+    ) -> u32;
+    pub fn vezhnake_explain_text(
+        text: *const u8,
+        text_size: usize,
+        line: *mut u8,
+        line_size: usize,
+        size: *mut usize,
+    ) -> u32;
     pub fn vezhnake_open(image: *const u8, size: usize, cache: u64, handle: *mut Handle) -> u32;
     pub fn vezhnake_step(
         handle: *mut Handle,

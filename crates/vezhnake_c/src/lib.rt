@@ -9,9 +9,16 @@ ghost use Rattle.vezhnake.specs.Sessions.{ClosesHandle, CopiesAnswer, OnSession,
 ghost use Rattle.vezhnake.specs.Sessions.{TakesCalls};
 ghost use Rattle.vezhnake.specs.Statuses.{number_of};
 ghost use Rattle.vezhnake.specs.TypedCalls.{SavesSession, ServesBatch, ShowsObject, ShowsPage};
+ghost use Rattle.vezhnake_images.specs.BuiltBytes.{BuildsBytes};
+ghost use Rattle.vezhnake_images.specs.ImageStatuses.{image_number};
+ghost use Rattle.vezhnake_images.specs.ReadBytes.{ChecksBytes, DescribesBytes, ExplainsBytes, ExplainsText};
+ghost use Rattle.vezhnake_images.specs.declared.image_status.ImageStatus.{ImageStatus};
 
 use std::alloc::Global;
 use vezhnake::{Batch, Handle, RawCommand, RawObject, RawPage, RawReply, run_batch};
+use vezhnake_images::{
+    RawInfo, build_bytes, check_bytes, describe_bytes, explain_bytes, explain_text,
+};
 
 /// Opens the image in these bytes. If `cache` is 0, all objects are in memory. Otherwise it is the
 /// capacity of a cache.
@@ -152,4 +159,69 @@ pub extern "C" fn vezhnake_run(
         batch.new.answers batch.new.calls status }
 {
     run_batch(alloc, image, cache, script, answers, calls, batch).number()
+}
+
+/// Builds the image of a description's text, as `eros build` does, and copies it.
+#[unsafe(no_mangle)]
+pub extern "C" fn vezhnake_build(
+    alloc: Global,
+    text: &[u8],
+    image: &mut [u8],
+    size: &mut usize,
+) -> u32
+    ensures { (status : ImageStatus) × (result ≡ image_number status)
+        × BuildsBytes text.now image.old image.new size.old size.new status }
+{
+    build_bytes(alloc, text, image, size).number()
+}
+
+/// Opens the image in these bytes, as `eros check` does, and returns what it has.
+#[unsafe(no_mangle)]
+pub extern "C" fn vezhnake_check(alloc: Global, image: &[u8], info: &mut RawInfo) -> u32
+    ensures { (status : ImageStatus) × (result ≡ image_number status)
+        × ChecksBytes image.now info.old info.new status }
+{
+    check_bytes(alloc, image, info).number()
+}
+
+/// Copies the description of all that an image saves, as `eros describe` prints it.
+#[unsafe(no_mangle)]
+pub extern "C" fn vezhnake_describe(
+    alloc: Global,
+    image: &[u8],
+    text: &mut [u8],
+    size: &mut usize,
+) -> u32
+    ensures { (status : ImageStatus) × (result ≡ image_number status)
+        × DescribesBytes image.now text.old text.new size.old size.new status }
+{
+    describe_bytes(alloc, image, text, size).number()
+}
+
+/// Copies the line of `eros explain` about an image.
+#[unsafe(no_mangle)]
+pub extern "C" fn vezhnake_explain(
+    alloc: Global,
+    image: &[u8],
+    line: &mut [u8],
+    size: &mut usize,
+) -> u32
+    ensures { (status : ImageStatus) × (result ≡ image_number status)
+        × ExplainsBytes image.now line.old line.new size.old size.new status }
+{
+    explain_bytes(alloc, image, line, size).number()
+}
+
+/// Copies the line of `eros explain` about a description.
+#[unsafe(no_mangle)]
+pub extern "C" fn vezhnake_explain_text(
+    alloc: Global,
+    text: &[u8],
+    line: &mut [u8],
+    size: &mut usize,
+) -> u32
+    ensures { (status : ImageStatus) × (result ≡ image_number status)
+        × ExplainsText text.now line.old line.new size.old size.new status }
+{
+    explain_text(alloc, text, line, size).number()
 }
