@@ -9,7 +9,7 @@ from changes import by_chance
 from common import EXAMPLES, ROOT
 from library_python import raises
 from reader import read
-from row_files import ROWS
+from row_files import ROWS, SECTOR
 
 sys.path.insert(0, str(ROOT / "python"))
 import vezhnake  # noqa: E402
@@ -49,7 +49,7 @@ def try_description(eros, text, folder):
     line = lines_of(eros, "build", "--new", file, image)
     built = reason_of(lambda: vezhnake.build(text.decode()), vezhnake.BadDescription)
     if isinstance(built, bytes):
-        need(line == f"built {len(built) // 512} sectors\n" and image.read_bytes() == built, f"another image than the program's: {line}")
+        need(line == f"built {len(built) // SECTOR} sectors\n" and image.read_bytes() == built, f"another image than the program's: {line}")
     else:
         wanted = "eros: bad description" + (f" {built - 20}" if built > 20 else "") + "\n"
         need(line == wanted, f"the program says {line!r}, the library {built}")
@@ -62,7 +62,9 @@ def try_image(eros, data, folder):
     file = folder / "read.image"
     file.write_bytes(data)
     line, found = lines_of(eros, "check", file), reason_of(lambda: vezhnake.check(data), vezhnake.BadImage)
-    need(lines_of(eros, "explain", file) == vezhnake.explain(data) + "\n", f"another explanation: {vezhnake.explain(data)}")
+    # The program takes a file without a byte of zero for a description.
+    if 0 in data:
+        need(lines_of(eros, "explain", file) == vezhnake.explain(data) + "\n", f"another explanation: {vezhnake.explain(data)}")
     if not isinstance(found, vezhnake.Info):
         need(line == f"eros: bad image {found}\n", f"the program says {line!r}, the library {found}")
         need(reason_of(lambda: vezhnake.describe(data), vezhnake.BadImage) == found, "another reason not to describe")
@@ -111,8 +113,8 @@ def try_images(eros, folder, chance, in_cpp):
                 machine.run("checkpoint\nstabilize 4096\ncommit\n")
         data = storage.read()
         need(try_image(eros, data, folder), "an image that was saved is refused")
-        changed = by_chance([(data, read(data))], chance.random(), number)[0] if number % 4 else data[: 512 * chance.randrange(len(data) // 512)]
-        accepted += try_image(eros, changed, folder)
+        changed = by_chance([(data, read(data))], chance.random(), number)[0] if number % 4 else data[: SECTOR * chance.randrange(len(data) // SECTOR)]
+        accepted += try_image(eros, changed[: len(changed) // SECTOR * SECTOR], folder)
     need(0 < accepted < CHANGES, f"{accepted} of {CHANGES} changed images are accepted")
     raises(vezhnake.BadArgument, "half a sector", lambda: vezhnake.check(data[:-256]))
     raises(vezhnake.BadArgument, "over 64 MiB", lambda: vezhnake.explain(bytes((64 << 20) + 512)))
