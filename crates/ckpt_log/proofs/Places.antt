@@ -1,5 +1,5 @@
 -- Where slots and directories lie.
-use Rattle.ckpt_log.proofs.Names.{nat_tests, inl, arith, shape_of, half_within, half_apart, few_sectors, SlotsAreInside, FramesAreInSlots, DirectoriesAreInside}
+use Rattle.ckpt_log.proofs.Names.{nat_tests, inl, arith, half_within, half_apart, few_sectors, SlotsAreInside, FramesAreInSlots, DirectoriesAreInside}
 use Rattle.ckpt_log.proofs.Names.{HalvesAreWithin, HalvesAreApart, SlotsAreApart, SlotsSpareDirectories, ℕ, Plan, IsPlan, place_length, frame_sector}
 use Rattle.ckpt_log.proofs.Names.{half_sector, slot_sector, directory_sector, directory_length, same_sectors, same_shaped, SequencesAreReported, NextFollows}
 use Rattle.ckpt_log.proofs.Names.{HeadersSpareSectors, HeadersSpareFrames, HeadersSpareSlots, HeadersSpareDirectories}
@@ -10,7 +10,7 @@ pub slots_inside : SlotsAreInside
 slots_inside p generation slot lt = record { starts = omega arith; ends = omega arith }
 
 pub frames_in_slots : FramesAreInSlots
-frames_in_slots p generation slot object = let le = few_sectors (shape_of p object) in record { starts = omega arith; ends = omega (arith, le) }
+frames_in_slots p generation slot object = let le = few_sectors p object in record { starts = omega arith; ends = omega (arith, le) }
 
 pub directories_inside : DirectoriesAreInside
 directories_inside p generation n le = record { starts = omega arith; ends = omega arith }

@@ -1,5 +1,5 @@
 -- Images that agree in the sectors that a saved state is read from.
-use Rattle.ckpt_log.proofs.Names.{nat_tests, ℕ, Option, refl, arith, Image, shape_of, committed_slot, option_at, frame_sector, directory_sector}
+use Rattle.ckpt_log.proofs.Names.{nat_tests, ℕ, List, Option, IsFrameOf, refl, sym, subst, arith, Image, shape_of, committed_slot, option_at, frame_sector, directory_sector}
 use Rattle.ckpt_log.proofs.Names.{directory_length, same_sectors, same_shaped, SameFrom, SameHeader, SameDirectory, SameFrames, SameSaved, frame_at, Elsewhere}
 use Rattle.ckpt_log.proofs.Names.{CheckpointHeader, Plan, SavedState, Encodes, half_sector, frame_slot_in, slot_sector, sector_or, header_sector}
 use Rattle.ckpt_log.proofs.Names.{HomesAreBehind, FramesAreBehind, IsReady, NewIsDenoted, OldIsDenoted}
@@ -27,7 +27,14 @@ pub same_frames : SameFrames
 same_frames old new p h es object same = same_shaped (frame_sector p h.generation es object) (shape_of p object) old new same
 
 pub same_saved : SameSaved
-same_saved = grind (arith, nat_tests, same_header, same_directory, same_frames)
+same_saved old new size s first same was = record {
+  plan = record { least = was.plan.least; whole = was.plan.whole; fits = was.plan.fits; spelt = first 0 (omega arith) ∙ was.plan.spelt };
+  header = record { fits = was.header.fits; spelt = (same_header old new same.headers).1 ∙ was.header.spelt };
+  directory = same_directory old new s.plan s.header s.directory same.directory was.directory;
+  count = was.count;
+  each = λ object lt. subst (λ (bytes : List ℕ). IsFrameOf s.plan.geometry s.header.age object bytes (frame_at s.frames object))
+      (sym (same_frames old new s.plan s.header s.directory object (same.frames object lt))) (was.each object lt);
+}
 
 -- ---- what a device denotes after a commit, and after a crash in its course
 

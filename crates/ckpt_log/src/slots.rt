@@ -6,7 +6,7 @@ ghost use Rattle.layout.specs.Frame.{IsFrameOf, frame_bytes, frame_of, page_fram
 ghost use Rattle.layout.specs.Homes.{place_length, shape_of};
 ghost use Rattle.layout.specs.Image.{bytes_at, sectors_from, slot_sector};
 ghost use Rattle.layout.specs.Calls.{ReadsOnly, WritesAt};
-ghost use Rattle.layout.specs.Clusters.{HasZerosBeside};
+ghost use Rattle.layout.specs.Shape.{HasZerosBeside};
 ghost use Rattle.layout.specs.Fault.{CountsOpen};
 ghost use Rattle.layout.specs.Frames.{IsObject, IsRefused};
 ghost use Rattle.model.specs.Frame.{content_behind};
@@ -48,8 +48,8 @@ impl<'a> Log<'a> {
         read_frame(device, at, shape, self.geometry(), number, age, scratch)
     }
 
-    /// Writes the frame of an object into a slot of the half of a generation. In a cluster it sets all
-    /// bytes beside the frame to 0. For all other sectors it keeps their bytes and adds nothing to what a
+    /// Writes the frame of an object into a slot of the half of a generation. It sets all bytes beside the
+    /// frame in its block to 0. For all other sectors it keeps their bytes and adds nothing to what a
     /// crash may leave in them.
     ///
     /// Returns `Failed` exactly if the device failed; then the sectors of the shape may hold any bytes.

@@ -1,6 +1,6 @@
 mod Names
 pub mod Places
-pub mod Shared
+pub mod Filling
 pub mod FrameSlots
 pub mod LaidAgain
 mod LaidPlans

@@ -1,12 +1,12 @@
 -- Places of numbers in ranges that cover them.
-use Rattle.home_ranges.proofs.Names.{ℕ, zero, suc, Option, Some, None, List, [], length, get_or, sym, ap, subst, inl, inr, arith, Result, true, false, nat_lt}
-use Rattle.home_ranges.proofs.Names.{min, OnOk, ⊤, cases_lt, length-map, get_or_append_left, get_or-map, nat_tests, Geometry, Image, Extent, HomeRange, Half}
-use Rattle.home_ranges.proofs.Names.{First, Second, Shape, Node, Packed, Page, Version, Two, half_of, range_with, place_in, place_by, home_place, rank_in}
-use Rattle.home_ranges.proofs.Names.{shape_of, place_length, sectors_from, node_shape, shape_bytes, shape_length, Plan, IsPlan, Cover, IsOfOneKind, IsWithin}
+use Rattle.home_ranges.proofs.Names.{ℕ, zero, suc, Option, Some, None, List, [], length, get_or, sym, ap, subst, inl, inr, arith, true, false, nat_lt}
+use Rattle.home_ranges.proofs.Names.{min, cases_lt, length-map, get_or_append_left, get_or-map, nat_tests, Geometry, Image, Extent, HomeRange, Half}
+use Rattle.home_ranges.proofs.Names.{First, Second, Shape, Version, row, page_shape, shape_end, AreBeside, IsFirstOf, frames_in_block, half_of, range_with, place_in, place_by, home_place, rank_in}
+use Rattle.home_ranges.proofs.Names.{shape_of, place_length, sectors_from, node_shape, shape_length, Plan, IsPlan, Cover, IsOfOneKind, IsWithin}
 use Rattle.home_ranges.proofs.Names.{IsApart, IsInside, extent_at, extents, range_extent, half_extent, half_start, itself, apart_inside, apart_turned, many}
-use Rattle.home_ranges.proofs.Names.{half_at, IsObject, EndsInZeros, HaveHome, HoldsHome, home_extent, PlacesAreWithin, PlacesAreApart, NumbersAreApart}
+use Rattle.home_ranges.proofs.Names.{half_at, IsObject, HaveHome, HoldsHome, home_extent, PlacesAreWithin, PlacesAreApart, NumbersAreApart}
 use Rattle.home_ranges.proofs.Names.{PlacesSpareLog, same_Some, range_at}
-use Rattle.std.proofs.Common.{◌≡◌, ◌⊎◌, ◌+◌, ◌-◌, ◌/◌, ◌%◌, ◌<◌, ◌≤◌, ◌∷◌, ◌∙◌}
+use Rattle.std.proofs.Common.{◌≡◌, ◌⊎◌, ◌+◌, ◌-◌, ◌*◌, ◌/◌, ◌%◌, ◌<◌, ◌≤◌, ◌∷◌, ◌∙◌}
 use Rattle.std.specs.Prelude.{if◌then◌else◌}
 
 -- a range has a number, and all of its numbers are of one kind
@@ -59,7 +59,7 @@ found {p} number fits is = find_in p.geometry 0 p.ranges fits.cover (omega arith
 
 -- how the frame of a number in a range lies
 abbrev shape_in : Version → Geometry → HomeRange → ℕ → Shape
-shape_in v g r number = if nat_lt number g.nodes then node_shape v ((number - r.first) % 5) else Page
+shape_in v g r number = if nat_lt number g.nodes then node_shape v ((number - r.first) % (row v).cluster_nodes) else page_shape
 
 abbrev extent_of : ℕ → ℕ → Extent
 extent_of sector length = record { sector = sector; length = length }
@@ -188,8 +188,8 @@ found_too {g} n (suc i) {number} (r ∷ rs) c lt has =
       found = let behind : range_with (r ∷ rs) number ≡ range_with rs number = grind (arith, nat_tests) in behind ∙ rest.found;
     }
 
-some_sectors : (s : Shape) → 1 ≤ shape_length s
-some_sectors s = grind (arith, nat_tests)
+some_sectors : (p : Plan) (n : ℕ) → 1 ≤ place_length p n
+some_sectors p n = grind (arith, nat_tests)
 
 -- two extents that begin in one sector aren't apart
 never_apart : {d e : Extent} → d.sector ≡ e.sector → 1 ≤ d.length → 1 ≤ e.length → IsApart d e → ⊥
@@ -206,7 +206,7 @@ one_range {p} {a} {b} fits is_a is_b same = grind (arith, nat_tests, either_rang
 
 -- the shape of a number is that in its range
 pub shape_is : (p : Plan) {number i : ℕ} → IsFound p.geometry p.ranges number i → shape_of p number ≡ shape_in p.version p.geometry (range_at p.ranges i) number
-shape_is p {number} at = ap (λ (r : Option HomeRange). if nat_lt number p.geometry.nodes then node_shape p.version (rank_in r number) else Page) at.found
+shape_is p {number} at = ap (λ (r : Option HomeRange). if nat_lt number p.geometry.nodes then node_shape p.version (rank_in p.version r number) else page_shape) at.found
 
 -- what has one home has as many sectors
 pub one_length : (p : Plan) (a b : ℕ) → IsPlan p → IsObject p.geometry a → IsObject p.geometry b → home_place p a ≡ home_place p b →
@@ -247,90 +247,141 @@ place_lies {p} {number} {place} {r} fits is reported made = grind (arith, nat_te
 
 -- ---- who has a home
 
--- a frame in sectors of its own
-abbrev pub IsOwn : Shape → Type 0
-IsOwn Node = ⊤
-IsOwn (Packed rank) = ⊥
-IsOwn Page = ⊤
+-- a frame takes its block alone
+abbrev pub IsWhole : Shape → Type 0
+IsWhole s = s.bytes ≡ 512 * s.sectors
 
--- a number is of this rank in a cluster of its range
-pub record IsRanked (v : Version) (g : Geometry) (r : HomeRange) (number rank : ℕ) : Type 0 where
-  pub second : v ≡ Two
-  pub nodes : r.first + r.count ≤ g.nodes
-  pub value : rank ≡ (number - r.first) % 5
+module _ {g : Geometry} {r : HomeRange} {a b : ℕ} (has_a : Has g r a) (has_b : Has g r b) where
+  -- in a range, what has the home of a number
+  one_block : (v : Version) → place_in v g r a ≡ place_in v g r b → (a - r.first) / frames_in_block v g b ≡ (b - r.first) / frames_in_block v g b
+  one_block v same = grind (arith, nat_tests)
 
-pub ranked_in : {v : Version} {g : Geometry} {r : HomeRange} {number rank : ℕ} → Has g r number → shape_in v g r number ≡ Packed rank →
-    IsRanked v g r number rank
-ranked_in {v} {g} {r} {number} {rank} has e = grind (arith, nat_tests)
+  one_place : (v : Version) → (a - r.first) / frames_in_block v g b ≡ (b - r.first) / frames_in_block v g b → place_in v g r a ≡ place_in v g r b
+  one_place v same = grind (arith, nat_tests)
 
--- in a range, what has the home of a number
-pub one_cluster : {v : Version} {g : Geometry} {r : HomeRange} {a number rank : ℕ} → Has g r a → Has g r number → IsRanked v g r number rank →
-    place_in v g r a ≡ place_in v g r number → (a - r.first) / 5 ≡ (number - r.first) / 5
-one_cluster {v} {g} {r} {a} {number} {rank} has_a has is same = grind (arith, nat_tests)
+  -- its frame lies behind those before it
+  rise_in : (v : Version) → place_in v g r a ≡ place_in v g r b → a < b → shape_end (shape_in v g r a) ≤ (shape_in v g r b).offset
+  rise_in v same lt = grind (arith, nat_tests)
 
--- no other number has the home of a frame in sectors of its own
-pub alone : (p : Plan) (a number : ℕ) → IsPlan p → IsObject p.geometry a → IsObject p.geometry number → IsOwn (shape_of p number) →
-    home_place p a ≡ home_place p number → a ≡ number
-alone p a number fits is_a is own same = grind (arith, nat_tests, one_range, shape_is)
+  whole_alone : (v : Version) → place_in v g r a ≡ place_in v g r b → IsWhole (shape_in v g r b) → a ≡ b
+  whole_alone v same whole = grind (arith, nat_tests)
 
--- what has the home of the first of a cluster lies there by its rank
-pub ranked : (p : Plan) (a number : ℕ) → IsPlan p → IsObject p.geometry a → IsObject p.geometry number → shape_of p number ≡ Packed 0 →
-    home_place p a ≡ home_place p number → (number ≤ a) × (a < number + 5) × (shape_of p a ≡ Packed (a - number)) × (a < p.geometry.nodes)
-ranked p a number fits is_a is shape same = grind (arith, nat_tests, one_range, ranked_in, shape_is, one_cluster, node_in)
+module _ {p : Plan} {a b : ℕ} (fits : IsPlan p) (is_a : IsObject p.geometry a) (is_b : IsObject p.geometry b) (same : home_place p a ≡ home_place p b) where
+  -- of two that have one home, the frame of the greater lies behind that of the other
+  pub frames_rise : a < b → shape_end (shape_of p a) ≤ (shape_of p b).offset
+  frames_rise lt =
+      let both = one_range fits is_a is_b same in
+      rw (shape_is p both.1.one, shape_is p both.1.other) (rise_in both.1.one.has both.1.other.has p.version both.1.place lt)
 
--- ---- the numbers of a cluster
+  -- no other number has the home of a frame that is a block
+  pub alone : IsWhole (shape_of p b) → a ≡ b
+  alone whole =
+      let both = one_range fits is_a is_b same in
+      whole_alone both.1.one.has both.1.other.has p.version both.1.place (rw (shape_is p both.1.other) at whole)
 
-module _ (p : Plan) (number rank i : ℕ) (fits : IsPlan p) (at : IsFound p.geometry p.ranges number i)
-    (is : IsRanked p.version p.geometry (range_at p.ranges i) number rank) where
-  abbrev r : HomeRange
-  r = range_at p.ranges i
+pub frames_beside : {p : Plan} {a b : ℕ} → IsPlan p → IsObject p.geometry a → IsObject p.geometry b → home_place p a ≡ home_place p b → (a ≡ b → ⊥) →
+    AreBeside (shape_of p a) (shape_of p b)
+frames_beside {p} {a} {b} fits is_a is_b same differ = elim (cases_lt a b) [
+  | inl lt ↦ inl (frames_rise fits is_a is_b same lt)
+  | inr le ↦ inr (frames_rise fits is_b is_a (sym same) (omega (arith, le, differ)))
+]
 
-  -- another of its range and its five has its home
-  pub beside : {a : ℕ} → r.first ≤ a → a < r.first + r.count → (a - r.first) / 5 ≡ (number - r.first) / 5 → home_place p a ≡ home_place p number
-  beside {a} low high one = grind (arith, nat_tests, found_too, place_is, node_in)
+-- ---- the numbers of a block
 
--- a number of a cluster but the first of it has the home of the number before
-pub one_before : (p : Plan) (number rank : ℕ) → IsPlan p → IsObject p.geometry number → shape_of p number ≡ Packed rank → 1 ≤ rank →
-    (1 ≤ number) × (home_place p (number - 1) ≡ home_place p number)
-one_before p number rank fits is shape some =
-    let there = found number fits is in
-    let at = there.1 in
-    let r : HomeRange = range_at p.ranges there.0 in
-    let here = ranked_in at.has (sym (shape_is p at) ∙ shape) in
-    grind (arith, nat_tests, beside)
+-- counted in a range, blocks of k begin at the multiples of k
+abbrev IsSize : ℕ → Type 0
+IsSize k = (k ≡ 1) ⊎ (k ≡ 5)
 
-module _ {p : Plan} {number : ℕ} (fits : IsPlan p) (is : IsObject p.geometry number) where
-  -- a frame in sectors of its own shares them with none
-  pub itself_alone : IsOwn (shape_of p number) → HaveHome p number 1
-  itself_alone own = grind (arith, nat_tests, alone)
+block_size : (v : Version) (g : Geometry) (n : ℕ) → IsSize (frames_in_block v g n)
+block_size v g n = grind (arith, nat_tests)
 
-  -- a node of a cluster shares it with those behind it, up to the fifth or to the end of the range
-  pub cluster_shared : {r : HomeRange} {rank n : ℕ} → Some r ≡ range_with p.ranges number → shape_of p number ≡ Packed rank →
-      n ≡ min (r.count - (number - r.first)) (5 - rank) → HaveHome p number n
-  cluster_shared {r} {rank} {n} reported shape count =
-      let there = found number fits is in
-      let at = there.1 in
-      let q : HomeRange = range_at p.ranges there.0 in
-      let one : r ≡ q = same_Some _ _ (reported ∙ at.found) in
-      let few : n ≡ min (q.count - (number - q.first)) (5 - rank) = subst (λ (x : HomeRange). n ≡ min (x.count - (number - x.first)) (5 - rank)) one count in
-      let here = ranked_in at.has (sym (shape_is p at) ∙ shape) in
-      grind (arith, nat_tests, beside, one_range, same_Some, found, one_cluster)
+start_within : (k i : ℕ) → IsSize k → i % k ≤ i
+start_within k i (inl one) = rw one (omega arith)
+start_within k i (inr five) = rw five (omega arith)
 
--- the frames of all that have the home of the first node stay where those in the places of these do
-pub cluster_stays : {p : Plan} {first n : ℕ} (old new : List ℕ) → IsPlan p → IsObject p.geometry first → shape_of p first ≡ Packed 0 → HaveHome p first n
-    → ((rank : ℕ) → rank < n → shape_bytes (Packed rank) new ≡ shape_bytes (Packed rank) old)
-    → (a : ℕ) → IsObject p.geometry a → home_place p a ≡ home_place p first → shape_bytes (shape_of p a) new ≡ shape_bytes (shape_of p a) old
-cluster_stays {p} {first} old new fits is shape have stays a is_a same =
-    let at = ranked p a first fits is_a is shape same in
-    let few = have.all a is_a at.0 same in
-    grind (arith, nat_tests)
+start_same : (k i : ℕ) → IsSize k → (i - i % k) / k ≡ i / k
+start_same k i (inl one) = rw one (omega arith)
+start_same k i (inr five) = rw five (omega arith)
+
+start_least : (k i j : ℕ) → IsSize k → j / k ≡ i / k → i - i % k ≤ j
+start_least k i j (inl one) same = let e = rw one at same in rw one (omega (arith, e))
+start_least k i j (inr five) same = let e = rw five at same in rw five (omega (arith, e))
+
+later_same : (k i m : ℕ) → IsSize k → m < k - i % k → (i + m) / k ≡ i / k
+later_same k i m (inl one) lt = let e = rw one at lt in rw one (omega (arith, e))
+later_same k i m (inr five) lt = let e = rw five at lt in rw five (omega (arith, e))
+
+all_before : (k i j : ℕ) → IsSize k → i ≤ j → j / k ≡ i / k → j < i + (k - i % k)
+all_before k i j (inl one) le same = let e = rw one at same in rw one (omega (arith, e, le))
+all_before k i j (inr five) le same = let e = rw five at same in rw five (omega (arith, e, le))
+
+module _ {p : Plan} {number : ℕ} {r : HomeRange} (fits : IsPlan p) (is : IsObject p.geometry number) (reported : Some r ≡ range_with p.ranges number) where
+  abbrev k : ℕ
+  k = frames_in_block p.version p.geometry number
+
+  here : Has p.geometry r number
+  here =
+      let at = found number fits is in
+      subst (λ (x : HomeRange). Has p.geometry x number) (same_Some _ _ (sym at.1.found ∙ sym reported)) at.1.has
+
+  -- all that have its home are of its range
+  in_range : (a : ℕ) → IsObject p.geometry a → home_place p a ≡ home_place p number → Has p.geometry r a × ((a - r.first) / k ≡ (number - r.first) / k)
+  in_range a is_a same =
+      let both = one_range fits is_a is same in
+      let one : range_at p.ranges both.0 ≡ r = same_Some _ _ (sym both.1.other.found ∙ sym reported) in
+      let has : Has p.geometry r a = subst (λ (x : HomeRange). Has p.geometry x a) one both.1.one.has in
+      let place = subst (λ (x : HomeRange). place_in p.version p.geometry x a ≡ place_in p.version p.geometry x number) one both.1.place in
+      (has, one_block has here p.version place)
+
+  -- and what is of its block has its home
+  beside : (a : ℕ) → Has p.geometry r a → (a - r.first) / k ≡ (number - r.first) / k → home_place p a ≡ home_place p number
+  beside a has same =
+      let at = found number fits is in
+      let one : r ≡ range_at p.ranges at.0 = same_Some _ _ (reported ∙ at.1.found) in
+      let place = one_place has here p.version same in
+      let there = found_too 0 at.0 p.ranges fits.cover at.1.within (subst (λ (x : HomeRange). Has p.geometry x a) one has) in
+      place_is p there ∙ subst (λ (x : HomeRange). place_in p.version p.geometry x a ≡ place_in p.version p.geometry x number) one place ∙ sym (place_is p at.1)
+
+  pub first_is : {first : ℕ} → first ≡ number - (number - r.first) % k → IsFirstOf p number first
+  first_is {first} first_at =
+      let i : ℕ = number - r.first in
+      let size = block_size p.version p.geometry number in
+      let few = start_within k i size in
+      let place : first - r.first ≡ i - i % k = omega (arith, first_at, here.low, few) in
+      let has : Has p.geometry r first = record { low = omega (arith, first_at, here.low, few); high = omega (arith, first_at, here.high); kind = here.kind } in
+      record {
+        below = omega (arith, first_at);
+        home = beside first has (ap (λ (m : ℕ). m / k) place ∙ start_same k i size);
+        least = λ a is_a same.
+            let at = in_range a is_a same in
+            let least = start_least k i (a - r.first) size at.1 in
+            omega (arith, first_at, least, at.0.low, here.low, few);
+      }
+
+  -- it shares its home with those behind it, up to the end of its block or of the range
+  pub block_shared : {n : ℕ} → n ≡ min (r.count - (number - r.first)) (k - (number - r.first) % k) → HaveHome p number n
+  block_shared {n} count =
+      let i : ℕ = number - r.first in
+      let size = block_size p.version p.geometry number in
+      let has : (m : ℕ) → m < n → Has p.geometry r (number + m) =
+      λ m lt. record { low = omega (arith, here.low); high = omega (arith, here.low, here.high, count, lt); kind = here.kind } in
+      record {
+        object = λ m lt. grind (arith, nat_tests);
+        same = λ m lt.
+            let sum : number + m - r.first ≡ i + m = omega (arith, here.low) in
+            beside (number + m) (has m lt) (ap (λ (j : ℕ). j / k) sum ∙ later_same k i m size (omega (arith, lt, count)));
+        all = λ a is_a low same.
+            let at = in_range a is_a same in
+            let before = all_before k i (a - r.first) size (omega (arith, low)) at.1 in
+            omega (arith, before, count, at.0.high, at.0.low, here.low);
+      }
+
+-- what lies between two numbers that share a home has it too
+pub home_between : {p : Plan} {a b n : ℕ} → IsPlan p → IsObject p.geometry a → IsObject p.geometry n → n ≤ b → b ≤ a → home_place p a ≡ home_place p n →
+    home_place p b ≡ home_place p n
+home_between {p} {a} {b} {n} fits is_a is_n low high same = grind (arith, nat_tests, one_range, place_is, found_too)
 
 -- what was written to a home, said in two ways
 pub bytes_home : (p : Plan) (number : ℕ) {at n : ℕ} {s : Shape} {bytes : List ℕ} (image : Image) → at ≡ home_place p number → s ≡ shape_of p number →
     n ≡ shape_length s → sectors_from image at n ≡ bytes → sectors_from image (home_place p number) (place_length p number) ≡ bytes
 bytes_home p number {at} {n} {s} {bytes} image place shape size written = grind (arith, nat_tests)
-
--- the zeros of a cluster stand where it was written
-pub zeros_in : {T E : Type 0} (result : Result T E) (p : Plan) (first : ℕ) (there bytes : List ℕ) → OnOk result (there ≡ bytes) → EndsInZeros p first bytes →
-    OnOk result (EndsInZeros p first there)
-zeros_in {T} {E} result p first there bytes written zeros = grind (arith, nat_tests)

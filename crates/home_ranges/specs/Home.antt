@@ -1,7 +1,7 @@
 -- What the sectors of a home hold, and who has it.
-use Rattle.home_ranges.specs.Names.{ℕ, List, Image, home_place, shape_of, bytes_at, shape_bytes, Plan, IsBlankBehind}
-use Rattle.home_ranges.specs.Names.{IsObject}
-use Rattle.std.specs.Prelude.{◌≡◌, ◌+◌, ◌<◌, ◌≤◌}
+use Rattle.home_ranges.specs.Names.{ℕ, List, nat_lt, Geometry, Version, Image, home_place, shape_of, bytes_at, shape_bytes, Plan}
+use Rattle.home_ranges.specs.Names.{IsBlankFrom, IsObject, row, shape_end}
+use Rattle.std.specs.Prelude.{◌≡◌, ◌+◌, ◌<◌, ◌≤◌, if◌then◌else◌}
 
 -- the bytes of a home are the frames of all that have it
 abbrev pub HoldsHome : Plan → ℕ → List ℕ → Image → Type 0
@@ -14,6 +14,21 @@ pub record HaveHome (p : Plan) (number n : ℕ) : Type 0 where
   pub same : (k : ℕ) → k < n → home_place p (number + k) ≡ home_place p number
   pub all : (a : ℕ) → IsObject p.geometry a → number ≤ a → home_place p a ≡ home_place p number → a < number + n
 
--- behind the frames of all nodes that have the home of the first one a cluster has zeros
+-- a number is the first that has the home of an object
+pub record IsFirstOf (p : Plan) (number first : ℕ) : Type 0 where
+  pub below : first ≤ number
+  pub home : home_place p first ≡ home_place p number
+  pub least : (a : ℕ) → IsObject p.geometry a → home_place p a ≡ home_place p number → first ≤ a
+
+-- how many frames of the kind of an object's frame a block has
+abbrev pub frames_in_block : Version → Geometry → ℕ → ℕ
+frames_in_block v g number = if nat_lt number g.nodes then (row v).cluster_nodes else 1
+
+-- a byte of a block lies behind the frames of all that have the home of an object
+abbrev pub IsBehindAll : Plan → ℕ → ℕ → Type 0
+IsBehindAll p number at = (n : ℕ) → IsObject p.geometry n → home_place p n ≡ home_place p number → shape_end
+    (shape_of p n) ≤ at
+
+-- behind these frames a block has zeros
 abbrev pub EndsInZeros : Plan → ℕ → List ℕ → Type 0
-EndsInZeros p first bytes = (n : ℕ) × HaveHome p first n × IsBlankBehind n bytes
+EndsInZeros p number bytes = (at : ℕ) → IsBehindAll p number at → IsBlankFrom at bytes

@@ -1,6 +1,6 @@
 -- Home places lie apart from one another and from the log. An image of version 2 takes at most 8 sectors a range more
 -- than one of version 1.
-use Rattle.home_ranges.specs.Names.{ℕ, List, None, Image, Elsewhere, Entry, Extent, One, home_place, place_length, Plan}
+use Rattle.home_ranges.specs.Names.{ℕ, List, None, row, Image, Elsewhere, Entry, Extent, One, home_place, place_length, Plan}
 use Rattle.home_ranges.specs.Names.{IsPlan, IsWithin, IsApart, half_extent, frame_slot_in, bytes_at, frame_in}
 use Rattle.home_ranges.specs.Names.{half_sector, IsObject, length, Two, Geometry}
 use Rattle.std.specs.Prelude.{◌≡◌, ◌+◌, ◌*◌, ◌≤◌}
@@ -20,9 +20,9 @@ abbrev pub PlacesAreApart : Type 0
 PlacesAreApart = (p : Plan) (a b : ℕ) → IsPlan p → IsObject p.geometry a → IsObject p.geometry b →
     (home_place p a ≡ home_place p b → ⊥) → IsApart (home_extent p a) (home_extent p b)
 
--- by version 1 no two numbers have one home
+-- where a cluster has one node, no two numbers have one home
 abbrev pub NumbersAreApart : Type 0
-NumbersAreApart = (p : Plan) (a b : ℕ) → IsPlan p → p.version ≡ One → IsObject p.geometry a → IsObject p.geometry b →
+NumbersAreApart = (p : Plan) (a b : ℕ) → IsPlan p → (row p.version).cluster_nodes ≡ 1 → IsObject p.geometry a → IsObject p.geometry b →
     (a ≡ b → ⊥) → IsApart (home_extent p a) (home_extent p b)
 
 -- no sector of a home is one of the log, in the half of any generation

@@ -49,7 +49,7 @@ impl<'a> Home<'a> {
     /// them.
     ///
     /// Returns `Failed` exactly if the device failed; then the sectors of the home may hold any bytes.
-    #[tactic(auto, using(crate::proofs::Places::home_held, crate::proofs::Places::bytes_home))]
+    #[tactic(auto, using(crate::proofs::Places::bytes_home))]
     pub fn write_frame<D: Device>(
         &self,
         device: &mut D,
@@ -69,6 +69,6 @@ impl<'a> Home<'a> {
     {
         let at = self.place(number);
         let shape = self.shape(number);
-        write_sectors(device, at, shape.length() as usize, bytes)
+        write_sectors(device, at, shape.sectors as usize, bytes)
     }
 }

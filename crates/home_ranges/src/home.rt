@@ -1,13 +1,12 @@
 // Where frames lie at home.
-ghost use Rattle.std.specs.Prelude.{◌≡◌, ℕ, ◌+◌, ◌≤◌, length};
-ghost use Rattle.layout.specs.declared.shape.Shape.TheVariants as shape;
+ghost use Rattle.std.specs.Prelude.{◌≡◌, ◌+◌, ◌<◌, ◌≤◌};
 ghost use Rattle.layout.specs.Homes.{home_place, node_offset, place_in, place_length, shape_of};
-ghost use Rattle.layout.specs.Shape.{IsShapeFor, shape_bytes};
+ghost use Rattle.layout.specs.Shape.{IsShapeFor};
 ghost use Rattle.layout.specs.Superblock.{IsPlan};
 ghost use Rattle.layout.specs.Frames.{IsObject};
-ghost use Rattle.home_ranges.specs.Home.{EndsInZeros, HaveHome};
+ghost use Rattle.home_ranges.specs.Home.{HaveHome, IsFirstOf, frames_in_block};
 
-use layout::{CLUSTER_NODES, CLUSTER_SECTORS, HomeRange, Shape, Superblock, Version, blank_behind};
+use layout::{HomeRange, Shape, Superblock, Version};
 use model::Geometry;
 use std::marker::Model;
 
@@ -25,15 +24,13 @@ impl<'a> Model for Home<'a> {
     ghost view = { λ home. home.superblock.now };
 }
 
-// Returns where in its range the i-th node begins, or the cluster that has it, in sectors.
+// Returns where in its range the cluster of the i-th node begins, in sectors.
 fn node_offset(version: Version, i: u64) -> u64
     requires few { i ≤ 8192 }
     ensures { result ≡ node_offset version i }
 {
-    match version {
-        Version::One => 2 * i,
-        Version::Two => CLUSTER_SECTORS * (i / CLUSTER_NODES),
-    }
+    let row = version.row();
+    row.cluster_sectors * (i / row.cluster_nodes)
 }
 
 // Returns the first sector of the home of a number, from the range that has the number.
@@ -60,7 +57,7 @@ impl<'a> Home<'a> {
         Home { superblock }
     }
 
-    /// Returns the first sector of the home of an object: of its own frame, or of the cluster that has it.
+    /// Returns the first sector of the home of an object.
     #[tactic(auto, using(crate::proofs::Places::no_range))]
     pub fn place(&self, number: u64) -> u64
         requires object { IsObject self.now.geometry number }
@@ -76,7 +73,7 @@ impl<'a> Home<'a> {
         }
     }
 
-    /// Returns the shape of the frame of an object in the sectors from `place` on.
+    /// Returns where the frame of an object lies in the sectors from `place` on.
     pub fn shape(&self, number: u64) -> Shape
         ensures value { result ≡ shape_of self.now number }
         ensures fits { IsShapeFor self.now.geometry number result }
@@ -85,41 +82,49 @@ impl<'a> Home<'a> {
         self.superblock.shape(number)
     }
 
+    // Returns how many frames of an object's kind a block has.
+    fn frames_in_block(&self, number: u64) -> u64
+        ensures value { result ≡ frames_in_block self.now.version self.now.geometry number }
+        ensures some { 0 < result }
+        ensures few { result ≤ 5 }
+        ensures plan { IsPlan self.now }
+    {
+        if number < self.geometry().nodes {
+            self.superblock.version().row().cluster_nodes
+        } else {
+            1
+        }
+    }
+
+    /// Returns the first number that has the home of an object.
+    pub fn first(&self, number: u64) -> u64
+        requires object { IsObject self.now.geometry number }
+        ensures first { IsFirstOf self.now number result }
+        ensures plan { IsPlan self.now }
+    {
+        let frames = self.frames_in_block(number);
+        match self.superblock.range_with(number) {
+            Some(range) => number - (number - range.first) % frames,
+            None => number,
+        }
+    }
+
     /// Returns how many numbers from this one on have its home: 1 to 5 for nodes of one cluster, else 1.
-    #[tactic(auto, using(crate::proofs::Places::cluster_shared, crate::proofs::Places::itself_alone))]
+    #[tactic(auto, using(crate::proofs::Places::block_shared))]
     pub fn sharers(&self, number: u64) -> u64
         requires object { IsObject self.now.geometry number }
         ensures all { HaveHome self.now number result }
         ensures few { result ≤ 5 }
         ensures plan { IsPlan self.now }
     {
+        let frames = self.frames_in_block(number);
         match self.superblock.range_with(number) {
-            Some(range) => match self.shape(number) {
-                Shape::Packed(rank) => {
-                    let rest = range.count - (number - range.first);
-                    rest.min(CLUSTER_NODES - rank)
-                }
-                Shape::Node => 1,
-                Shape::Page => 1,
-            },
+            Some(range) => {
+                let i = number - range.first;
+                (range.count - i).min(frames - i % frames)
+            }
             None => 1,
         }
-    }
-
-    /// Sets the bytes behind the nodes of a cluster to 0, where `first` is its first node. The frames of
-    /// the nodes stay.
-    #[tactic(auto, using(crate::proofs::Places::cluster_stays))]
-    pub fn blank_rest(&self, first: u64, cluster: &mut [u8])
-        requires object { IsObject self.now.geometry first }
-        requires shape { shape_of self.now first ≡ shape.Packed 0 }
-        requires cluster { length cluster.old ≡ 4096 }
-        ensures rest { EndsInZeros self.now first cluster.new }
-        ensures frames { (n : ℕ) → IsObject self.now.geometry n → home_place self.now n ≡ home_place self.now first
-            → shape_bytes (shape_of self.now n) cluster.new ≡ shape_bytes (shape_of self.now n) cluster.old }
-        ensures size { length cluster.new ≡ 4096 }
-    {
-        let nodes = self.sharers(first);
-        blank_behind(cluster, nodes);
     }
 
     /// Returns how many nodes, pages and log slots there are.

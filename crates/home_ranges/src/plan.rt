@@ -5,11 +5,14 @@ ghost use Rattle.layout.specs.Superblock.{IsPlan};
 ghost use Rattle.home_ranges.specs.Laid.{MayBeLaid, behind, laid, laid_again, numbers_of, plan_from};
 
 use crate::number_range::NumberRange;
-use layout::{HomeRange, MAX_LOG, MAX_RANGES, Superblock, Version, half_extent, range_extent};
+use layout::{
+    HomeRange, MAX_LOG, MAX_NODES, MAX_PAGES, MAX_RANGES, Superblock, Version, half_extent,
+    range_extent,
+};
 use model::Geometry;
 
 // The greatest number of objects.
-const MAX_OBJECTS: u64 = 8192;
+const MAX_OBJECTS: u64 = MAX_NODES + MAX_PAGES;
 
 // The sector behind the superblock and the headers.
 const FIRST_SECTOR: u64 = 5;

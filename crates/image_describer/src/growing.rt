@@ -260,7 +260,8 @@ fn check_sizes(description: &Description, new: Geometry) -> Result<(), GrowthFau
 {
     let whole = whole_ranges(new);
     let ranges = ranges_for(description.geometry, new, &description.ranges, &whole);
-    if let None = lay_out(Version::One, new, ranges) {
+    // What may be laid out in one version may be in each.
+    if let None = lay_out(Version::NEWEST, new, ranges) {
         return Err(GrowthFault::Limits);
     }
     if !names_nodes(new.nodes, description) {

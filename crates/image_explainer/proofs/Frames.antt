@@ -1,9 +1,10 @@
 -- Slots and frames.
-use Rattle.image_explainer.proofs.Names.{nat_tests, ℕ, nat_le, List, Option, Some, take, drop, refl, sym, ap, subst, arith, Image, Cap, Geometry, IsKeptCap}
+use Rattle.image_explainer.proofs.Names.{nat_tests, ℕ, nat_le, List, length, Option, Some, take, drop, refl, sym, ap, subst, arith, Image, Cap, Geometry, IsKeptCap}
 use Rattle.image_explainer.proofs.Names.{Entry, CheckpointHeader, Shape, capability_bytes, shape_of, HasDirectory, HasHeader, HasPlan, frame_in, frame_sector}
 use Rattle.image_explainer.proofs.Names.{sectors_from, shaped_at, shape_bytes, Plan, FramePart, HoldsCap, IsFault, FitsOr, IsWholeFrame}
-use Rattle.std.proofs.Common.{◌≡◌, ◌+◌, ◌-◌, ◌*◌, ◌<◌, ◌∙◌}
-use Rattle.layout.specs.declared.shape.Shape.TheVariants as shape
+use Rattle.std.proofs.Common.{◌≡◌, ◌+◌, ◌-◌, ◌*◌, ◌<◌, ◌≤◌, ◌∙◌}
+use Rattle.layout.proofs.Blocks.{block_page}
+use Rattle.layout.specs.Shape.{IsShapeFor}
 use Rattle.image_explainer.specs.declared.sectors.fault.SectorFault.TheVariants as fault
 
 -- as the code cuts it
@@ -13,15 +14,14 @@ slot_read g age bytes k at c place kept is = grind (arith, nat_tests)
 
 -- the bytes of a frame as they lie in sectors
 module _ (g : Geometry) (age n at : ℕ) (image : Image) (form : Shape) (run : List ℕ) (found : Option FramePart) where
-  pub node_at : form ≡ shape.Node → run ≡ sectors_from image at 2 → FitsOr g age n run found → FitsOr g age n (shaped_at image at form) found
-  node_at is read fits = subst (λ (s : Shape). FitsOr g age n (shaped_at image at s) found) (sym is) (subst (λ (b : List ℕ). FitsOr g age n b found) read fits)
+  pub node_at : (node : List ℕ) → run ≡ sectors_from image at form.sectors → node ≡ shape_bytes form run → FitsOr g age n node found →
+      FitsOr g age n (shaped_at image at form) found
+  node_at node read unpacked fits = subst (λ (b : List ℕ). FitsOr g age n b found) (unpacked ∙ ap (shape_bytes form) read) fits
 
-  pub packed_at : (rank : ℕ) (node : List ℕ) → form ≡ shape.Packed rank → run ≡ sectors_from image at 8 → node ≡ shape_bytes (shape.Packed rank) run →
-      FitsOr g age n node found
-      → FitsOr g age n (shaped_at image at form) found
-  packed_at rank node is read unpacked fits =
-      subst (λ (s : Shape). FitsOr g age n (shaped_at image at s) found) (sym is)
-      (subst (λ (b : List ℕ). FitsOr g age n b found) (unpacked ∙ ap (shape_bytes (shape.Packed rank)) read) fits)
+  pub page_at : IsShapeFor g n form → g.nodes ≤ n → length run ≡ 512 * form.sectors → run ≡ sectors_from image at form.sectors → FitsOr g age n run found →
+      FitsOr g age n (shaped_at image at form) found
+  page_at fits_shape page size read fits =
+      subst (λ (b : List ℕ). FitsOr g age n b found) (sym (block_page g n form run fits_shape page size) ∙ ap (shape_bytes form) read) fits
 
 -- what is wrong with a frame of the image
 module _ (size : ℕ) (image : Image) (p : Plan) (h : CheckpointHeader) (es : List Entry) (n at : ℕ) (form : Shape)

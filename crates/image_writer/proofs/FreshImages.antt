@@ -5,7 +5,7 @@ use Rattle.image_writer.proofs.Names.{CheckpointHeader, IsDirectory, directory_b
 use Rattle.image_writer.proofs.Names.{committed_of, committed_bytes, directory_in, does_count, frame_in, sectors_from, sequence_in, Plan, IsPlan, half_within}
 use Rattle.image_writer.proofs.Names.{same_sectors, places_within, AreClosed, none_committed, Holds, SavedFrames, kept_of, half_behind, sequences_reported}
 use Rattle.image_writer.proofs.Names.{frames_behind, HasOpeningSectors, IsBeforeOrNone, IsLeftWriting, IsWritten, first_header, state_of}
-use Rattle.image_writer.proofs.Names.{subst, sym, entry_at, home_place, slot_sector, EndsInZeros, EndInZeros}
+use Rattle.image_writer.proofs.Names.{subst, sym, entry_at, home_place, place_length, slot_sector, EndsInZeros, EndInZeros}
 use Rattle.std.proofs.Common.{◌≡◌, ◌⊎◌, ◌^◌, ◌<◌, ◌≤◌, ◌+◌, ◌-◌, ◌%◌, ◌∙◌}
 use Rattle.image_writer.proofs.SlotFrames.{slot_behind}
 use Rattle.std.specs.Prelude.{◌==◌, ◌&&◌}
@@ -98,18 +98,28 @@ pub all_written : (p : Plan) (h : CheckpointHeader) (es : List Entry) (frames : 
     ((a : ℕ) → a < object_count p.geometry → frame_in behind p h.generation es a ≡ frame_bytes p.geometry a (frame_at frames a))
     → EndInZeros p h.generation es behind → AreClosed behind → Agrees now behind → IsWritten p h es frames now
 all_written p h es frames front behind now fits has change directory placed zeros closed same =
-    let there : EndInZeros p h.generation es now = subst (EndInZeros p h.generation es) (sym (agrees_is now behind same)) zeros in
-    search (arith, agrees_is, behind, opening)
+    let e : now ≡ behind = agrees_is now behind same in
+    record {
+      plan = fits;
+      opening = record {
+        superblock = ap (λ (i : Image). i 0) e ∙ change.before 0 (omega arith) ∙ has.superblock;
+        header = ap (λ (i : Image). i 1) e ∙ change.before 1 (omega arith) ∙ has.header;
+      };
+      closed = subst AreClosed (sym e) closed;
+      directory = ap (λ (i : Image). directory_in i p h.generation (length es)) e ∙ directory;
+      placed = λ a lt. ap (λ (i : Image). frame_in i p h.generation es a) e ∙ placed a lt;
+      zeros = subst (EndInZeros p h.generation es) (sym e) zeros;
+    }
 
 -- the gate lies before all clusters
 pub still_zeros : (p : Plan) (generation : ℕ) (es : List Entry) (old new : Image) → IsPlan p → Elsewhere 2 1 old new → EndInZeros p generation es old
     → EndInZeros p generation es new
 still_zeros p generation es old new fits change zeros = record {
-  home = λ a lt begins. subst (EndsInZeros p a) (sym (behind (home_place p a) 8 old new (places_within p a fits lt).0 change)) (zeros.home a lt begins);
-  slots = λ j lt rank packed.
+  home = λ a lt. subst (EndsInZeros p a) (sym (behind (home_place p a) (place_length p a) old new (places_within p a fits lt).0 change)) (zeros.home a lt);
+  slots = λ j lt.
       let at = slot_sector p generation (entry_at es j).slot in
-      subst (EndsInZeros p ((entry_at es j).object - rank)) (sym (behind at 8 old new (slot_behind p generation (entry_at es j).slot fits) change))
-      (zeros.slots j lt rank packed);
+      let n : ℕ = (entry_at es j).object in
+      subst (EndsInZeros p n) (sym (behind at (place_length p n) old new (slot_behind p generation (entry_at es j).slot fits) change)) (zeros.slots j lt);
 }
 
 -- ---- sectors of the image

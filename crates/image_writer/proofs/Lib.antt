@@ -3,5 +3,4 @@ mod ClosedGates
 mod FreshImages
 mod HomeFrames
 pub mod OldImages
-mod Ranks
 mod SlotFrames

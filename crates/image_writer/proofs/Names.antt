@@ -11,9 +11,10 @@ pub use Rattle.device.specs.Calls.{Agrees, Elsewhere, IsTorn}
 pub use Rattle.device.specs.Disk.{Disk, Image}
 pub use Rattle.device.specs.Moments.{LeavesOnly}
 pub use Rattle.home_ranges.proofs.FrameSlots.{frame_slot_entry}
-pub use Rattle.home_ranges.proofs.Places.{IsOwn, alone, one_before, one_length, places_apart, places_spare_log, places_within, ranked}
-pub use Rattle.home_ranges.proofs.Shared.{begins}
-pub use Rattle.home_ranges.specs.Home.{EndsInZeros, HaveHome}
+pub use Rattle.home_ranges.proofs.Filling.{AreEnded, AreIn, all_blank, all_ended, all_in, ended_more, none_ended, one_frame_more}
+pub use Rattle.home_ranges.proofs.Places.{one_length, places_apart, places_spare_log, places_within}
+pub use Rattle.home_ranges.specs.Home.{EndsInZeros, IsFirstOf}
+pub use Rattle.layout.proofs.Blocks.{front_blank, front_shape}
 pub use Rattle.layout.proofs.Halves.{half_within}
 pub use Rattle.layout.proofs.Sectors.{same_sectors}
 pub use Rattle.layout.proofs.Shapes.{few_sectors, same_shaped}
@@ -29,12 +30,11 @@ pub use Rattle.layout.specs.Homes.{home_place, place_length, shape_of}
 pub use Rattle.layout.specs.Image.{Encodes, HasNoHeader, bytes_at, committed_bytes, committed_of, directory_in, directory_length, directory_sector, does_count}
 pub use Rattle.layout.specs.Image.{frame_in, frame_slot_in, half_sector, sequence_in, slot_sector}
 unfoldable pub use Rattle.layout.specs.Image.{sectors_from}
-pub use Rattle.layout.specs.Shape.{shape_bytes, shape_length}
+pub use Rattle.layout.specs.Shape.{IsBlankFrom, shape_bytes, shape_end, shape_length}
+unfoldable pub use Rattle.layout.specs.Bytes.{zeros}
 pub use Rattle.layout.specs.Superblock.{IsPlan, Plan, half_extent}
 pub use Rattle.layout.specs.declared.directory.Entry.{Entry}
 pub use Rattle.layout.specs.declared.header.CheckpointHeader.{CheckpointHeader}
-pub use Rattle.layout.specs.declared.shape.Shape.{Shape}
-pub use Rattle.layout.specs.declared.shape.Shape.TheVariants.{Node, Packed, Page}
 pub use Rattle.model.specs.Frame.{frame_at, header_at}
 unfoldable pub use Rattle.model.specs.Frame.{frames_in}
 pub use Rattle.model.specs.Keepable.{AreKeepable}
@@ -44,14 +44,14 @@ pub use Rattle.model.specs.declared.frame.Frame.{Frame}
 pub use Rattle.model.specs.declared.frame.ObjectHeader.{ObjectHeader}
 pub use Rattle.model.specs.declared.geometry.Geometry.{Geometry}
 pub use Rattle.model.specs.declared.object.Content.{Content}
-pub use Rattle.std.proofs.Common.{Bool, List, None, Option, Result, Some, [], ap, arith, false, inl, inr, length, refl, rules, slice_index_or, subst, sym, true}
+pub use Rattle.std.proofs.Common.{Bool, List, None, Option, Result, Some, [], ap, arith, false, inl, inr, length, refl, rules, slice_index_or, subst, sym, take, true}
 pub use Rattle.std.proofs.Common.{ℕ, ⊎_elim}
 pub use Rattle.std.proofs.lemmas.Bool.{cases_eq, cases_lt}
 pub use Rattle.std.proofs.lemmas.Bool.Decides.{nat_tests}
 pub use Rattle.std.proofs.lemmas.List.{get_or_read}
 pub use Rattle.std.proofs.lemmas.Result.{on_ok_weaker}
 pub use Rattle.std.specs.Prelude.{OnOk}
-pub use Rattle.image_writer.specs.Homes.{AreFramesOf, LieAt, frames_before}
+pub use Rattle.image_writer.specs.Homes.{AreFramesOf, HasZeros, LieAt}
 pub use Rattle.image_writer.specs.Laws.{KeptHoldsTheSame, NoneIsHeld}
 pub use Rattle.image_writer.specs.Written.{AreHome, AreInSlots, EndAtHome, EndInZeros, HasOpeningSectors, IsBeforeOrNone, IsLeftWriting, IsWritten, LeavesClosed, first_header}
 pub use Rattle.image_writer.specs.Written.{first_state, state_of}

@@ -1,49 +1,35 @@
 -- Slots of the log are written one after the other, behind the homes.
-use Rattle.image_writer.proofs.Names.{nat_tests, ℕ, Result, Option, Some, None, List, length, ⊎_elim, refl, sym, subst, ap, arith, OnOk, cases_lt, Cap, Frame}
-use Rattle.image_writer.proofs.Names.{ObjectHeader, Content, frame_at, frames_in, header_at, object_count, Image, Elsewhere, Entry, Packed, IsDirectory}
+use Rattle.image_writer.proofs.Names.{nat_tests, ℕ, Result, Option, Some, None, List, length, ⊎_elim, refl, sym, subst, ap, arith, OnOk, cases_lt, take, Frame}
+use Rattle.image_writer.proofs.Names.{frame_at, object_count, Image, Elsewhere, Entry, IsDirectory}
 use Rattle.image_writer.proofs.Names.{entry_at, frame_bytes, home_place, place_length, shape_of, bytes_at, directory_sector, frame_in, half_sector}
-use Rattle.image_writer.proofs.Names.{frame_slot_in, sectors_from, slot_sector, shape_length, Plan, IsPlan, half_extent, half_within, few_sectors, same_shaped}
-use Rattle.image_writer.proofs.Names.{IsObject, IsOwn, one_length, places_spare_log, frame_slot_entry, begins, AreFramesOf, LieAt, AreHome, AreInSlots}
+use Rattle.image_writer.proofs.Names.{frame_slot_in, sectors_from, slot_sector, shape_bytes, shape_end, front_shape, front_blank, IsBlankFrom, Plan, IsPlan, half_extent, half_within, few_sectors, same_shaped}
+use Rattle.image_writer.proofs.Names.{IsObject, one_length, places_spare_log, frame_slot_entry, AreFramesOf, LieAt, AreHome, AreInSlots}
 use Rattle.image_writer.proofs.Names.{inl, inr, same_sectors, on_ok_weaker, EndsInZeros, EndAtHome, EndInZeros}
-use Rattle.std.specs.Prelude.{slice_index_or}
 use Rattle.std.proofs.Common.{◌≡◌, ◌+◌, ◌-◌, ◌*◌, ◌<◌, ◌≤◌, ◌∙◌}
-use Rattle.image_writer.proofs.HomeFrames.{own_at}
 
--- ---- the slot of one entry
+-- ---- the block of one home
 
--- a cluster that was filled from its first node on has the frames of all that share a home with a node of it
-packed_frames : (p : Plan) (frames : List Frame) (n rank at : ℕ) (cluster : List ℕ) (image : Image) → IsPlan p → IsObject p.geometry n →
-    shape_of p n ≡ Packed rank → sectors_from image at 8 ≡ cluster → AreFramesOf p frames (n - rank) cluster
-    → (a : ℕ) → IsObject p.geometry a → home_place p a ≡ home_place p n → bytes_at image at p a ≡ frame_bytes p.geometry a (frame_at frames a)
-packed_frames p frames n rank at cluster image fits is shape held filled a is_a same =
-    grind (arith, nat_tests, one_length p a n fits is_a is same ∙ ap shape_length shape, fits, begins)
+shape_inside : (p : Plan) (n : ℕ) → shape_end (shape_of p n) ≤ 512 * place_length p n
+shape_inside p n = grind (arith, nat_tests)
 
-same_rank : {a b : ℕ} → Packed a ≡ Packed b → a ≡ b
-same_rank same = cc
-
-packed_at : (p : Plan) (frames : List Frame) (n rank at : ℕ) (cluster : List ℕ) (image : Image) → IsPlan p → IsObject p.geometry n →
-    shape_of p n ≡ Packed rank → sectors_from image at 8 ≡ cluster → AreFramesOf p frames (n - rank) cluster → EndsInZeros p (n - rank) cluster
-    → LieAt p frames n at image
-packed_at p frames n rank at cluster image fits is shape held filled ends = record {
-  frame = packed_frames p frames n rank at cluster image fits is shape held filled;
-  zeros = λ r packed. subst (λ (k : ℕ). EndsInZeros p (n - k) (sectors_from image at 8)) (same_rank (sym shape ∙ packed))
-      (subst (EndsInZeros p (n - rank)) (sym held) ends);
+-- a filled block has the frames of all that have the home
+pub block_at : (p : Plan) (frames : List Frame) (n at k : ℕ) (block : List ℕ) (image : Image) → IsPlan p → IsObject p.geometry n → k ≡ place_length p n →
+    512 * k ≤ length block → sectors_from image at k ≡ take (512 * k) block → AreFramesOf p frames n block → EndsInZeros p n block → LieAt p frames n at image
+block_at p frames n at k block image fits is size le held filled ends = record {
+  frame = λ a is_a same.
+      let long : k ≡ place_length p a = size ∙ sym (one_length p a n fits is_a is same) in
+      let inside = shape_inside p a in
+      ap (λ (j : ℕ). shape_bytes (shape_of p a) (sectors_from image at j)) (sym long) ∙ ap (shape_bytes (shape_of p a)) held
+      ∙ front_shape (shape_of p a) (512 * k) block (omega (arith, inside, long)) ∙ filled a is_a same;
+  zeros = λ end behind.
+      subst (IsBlankFrom end) (sym (ap (sectors_from image at) (sym size) ∙ held)) (front_blank end (512 * k) block le (ends end behind));
 }
 
-pub packed_written : {T E : Type 0} (result : Result T E) (p : Plan) (frames : List Frame) (n rank at : ℕ) (cluster : List ℕ) (image : Image) → IsPlan p →
-    IsObject p.geometry n → shape_of p n ≡ Packed rank
-    → OnOk result (sectors_from image at 8 ≡ cluster) → AreFramesOf p frames (n - rank) cluster → EndsInZeros p (n - rank) cluster
-    → OnOk result (LieAt p frames n at image)
-packed_written {T} {E} result p frames n rank at cluster image fits is shape held filled ends =
-    on_ok_weaker result (λ there. packed_at p frames n rank at cluster image fits is shape there filled ends) held
-
--- and so has a slot that is written with a frame that has sectors of its own
-pub own_written_at : {T E : Type 0} (result : Result T E) (p : Plan) (hs : List ObjectHeader) (cs : List (Content Cap)) (n at : ℕ) (c : Content Cap)
-    (image : Image) → IsPlan p → IsObject p.geometry n → length hs ≡ object_count p.geometry
-    → length cs ≡ object_count p.geometry → c ≡ slice_index_or cs n c → IsOwn (shape_of p n) →
-    OnOk result (bytes_at image at p n ≡ frame_bytes p.geometry n (record { header = header_at hs n; content = c }))
-    → OnOk result (LieAt p (frames_in hs cs) n at image)
-own_written_at {T} {E} result p hs cs n at c image fits is size same_size held own written = search (arith, own_at, fits)
+pub block_written : {T E : Type 0} (result : Result T E) (p : Plan) (frames : List Frame) (n at k : ℕ) (block : List ℕ) (image : Image) → IsPlan p →
+    IsObject p.geometry n → k ≡ place_length p n → 512 * k ≤ length block → OnOk result (sectors_from image at k ≡ take (512 * k) block)
+    → AreFramesOf p frames n block → EndsInZeros p n block → OnOk result (LieAt p frames n at image)
+block_written {T} {E} result p frames n at k block image fits is size le held filled ends =
+    on_ok_weaker result (λ there. block_at p frames n at k block image fits is size le there filled ends) held
 
 less_by : (a b : ℕ) → a ≤ b → (b ≡ a → ⊥) → a < b
 less_by a b most differ = search arith
@@ -52,7 +38,7 @@ less_by a b most differ = search arith
 
 -- the sectors of a slot that a frame takes
 slot_length : (p : Plan) (n : ℕ) → place_length p n ≤ 9
-slot_length p n = few_sectors (shape_of p n)
+slot_length p n = few_sectors p n
 
 module _ (p : Plan) (generation : ℕ) (es : List Entry) (i : ℕ) (mid new : Image) (is : IsDirectory p.geometry es) (lt : i < length es)
     (change : Elsewhere (slot_sector p generation (entry_at es i).slot) (place_length p (entry_at es i).object) mid new) where
@@ -64,13 +50,13 @@ module _ (p : Plan) (generation : ℕ) (es : List Entry) (i : ℕ) (mid new : Im
       (slot_sector p generation (entry_at es j).slot) p a
   other_slot j a before = search (arith, same_shaped, slot_length, cases_lt)
 
-  other_sectors : (j : ℕ) → j < i → sectors_from new (slot_sector p generation (entry_at es j).slot) 8 ≡ sectors_from mid
-      (slot_sector p generation (entry_at es j).slot) 8
-  other_sectors j before =
+  other_sectors : (j n : ℕ) → n ≤ 9 → j < i → sectors_from new (slot_sector p generation (entry_at es j).slot) n ≡ sectors_from mid
+      (slot_sector p generation (entry_at es j).slot) n
+  other_sectors j n short before =
       let at_slot = slot_sector p generation (entry_at es j).slot in
       let few : place_length p (entry_at es i).object ≤ 9 = slot_length p (entry_at es i).object in
-      same_sectors at_slot 8 mid new
-      (λ k inside. ⊎_elim (λ less. change.before (at_slot + k) (omega (arith, less, inside)))
+      same_sectors at_slot n mid new
+      (λ k inside. ⊎_elim (λ less. change.before (at_slot + k) (omega (arith, less, inside, short)))
       (λ more. change.after (at_slot + k) (omega (arith, less_by (entry_at es i).slot (entry_at es j).slot more (is.apart j i before lt), few)))
       (cases_lt (entry_at es j).slot (entry_at es i).slot))
 
@@ -81,7 +67,9 @@ module _ (p : Plan) (generation : ℕ) (es : List Entry) (i : ℕ) (mid new : Im
         let was = so_far j before in
         record {
           frame = λ a is_a home. other_slot j a before ∙ was.frame a is_a home;
-          zeros = λ rank packed. subst (EndsInZeros p ((entry_at es j).object - rank)) (sym (other_sectors j before)) (was.zeros rank packed);
+          zeros =
+              let n : ℕ = (entry_at es j).object in
+              subst (EndsInZeros p n) (sym (other_sectors j (place_length p n) (slot_length p n) before)) was.zeros;
         }
     | inr not_before ↦
         let same : i ≡ j = omega (arith, below, not_before) in
@@ -105,20 +93,21 @@ frame_stays : (p : Plan) (generation at long : ℕ) (es : List Entry) (mid new :
 frame_stays p generation at long es mid new is place change j a lt = search (arith, slot_length, same_shaped)
 
 slot_stays : (p : Plan) (generation at long : ℕ) (es : List Entry) (mid new : Image) → IsDirectory p.geometry es →
-    at ≡ directory_sector p generation → Elsewhere at long mid new → (j : ℕ) → j < length es →
-    sectors_from new (slot_sector p generation (entry_at es j).slot) 8 ≡ sectors_from mid (slot_sector p generation (entry_at es j).slot) 8
-slot_stays p generation at long es mid new is place change j lt =
+    at ≡ directory_sector p generation → Elsewhere at long mid new → (j n : ℕ) → n ≤ 9 → j < length es →
+    sectors_from new (slot_sector p generation (entry_at es j).slot) n ≡ sectors_from mid (slot_sector p generation (entry_at es j).slot) n
+slot_stays p generation at long es mid new is place change j n short lt =
     let at_slot = slot_sector p generation (entry_at es j).slot in
     let few : (entry_at es j).slot < p.geometry.log = (is.each j (record { object = 0; slot = 0 }) lt).slot in
-    same_sectors at_slot 8 mid new (λ k inside. change.before (at_slot + k) (omega (arith, place, few, inside)))
+    same_sectors at_slot n mid new (λ k inside. change.before (at_slot + k) (omega (arith, place, few, inside, short)))
 
 pub slots_stay : (p : Plan) (generation at long : ℕ) (es : List Entry) (frames : List Frame) (mid new : Image) → IsDirectory p.geometry es →
     at ≡ directory_sector p generation → Elsewhere at long mid new
     → AreInSlots p generation es frames (length es) mid → AreInSlots p generation es frames (length es) new
 slots_stay p generation at long es frames mid new is place change so_far j lt = record {
   frame = λ a is_a home. frame_stays p generation at long es mid new is place change j a lt ∙ (so_far j lt).frame a is_a home;
-  zeros = λ rank packed. subst (EndsInZeros p ((entry_at es j).object - rank)) (sym (slot_stays p generation at long es mid new is place change j lt))
-      ((so_far j lt).zeros rank packed);
+  zeros =
+      let n : ℕ = (entry_at es j).object in
+      subst (EndsInZeros p n) (sym (slot_stays p generation at long es mid new is place change j (place_length p n) (slot_length p n) lt)) (so_far j lt).zeros;
 }
 
 -- ---- what an image has of a frame
@@ -141,19 +130,18 @@ all_slotted p generation es frames homes new fits change home slots a lt = by (f
       subst (λ (s : ℕ). bytes_at new (slot_sector p generation s) p a ≡ frame_bytes p.geometry a (frame_at frames a)) entry.slot_is
       ((slots entry.index entry.within).frame a lt (sym entry.home_is)))
 
--- and each cluster has zeros behind its frames
+-- and each block has zeros behind its frames
 pub all_end : (p : Plan) (generation : ℕ) (es : List Entry) (frames : List Frame) (homes new : Image) → IsPlan p →
     Elsewhere (half_sector p generation) (half_extent p.geometry 0).length homes new → EndAtHome p (object_count p.geometry) homes
     → AreInSlots p generation es frames (length es) new → EndInZeros p generation es new
 all_end p generation es frames homes new fits change home slots = record {
-  home = λ a lt begins.
-      let long : place_length p a ≡ 8 = ap shape_length begins in
+  home = λ a lt.
       subst (EndsInZeros p a)
-      (sym (same_sectors (home_place p a) 8 homes new
-      (λ k inside. ⊎_elim (λ before. change.before (home_place p a + k) (omega (arith, before, inside, long)))
+      (sym (same_sectors (home_place p a) (place_length p a) homes new
+      (λ k inside. ⊎_elim (λ before. change.before (home_place p a + k) (omega (arith, before, inside)))
       (λ after. change.after (home_place p a + k) (omega (arith, after)))
       (places_spare_log p a generation fits lt))))
-      (home a lt begins);
+      (home a lt);
   slots = λ j lt. (slots j lt).zeros;
 }
 

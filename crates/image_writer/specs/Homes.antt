@@ -1,24 +1,17 @@
 -- What is written of a home.
-use Rattle.image_writer.specs.Names.{ℕ, List, Frame, frame_at, Image, Shape, Node, Packed, Page, frame_bytes}
-use Rattle.image_writer.specs.Names.{home_place, shape_of, bytes_at, shape_bytes, Plan, IsObject, EndsInZeros}
+use Rattle.image_writer.specs.Names.{ℕ, List, Frame, frame_at, Image, frame_bytes}
+use Rattle.image_writer.specs.Names.{home_place, place_length, shape_of, bytes_at, shape_bytes, Plan, IsObject, EndsInZeros}
 use Rattle.image_writer.specs.Names.{sectors_from}
-use Rattle.std.specs.Prelude.{◌≡◌, ◌-◌}
-
--- how many frames lie before one in its home
-abbrev pub frames_before : Shape → ℕ
-frames_before Node = 0
-frames_before (Packed rank) = rank
-frames_before Page = 0
+use Rattle.std.specs.Prelude.{◌≡◌}
 
 -- bytes are the frames of all that have the home of a number
 abbrev pub AreFramesOf : Plan → List Frame → ℕ → List ℕ → Type 0
 AreFramesOf p frames number bytes = (a : ℕ) → IsObject p.geometry a → home_place p a ≡ home_place p number →
     shape_bytes (shape_of p a) bytes ≡ frame_bytes p.geometry a (frame_at frames a)
 
--- where a number is of a cluster, the cluster in the sectors from one on has zeros behind the frames of its nodes
+-- the block in the sectors from one on has zeros behind the frames of all that have the home of a number
 abbrev pub HasZeros : Plan → ℕ → ℕ → Image → Type 0
-HasZeros p number at image = (rank : ℕ) → shape_of p number ≡ Packed rank →
-    EndsInZeros p (number - rank) (sectors_from image at 8)
+HasZeros p number at image = EndsInZeros p number (sectors_from image at (place_length p number))
 
 -- the frames of all that have its home lie in the sectors from one on, and zeros behind them
 pub record LieAt (p : Plan) (frames : List Frame) (number at : ℕ) (image : Image) : Type 0 where

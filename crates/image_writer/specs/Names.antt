@@ -8,7 +8,7 @@ unfoldable pub use Rattle.layout.specs.Directory.{directory_bytes}
 pub use Rattle.layout.specs.Frame.{frame_bytes}
 pub use Rattle.layout.specs.Frames.{IsObject}
 unfoldable pub use Rattle.layout.specs.Header.{header_bytes}
-pub use Rattle.layout.specs.Homes.{home_place, shape_of}
+pub use Rattle.layout.specs.Homes.{home_place, place_length, shape_of}
 pub use Rattle.layout.specs.Image.{HasNoHeader, SavedState, bytes_at, directory_in, frame_in, slot_sector}
 unfoldable pub use Rattle.layout.specs.Image.{sectors_from}
 pub use Rattle.layout.specs.Shape.{shape_bytes}
@@ -16,8 +16,6 @@ pub use Rattle.layout.specs.Superblock.{IsPlan, Plan}
 unfoldable pub use Rattle.layout.specs.Superblock.{superblock_bytes}
 pub use Rattle.layout.specs.declared.directory.Entry.{Entry}
 pub use Rattle.layout.specs.declared.header.CheckpointHeader.{CheckpointHeader}
-pub use Rattle.layout.specs.declared.shape.Shape.{Shape}
-pub use Rattle.layout.specs.declared.shape.Shape.TheVariants.{Node, Packed, Page}
 pub use Rattle.model.specs.Frame.{frame_at}
 pub use Rattle.model.specs.Sound.{object_count}
 pub use Rattle.model.specs.declared.frame.Frame.{Frame}

@@ -2,7 +2,7 @@
 use Rattle.image_writer.specs.Names.{ℕ, List, [], length, Frame, Geometry, frame_at, object_count, Disk, Image, Entry}
 use Rattle.image_writer.specs.Names.{CheckpointHeader, directory_bytes, entry_at, frame_bytes, header_bytes, home_place}
 use Rattle.image_writer.specs.Names.{HasNoHeader, SavedState, bytes_at, directory_in, frame_in, slot_sector, Plan}
-use Rattle.image_writer.specs.Names.{shape_of, sectors_from, EndsInZeros, Packed, IsPlan, superblock_bytes}
+use Rattle.image_writer.specs.Names.{IsPlan, superblock_bytes}
 use Rattle.image_writer.specs.Names.{AreClosed, KeepsImage, Holds, SavedFrames}
 use Rattle.std.specs.Prelude.{◌≡◌, ◌⊎◌, ◌<◌}
 use Rattle.image_writer.specs.Homes.{HasZeros, LieAt}
@@ -38,12 +38,11 @@ abbrev pub AreInSlots : Plan → ℕ → List Entry → List Frame → ℕ → I
 AreInSlots p generation es frames n image = (j : ℕ) → j < n →
     LieAt p frames (entry_at es j).object (slot_sector p generation (entry_at es j).slot) image
 
--- at home the clusters that begin with one of the first n numbers have zeros behind their frames
+-- the homes of the first n numbers have zeros behind their frames
 abbrev pub EndAtHome : Plan → ℕ → Image → Type 0
-EndAtHome p n image = (a : ℕ) → a < n → shape_of p a ≡ Packed 0 →
-    EndsInZeros p a (sectors_from image (home_place p a) 8)
+EndAtHome p n image = (a : ℕ) → a < n → HasZeros p a (home_place p a) image
 
--- each cluster has zeros behind its frames: at home, and in the slots of a directory's entries
+-- each block has zeros behind its frames: at home, and in the slots of a directory's entries
 pub record EndInZeros (p : Plan) (generation : ℕ) (es : List Entry) (image : Image) : Type 0 where
   pub home : EndAtHome p (object_count p.geometry) image
   pub slots : (j : ℕ) → j < length es →

@@ -1,33 +1,20 @@
 // The homes of all objects.
-ghost use Rattle.std.specs.Prelude.{◌≡◌, ◌-◌, ◌≤◌, ◌↔◌, length, IsTrue, OnOk};
+ghost use Rattle.std.specs.Prelude.{◌≡◌, ◌-◌, ◌≤◌, length, OnOk};
 ghost use Rattle.device.specs.Calls.{Counts, Elsewhere};
 ghost use Rattle.device.specs.Moments.{LeavesOnly};
-ghost use Rattle.layout.specs.Homes.{shape_of};
 ghost use Rattle.layout.specs.Superblock.{IsPlan};
 ghost use Rattle.model.specs.Frame.{frames_in};
 ghost use Rattle.model.specs.Sound.{object_count};
 ghost use Rattle.ckpt_log.specs.Closing.{AreClosed};
-ghost use Rattle.image_writer.specs.Homes.{frames_before};
 ghost use Rattle.image_writer.specs.Written.{AreHome, EndAtHome, LeavesClosed};
 
-use crate::clusters::write_shared;
+use crate::blocks::write_shared;
 use device::{Device, Failed};
 use home_ranges::Home;
-use layout::Shape;
 use model::{Cap, Content, ObjectHeader};
 
-// Whether a number is the first with its home.
-fn is_first(home: &Home, number: u64) -> bool
-    ensures { IsTrue result ↔ (frames_before (shape_of home.now number) ≡ 0) }
-{
-    match home.shape(number) {
-        Shape::Node | Shape::Page => true,
-        Shape::Packed(rank) => rank == 0,
-    }
-}
-
 /// Writes the homes of all `count` objects, each home once. Each frame has the header and the content
-/// of its number, and clusters end in zeros. The gates of both headers are closed, and a crash at any
+/// of its number, and blocks end in zeros. The gates of both headers are closed, and a crash at any
 /// moment leaves them so.
 /// Returns `Failed` exactly if the device failed.
 #[tactic(auto, using(crate::proofs::HomeFrames::stays_between))]
@@ -55,7 +42,7 @@ pub(crate) fn write_homes<D: Device>(
     ensures cause { Counts (D.disk device.old) (D.disk device.new) result }
 {
     for number in 0..count {
-        if is_first(home, number) {
+        if home.first(number) == number {
             let at = home.place(number);
             write_shared(device, home, at, number, headers, contents)?;
         }

@@ -1,7 +1,7 @@
 //! Writing an image to a device.
 #![tactic(auto)]
 
-mod clusters;
+mod blocks;
 mod homes;
 mod image;
 pub mod laws;

@@ -10,7 +10,7 @@ ghost use Rattle.model.specs.Sound.{object_count};
 ghost use Rattle.ckpt_log.specs.Closing.{AreClosed};
 ghost use Rattle.image_writer.specs.Written.{AreInSlots, LeavesClosed};
 
-use crate::clusters::write_shared;
+use crate::blocks::write_shared;
 use ckpt_log::Log;
 use device::{Device, Failed};
 use home_ranges::Home;

@@ -1,10 +1,10 @@
 -- Bytes that spell a frame are read as that frame.
 use Rattle.layout.proofs.Names.{nat_tests, [], ℕ, Bool, List, length, take, drop, refl, sym, ap, subst, append_assoc, inl, inr, arith, cases_lt, lt-ltb, le-ltb}
-use Rattle.layout.proofs.Names.{drop_at, take-append-le, drop-append-le, length-drop, All-head, All-tail, All, little_number, little_from-take, Image, Cap}
+use Rattle.layout.proofs.Names.{drop_at, take-append-le, drop-append-le, length-drop, All-head, All-tail, All, little_number, little_from-take, Cap}
 use Rattle.layout.proofs.Names.{Frame, ObjectHeader, Geometry, Content, Role, IsKeptCap, role_of, role_number, number, number_from, zeros, capability_bytes}
 use Rattle.layout.proofs.Names.{head_number, number_of, front_numbers, slots_of, slots_bytes, words_bytes, page_words, role_in, body_in, page_body_in}
-use Rattle.layout.proofs.Names.{content_of, IsNodeFrame, IsPageFrame, node_frame_bytes, page_frame_bytes, IsFront, IsFrameOf, frame_length, cap_with, cap_from}
-use Rattle.layout.proofs.Names.{slots_from, words_from, header_from, node_from, page_from, frame_from, sectors_from}
+use Rattle.layout.proofs.Names.{content_of, IsNodeFrame, IsPageFrame, node_frame_bytes, page_frame_bytes, IsFront, IsFrameOf, cap_with, cap_from}
+use Rattle.layout.proofs.Names.{slots_from, words_from, header_from, node_from, page_from, frame_from}
 use Rattle.std.proofs.Common.{◌≡◌, ◌+◌, ◌^◌, ◌<◌, ◌≤◌, ◌∷◌, ◌++◌, ◌∙◌}
 use Rattle.std.specs.Prelude.{if◌then◌else◌, nat_lt}
 use Rattle.layout.proofs.Capabilities.{as_numbers, follows_fits, head_below, made_again, same_cap}
@@ -165,12 +165,3 @@ header_by b bytes = grind (arith, nat_tests)
 pub header_is : (g : Geometry) (object : ℕ) (bytes : List ℕ) → (frame_from g object bytes).header ≡ header_from bytes
 unfolding frame_from
 header_is g object bytes = header_by (nat_lt object g.nodes) bytes
-
-first_sector : (b : Bool) (image : Image) (at : ℕ) → 32 ≤ length (image at) → header_from (sectors_from image at (if b then 2 else 9)) ≡ header_from (image at)
-unfolding sectors_from
-first_sector b image at room = grind (arith, nat_tests, header_before)
-
--- its first sector decides it
-pub reported_first : (g : Geometry) (object : ℕ) (image : Image) (at : ℕ) → 32 ≤ length (image at) →
-    (frame_from g object (sectors_from image at (frame_length g object))).header ≡ header_from (image at)
-reported_first g object image at room = header_is g object (sectors_from image at (frame_length g object)) ∙ first_sector (nat_lt object g.nodes) image at room

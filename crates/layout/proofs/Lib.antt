@@ -18,6 +18,5 @@ pub mod SlotsOf
 pub mod Totals
 pub mod Denoted
 pub mod Shapes
-pub mod Clusters
+pub mod Blocks
 mod Runs
-mod Zeros

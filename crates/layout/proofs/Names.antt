@@ -30,7 +30,7 @@ pub use Rattle.std.proofs.lemmas.List.{append-nil, drop-append-le, drop-drop, dr
 pub use Rattle.std.proofs.lemmas.List.{get_or-append_right, get_or-drop, get_or-map, get_or-replicate, get_or-take, get_or_append_left, get_or_default}
 pub use Rattle.std.proofs.lemmas.List.{get_or_past, length-append, length-drop, length-map, length-replicate, length-set, length-take, length-take-le}
 pub use Rattle.std.proofs.lemmas.List.{replicate-append-replicate, same_lists, take-append-drop, take-append-le, take-replicate, take_all, take_at, take_more}
-pub use Rattle.std.proofs.lemmas.List.{take_more_set, take_rest}
+pub use Rattle.std.proofs.lemmas.List.{take-take, take_more_set, take_rest}
 pub use Rattle.std.proofs.lemmas.List.Concat.{flat_map-append}
 pub use Rattle.std.proofs.lemmas.List.Elements.{All-append, All-cons, All-from_recursion, All-head, All-map, All-nil, All-push, All-replicate, All-same}
 pub use Rattle.std.proofs.lemmas.List.Elements.{All-tail, All-weaker}
@@ -38,7 +38,7 @@ pub use Rattle.std.proofs.lemmas.List.FromFn.{get_or-map-range_with_len, length-
 pub use Rattle.std.proofs.lemmas.Nat.{from_le_bytes-to_le_bytes_4, from_le_bytes-to_le_bytes_8, le_bytes_8, le_or_l, le_or_r}
 pub use Rattle.std.proofs.lemmas.Option.{same_Some}
 pub use Rattle.std.proofs.lemmas.Result.{IfErr-weaker, IfOk-weaker, err_from_is_err_and}
-pub use Rattle.std.proofs.lemmas.Slice.{between-put_mid, between_is, drop-put_mid, take-put_mid, take-put_mid_below}
+pub use Rattle.std.proofs.lemmas.Slice.{between_is, drop-put_mid, take-put_mid, take-put_mid_below}
 pub use Rattle.std.proofs.lemmas.Slice.Eq.{slice_eq-Decides}
 pub use Rattle.std.specs.Int.{from_le_bytes, w32, w64}
 pub use Rattle.std.specs.List.{All, between, flat_map}
@@ -46,11 +46,10 @@ pub use Rattle.std.specs.Prelude.{IfNone, IfSome, IsTrue, OnOk, Option, bit_or, 
 unfoldable pub use Rattle.layout.specs.Bytes.{half_number, number, number_from, short_number, zeros}
 pub use Rattle.layout.specs.Capability.{HeadFits, assembled, head_number, height_of, key_of, number_of}
 unfoldable pub use Rattle.layout.specs.Capability.{capability_bytes, head_bytes}
-pub use Rattle.layout.specs.Clusters.{IsAlone, IsBlankBehind}
 pub use Rattle.layout.specs.Directory.{AllFitting, AreRising, IsDirectory, entry_at}
 unfoldable pub use Rattle.layout.specs.Directory.{directory_bytes}
 pub use Rattle.layout.specs.Frame.{FollowsRole, HoldsPage, IsBody, IsFrameOf, IsFront, IsNodeFrame, IsPageBody, IsPageFrame, body_in, content_of, frame_bytes}
-pub use Rattle.layout.specs.Frame.{frame_length, number_cap, page_body_in, page_words, role_in, root_from, root_slots, slots_of, state_in}
+pub use Rattle.layout.specs.Frame.{frame_length, frame_of, number_cap, page_body_in, page_words, role_in, root_from, root_slots, slots_of, state_in}
 unfoldable pub use Rattle.layout.specs.Frame.{front_bytes, front_numbers, node_frame_bytes, page_frame_bytes, slots_bytes, words_bytes}
 pub use Rattle.layout.specs.FrameReader.{cap_with, node_from, page_from}
 unfoldable pub use Rattle.layout.specs.FrameReader.{cap_from, frame_from, header_from, slots_from, words_from}
@@ -59,11 +58,11 @@ pub use Rattle.layout.specs.Gate.{gate_bytes}
 pub use Rattle.layout.specs.Half.{half_of}
 pub use Rattle.layout.specs.Header.{IsHeader}
 unfoldable pub use Rattle.layout.specs.Header.{header_bytes}
-pub use Rattle.layout.specs.Homes.{range_with}
+pub use Rattle.layout.specs.Homes.{place_length, range_with}
 pub use Rattle.layout.specs.Image.{Encodes, HasDirectory, HasHeader, HasNoHeader, HasPlan, IsBadBy, IsTooSmall, SavedState, frame_in, half_sector, shaped_at}
 pub use Rattle.layout.specs.Image.{slot_in, total_in}
 unfoldable pub use Rattle.layout.specs.Image.{sectors_from}
-pub use Rattle.layout.specs.Shape.{shape_bytes, shape_length}
+pub use Rattle.layout.specs.Shape.{AreBeside, HasZerosBeside, IsBlankFrom, IsShapeFor, node_shape, page_shape, shape_bytes, shape_end, shape_length}
 pub use Rattle.layout.specs.Spelt.{AreSpelt, IsSpelt, count_of, frame_read}
 unfoldable pub use Rattle.layout.specs.Spelt.{frames_read}
 pub use Rattle.layout.specs.Superblock.{AreApart, Cover, HasMark, IsApart, IsInside, IsNext, IsPlan, IsWithin, Plan, RangeFits, extent_at, extents, half_extent}
@@ -81,5 +80,5 @@ pub use Rattle.layout.specs.declared.half.Half.{Half}
 pub use Rattle.layout.specs.declared.half.Half.TheVariants.{First, Second}
 pub use Rattle.layout.specs.declared.header.CheckpointHeader.{CheckpointHeader}
 pub use Rattle.layout.specs.declared.shape.Shape.{Shape}
-pub use Rattle.layout.specs.declared.shape.Shape.TheVariants.{Packed}
 pub use Rattle.layout.specs.declared.version.Version.{Version}
+pub use Rattle.layout.specs.Version.{row}

@@ -13,6 +13,10 @@ pub length-number : (n : ℕ) → length (number n) ≡ 8
 unfolding number
 length-number n = refl
 
+pub length-zeros : (n : ℕ) → length (zeros n) ≡ n
+unfolding zeros
+length-zeros n = length-replicate n 0
+
 abbrev pub IsBytes : List ℕ → Type 0
 IsBytes bytes = (i : ℕ) → get_or bytes i 0 < 256
 

@@ -8,10 +8,9 @@ use Rattle.layout.proofs.Names.{little_number, IsRead, Bor, content_behind, Cont
 use Rattle.std.proofs.Common.{◌≡◌, ◌+◌, ◌-◌, ◌*◌, ◌^◌, ◌<◌, ◌≤◌, ◌∷◌, ◌++◌, ◌∙◌}
 use Rattle.std.specs.Prelude.{◌⊎◌}
 use borrow.Rule.Slice.PartMut.{put_mid}
-use Rattle.layout.proofs.Numbers.{length-number, stream, AllFit, stream_splits, IsBytes, number_read}
+use Rattle.layout.proofs.Numbers.{length-number, length-zeros, stream, AllFit, stream_splits, IsBytes, number_read}
 use Rattle.layout.proofs.Frames.{length-front, front_list, front_reported, front_bytes_are, role_again, role_fits, drop_zeros}
 use Rattle.model.specs.declared.object.ContentRef.TheVariants as content_ref
-use Rattle.layout.proofs.Clusters.{length-zeros}
 
 pub words_bytes-nil : words_bytes [] ≡ []
 unfolding words_bytes

@@ -1,11 +1,20 @@
 -- How many sectors frames take, and their bytes in these.
-use Rattle.layout.proofs.Names.{nat_tests, ℕ, ap, arith, Image, Shape, shaped_at, shape_length, shape_bytes}
+use Rattle.layout.proofs.Names.{nat_tests, ℕ, ap, arith, Geometry, Image, Shape, Version, IsShapeFor, node_shape, page_shape, shaped_at, shape_length}
+use Rattle.layout.proofs.Names.{shape_bytes, Plan, place_length, row}
 use Rattle.std.proofs.Common.{◌≡◌, ◌+◌, ◌<◌, ◌≤◌}
 use Rattle.layout.proofs.Sectors.{same_sectors}
 
 -- no frame takes more than a slot of the log
-pub few_sectors : (s : Shape) → shape_length s ≤ 9
-few_sectors s = grind (arith, nat_tests)
+pub few_sectors : (p : Plan) (n : ℕ) → place_length p n ≤ 9
+few_sectors p n = grind (arith, nat_tests)
+
+-- a node of a cluster has such a shape
+pub node_fits : (v : Version) (g : Geometry) (n rank : ℕ) → n < g.nodes → rank < (row v).cluster_nodes → IsShapeFor g n (node_shape v rank)
+node_fits v g n rank lt below = grind (arith, nat_tests)
+
+-- and a page the other
+pub page_fits : (g : Geometry) (n : ℕ) → g.nodes ≤ n → IsShapeFor g n page_shape
+page_fits g n le = grind (arith, nat_tests)
 
 -- the bytes of a frame are those of its sectors
 pub same_shaped : (at : ℕ) (s : Shape) (old new : Image) → ((i : ℕ) → i < shape_length s → new (at + i) ≡ old (at + i)) →

@@ -2,9 +2,10 @@
 use Rattle.layout.specs.Names.{ℕ, List, ⊤, Frame, ObjectHeader, Geometry, Image}
 use Rattle.std.specs.Prelude.{◌≡◌, ◌+◌, ◌<◌}
 use Rattle.layout.specs.declared.bad_image.BadImage.TheVariants.{BadFrame}
-use Rattle.layout.specs.Frame.{IsFrameOf, frame_length}
+use Rattle.layout.specs.Frame.{IsFrameOf}
 use Rattle.layout.specs.FrameReader.{frame_from}
-use Rattle.layout.specs.Image.{sectors_from}
+use Rattle.layout.specs.Image.{shaped_at}
+use Rattle.layout.specs.declared.shape.Shape.{Shape}
 use Rattle.layout.specs.declared.open_fault.OpenFault.{OpenFault}
 use Rattle.layout.specs.declared.open_fault.OpenFault.TheVariants.{Failed, NoMemory, Bad}
 
@@ -18,7 +19,7 @@ IsRefused g age number bytes Failed = ⊤
 IsRefused g age number bytes NoMemory = ⊥
 IsRefused g age number bytes (Bad reason) = (reason ≡ BadFrame) × ((f : Frame) → IsFrameOf g age number bytes f → ⊥)
 
--- a header is that of the frame that lies at a sector, of whatever number, in sectors of its own
-abbrev pub IsHeaderAt : Image → ℕ → ObjectHeader → Type 0
-IsHeaderAt image at header = (g : Geometry) (number : ℕ) →
-    header ≡ (frame_from g number (sectors_from image at (frame_length g number))).header
+-- a header is that of the frame of this shape that lies at a sector, of whatever number
+abbrev pub IsHeaderAt : Image → ℕ → Shape → ObjectHeader → Type 0
+IsHeaderAt image at shape header = (g : Geometry) (number : ℕ) →
+    header ≡ (frame_from g number (shaped_at image at shape)).header

@@ -3,11 +3,10 @@ use Rattle.layout.specs.Names.{ℕ, nat_lt, nat_le, Option, Some, None, List, []
 use Rattle.std.specs.Prelude.{◌+◌, ◌-◌, ◌*◌, ◌/◌, ◌%◌, ◌&&◌, if◌then◌else◌, ◌∷◌}
 use Rattle.layout.specs.declared.extent.HomeRange.{HomeRange}
 use Rattle.layout.specs.declared.shape.Shape.{Shape}
-use Rattle.layout.specs.declared.shape.Shape.TheVariants.{Page}
 use Rattle.layout.specs.declared.version.Version.{Version}
-use Rattle.layout.specs.declared.version.Version.TheVariants.{One, Two}
-use Rattle.layout.specs.Shape.{node_shape, shape_length}
+use Rattle.layout.specs.Shape.{node_shape, page_shape, shape_length}
 use Rattle.layout.specs.Superblock.{Plan}
+use Rattle.layout.specs.Version.{row}
 
 -- the range that has a number
 abbrev pub range_with : List HomeRange → ℕ → Option HomeRange
@@ -15,10 +14,9 @@ range_with [] object = None
 range_with (r ∷ rs) object = if nat_le r.first object && nat_lt object (r.first + r.count) then Some r else range_with
     rs object
 
--- how many sectors into a range the i-th of its nodes begins, or the cluster of five that has it
+-- how many sectors into a range the cluster of the i-th of its nodes begins
 abbrev pub node_offset : Version → ℕ → ℕ
-node_offset One i = 2 * i
-node_offset Two i = 8 * (i / 5)
+node_offset v i = (row v).cluster_sectors * (i / (row v).cluster_nodes)
 
 -- the place of a number in a range that has it
 abbrev pub place_in : Version → Geometry → HomeRange → ℕ → ℕ
@@ -29,20 +27,20 @@ abbrev pub place_by : Version → Geometry → Option HomeRange → ℕ → ℕ
 place_by v g None object = 0
 place_by v g (Some r) object = place_in v g r object
 
--- the first sector of the home of an object: of its own frame, or of its cluster
+-- the first sector of the home of an object: of its block
 abbrev pub home_place : Plan → ℕ → ℕ
 home_place p object = place_by p.version p.geometry (range_with p.ranges object) object
 
--- which of the five of a cluster a number is, counted in its range
-abbrev pub rank_in : Option HomeRange → ℕ → ℕ
-rank_in None object = 0
-rank_in (Some r) object = (object - r.first) % 5
+-- which of a cluster's nodes a number is, counted in its range
+abbrev pub rank_in : Version → Option HomeRange → ℕ → ℕ
+rank_in v None object = 0
+rank_in v (Some r) object = (object - r.first) % (row v).cluster_nodes
 
--- how the frame of an object lies in the sectors from where it begins, at home as in the log
+-- where the frame of an object lies in its block, at home as in the log
 abbrev pub shape_of : Plan → ℕ → Shape
 shape_of p object = if nat_lt object p.geometry.nodes then node_shape p.version
-    (rank_in (range_with p.ranges object) object) else Page
+    (rank_in p.version (range_with p.ranges object) object) else page_shape
 
--- how many sectors these are
+-- how many sectors that is
 abbrev pub place_length : Plan → ℕ → ℕ
 place_length p object = shape_length (shape_of p object)

@@ -7,6 +7,7 @@ pub mod Header
 pub mod Frame
 pub mod Directory
 pub mod Half
+pub mod Version
 pub mod Superblock
 pub mod Shape
 pub mod Homes
@@ -15,7 +16,6 @@ pub mod Laws
 pub mod FrameReader
 pub mod Spelt
 pub mod Calls
-pub mod Clusters
 pub mod Fault
 pub mod Frames
 pub mod Reason

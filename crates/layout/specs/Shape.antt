@@ -1,30 +1,52 @@
--- How the frame of an object lies in the sectors from where it begins.
-use Rattle.layout.specs.Names.{ℕ, List, take, drop, Geometry}
-use Rattle.std.specs.Prelude.{◌*◌, ◌<◌, ◌≤◌, ◌++◌}
+-- Where the frame of an object lies in its block of sectors.
+use Rattle.layout.specs.Names.{ℕ, List, length, take, drop, between, Geometry}
+use Rattle.std.specs.Prelude.{◌≡◌, ◌⊎◌, ◌+◌, ◌-◌, ◌*◌, ◌<◌, ◌≤◌, ◌++◌}
 use Rattle.layout.specs.declared.shape.Shape.{Shape}
-use Rattle.layout.specs.declared.shape.Shape.TheVariants.{Node, Packed, Page}
 use Rattle.layout.specs.declared.version.Version.{Version}
-use Rattle.layout.specs.declared.version.Version.TheVariants.{One, Two}
 use Rattle.layout.specs.Bytes.{zeros}
+use Rattle.layout.specs.Version.{row}
 
--- a node lies in sectors of its own, or by version 2 in the place of its rank
+-- a node's frame lies in a cluster by its rank
 abbrev pub node_shape : Version → ℕ → Shape
-node_shape One rank = Node
-node_shape Two rank = Packed rank
+node_shape v rank = record {
+  sectors = (row v).cluster_sectors;
+  offset = (row v).node_bytes * rank;
+  bytes = (row v).node_bytes;
+}
 
--- how many sectors a frame takes
+-- a page's frame is a block
+abbrev pub page_shape : Shape
+page_shape = record { sectors = 9; offset = 0; bytes = 4608 }
+
+-- how many sectors its block takes
 abbrev pub shape_length : Shape → ℕ
-shape_length Node = 2
-shape_length (Packed rank) = 8
-shape_length Page = 9
+shape_length s = s.sectors
 
--- its bytes in these: a packed one lacks the zeros at the end of a node's frame
+-- where it ends in the block
+abbrev pub shape_end : Shape → ℕ
+shape_end s = s.offset + s.bytes
+
+-- its bytes in the block: it lacks the zeros at the end of a node's 1024 bytes
 abbrev pub shape_bytes : Shape → List ℕ → List ℕ
-shape_bytes (Packed rank) bytes = take 800 (drop (800 * rank) bytes) ++ zeros 224
-shape_bytes _ bytes = bytes
+shape_bytes s block = between s.offset (shape_end s) block ++ zeros (1024 - s.bytes)
 
 -- the frame of a number may have this shape
-abbrev pub IsShapeFor : Geometry → ℕ → Shape → Type 0
-IsShapeFor g number Node = number < g.nodes
-IsShapeFor g number (Packed rank) = (number < g.nodes) × (rank < 5)
-IsShapeFor g number Page = g.nodes ≤ number
+pub record IsShapeFor (g : Geometry) (number : ℕ) (s : Shape) : Type 0 where
+  pub inside : shape_end s ≤ 512 * s.sectors
+  pub few : s.sectors ≤ 9
+  pub least : 800 ≤ s.bytes
+  pub node : number < g.nodes → (s.bytes ≤ 1024) × (s.sectors ≤ 8)
+  pub page : g.nodes ≤ number → s ≡ page_shape
+
+-- two frames share no byte of a block
+abbrev pub AreBeside : Shape → Shape → Type 0
+AreBeside s t = (shape_end s ≤ t.offset) ⊎ (shape_end t ≤ s.offset)
+
+-- from a byte on a block has zeros
+abbrev pub IsBlankFrom : ℕ → List ℕ → Type 0
+IsBlankFrom at bytes = drop at bytes ≡ zeros (length bytes - at)
+
+-- beside a frame its block has zeros
+pub record HasZerosBeside (s : Shape) (bytes : List ℕ) : Type 0 where
+  pub before : take s.offset bytes ≡ zeros s.offset
+  pub behind : IsBlankFrom (shape_end s) bytes

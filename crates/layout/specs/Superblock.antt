@@ -9,13 +9,12 @@ use Rattle.layout.specs.declared.extent.HomeRange.{HomeRange}
 use Rattle.layout.specs.declared.half.Half.{Half}
 use Rattle.layout.specs.declared.half.Half.TheVariants.{First, Second}
 use Rattle.layout.specs.declared.version.Version.{Version}
-use Rattle.layout.specs.declared.version.Version.TheVariants.{One, Two}
 use Rattle.layout.specs.Bytes.{number, half_number, zeros}
+use Rattle.layout.specs.Version.{row}
 
 -- the number for its version in a superblock
 abbrev pub version_number : Version → ℕ
-version_number One = 1
-version_number Two = 2
+version_number v = (row v).number
 
 -- what a superblock says
 pub record Plan : Type 0 where
@@ -72,10 +71,9 @@ abbrev pub Cover : Geometry → ℕ → List HomeRange → Type 0
 Cover g n [] = n ≡ g.nodes + g.pages
 Cover g n (r ∷ rs) = IsNext g r n × Cover g (n + r.count) rs
 
--- how many sectors the frames of this number of nodes take: 2 each, or 8 for each five and for the rest
+-- how many sectors the clusters of this number of nodes take
 abbrev pub nodes_length : Version → ℕ → ℕ
-nodes_length One count = 2 * count
-nodes_length Two count = 8 * ((count + 4) / 5)
+nodes_length v count = (row v).cluster_sectors * ((count + (row v).cluster_nodes - 1) / (row v).cluster_nodes)
 
 -- the sectors of a range, 9 for a page, and those of a log half
 abbrev pub range_extent : Version → Geometry → HomeRange → Extent

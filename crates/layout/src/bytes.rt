@@ -22,9 +22,9 @@ pub fn put_number(bytes: &mut [u8], at: usize, n: u64)
     LittleEndian::write_u64(&mut bytes[at..], n);
 }
 
-// Whether all bytes are 0.
+/// Whether all bytes are 0.
 #[tactic(auto, using(crate::proofs::Numbers::sum_more, crate::proofs::Numbers::ends_zeros))]
-fn are_zeros(bytes: &[u8]) -> bool
+pub fn are_zeros(bytes: &[u8]) -> bool
     ensures { IsTrue result ↔ (bytes.now ≡ zeros (length bytes.now)) }
 {
     let mut any = 0;

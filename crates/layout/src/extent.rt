@@ -3,7 +3,6 @@ ghost use Rattle.std.specs.Prelude.{◌≡◌, ◌+◌, ◌<◌, ◌≤◌, ◌+
 ghost use Rattle.std.specs.List.{All};
 ghost use Rattle.layout.specs.Superblock.{nodes_length, range_extent, half_extent, IsWithin, IsApart, AreApart};
 
-use crate::cluster::{CLUSTER_NODES, CLUSTER_SECTORS};
 use crate::version::Version;
 use model::Geometry;
 
@@ -31,10 +30,8 @@ fn nodes_length(version: Version, count: u64) -> u64
     requires { count ≤ 8192 }
     ensures { result ≡ nodes_length version count }
 {
-    match version {
-        Version::One => 2 * count,
-        Version::Two => CLUSTER_SECTORS * ((count + CLUSTER_NODES - 1) / CLUSTER_NODES),
-    }
+    let row = version.row();
+    row.cluster_sectors * ((count + row.cluster_nodes - 1) / row.cluster_nodes)
 }
 
 /// Returns the sectors of a home range: 9 for each page, and those of its version for nodes.

@@ -2,12 +2,15 @@
 ghost use Rattle.std.specs.Prelude.{◌≡◌, ◌+◌, ◌*◌, ◌<◌, length, IfOk, IfErr};
 ghost use Rattle.model.specs.declared.frame.Frame.{Frame};
 ghost use Rattle.layout.specs.Frame.{frame_bytes, frame_length, frame_of, IsFrameOf};
+ghost use Rattle.layout.specs.Shape.{IsShapeFor, shape_bytes};
 ghost use Rattle.model.specs.Frame.{content_behind};
 
 use crate::bad_image::BadImage;
+use crate::block::unpack_node;
 use crate::body::{Body, Scratch};
-use crate::node_frame::{decode_node_frame, encode_node_frame};
+use crate::node_frame::{NODE_FRAME_BYTES, decode_node_frame, encode_node_frame};
 use crate::page_frame::{decode_page_frame, encode_page_frame};
+use crate::shape::Shape;
 use model::{Cap, ContentRef, Geometry, ObjectHeader};
 
 /// Reads the frame of an object: 1024 bytes for a node's number, 4608 for a page's. It puts the slots
@@ -33,6 +36,32 @@ pub fn decode_frame(
         decode_node_frame(bytes, geometry, age, scratch)
     } else {
         decode_page_frame(bytes, age, scratch)
+    }
+}
+
+/// Reads the frame of an object from its block, as `decode_frame` does.
+pub fn decode_in_block(
+    block: &[u8],
+    shape: Shape,
+    geometry: Geometry,
+    number: u64,
+    age: u64,
+    scratch: &mut Scratch,
+) -> Result<(ObjectHeader, Body), BadImage>
+    requires shape { IsShapeFor geometry number shape }
+    requires size { length block.now ≡ 512 * shape.sectors }
+    requires number { number < geometry.nodes + geometry.pages }
+    ensures found { IfOk result (λ read. IsFrameOf geometry age number
+        (shape_bytes shape block.now) (frame_of read scratch.new)) }
+    ensures refused { IfErr result (λ e. (e ≡ BadImage.BadFrame)
+        × ((f : Frame) → IsFrameOf geometry age number (shape_bytes shape block.now) f → ⊥)) }
+{
+    if number < geometry.nodes {
+        let mut node = [0; NODE_FRAME_BYTES];
+        unpack_node(block, shape, &mut node);
+        decode_frame(&node, geometry, number, age, scratch)
+    } else {
+        decode_frame(block, geometry, number, age, scratch)
     }
 }
 

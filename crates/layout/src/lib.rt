@@ -3,10 +3,10 @@
 #![tactic(auto)]
 
 mod bad_image;
+mod block;
 mod body;
 mod bytes;
 mod capability;
-mod cluster;
 mod directory;
 mod extent;
 mod fields;
@@ -27,17 +27,15 @@ mod superblock;
 mod version;
 
 pub use bad_image::BadImage;
+pub use block::{BLOCK_BYTES, copy_frame, put_frame, unpack_node};
 pub use body::{Body, Scratch};
+pub use bytes::{are_zeros, blank, blank_from};
 pub use capability::{CAPABILITY_BYTES, decode_capability, encode_capability};
-pub use cluster::{CLUSTER_BYTES, CLUSTER_NODES, CLUSTER_SECTORS, pack_node, unpack_node};
 pub use directory::{ENTRY_BYTES, Entry, MAX_LOG, decode_directory, encode_directory};
 pub use extent::{Extent, HomeRange, half_extent, range_extent};
 pub use fields::{header_in, sequence_in, total_in};
-pub use frame::{decode_frame, encode_frame};
-pub use frame_io::{
-    blank_behind, read_frame, read_header, read_packed, read_sectors, write_frame, write_page,
-    write_sectors,
-};
+pub use frame::{decode_frame, decode_in_block, encode_frame};
+pub use frame_io::{read_frame, read_header, read_sectors, write_frame, write_page, write_sectors};
 pub use gate::{Gate, decode_gate, encode_gate};
 pub use half::Half;
 pub use header::{CheckpointHeader, decode_header, encode_header};
@@ -46,5 +44,8 @@ pub use node_frame::NODE_FRAME_BYTES;
 pub use open_fault::OpenFault;
 pub use page_frame::{PAGE_FRAME_BYTES, encode_page};
 pub use shape::Shape;
-pub use superblock::{MAX_RANGES, Superblock, decode_superblock, encode_superblock};
-pub use version::Version;
+pub use superblock::{
+    MAX_NODES, MAX_PAGES, MAX_RANGES, MIN_LOG, MIN_NODES, Superblock, decode_superblock,
+    encode_superblock,
+};
+pub use version::{Row, Version};

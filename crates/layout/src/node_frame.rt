@@ -14,13 +14,15 @@ use crate::bad_image::BadImage;
 use crate::body::{Body, Scratch};
 use crate::bytes::{blank_from, is_blank_from};
 use crate::capability::CAPABILITY_BYTES;
-use crate::cluster::PACKED_BYTES;
 use crate::front::{decode_front, encode_front, has_counts};
 use crate::slots::{are_held, decode_slots, encode_slots};
 use model::{Cap, Capability, ContentRef, Geometry, ObjectHeader, Root, State};
 
 /// How many bytes a frame with the number of a node takes.
 pub const NODE_FRAME_BYTES: usize = 1024;
+
+// How many of these come before the zeros at its end.
+const SLOTS_END: usize = 800;
 
 // Returns the number of a `Number` capability, or 0 for any other.
 fn number_held(cap: Cap) -> u64
@@ -166,11 +168,11 @@ pub fn decode_node_frame(
             Err(BadImage::BadFrame)
         };
     }
-    decode_slots(&bytes[32..PACKED_BYTES], geometry, age, &mut scratch.slots)?;
+    decode_slots(&bytes[32..SLOTS_END], geometry, age, &mut scratch.slots)?;
     let slots = scratch.slots.as_slice();
     let body = body_in(role, slots);
     let has_counts = has_counts(header, age);
-    let is_blank = is_blank_from(bytes, PACKED_BYTES);
+    let is_blank = is_blank_from(bytes, SLOTS_END);
     if has_counts && is_blank && is_body(&body, role, header.owner, slots) {
         Ok((header, body))
     } else {

@@ -8,10 +8,11 @@ ghost use Rattle.layout.specs.Shape.{IsShapeFor};
 ghost use Rattle.layout.specs.Superblock.{Plan, version_number, superblock_bytes, ranges_bytes, unused, HasMark};
 ghost use Rattle.layout.specs.Superblock.{IsGeometry, IsNext, Cover, extents, IsPlan, IsRefused, RangeFits, plan_of};
 ghost use Rattle.layout.specs.Superblock.{half_start};
+ghost use Rattle.layout.specs.Version.{row};
 
 use crate::bad_image::BadImage;
 use crate::bytes::{blank, is_blank_from, number_at, put_number};
-use crate::cluster::CLUSTER_NODES;
+use crate::directory::MAX_LOG;
 use crate::extent::{Extent, HomeRange, are_apart, are_within, fill_extents};
 use crate::half::Half;
 use crate::homes::range_with;
@@ -20,6 +21,18 @@ use crate::version::Version;
 use device::MAX_SECTORS;
 use model::Geometry;
 use std::marker::Model;
+
+/// The least number of nodes.
+pub const MIN_NODES: u64 = 16;
+
+/// The greatest number of nodes.
+pub const MAX_NODES: u64 = 4096;
+
+/// The greatest number of pages. The least is 1.
+pub const MAX_PAGES: u64 = 4096;
+
+/// The least number of slots in a half of the log.
+pub const MIN_LOG: u64 = 16;
 
 /// The greatest number of home ranges.
 pub const MAX_RANGES: usize = 8;
@@ -36,6 +49,13 @@ const RANGES_AT: usize = 64;
 // Where the zeros behind them begin.
 const RANGES_END: usize = 256;
 
+// The frame of a page is a block.
+const PAGE_SHAPE: Shape = Shape {
+    sectors: 9,
+    offset: 0,
+    bytes: 4608,
+};
+
 // A range that is not used.
 const UNUSED: HomeRange = HomeRange {
     first: 0,
@@ -47,9 +67,9 @@ const UNUSED: HomeRange = HomeRange {
 fn is_geometry(geometry: Geometry) -> bool
     ensures { IsTrue result ↔ IsGeometry geometry }
 {
-    let nodes = geometry.nodes >= 16 && geometry.nodes <= 4096;
-    let pages = geometry.pages >= 1 && geometry.pages <= 4096;
-    let log = geometry.log >= 16 && geometry.log <= 4096;
+    let nodes = geometry.nodes >= MIN_NODES && geometry.nodes <= MAX_NODES;
+    let pages = geometry.pages >= 1 && geometry.pages <= MAX_PAGES;
+    let log = geometry.log >= MIN_LOG && geometry.log <= MAX_LOG as u64;
     nodes && pages && log
 }
 
@@ -213,29 +233,32 @@ impl Superblock {
         range_with(self.ranges(), number)
     }
 
-    // Returns the rank in its cluster, 0 to 4, that a number has if it is a node's.
+    // Returns the rank in its cluster that a number has if it is a node's.
     fn rank(&self, number: u64) -> u64
-        ensures value { result ≡ rank_in (range_with self.now.ranges number) number }
-        ensures below { result < 5 }
+        ensures value { result ≡ rank_in self.now.version (range_with self.now.ranges number) number }
+        ensures below { result < (row self.now.version).cluster_nodes }
     {
+        let row = self.version.row();
         match self.range_with(number) {
-            Some(range) => (number - range.first) % CLUSTER_NODES,
+            Some(range) => (number - range.first) % row.cluster_nodes,
             None => 0,
         }
     }
 
-    /// Returns the shape of the frame of an object, which is the same at home and in the log.
+    /// Returns where the frame of an object lies in its block, at home as in the log.
     pub fn shape(&self, number: u64) -> Shape
         ensures value { result ≡ shape_of self.now number }
         ensures fits { IsShapeFor self.now.geometry number result }
         ensures plan { IsPlan self.now }
     {
         if number >= self.geometry.nodes {
-            return Shape::Page;
+            return PAGE_SHAPE;
         }
-        match self.version {
-            Version::One => Shape::Node,
-            Version::Two => Shape::Packed(self.rank(number)),
+        let row = self.version.row();
+        Shape {
+            sectors: row.cluster_sectors,
+            offset: row.node_bytes * self.rank(number),
+            bytes: row.node_bytes,
         }
     }
 

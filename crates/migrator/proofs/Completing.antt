@@ -4,10 +4,11 @@ use Rattle.migrator.proofs.Names.{subst, arith, Image, Disk, IsTorn, AreKeepable
 use Rattle.migrator.proofs.Names.{half_extent, found_slot, own_slot, Whole, place_at, slot_of, entries_of, AreComplete, Keeps, Unwritten, mended, IfUnwritten}
 use Rattle.migrator.proofs.Names.{Put, slot_bytes, puts_in, Books, frozen_generation, working_generation, stored_in, frozen_of, next_saved, next_header}
 use Rattle.migrator.proofs.Names.{saved_state, IsIntact, LeavesState, MayHaveUnwritten, LeavesSaved, kept_of, Spares, puts, Touches, SparesPuts, Result, []}
-use Rattle.migrator.proofs.Names.{length, inl, inr, cases_eq, OnOk, OnErr, Elsewhere, image_of, sectors_of, elsewhere_on, OnlyNow, Shape, Packed, IsDirectory}
-use Rattle.migrator.proofs.Names.{home_place, shape_of, bytes_at, sectors_from, shaped_at, slot_in, slot_sector, shape_bytes, Plan, IsPlan, IsApart}
-use Rattle.migrator.proofs.Names.{apart_inside, whole_sectors, IsObject, IsOwn, alone, ranked, begins, place_extent, frames_in_slots, halves_within}
-use Rattle.migrator.proofs.Names.{slots_apart, IsFilled, IsComplete, KeepsOne, HasZerosAt, IsGathered, set, frame_in, frame_from, IsSpelt, frame_read}
+use Rattle.migrator.proofs.Names.{length, inl, inr, cases_eq, OnOk, OnErr, Elsewhere, image_of, sectors_of, elsewhere_on, OnlyNow, Shape, IsDirectory}
+use Rattle.migrator.proofs.Names.{home_place, shape_of, bytes_at, sectors_from, slot_in, slot_sector, shape_bytes, Plan, IsPlan, IsApart}
+use Rattle.migrator.proofs.Names.{apart_inside, whole_sectors, IsObject, IsWhole, alone, frames_beside, one_length, AreBeside, IsBlankFrom, shape_end, EndsInZeros, IsShapeFor, drop, drop-drop, zeros}
+use Rattle.migrator.proofs.Names.{Bool, true, false, place_extent, frames_in_slots, halves_within}
+use Rattle.migrator.proofs.Names.{slots_apart, IsFilled, IsComplete, KeepsOne, IsGathered, set, frame_in, frame_from, IsSpelt, frame_read}
 use Rattle.migrator.proofs.Names.{spelt_same, Place, slot_for, IsSpeltIn, Frame, slot_frame, HasUnwritten}
 use Rattle.std.proofs.Common.{◌≡◌, ◌*◌, ◌<◌, ◌∙◌, ◌⊎◌, ◌+◌, ◌-◌, ◌≤◌}
 use Rattle.migrator.proofs.Committing.{frozen_fits}
@@ -130,32 +131,29 @@ keepable_at {age} {old} {image} {b} {k} {mid} is keepable = grind (arith, nat_te
 
 -- ---- a cluster is put together
 
--- the frames at home were gathered, and that of the entry was packed over its own
-pub filled : (image : Image) {p : Plan} (generation rank : ℕ) (e : Entry) (node old new : List ℕ) → IsPlan p → IsObject p.geometry e.object →
-    shape_of p e.object ≡ Packed rank → IsGathered image p generation [] (e.object - rank) old
-    → shaped_at image (slot_sector p generation e.slot) (Packed rank) ≡ node → shape_bytes (Packed rank) new ≡ node →
-    ((other : ℕ) → other < 5 → (other ≡ rank → ⊥) → shape_bytes (Packed other) new ≡ shape_bytes (Packed other) old) → IsFilled image p generation e new
-filled image {p} generation rank e node old new fits is shape gathered read packed others = record {
-  own = ap (λ (s : Shape). shape_bytes s new) shape ∙ packed ∙ sym read ∙ ap (shaped_at image (slot_sector p generation e.slot)) (sym shape);
+-- the frames at home were gathered, and that of the entry was copied over its own
+pub filled : (image : Image) {p : Plan} (generation : ℕ) (e : Entry) (old new : List ℕ) → IsPlan p → IsObject p.geometry e.object →
+    IsGathered image p generation [] e.object old → shape_bytes (shape_of p e.object) new ≡ slot_bytes image p generation e.slot e.object
+    → ((s : Shape) → AreBeside (shape_of p e.object) s → shape_bytes s new ≡ shape_bytes s old) → IsFilled image p generation e new
+filled image {p} generation e old new fits is gathered copied others = record {
+  own = copied;
   others = λ n is_n same differ.
-      let start = begins p e.object rank fits is shape in
-      let first : ℕ = e.object - rank in
-      let is_first : IsObject p.geometry first = omega (arith, is) in
-      let same_first : home_place p n ≡ home_place p first = same ∙ sym start.home in
-      let at = ranked p n first fits is_n is_first start.first same_first in
-      let other : n - first ≡ rank → ⊥ = λ e. differ (omega (arith, e, start.below, at.0)) in
-      ap (λ (s : Shape). shape_bytes s new) at.2 ∙ others (n - first) (omega (arith, at.1, at.0)) other ∙ ap (λ (s : Shape). shape_bytes s old) (sym at.2) ∙
-      gathered n is_n same_first;
+      others (shape_of p n) (frames_beside fits is is_n (sym same) (λ e. differ (sym e))) ∙ gathered n is_n same;
 }
 
--- ---- it is written into the slot of its entry
+-- a block whose end stays has the same zeros
+blank_on : (end at : ℕ) (old new : List ℕ) → end ≤ at → length new ≡ length old → drop end new ≡ drop end old → IsBlankFrom at old → IsBlankFrom at new
+blank_on end at old new low size same blank =
+    let sum : end + (at - end) ≡ at = omega (arith, low) in
+    ap (λ (k : ℕ). drop k new) (sym sum) ∙ sym (drop-drop (at - end) end new) ∙ ap (drop (at - end)) same ∙ drop-drop (at - end) end old ∙
+    ap (λ (k : ℕ). drop k old) sum ∙ blank ∙ ap (λ (k : ℕ). zeros (k - at)) (sym size)
 
--- the rest of it was made zeros
-pub filled_on : {image : Image} {p : Plan} {generation : ℕ} (first : ℕ) {e : Entry} {old new : List ℕ} → home_place p first ≡ home_place p e.object →
-    IsObject p.geometry e.object
-    → ((n : ℕ) → IsObject p.geometry n → home_place p n ≡ home_place p first → shape_bytes (shape_of p n) new ≡ shape_bytes (shape_of p n) old) →
-    IsFilled image p generation e old → IsFilled image p generation e new
-filled_on {image} {p} {generation} first {e} {old} {new} home is stays was = grind (arith, nat_tests)
+-- what follows the frames stays zeros
+pub ends_on : (p : Plan) (n : ℕ) (old new : List ℕ) → IsObject p.geometry n → length new ≡ length old →
+    drop (shape_end (shape_of p n)) new ≡ drop (shape_end (shape_of p n)) old → EndsInZeros p n old → EndsInZeros p n new
+ends_on p n old new is size same ends at behind = blank_on (shape_end (shape_of p n)) at old new (behind n is refl) size same (ends at behind)
+
+-- ---- it is written into the slot of its entry
 
 half_of_slot : (p : Plan) (generation : ℕ) {slot : ℕ} → slot < p.geometry.log → IsInside (record { sector = slot_sector p generation slot; length = 8 })
     (half_extent p.geometry (half_sector p generation))
@@ -171,13 +169,14 @@ cluster_read image u size =
     sym (mended_here image u (omega arith) (omega (arith, lt, size)) ∙ ap (image_of u.bytes) few)))
 
 -- the zeros of a cluster stand in the slot that it was written into
-pub zeros_written : {p : Plan} (n : ℕ) (old new : Image) (u : Unwritten) {now : Option Unwritten} → length u.bytes ≡ 4096 →
-    mended new now ≡ mended old (Some u) → now ≡ None → HasZerosAt p n u.bytes → HasZerosAt p n (sectors_from new u.sector 8)
-zeros_written {p} n old new u {now} size seen none zeros = grind (arith, nat_tests, cluster_read)
+pub zeros_written : (p : Plan) (n : ℕ) (old new : Image) (u : Unwritten) {now : Option Unwritten} → length u.bytes ≡ 4096 →
+    mended new now ≡ mended old (Some u) → now ≡ None → EndsInZeros p n u.bytes → EndsInZeros p n (sectors_from new u.sector 8)
+zeros_written p n old new u {now} size seen none zeros = grind (arith, nat_tests, cluster_read)
 
-pub packed_read : (image : Image) (u : Unwritten) (p : Plan) (n : ℕ) {rank : ℕ} → length u.bytes ≡ 4096 → shape_of p n ≡ Packed rank →
+pub packed_read : (image : Image) (u : Unwritten) (p : Plan) (n : ℕ) → length u.bytes ≡ 4096 → place_length p n ≡ 8 →
     bytes_at (mended image (Some u)) u.sector p n ≡ shape_bytes (shape_of p n) u.bytes
-packed_read image u p n {rank} size shape = rw (shape, cluster_read image u size)
+packed_read image u p n size long =
+    ap (λ (k : ℕ). shape_bytes (shape_of p n) (sectors_from (mended image (Some u)) u.sector k)) long ∙ ap (shape_bytes (shape_of p n)) (cluster_read image u size)
 
 module _ {p : Plan} (generation : ℕ) {es : List Entry} (i : ℕ) (fits : IsPlan p) (is : IsDirectory p.geometry es) (within : i < length es) where
   abbrev e : Entry
@@ -187,8 +186,8 @@ module _ {p : Plan} (generation : ℕ) {es : List Entry} (i : ℕ) (fits : IsPla
   other_object : (n : ℕ) → slot_in es n ≡ None → n ≡ e.object → ⊥
   other_object n none same = let never : None ≡ Some e.slot = sym none ∙ ap (slot_in es) same ∙ own_slot es i is.rising within in cc
 
-  -- an entry whose frame is not packed has a home of its own
-  pub own_complete : (image : Image) → IsOwn (shape_of p e.object) → IsComplete image p generation es i
+  -- an entry whose frame takes its block alone has a home of its own
+  pub own_complete : (image : Image) → IsWhole (shape_of p e.object) → IsComplete image p generation es i
   own_complete image own = grind (arith, nat_tests, other_object, alone)
 
   -- and one that follows another completes nothing
@@ -221,8 +220,8 @@ module _ {p : Plan} (generation : ℕ) {es : List Entry} (i : ℕ) (fits : IsPla
 
 -- ---- the outcome for one entry's cluster
 
-module _ {p : Plan} (generation : ℕ) {es : List Entry} (i : ℕ) {rank : ℕ} (fits : IsPlan p) (is : IsDirectory p.geometry es) (within : i < length es)
-    (shape : shape_of p (entry_at es i).object ≡ Packed rank) (bytes : List ℕ) (size : length bytes ≡ 4096) where
+module _ {p : Plan} (generation : ℕ) {es : List Entry} (i : ℕ) (fits : IsPlan p) (is : IsDirectory p.geometry es) (within : i < length es)
+    (long : place_length p (entry_at es i).object ≡ 8) (bytes : List ℕ) (size : length bytes ≡ 4096) where
   abbrev entry : Entry
   entry = entry_at es i
 
@@ -245,18 +244,28 @@ module _ {p : Plan} (generation : ℕ) {es : List Entry} (i : ℕ) {rank : ℕ} 
         search (
           touches,
           change,
-          ap (λ (image : Image). slot_bytes image p generation entry.slot entry.object) seen ∙ packed_read old.seen u p entry.object size shape ∙ filled.own,
+          ap (λ (image : Image). slot_bytes image p generation entry.slot entry.object) seen ∙ packed_read old.seen u p entry.object size long ∙ filled.own,
           now_fits either,
         )
 
     pub one_complete : now ≡ None → IsComplete new.seen p generation es i
     one_complete none first n is_n same no_slot =
-        let start = begins p entry.object rank fits object shape in
-        let at = ranked p n (entry.object - rank) fits is_n (omega (arith, object)) start.first (same ∙ sym start.home) in
+        let long_n = one_length p n entry.object fits is_n object same ∙ long in
         let there : new.seen ≡ mended old.seen (Some u) = ap (mended new.seen) (sym none) ∙ seen in
-        ap (λ (image : Image). slot_bytes image p generation entry.slot n) there ∙ packed_read old.seen u p n size at.2
+        ap (λ (image : Image). slot_bytes image p generation entry.slot n) there ∙ packed_read old.seen u p n size long_n
         ∙ filled.others n is_n same (other_object generation i fits is within n no_slot)
         ∙ sym (ap (λ (image : Image). bytes_at image (home_place p n) p n) there ∙ homes_stay generation i fits is within (mended_elsewhere u) is_n)
+
+-- what doesn't take its block alone has a cluster of 8 sectors
+cluster_length : (p : Plan) (n : ℕ) → (IsWhole (shape_of p n) → ⊥) → place_length p n ≡ 8
+cluster_length p n other = grind (arith, nat_tests)
+
+pub whole_length : (p : Plan) (n : ℕ) → IsWhole (shape_of p n) → place_length p n ≡ 8 → ⊥
+whole_length p n whole long = grind (arith, nat_tests)
+
+pub long_of : (p : Plan) (n : ℕ) {s : Shape} {test : Bool} → s ≡ shape_of p n → test ≡ false → (IsWhole s → test ≡ true) → place_length p n ≡ 8
+long_of p n {s} {test} is fails holds = cluster_length p n (λ whole.
+    let never : false ≡ true = sym fails ∙ holds (subst IsWhole (sym is) whole) in cc)
 
 -- ---- one after the other
 
@@ -344,13 +353,12 @@ pub entry_of : (b : Books) (o : Option Unwritten) → MayHaveUnwritten b o → I
 entry_of b None has = tt
 entry_of b (Some u) has =
     let entry = found_slot (entries_of b.frozen) has.object has.slot (slot_entries b.frozen has.object ∙ has.place) in
-    search (has, entry, has.sector_is ∙ ap (slot_sector b.plan (frozen_generation b)) (sym entry.slot_is), ap (shape_of b.plan) entry.object_is ∙ has.shape)
-
--- a packed frame is that of a node, and of one of five
-is_packed : {p : Plan} {n rank : ℕ} → IsPlan p → n < count_of p → shape_of p n ≡ Packed rank → (n < p.geometry.nodes) × (rank < 5)
-is_packed {p} {n} {rank} fits lt shape = grind (arith, nat_tests)
+    search (has, entry, has.sector_is ∙ ap (slot_sector b.plan (frozen_generation b)) (sym entry.slot_is), ap (place_length b.plan) entry.object_is ∙ has.sectors)
 
 -- ---- what a read of the device itself gives
+
+shape_fits : (p : Plan) (n : ℕ) → IsShapeFor p.geometry n (shape_of p n)
+shape_fits p n = grind (arith, nat_tests)
 
 abbrev cluster_extent : Unwritten → Extent
 cluster_extent u = record { sector = u.sector; length = 8 }
@@ -412,15 +420,15 @@ module _ {disk : Disk} {b : Books} (is : IsDurable disk b) where
         let same : has.slot ≡ s = omega (arith, has.sector_is, here, own.2) in
         is.kept.frozen.table.apart has.object n s (has.place ∙ ap (λ (k : ℕ). Some k) same) (ap slot_of at)
 
-    own_shape : shape_of b.plan n ≡ Packed has.rank
-    own_shape = ap (shape_of b.plan) (sym one) ∙ has.shape
+    own_long : place_length b.plan n ≡ 8
+    own_long = ap (place_length b.plan) (sym one) ∙ has.sectors
 
     own_bytes : slot_bytes (seen_by disk.seen b) b.plan (frozen_generation b) s n ≡ shape_bytes (shape_of b.plan n) own.0.bytes
-    own_bytes = grind (arith, nat_tests, packed_read, has, own_shape)
+    own_bytes = grind (arith, nat_tests, packed_read, has, own_long)
 
     -- the buffer spells it
     pub own_spelt : n < count_of b.plan → (u : Unwritten) × (b.unwritten ≡ Some u) × IsSpeltIn u (shape_of b.plan n) b.plan.geometry n
-    own_spelt lt = grind (arith, nat_tests, is_packed, own_shape, own_bytes, has)
+    own_spelt lt = grind (arith, nat_tests, shape_fits, own_long, own_bytes, has)
 
     -- and gives it
     pub own_frame : {read : Frame} → ((u : Unwritten) → b.unwritten ≡ Some u → read ≡ frame_from b.plan.geometry n (shape_bytes (shape_of b.plan n) u.bytes))

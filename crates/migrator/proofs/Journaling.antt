@@ -3,10 +3,10 @@ use Rattle.migrator.proofs.Names.{nat_tests, IsIdle, MayReplace, Stays, ℕ, Opt
 use Rattle.migrator.proofs.Names.{get_or_past, get_or_default, Frame, ObjectHeader, Geometry, frame_at, IsKeepable, AreKeptWords, Image, Disk, Entry, Extent}
 use Rattle.migrator.proofs.Names.{IsDirectory, entry_at, IsFrameOf, page_frame_bytes, frame_from, IsHeader, frame_in, frame_slot_in, slot_sector, half_sector}
 use Rattle.migrator.proofs.Names.{sectors_from, shaped_at, bytes_at, count_of, frames_read, AreSpelt, Plan, IsPlan, IsInside, half_extent, slot_behind}
-use Rattle.migrator.proofs.Names.{length_read, read_at, spelt_same, spelt_at, bytes_spelt, Shape, home_place, shape_of, IsShapeFor, WritesAt, slot_extent}
+use Rattle.migrator.proofs.Names.{length_read, read_at, spelt_same, spelt_at, bytes_spelt, Shape, home_place, shape_of, WritesAt, slot_extent}
 use Rattle.migrator.proofs.Names.{directory_extent, slots_inside, most, with_words, Books, IsDurable, frozen_generation, working_generation, FrozenPuts}
 use Rattle.migrator.proofs.Names.{journaled, replaced, stored_in, stored_on, IsIntact, replaced_header, on_snapshots, first_bytes, first_frame}
-use Rattle.migrator.proofs.Names.{beside_frame_slot, alone, IsHeaderOf, MayAdopt, SparesKept, adopted, mended, MayJournal, directories_inside, one_more}
+use Rattle.migrator.proofs.Names.{page_words, page_shape, page_whole, page_long, shape_bytes, frame_bytes, beside_frame_slot, alone, IsHeaderAt, MayAdopt, SparesKept, adopted, mended, MayJournal, directories_inside, one_more}
 use Rattle.std.proofs.Common.{◌≡◌, ◌+◌, ◌%◌, ◌^◌, ◌<◌, ◌≤◌, ◌∷◌, ◌∙◌}
 use Rattle.std.specs.Prelude.{◌==◌}
 use Rattle.model.specs.declared.object.Content.TheVariants as content
@@ -28,8 +28,11 @@ words_fit {words} count fits = record { count_is = count; each = λ i d lt. subs
 
 -- its bytes
 page_spelt : (p : Plan) {age n : ℕ} (image : Image) (at : ℕ) {f : Frame} → p.geometry.nodes ≤ n → IsKeepable p.geometry age n f →
-    sectors_from image at 9 ≡ page_frame_bytes f → IsFrameOf p.geometry age n (bytes_at image at p n) f
-page_spelt p {age} {n} image at {f} le is written = grind (arith, nat_tests)
+    length (page_words f.content) ≡ 512 → sectors_from image at 9 ≡ page_frame_bytes f → IsFrameOf p.geometry age n (bytes_at image at p n) f
+page_spelt p {age} {n} image at {f} le is few written =
+    let shape : shape_of p n ≡ page_shape = grind (arith, nat_tests) in
+    let spelt : page_frame_bytes f ≡ frame_bytes p.geometry n f = grind (arith, nat_tests) in
+    (is, ap (shaped_at image at) shape ∙ ap (shape_bytes page_shape) written ∙ page_whole (page_frame_bytes f) (page_long f few) ∙ spelt)
 
 -- ---- where all that is saved is home
 
@@ -55,11 +58,11 @@ module _ {size : ℕ} {image : Image} {b : Books} (kept : IsIntact size image b)
 
 -- the header that was read of its home is the saved one
 pub header_read : {old : Image} {size : ℕ} (new : Image) {b : Books} → IsIntact size old b → b.header.entries ≡ 0 → {n at : ℕ} {shape : Shape} →
-    n < count_of b.plan → at ≡ home_place b.plan n → shape ≡ shape_of b.plan n → IsShapeFor b.plan.geometry n shape
-    → (bytes_at new (home_place b.plan n) b.plan n ≡ bytes_at old (home_place b.plan n) b.plan n) → {header : ObjectHeader} → IsHeaderOf new at shape header →
+    n < count_of b.plan → at ≡ home_place b.plan n → shape ≡ shape_of b.plan n
+    → (bytes_at new (home_place b.plan n) b.plan n ≡ bytes_at old (home_place b.plan n) b.plan n) → {header : ObjectHeader} → IsHeaderAt new at shape header →
     header ≡ (frame_at (stored_in old b).saved.frames n).header
-header_read {old} {size} new {b} kept home {n} {at} lt place shape_is fits same is =
-    is b.plan.geometry n fits ∙ ap (λ (s : Shape). (frame_from b.plan.geometry n (shaped_at new at s)).header) shape_is
+header_read {old} {size} new {b} kept home {n} {at} lt place shape_is same is =
+    is b.plan.geometry n ∙ ap (λ (s : Shape). (frame_from b.plan.geometry n (shaped_at new at s)).header) shape_is
     ∙ ap (λ (sector : ℕ). (frame_from b.plan.geometry n (bytes_at new sector b.plan n)).header) place
     ∙ ap (λ (bytes : List ℕ). (frame_from b.plan.geometry n bytes).header) same ∙ sym (ap (λ (f : Frame). f.header) (saved_read kept home lt))
 
@@ -105,14 +108,12 @@ module _ {old new : Disk} {b : Books} (is : IsDurable old b) (free : b.frozen_si
       → sectors_from new.seen (slot_sector b.plan b.header.generation 0) 9 ≡ page_frame_bytes (record { header = header; content = content.Page words }) →
       (age : ℕ) → b.header.age ≤ age → IsFrameOf b.plan.geometry age n (first_bytes new.seen b n) (with_words words (frame_at (stored_on old b).saved.frames n))
   spelt_page n {header} {words} page same fits written age le =
-      search (
-        arith,
-        words_keepable page fits (keepable_later b.plan.geometry b.header.age age le (saved_keepable is.kept home (page_known is.kept home page))),
-        keepable_later,
-        saved_keepable,
-        page_known,
-        page_spelt,
-      )
+      let f : Frame = frame_at (stored_on old b).saved.frames n in
+      let keepable : IsKeepable b.plan.geometry age n (with_words words f) =
+      words_keepable page fits (keepable_later b.plan.geometry b.header.age age le (saved_keepable is.kept home (page_known is.kept home page))) in
+      let there = subst (λ (h : ObjectHeader). sectors_from new.seen (slot_sector b.plan b.header.generation 0) 9 ≡
+      page_frame_bytes (record { header = h; content = content.Page words })) same written in
+      page_spelt b.plan new.seen (slot_sector b.plan b.header.generation 0) keepable.kind.0 keepable fits.count_is there
 
 -- ---- the object of that slot is saved anew
 

@@ -17,15 +17,15 @@ pub use Rattle.device.specs.Disk.{Disk, Image}
 pub use Rattle.device.specs.Moments.{Elapses, LeavesOnly}
 pub use Rattle.device.specs.declared.device.Failed.{Failed}
 pub use Rattle.home_ranges.proofs.FrameSlots.{beside_behind, beside_frame_slot, beside_here, frame_slot_entry, own_frame_slot}
-pub use Rattle.home_ranges.proofs.Places.{IsOwn, alone, lt_false, lt_true, one_length, places_apart, places_spare_log, places_within, ranked}
-pub use Rattle.home_ranges.proofs.Shared.{begins, home_between, own_of}
-pub use Rattle.home_ranges.specs.Home.{EndsInZeros, HaveHome, HoldsHome}
+pub use Rattle.home_ranges.proofs.Filling.{AreEnded, AreIn, all_blank, all_ended, all_in, ended_more, none_ended, one_frame_more}
+pub use Rattle.home_ranges.proofs.Places.{IsWhole, alone, frames_beside, home_between, one_length, places_apart, places_spare_log, places_within}
+pub use Rattle.home_ranges.specs.Home.{EndsInZeros, HoldsHome, IsFirstOf}
 pub use Rattle.home_ranges.specs.Laws.{home_extent}
-pub use Rattle.layout.proofs.Clusters.{length-zeros}
-pub use Rattle.layout.proofs.FrameReaders.{header_is}
+pub use Rattle.layout.proofs.Blocks.{page_long, page_whole}
 pub use Rattle.layout.proofs.Halves.{apart_inside, apart_turned, half_within, itself, within_inside}
 pub use Rattle.layout.proofs.Headers.{one_more}
 pub use Rattle.layout.proofs.Images.{one_frame}
+pub use Rattle.layout.proofs.Numbers.{length-zeros}
 pub use Rattle.layout.proofs.Sectors.{whole_sectors}
 pub use Rattle.layout.proofs.Shapes.{same_shaped}
 pub use Rattle.layout.proofs.SlotsOf.{found_slot, no_slot, own_slot, rising_to, slot_behind, two_objects}
@@ -36,16 +36,16 @@ pub use Rattle.layout.specs.Calls.{ReadsOnly, WritesAt}
 pub use Rattle.layout.specs.Directory.{AreRising, IsDirectory, IsEntry, entry_at}
 unfoldable pub use Rattle.layout.specs.Directory.{directory_bytes}
 pub use Rattle.layout.specs.Fault.{CountsOpen}
-pub use Rattle.layout.specs.Frame.{IsFrameOf, frame_bytes, frame_length, frame_of}
+pub use Rattle.layout.specs.Frame.{IsFrameOf, frame_bytes, frame_of, page_words}
 unfoldable pub use Rattle.layout.specs.Frame.{page_frame_bytes}
-unfoldable pub use Rattle.layout.specs.FrameReader.{frame_from, header_from}
+unfoldable pub use Rattle.layout.specs.FrameReader.{frame_from}
 pub use Rattle.layout.specs.Frames.{IsHeaderAt, IsObject, IsRefused}
 pub use Rattle.layout.specs.Header.{IsHeader}
 pub use Rattle.layout.specs.Homes.{home_place, place_length, shape_of}
 pub use Rattle.layout.specs.Image.{Encodes, HasDirectory, HasHeader, HasPlan, IsTooSmall, SavedState, bytes_at, directory_in, directory_length}
 pub use Rattle.layout.specs.Image.{directory_sector, frame_in, frame_slot_in, half_sector, sector_or, shaped_at, slot_beside, slot_in, slot_sector, total_in}
 unfoldable pub use Rattle.layout.specs.Image.{sectors_from}
-pub use Rattle.layout.specs.Shape.{IsShapeFor, shape_bytes, shape_length}
+pub use Rattle.layout.specs.Shape.{AreBeside, IsBlankFrom, IsShapeFor, page_shape, shape_bytes, shape_end}
 pub use Rattle.layout.specs.Spelt.{AreSpelt, IsSpelt, count_of, frame_read, state_in}
 unfoldable pub use Rattle.layout.specs.Spelt.{frames_read}
 pub use Rattle.layout.specs.Superblock.{IsApart, IsInside, IsPlan, Plan, half_extent, half_start}
@@ -57,22 +57,21 @@ pub use Rattle.layout.specs.declared.half.Half.TheVariants.{First, Second}
 pub use Rattle.layout.specs.declared.header.CheckpointHeader.{CheckpointHeader}
 pub use Rattle.layout.specs.declared.open_fault.OpenFault.{OpenFault}
 pub use Rattle.layout.specs.declared.shape.Shape.{Shape}
-pub use Rattle.layout.specs.declared.shape.Shape.TheVariants.{Node, Packed, Page}
 pub use Rattle.model.specs.Frame.{content_behind, frame_at}
 pub use Rattle.model.specs.Keepable.{AreKeepable, AreKeptWords, IsKeepable}
 pub use Rattle.model.specs.declared.frame.Frame.{Frame}
 pub use Rattle.model.specs.declared.frame.ObjectHeader.{ObjectHeader}
 pub use Rattle.model.specs.declared.geometry.Geometry.{Geometry}
-pub use Rattle.std.proofs.Common.{Bool, Err, List, None, Ok, Option, Result, Some, [], ap, append-nil, arith, cond, drop, false, get_or, inl, inr, length}
+pub use Rattle.std.proofs.Common.{Bool, Err, List, None, Ok, Option, Result, Some, [], ap, append-nil, arith, drop, false, get_or, inl, inr, length}
 pub use Rattle.std.proofs.Common.{length-append, map, nat_eq, nat_le, nat_lt, not, refl, rules, set, subst, suc, sym, take, true, zero, ℕ, ⊎_elim}
 pub use Rattle.std.proofs.Math.ListN.{get_or-map}
 pub use Rattle.std.proofs.lemmas.Bool.{cases_eq, cases_lt, eq-eqb}
 pub use Rattle.std.proofs.lemmas.Bool.Decides.{nat_tests}
-pub use Rattle.std.proofs.lemmas.List.{drop_all, drop_at, get_or-replicate, get_or-set_other, get_or-set_same, get_or_default, get_or_past, length-map}
+pub use Rattle.std.proofs.lemmas.List.{drop-drop, drop_all, get_or-replicate, get_or-set_other, get_or-set_same, get_or_default, get_or_past, length-map}
 pub use Rattle.std.proofs.lemmas.List.{length-replicate, length-set, map-set, nil_from_length, same_lists, take_all}
 pub use Rattle.std.proofs.lemmas.List.FromFn.{get_or-map-range_with_len, length-map-range_with_len, map-range_with_len_more}
 pub use Rattle.std.proofs.lemmas.Option.{none-some, same_Some}
-pub use Rattle.std.proofs.lemmas.Result.{IfErr-weaker, IfOk-from_err, IfOk-weaker, err_from_is_err_and, on_err_weaker, on_ok_weaker}
+pub use Rattle.std.proofs.lemmas.Result.{IfOk-from_err, IfOk-weaker, err_from_is_err_and, on_err_weaker, on_ok_weaker}
 pub use Rattle.std.specs.List.{range_with_len}
 pub use Rattle.std.specs.Prelude.{IfErr, IsErr, OnErr, OnOk, is_err, option_map, replicate, slice_set}
 pub use Rattle.std.specs.Vec.{vec_capacity}
@@ -82,8 +81,7 @@ pub use Rattle.migrator.specs.Durable.{IsRunning, IsSoundOn, LeavesState, MayHav
 pub use Rattle.migrator.specs.Durable.{ReadsStore, Stays, Stored, Stores, below_at, first_bytes, first_frame, freezing_puts, frozen_generation, frozen_of}
 pub use Rattle.migrator.specs.Durable.{frozen_put, generation_after, home_header, is_sound, left_of, newest, next_header, on_snapshots, puts, replaced_header}
 pub use Rattle.migrator.specs.Durable.{saved_state, seen_by, stored_in, stored_of, stored_on, with_frozen, with_working, working_generation}
-pub use Rattle.migrator.specs.Gathered.{HasZerosAt, IsCopied, IsFirst, IsGathered}
-pub use Rattle.migrator.specs.Headers.{IsHeaderOf}
+pub use Rattle.migrator.specs.Gathered.{IsCopied, IsFirst, IsGathered}
 pub use Rattle.migrator.specs.Mended.{IfUnwritten, IsSpeltIn, Unwritten, mended, unwritten_of}
 pub use Rattle.migrator.specs.Opened.{HasNoPlan, IsBadAt, IsRead, IsUnplanned, OpensDurable}
 pub use Rattle.migrator.specs.Put.{Absent, ArePut, Broken, HasFreeSlot, Kept, Put, held_slot, kept_count, kept_frame, put_at, put_of, put_or, slot_bytes}

@@ -5,12 +5,12 @@ use Rattle.migrator.proofs.Names.{IsSpelt, AreSpelt, frame_read, frames_read, st
 use Rattle.migrator.proofs.Names.{length, length-map-range_with_len, Stays, Option, Some, None, ap, option_map, frame_at, Place, Whole, place_at, slot_of}
 use Rattle.migrator.proofs.Names.{put_or, put_of, ArePut, Geometry, Failed, Agrees, Counts, IsFrameOf, one_frame, CountsOpen, IsRefused, Holds, Books}
 use Rattle.migrator.proofs.Names.{DurableState, frozen_generation, working_generation, below_at, frozen_put, frozen_of, newest, IsRunning, stored_in}
-use Rattle.migrator.proofs.Names.{saved_state, IsIntact, ReadsStore, IsDurable, Bool, nat_lt, ObjectHeader, Shape, Node, Packed, Page, frame_length, frame_from}
-use Rattle.migrator.proofs.Names.{header_from, sectors_from, shaped_at, header_is, IsHeaderAt, lt_true, lt_false, IsHeaderOf, Result, append-nil, IfErr}
+use Rattle.migrator.proofs.Names.{saved_state, IsIntact, ReadsStore, IsDurable}
+use Rattle.migrator.proofs.Names.{frame_in, sectors_from, Result, append-nil, IfErr}
 use Rattle.migrator.proofs.Names.{BadImage, entry_at, AreRising, IsTooSmall, total_in, slot_in, IsPlan, superblock_bytes, own_slot, rising_to, no_slot}
 use Rattle.migrator.proofs.Names.{total_reported, HasNoPlan, IsUnplanned, take, replicate, length-replicate, length_read, Nowhere, Absent, IsSoundOn, IsRead}
 use Rattle.migrator.proofs.Names.{OpensDurable, OnlyReads, first_books}
-use Rattle.std.specs.Prelude.{map, if◌then◌else◌}
+use Rattle.std.specs.Prelude.{map}
 use Rattle.std.proofs.Common.{◌≡◌, ◌+◌, ◌<◌, ◌∷◌, ◌++◌, ◌∙◌, ◌≤◌}
 use Rattle.layout.specs.Superblock.{IsRefused as IsPlanRefused}
 use Rattle.migrator.proofs.Putting.{put_is}
@@ -64,6 +64,14 @@ pub bad_frame : {image : Image} {size : ℕ} {p : Plan} {h : CheckpointHeader} {
 bad_frame refusal.Failed plan header directory lt is = tt
 bad_frame refusal.NoMemory plan header directory lt is = tt
 bad_frame {image} {size} {p} {h} {es} {n} (refusal.Bad reason) plan header directory lt is = rw is.0 (p, h, es, plan, header, directory, (n, lt, is.1))
+
+-- what was read of an object after others is refused for what is there
+pub refused_same : (p : Plan) (h : CheckpointHeader) (es : List Entry) (n : ℕ) (old new : Image) (e : OpenFault) → new ≡ old →
+    IsRefused p.geometry h.age n (frame_in new p h.generation es n) e → IsBadAt old p h es n e
+refused_same p h es n old new refusal.Failed same is = tt
+refused_same p h es n old new refusal.NoMemory same is = tt
+refused_same p h es n old new (refusal.Bad reason) same is =
+    (is.0, λ f spelt. is.1 f (subst (λ (i : Image). IsFrameOf p.geometry h.age n (frame_in i p h.generation es n) f) (sym same) spelt))
 
 -- ---- a device that was read whole
 
@@ -129,24 +137,6 @@ below_by {size} {image} {b} {n} {place} lt kept at = grind (arith, nat_tests, fr
 pub newest_by : (image : Image) (b : Books) {n : ℕ} {place : Place} → n < count_of b.plan → place_at b.working n ≡ place
     → put_or (put_of image b.plan (working_generation b) n place) (below_at (stored_in image b) n) ≡ newest (stored_in image b) n
 newest_by image b {n} {place} lt at = grind (arith, nat_tests, put_is)
-
--- ---- the headers of frames
-
-length_by : (g : Geometry) (n : ℕ) {test : Bool} → nat_lt n g.nodes ≡ test → frame_length g n ≡ (if test then 2 else 9)
-length_by g n is = ap (λ (t : Bool). if t then 2 else 9) is
-
--- of a frame in sectors of its own
-pub own_header : (image : Image) (at : ℕ) (shape : Shape) {header : ObjectHeader} → ((rank : ℕ) → shape ≡ Packed rank → ⊥) → IsHeaderAt image at header →
-    IsHeaderOf image at shape header
-own_header image at Node other is g n fits = is g n ∙ ap (λ (k : ℕ). (frame_from g n (sectors_from image at k)).header) (length_by g n (lt_true n g.nodes fits))
-own_header image at (Packed rank) other is g n fits = absurd (other rank refl)
-own_header image at Page other is g n fits = is g n ∙ ap (λ (k : ℕ). (frame_from g n (sectors_from image at k)).header)
-    (length_by g n (lt_false n g.nodes fits))
-
--- and of one in a cluster
-pub packed_header : (image : Image) (at : ℕ) {shape : Shape} {rank : ℕ} {node : List ℕ} {header : ObjectHeader} → shape ≡ Packed rank →
-    shaped_at image at (Packed rank) ≡ node → header ≡ header_from node → IsHeaderOf image at shape header
-packed_header image at {shape} {rank} {node} {header} packed read is = grind (arith, nat_tests, header_is)
 
 -- ---- the superblock
 

@@ -1,8 +1,8 @@
 -- Frames that lie apart, and writes apart from them.
 use Rattle.migrator.proofs.Names.{ℕ, zero, suc, Bool, true, false, not, nat_eq, Option, Some, None, List, [], length, refl, sym, ap, subst, inl, inr, arith}
-use Rattle.migrator.proofs.Names.{cases_eq, cases_lt, eq-eqb, Entry, Packed, IsDirectory, AreRising, entry_at, home_place, shape_of, slot_in, slot_beside}
-use Rattle.migrator.proofs.Names.{frame_slot_in, count_of, Plan, IsPlan, found_slot, own_slot, rising_to, IsOwn, alone, lt_false, beside_behind, beside_here}
-use Rattle.migrator.proofs.Names.{beside_frame_slot, own_frame_slot, same_Some, frame_slot_entry, begins, home_between, IsFirst, Image, Extent}
+use Rattle.migrator.proofs.Names.{cases_eq, cases_lt, eq-eqb, Entry, IsDirectory, AreRising, entry_at, home_place, shape_of, slot_in, slot_beside}
+use Rattle.migrator.proofs.Names.{frame_slot_in, count_of, Plan, IsPlan, found_slot, own_slot, rising_to, IsWhole, alone, IsFirstOf, beside_behind, beside_here}
+use Rattle.migrator.proofs.Names.{beside_frame_slot, own_frame_slot, same_Some, frame_slot_entry, home_between, IsFirst, Image, Extent}
 use Rattle.migrator.proofs.Names.{CheckpointHeader, place_length, bytes_at, frame_in, slot_sector, half_sector, sector_or, IsApart, IsInside, half_extent}
 use Rattle.migrator.proofs.Names.{itself, apart_inside, apart_turned, within_inside, home_extent, places_within, places_apart, places_spare_log, place_extent}
 use Rattle.migrator.proofs.Names.{directory_extent, slots_inside, frames_in_slots, directories_inside, halves_within, halves_apart, HomesAreBehind, slot_bytes}
@@ -71,14 +71,14 @@ some_beside p (e ∷ es) n (suc i) lt is none = elim (cases_eq (home_place p e.o
   | inr other ↦ some_beside p es n i (omega (arith, lt)) is (sym (beside_behind p e es n other) ∙ none)
 ]
 
--- an object whose frame isn't packed has no slot but its own
-pub alone_beside : {p : Plan} {es : List Entry} {n : ℕ} → IsPlan p → IsDirectory p.geometry es → n < count_of p → IsOwn (shape_of p n) → slot_in es n ≡ None →
+-- an object whose frame takes its block alone has no slot but its own
+pub alone_beside : {p : Plan} {es : List Entry} {n : ℕ} → IsPlan p → IsDirectory p.geometry es → n < count_of p → IsWhole (shape_of p n) → slot_in es n ≡ None →
     slot_beside p es n ≡ None
 alone_beside {p} {es} {n} fits is lt own none = search (arith, none_beside, alone, own_slot)
 
--- as that of a page isn't
-pub page_own : (p : Plan) {n : ℕ} → p.geometry.nodes ≤ n → IsOwn (shape_of p n)
-page_own p {n} le = search (arith, lt_false)
+-- as that of a page does
+pub page_own : (p : Plan) {n : ℕ} → p.geometry.nodes ≤ n → IsWhole (shape_of p n)
+page_own p {n} le = grind (arith, nat_tests)
 
 -- where there are no entries there is none
 pub no_entries : (p : Plan) (es : List Entry) (n : ℕ) → length es ≡ 0 → frame_slot_in p es n ≡ None
@@ -125,14 +125,13 @@ first_of {p} {es} {i} fits is within other j less same =
 
 -- ---- the search from the first number of a cluster on
 
-module _ (p : Plan) (es : List Entry) (n rank at : ℕ) (fits : IsPlan p) (is : IsDirectory p.geometry es) (lt : n < count_of p)
-    (shape : shape_of p n ≡ Packed rank)
-    (below : (i : ℕ) → i < at → (entry_at es i).object < n - rank) (from : (i : ℕ) → at ≤ i → i < length es → n - rank ≤ (entry_at es i).object) where
+module _ (p : Plan) (es : List Entry) (n first at : ℕ) (fits : IsPlan p) (is : IsDirectory p.geometry es) (lt : n < count_of p) (start : IsFirstOf p n first)
+    (below : (i : ℕ) → i < at → (entry_at es i).object < first) (from : (i : ℕ) → at ≤ i → i < length es → first ≤ (entry_at es i).object) where
   object : (i : ℕ) → i < length es → (entry_at es i).object < count_of p
   object i within = (is.each i (record { object = 0; slot = 0 }) within).object
 
   none_below : (i : ℕ) → i < length es → i < at → home_place p (entry_at es i).object ≡ home_place p n → ⊥
-  none_below i within less same = omega (arith, ((begins p n rank fits lt shape).least (entry_at es i).object (object i within) same), (below i less))
+  none_below i within less same = omega (arith, (start.least (entry_at es i).object (object i within) same), (below i less))
 
   -- the entry there has the home, or none has
   pub found_there : at < length es → home_place p (entry_at es at).object ≡ home_place p n → slot_beside p es n ≡ Some (entry_at es at).slot
@@ -142,11 +141,10 @@ module _ (p : Plan) (es : List Entry) (n rank at : ℕ) (fits : IsPlan p) (is : 
   none_there other = none_beside p es n (λ i within same. elim (cases_lt i at) [
     | inl less ↦ none_below i within less same
     | inr le ↦
-        let first = from at (omega arith) (omega (arith, le, within)) in
-        let start = begins p n rank fits lt shape in
-        let same_start : home_place p (entry_at es i).object ≡ home_place p (n - rank) = same ∙ sym start.home in
+        let low = from at (omega arith) (omega (arith, le, within)) in
+        let same_start : home_place p (entry_at es i).object ≡ home_place p first = same ∙ sym start.home in
         let up : (entry_at es at).object ≤ (entry_at es i).object = not_above es is.rising le within in
-        let shared = home_between fits (object i within) (omega (arith, lt)) first up same_start in
+        let shared = home_between fits (object i within) (omega (arith, lt, start.below)) low up same_start in
         other (omega (arith, le, within)) (shared ∙ start.home)
   ])
 
@@ -325,14 +323,13 @@ same_unwritten : {u v : Unwritten} → Some u ≡ Some v → u ≡ v
 same_unwritten e = cc
 
 -- a frame that was read of it is the one that it spells
-pub buffer_read : {g : Geometry} {n : ℕ} {o : Option Unwritten} {u : Unwritten} {shape : Shape} {rank : ℕ} {node : List ℕ} {read : Frame} → o ≡ Some u →
-    shape ≡ Packed rank → (v : Unwritten) × (o ≡ Some v) × IsSpeltIn v shape g n
-    → node ≡ shape_bytes (Packed rank) u.bytes → IsFrameOf g most n node read → read ≡ frame_from g n (shape_bytes shape u.bytes)
-buffer_read {g} {n} {u} {shape} {read} some packed has is found =
+pub buffer_read : {g : Geometry} {n : ℕ} {o : Option Unwritten} {u : Unwritten} {shape : Shape} {bytes : List ℕ} {read : Frame} → o ≡ Some u →
+    (v : Unwritten) × (o ≡ Some v) × IsSpeltIn v shape g n → bytes ≡ u.bytes → IsFrameOf g most n (shape_bytes shape bytes) read
+    → read ≡ frame_from g n (shape_bytes shape u.bytes)
+buffer_read {g} {n} {u} {shape} {read} some has is found =
     let spelt : IsSpeltIn u shape g n = subst (λ (v : Unwritten). IsSpeltIn v shape g n) (same_unwritten (sym has.1 ∙ some)) has.2 in
-    let there = subst (λ (s : Shape). IsFrameOf g most n (shape_bytes s u.bytes) (frame_from g n (shape_bytes s u.bytes))) (sym spelt.packed) spelt.spelt in
-    let here = subst (λ (bytes : List ℕ). IsFrameOf g most n bytes read) (is ∙ ap (λ (s : Shape). shape_bytes s u.bytes) (sym packed)) found in
-    one_frame g most n (shape_bytes shape u.bytes) read (frame_from g n (shape_bytes shape u.bytes)) here there
+    let here = subst (λ (b : List ℕ). IsFrameOf g most n (shape_bytes shape b) read) is found in
+    one_frame g most n (shape_bytes shape u.bytes) read (frame_from g n (shape_bytes shape u.bytes)) here spelt.spelt
 
 -- ---- sectors that were touched
 

@@ -1,7 +1,7 @@
 -- A durable store: what it keeps in memory, and what that and the device make.
 use Rattle.migrator.specs.Names.{⊤, ℕ, Option, Some, None, List, length, option_map, slice_set, replicate, Frame}
 use Rattle.migrator.specs.Names.{frame_at, Image, Disk, Agrees, Narrows, Peeks, Entry, CheckpointHeader, IsDirectory}
-use Rattle.migrator.specs.Names.{entry_at, IsHeader, Packed, shape_of, SavedState, Encodes, slot_sector, AreSpelt}
+use Rattle.migrator.specs.Names.{entry_at, IsHeader, place_length, SavedState, Encodes, slot_sector, AreSpelt}
 use Rattle.migrator.specs.Names.{state_in, Plan, IsPlan, SavedFrames, kept_of, LeavesSaved, FrozenView, Snapshots}
 use Rattle.migrator.specs.Names.{freezing, IsObject, IsKeepable, most, Counts, LeavesEither, Result, OnOk, OnErr, moved}
 use Rattle.migrator.specs.Names.{moved_saved, LeavesOneOf, committed, next_saved}
@@ -141,8 +141,7 @@ pub record IsUnwrittenOf (p : Plan) (generation : ℕ) (o : Option ℕ) (ps : Li
   pub slot : ℕ
   pub place : slot_of (place_at ps object) ≡ Some slot
   pub sector_is : u.sector ≡ slot_sector p generation slot
-  pub rank : ℕ
-  pub shape : shape_of p object ≡ Packed rank
+  pub sectors : place_length p object ≡ 8
 
 abbrev pub HasUnwritten : Books → Unwritten → Type 0
 HasUnwritten b u = IsUnwrittenOf b.plan (frozen_generation b) b.frozen_size b.frozen u

@@ -1,7 +1,7 @@
 -- What goes home with a saved frame.
-use Rattle.migrator.specs.Names.{ℕ, List, Image, Entry, Packed, entry_at, home_place, shape_of, bytes_at, frame_in}
-use Rattle.migrator.specs.Names.{shape_bytes, Plan, IsObject, EndsInZeros}
-use Rattle.std.specs.Prelude.{◌≡◌, ◌-◌, ◌<◌}
+use Rattle.migrator.specs.Names.{ℕ, List, Image, Entry, entry_at, home_place, shape_of, bytes_at, frame_in}
+use Rattle.migrator.specs.Names.{shape_bytes, Plan, IsObject}
+use Rattle.std.specs.Prelude.{◌≡◌, ◌<◌}
 
 -- the bytes of a home are the saved frames of all that have it
 abbrev pub IsGathered : Image → Plan → ℕ → List Entry → ℕ → List ℕ → Type 0
@@ -16,7 +16,3 @@ IsCopied old new p generation es number = (n : ℕ) → IsObject p.geometry n �
 -- no entry before it has an object with the same home
 abbrev pub IsFirst : Plan → List Entry → ℕ → Type 0
 IsFirst p es i = (j : ℕ) → j < i → home_place p (entry_at es j).object ≡ home_place p (entry_at es i).object → ⊥
-
--- where a node lies in a cluster, the bytes of the cluster have zeros behind its nodes
-abbrev pub HasZerosAt : Plan → ℕ → List ℕ → Type 0
-HasZerosAt p n bytes = (rank : ℕ) → shape_of p n ≡ Packed rank → EndsInZeros p (n - rank) bytes

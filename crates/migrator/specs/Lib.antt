@@ -9,5 +9,4 @@ pub mod Reserve
 pub mod Gathered
 pub mod Mended
 pub mod Completed
-pub mod Headers
 pub mod WholeStore

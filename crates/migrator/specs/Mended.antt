@@ -1,7 +1,7 @@
 -- A cluster that a device failed to write.
 use Rattle.migrator.specs.Names.{⊤, ℕ, nat_le, nat_lt, Option, Some, None, List, length, Geometry, Image, image_of}
-use Rattle.migrator.specs.Names.{Entry, Shape, Packed, entry_at, shape_of, IsFrameOf, frame_from, slot_sector}
-use Rattle.migrator.specs.Names.{shape_bytes, most, Plan}
+use Rattle.migrator.specs.Names.{Entry, Shape, entry_at, place_length, IsFrameOf, frame_from, slot_sector}
+use Rattle.migrator.specs.Names.{shape_bytes, most, Plan, IsObject, IsShapeFor}
 use Rattle.std.specs.Prelude.{◌≡◌, ◌+◌, ◌-◌, ◌<◌, ◌&&◌, if◌then◌else◌}
 
 -- the first sector of the slot that is to have it, and its bytes
@@ -21,21 +21,18 @@ pub record IsUnwritten (p : Plan) (generation : ℕ) (es : List Entry) (u : Unwr
   pub index : ℕ
   pub within : index < length es
   pub sector_is : u.sector ≡ slot_sector p generation (entry_at es index).slot
-  pub rank : ℕ
-  pub shape : shape_of p (entry_at es index).object ≡ Packed rank
+  pub sectors : place_length p (entry_at es index).object ≡ 8
 
 abbrev pub IfUnwritten : Plan → ℕ → List Entry → Option Unwritten → Type 0
 IfUnwritten p generation es None = ⊤
 IfUnwritten p generation es (Some u) = IsUnwritten p generation es u
 
--- it spells the frame of a node that has this shape in it
+-- it spells the frame of an object that has this shape in it
 pub record IsSpeltIn (u : Unwritten) (shape : Shape) (g : Geometry) (number : ℕ) : Type 0 where
-  pub rank : ℕ
-  pub low : rank < 5
-  pub packed : shape ≡ Packed rank
-  pub node : number < g.nodes
-  pub spelt : IsFrameOf g most number (shape_bytes (Packed rank) u.bytes)
-      (frame_from g number (shape_bytes (Packed rank) u.bytes))
+  pub object : IsObject g number
+  pub fits : IsShapeFor g number shape
+  pub sectors : shape.sectors ≡ 8
+  pub spelt : IsFrameOf g most number (shape_bytes shape u.bytes) (frame_from g number (shape_bytes shape u.bytes))
 
 -- where it is in memory, and whether the device failed to write it
 abbrev pub unwritten_of : Option ℕ → List ℕ → Option Unwritten

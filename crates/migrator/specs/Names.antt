@@ -9,7 +9,6 @@ pub use Rattle.ckpt_log.specs.Places.{directory_extent, place_extent}
 pub use Rattle.device.specs.Calls.{Agrees, Counts, Elsewhere, IsTorn, Narrows, Only, Tears, image_of}
 pub use Rattle.device.specs.Disk.{Disk, Image}
 pub use Rattle.device.specs.Moments.{LeavesOnly, Peeks}
-pub use Rattle.home_ranges.specs.Home.{EndsInZeros}
 pub use Rattle.home_ranges.specs.Laws.{home_extent}
 pub use Rattle.layout.specs.Directory.{IsDirectory, entry_at}
 pub use Rattle.layout.specs.Frame.{IsFrameOf}
@@ -18,7 +17,7 @@ pub use Rattle.layout.specs.Frames.{IsObject}
 pub use Rattle.layout.specs.Header.{IsHeader}
 pub use Rattle.layout.specs.Homes.{home_place, place_length, shape_of}
 pub use Rattle.layout.specs.Image.{Encodes, HasDirectory, HasHeader, IsBadBy, SavedState, bytes_at, directory_length}
-pub use Rattle.layout.specs.Image.{directory_sector, frame_in, frame_sector, half_sector, shaped_at, slot_beside}
+pub use Rattle.layout.specs.Image.{directory_sector, frame_in, frame_sector, half_sector, slot_beside}
 pub use Rattle.layout.specs.Image.{slot_in, slot_sector}
 pub use Rattle.layout.specs.Shape.{IsShapeFor, shape_bytes}
 pub use Rattle.layout.specs.Spelt.{AreSpelt, count_of, state_in}
@@ -31,11 +30,9 @@ pub use Rattle.layout.specs.declared.extent.Extent.{Extent}
 pub use Rattle.layout.specs.declared.header.CheckpointHeader.{CheckpointHeader}
 pub use Rattle.layout.specs.declared.open_fault.OpenFault.{OpenFault}
 pub use Rattle.layout.specs.declared.shape.Shape.{Shape}
-pub use Rattle.layout.specs.declared.shape.Shape.TheVariants.{Packed}
 pub use Rattle.model.specs.Frame.{frame_at}
 pub use Rattle.model.specs.Keepable.{AreKeepable, IsKeepable}
 pub use Rattle.model.specs.declared.frame.Frame.{Frame}
-pub use Rattle.model.specs.declared.frame.ObjectHeader.{ObjectHeader}
 pub use Rattle.model.specs.declared.geometry.Geometry.{Geometry}
 pub use Rattle.std.specs.List.{range_with_len}
 pub use Rattle.std.specs.Prelude.{Bool, List, None, OnErr, OnOk, Option, Result, Some, [], false, length, map, nat_le}

@@ -8,7 +8,7 @@ ghost use Rattle.layout.specs.Header.{IsHeader};
 ghost use Rattle.layout.specs.Image.{sectors_from, slot_sector};
 ghost use Rattle.layout.specs.Homes.{place_length, shape_of};
 ghost use Rattle.layout.specs.Calls.{WritesAt};
-ghost use Rattle.layout.specs.Clusters.{HasZerosBeside};
+ghost use Rattle.layout.specs.Shape.{HasZerosBeside};
 ghost use Rattle.layout.specs.Frames.{IsObject};
 ghost use Rattle.checkpoint.specs.Saved.{most};
 ghost use Rattle.migrator.specs.Durable.{IsDurable, IsIntact, MayPut, PutsFrame, Stores, frozen_generation, left_of};

@@ -1,33 +1,33 @@
 // A cluster on its way into a slot of the log.
 ghost use Rattle.std.specs.Prelude.{◌≡◌, ◌+◌, ◌<◌, ◌≤◌, None, Some, true, false, length, IfOk, OnOk, OnErr};
 ghost use Rattle.device.specs.Calls.{Counts};
-ghost use Rattle.layout.specs.declared.shape.Shape.TheVariants as shape;
 ghost use Rattle.layout.specs.Directory.{IsDirectory, entry_at};
 ghost use Rattle.layout.specs.Frame.{frame_of};
 ghost use Rattle.layout.specs.FrameReader.{frame_from};
-ghost use Rattle.layout.specs.Homes.{shape_of};
+ghost use Rattle.layout.specs.Homes.{place_length};
 ghost use Rattle.layout.specs.Image.{sectors_from, slot_sector};
 ghost use Rattle.layout.specs.Shape.{shape_bytes};
 ghost use Rattle.layout.specs.Superblock.{IsPlan};
 ghost use Rattle.layout.specs.Calls.{ReadsOnly};
 ghost use Rattle.layout.specs.Frames.{IsObject};
 ghost use Rattle.migrator.specs.Completed.{AreComplete, IsComplete, IsFilled, Keeps, KeepsOne};
-ghost use Rattle.migrator.specs.Gathered.{HasZerosAt, IsFirst};
+ghost use Rattle.home_ranges.specs.Home.{EndsInZeros};
+ghost use Rattle.migrator.specs.Gathered.{IsFirst};
 ghost use Rattle.migrator.specs.Mended.{IfUnwritten, IsSpeltIn, Unwritten, mended};
 ghost use Rattle.migrator.specs.Spared.{Touches};
 
 use crate::first_in_cluster::is_first;
-use crate::gather::gather;
+use crate::gather::{copy_place, gather};
+use crate::whole::is_whole;
 use ckpt_log::Log;
 use device::{Device, Failed};
-use home_ranges::Home;
-use layout::{
-    Body, CLUSTER_BYTES, Entry, NODE_FRAME_BYTES, Scratch, Shape, Superblock, decode_frame,
-    pack_node, read_packed, unpack_node,
-};
+use layout::{Body, Entry, Scratch, Shape, Superblock, decode_in_block};
 use model::{Geometry, ObjectHeader};
 use std::alloc::{AllocError, Global};
 use std::marker::Model;
+
+// How many bytes a cluster of more than one node takes.
+const CLUSTER_BYTES: usize = 4096;
 
 /// The cluster that a slot is to have. Where the device failed to write it, the slot may hold any
 /// bytes, and this is the only copy of what it is to have.
@@ -49,39 +49,31 @@ impl Model for ClusterBuffer {
     ghost invariant = { λ b. length b.bytes.items ≡ 4096 };
 }
 
-// Puts a cluster together for the slot of a node that has this rank in it: its frame that lies there,
-// the frames of the other nodes from home, and zeros behind them.
+// Puts a cluster together for the slot of an entry: the frame that lies there, the frames of the other
+// nodes from home, and zeros behind them.
 fn fill<D: Device>(
     device: &mut D,
     plan: &Superblock,
     generation: u64,
     entry: Entry,
-    rank: u64,
     cluster: &mut [u8],
 ) -> Result<(), Failed>
     requires plan { IsPlan plan.now }
     requires object { IsObject plan.now.geometry entry.object }
     requires slot { entry.slot < plan.now.geometry.log }
-    requires shape { shape_of plan.now entry.object ≡ shape.Packed rank }
-    requires rank { rank < 5 }
+    requires sectors { place_length plan.now entry.object ≡ 8 }
     requires cluster { length cluster.old ≡ 4096 }
     requires inside { plan.now.total ≤ (D.disk device.old).sectors }
     ensures filled { OnOk result (IsFilled (D.disk device.old).seen plan.now generation entry cluster.new) }
-    ensures zeros { OnOk result (HasZerosAt plan.now entry.object cluster.new) }
+    ensures zeros { OnOk result (EndsInZeros plan.now entry.object cluster.new) }
     ensures size { length cluster.new ≡ 4096 }
     ensures reads { ReadsOnly (D.disk device.old) (D.disk device.new) }
     ensures cause { Counts (D.disk device.old) (D.disk device.new) result }
 {
-    let first = entry.object - rank;
-    gather(device, plan, generation, &[], first, cluster)?;
+    gather(device, plan, generation, &[], entry.object, cluster)?;
     let log = Log::new(plan);
     let at = log.slot_sector(generation, entry.slot);
-    let mut node = [0; NODE_FRAME_BYTES];
-    read_packed(device, at, rank, &mut node)?;
-    pack_node(&node, rank as usize, cluster);
-    let home = Home::new(plan);
-    home.blank_rest(first, cluster);
-    Ok(())
+    copy_place(device, at, plan.shape(entry.object), cluster)
 }
 
 impl ClusterBuffer {
@@ -140,12 +132,7 @@ impl ClusterBuffer {
         ensures { (u : Unwritten) → self.now ≡ Some u → frame_of result scratch.new
             ≡ frame_from geometry number (shape_bytes shape u.bytes) }
     {
-        let Shape::Packed(rank) = shape else {
-            unreachable!()
-        };
-        let mut node = [0; NODE_FRAME_BYTES];
-        unpack_node(&self.bytes, rank as usize, &mut node);
-        match decode_frame(&node, geometry, number, u64::MAX, scratch) {
+        match decode_in_block(&self.bytes, shape, geometry, number, u64::MAX, scratch) {
             Ok(read) => read,
             Err(_) => unreachable!(),
         }
@@ -168,7 +155,8 @@ impl ClusterBuffer {
         ensures none { OnOk result (self.new ≡ None) }
         ensures complete { OnOk result (IsComplete (D.disk device.new).seen plan.now generation
             entries.now index) }
-        ensures zeros { OnOk result (IsFirst plan.now entries.now index → HasZerosAt plan.now
+        ensures zeros { OnOk result (IsFirst plan.now entries.now index
+            → place_length plan.now (entry_at entries.now index).object ≡ 8 → EndsInZeros plan.now
             (entry_at entries.now index).object (sectors_from (D.disk device.new).seen
             (slot_sector plan.now generation (entry_at entries.now index).slot) 8)) }
         ensures keeps { KeepsOne plan.now generation entries.now index (D.disk device.old)
@@ -176,13 +164,13 @@ impl ClusterBuffer {
         ensures cause { Counts (D.disk device.old) (D.disk device.new) result }
     {
         let entry = entries[index];
-        let Shape::Packed(rank) = plan.shape(entry.object) else {
+        if is_whole(plan.shape(entry.object)) {
             return Ok(());
-        };
+        }
         if !is_first(plan, entries, index) {
             return Ok(());
         }
-        fill(device, plan, generation, entry, rank, &mut self.bytes)?;
+        fill(device, plan, generation, entry, &mut self.bytes)?;
         let log = Log::new(plan);
         self.sector = Some(log.slot_sector(generation, entry.slot));
         self.write(device)

@@ -4,8 +4,9 @@ ghost use Rattle.layout.specs.Directory.{AreRising, IsDirectory, entry_at};
 ghost use Rattle.layout.specs.Image.{frame_slot_in, slot_beside, slot_in};
 ghost use Rattle.layout.specs.Frames.{IsObject};
 
+use crate::whole::is_whole;
 use home_ranges::Home;
-use layout::{Entry, Shape, Superblock};
+use layout::{Entry, Superblock};
 
 // The index of the first entry whose number isn't less than this one: that of an entry, or how many
 // there are. Each step halves the entries that are left.
@@ -49,11 +50,11 @@ fn find_beside(plan: &Superblock, entries: &[Entry], number: u64) -> Option<u64>
     requires none { slot_in entries.now number ≡ None }
     ensures { result ≡ slot_beside plan.now entries.now number }
 {
-    let Shape::Packed(rank) = plan.shape(number) else {
+    if is_whole(plan.shape(number)) {
         return None;
-    };
+    }
     let home = Home::new(plan);
-    let at = first_from(entries, number - rank);
+    let at = first_from(entries, home.first(number));
     if at < entries.len() && home.place(entries[at].object) == home.place(number) {
         Some(entries[at].slot)
     } else {

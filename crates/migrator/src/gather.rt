@@ -1,36 +1,69 @@
-// The saved frames of a cluster's nodes.
-ghost use Rattle.std.specs.Prelude.{◌≡◌, ◌<◌, ◌≤◌, length, IfOk, OnOk};
+// The saved frames of all that share a home.
+ghost use Rattle.std.specs.Prelude.{◌≡◌, ◌+◌, ◌*◌, ◌≤◌, length, drop, OnOk};
 ghost use Rattle.device.specs.Calls.{Counts};
-ghost use Rattle.layout.specs.declared.shape.Shape.TheVariants as shape;
+ghost use Rattle.layout.specs.declared.shape.Shape.{Shape};
 ghost use Rattle.layout.specs.Directory.{IsDirectory};
-ghost use Rattle.layout.specs.Homes.{shape_of};
-ghost use Rattle.layout.specs.Image.{frame_in};
+ghost use Rattle.layout.specs.Homes.{place_length, shape_of};
+ghost use Rattle.layout.specs.Image.{frame_in, shaped_at};
 ghost use Rattle.layout.specs.Calls.{ReadsOnly};
 ghost use Rattle.layout.specs.Frames.{IsObject};
+ghost use Rattle.layout.specs.Shape.{AreBeside, shape_bytes, shape_end, shape_length};
+ghost use Rattle.home_ranges.specs.Home.{EndsInZeros};
 ghost use Rattle.migrator.specs.Gathered.{IsGathered};
 
 use crate::find::find_frame_slot;
 use ckpt_log::Log;
-use device::{Device, Failed};
+use device::{Device, Failed, SECTOR_SIZE};
 use home_ranges::Home;
-use layout::{Entry, NODE_FRAME_BYTES, Superblock, pack_node, read_packed};
+use layout::{BLOCK_BYTES, Entry, Shape, Superblock, blank, copy_frame, read_sectors};
 
-// Reads the bytes of the saved frame of a node, which has this rank in its cluster.
-fn read_node<D: Device>(
+/// Copies the frame of this shape that lies in the sectors from `at` on into its place in a block. The
+/// bytes beside it stay.
+pub(crate) fn copy_place<D: Device>(
+    device: &mut D,
+    at: u64,
+    shape: Shape,
+    block: &mut [u8],
+) -> Result<(), Failed>
+    requires few { shape.sectors ≤ 9 }
+    requires shape { shape_end shape ≤ 512 * shape.sectors }
+    requires block { shape_end shape ≤ length block.old }
+    requires inside { at + shape_length shape ≤ (D.disk device.old).sectors }
+    ensures copied { OnOk result (shape_bytes shape block.new ≡ shaped_at (D.disk device.new).seen at shape) }
+    ensures others { (other : Shape) → AreBeside shape other
+        → shape_bytes other block.new ≡ shape_bytes other block.old }
+    ensures behind { drop (shape_end shape) block.new ≡ drop (shape_end shape) block.old }
+    ensures size { length block.new ≡ length block.old }
+    ensures reads { ReadsOnly (D.disk device.old) (D.disk device.new) }
+    ensures cause { Counts (D.disk device.old) (D.disk device.new) result }
+{
+    let mut buffer = [0; BLOCK_BYTES];
+    let run = &mut buffer[..SECTOR_SIZE * shape.sectors as usize];
+    read_sectors(device, at, shape.sectors as usize, run)?;
+    copy_frame(run, shape, block);
+    Ok(())
+}
+
+// Copies the saved frame of an object into its place in a block. The bytes beside it stay.
+fn gather_one<D: Device>(
     device: &mut D,
     plan: &Superblock,
     generation: u64,
     directory: &[Entry],
     number: u64,
-    rank: u64,
-) -> Result<[u8; NODE_FRAME_BYTES], Failed>
+    block: &mut [u8],
+) -> Result<(), Failed>
     requires directory { IsDirectory plan.now.geometry directory.now }
     requires object { IsObject plan.now.geometry number }
-    requires shape { shape_of plan.now number ≡ shape.Packed rank }
-    requires rank { rank < 5 }
+    requires block { length block.old ≡ 512 * place_length plan.now number }
     requires inside { plan.now.total ≤ (D.disk device.old).sectors }
-    ensures found { IfOk result (λ node.
-        node ≡ frame_in (D.disk device.old).seen plan.now generation directory.now number) }
+    ensures gathered { OnOk result (shape_bytes (shape_of plan.now number) block.new
+        ≡ frame_in (D.disk device.old).seen plan.now generation directory.now number) }
+    ensures others { (other : Shape) → AreBeside (shape_of plan.now number) other
+        → shape_bytes other block.new ≡ shape_bytes other block.old }
+    ensures behind { drop (shape_end (shape_of plan.now number)) block.new
+        ≡ drop (shape_end (shape_of plan.now number)) block.old }
+    ensures size { length block.new ≡ length block.old }
     ensures reads { ReadsOnly (D.disk device.old) (D.disk device.new) }
     ensures cause { Counts (D.disk device.old) (D.disk device.new) result }
 {
@@ -40,35 +73,35 @@ fn read_node<D: Device>(
         Some(slot) => log.slot_sector(generation, slot),
         None => home.place(number),
     };
-    let mut node = [0; NODE_FRAME_BYTES];
-    read_packed(device, at, rank, &mut node)?;
-    Ok(node)
+    copy_place(device, at, plan.shape(number), block)
 }
 
-/// Puts the saved frames of all nodes of the cluster that begins with `first` into its 4096 bytes.
+/// Fills a block with the saved frames of all that have the home of an object, and with zeros behind
+/// them.
 pub(crate) fn gather<D: Device>(
     device: &mut D,
     plan: &Superblock,
     generation: u64,
     directory: &[Entry],
-    first: u64,
-    cluster: &mut [u8],
+    number: u64,
+    block: &mut [u8],
 ) -> Result<(), Failed>
     requires directory { IsDirectory plan.now.geometry directory.now }
-    requires object { IsObject plan.now.geometry first }
-    requires shape { shape_of plan.now first ≡ shape.Packed 0 }
-    requires cluster { length cluster.old ≡ 4096 }
+    requires object { IsObject plan.now.geometry number }
+    requires block { length block.old ≡ 512 * place_length plan.now number }
     requires inside { plan.now.total ≤ (D.disk device.old).sectors }
     ensures gathered { OnOk result (IsGathered (D.disk device.old).seen plan.now generation
-        directory.now first cluster.new) }
-    ensures size { length cluster.new ≡ 4096 }
+        directory.now number block.new) }
+    ensures zeros { OnOk result (EndsInZeros plan.now number block.new) }
+    ensures size { length block.new ≡ length block.old }
     ensures reads { ReadsOnly (D.disk device.old) (D.disk device.new) }
     ensures cause { Counts (D.disk device.old) (D.disk device.new) result }
 {
     let home = Home::new(plan);
-    for rank in 0..home.sharers(first) {
-        let node = read_node(device, plan, generation, directory, first + rank, rank)?;
-        pack_node(&node, rank as usize, cluster);
+    let first = home.first(number);
+    blank(block);
+    for k in 0..home.sharers(first) {
+        gather_one(device, plan, generation, directory, first + k, block)?;
     }
     Ok(())
 }

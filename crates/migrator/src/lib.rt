@@ -13,6 +13,7 @@ mod image;
 mod intake;
 mod read;
 mod table;
+mod whole;
 mod whole_store;
 
 pub use durable::{Durable, Opened};

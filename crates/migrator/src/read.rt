@@ -1,5 +1,5 @@
 // Reading what a device holds.
-ghost use Rattle.std.specs.Prelude.{◌≡◌, ◌+◌, ◌<◌, ◌≤◌, ℕ, IfOk, IfErr};
+ghost use Rattle.std.specs.Prelude.{◌≡◌, ◌<◌, ◌≤◌, IfOk, IfErr};
 ghost use Rattle.layout.specs.Directory.{IsDirectory};
 ghost use Rattle.layout.specs.Frame.{IsFrameOf, frame_of};
 ghost use Rattle.layout.specs.Image.{HasPlan, frame_in};
@@ -8,8 +8,6 @@ ghost use Rattle.layout.specs.Fault.{CountsOpen};
 ghost use Rattle.layout.specs.Frames.{IsObject, IsRefused};
 ghost use Rattle.device.specs.Calls.{Counts};
 ghost use Rattle.layout.specs.Spelt.{IsSpelt, frame_read};
-ghost use Rattle.layout.specs.Shape.{shape_length};
-ghost use Rattle.migrator.specs.Headers.{IsHeaderOf};
 ghost use Rattle.migrator.specs.Opened.{IsUnplanned};
 ghost use Rattle.migrator.specs.Put.{slot_bytes, slot_frame};
 ghost use Rattle.checkpoint.specs.Saved.{most};
@@ -19,8 +17,8 @@ use ckpt_log::Log;
 use device::{Device, Failed, SECTOR_SIZE};
 use home_ranges::Home;
 use layout::{
-    BadImage, Body, CheckpointHeader, Entry, NODE_FRAME_BYTES, OpenFault, Scratch, Shape,
-    Superblock, decode_superblock, header_in, read_header, read_packed, read_sectors, total_in,
+    BadImage, Body, CheckpointHeader, Entry, OpenFault, Scratch, Superblock, decode_superblock,
+    read_sectors, total_in,
 };
 use model::ObjectHeader;
 
@@ -45,28 +43,6 @@ pub fn read_superblock<D: Device>(device: &mut D) -> Result<Superblock, OpenFaul
         return Err(OpenFault::Bad(BadImage::Small));
     }
     Ok(decode_superblock(&sector)?)
-}
-
-/// Reads the header of the frame of this shape that lies in the sectors from `at` on. It is refused
-/// exactly where the device failed.
-pub(crate) fn read_header_of<D: Device>(
-    device: &mut D,
-    at: u64,
-    shape: Shape,
-) -> Result<ObjectHeader, Failed>
-    requires rank { (rank : ℕ) → shape ≡ Shape.Packed rank → rank < 5 }
-    requires inside { at + shape_length shape ≤ (D.disk device.old).sectors }
-    ensures found { IfOk result (λ header.
-        IsHeaderOf (D.disk device.new).seen at shape header) }
-    ensures reads { ReadsOnly (D.disk device.old) (D.disk device.new) }
-    ensures cause { Counts (D.disk device.old) (D.disk device.new) result }
-{
-    let Shape::Packed(rank) = shape else {
-        return read_header(device, at);
-    };
-    let mut node = [0; NODE_FRAME_BYTES];
-    read_packed(device, at, rank, &mut node)?;
-    Ok(header_in(&node))
 }
 
 /// Reads the saved frame of an object: from the slot that the directory gives it, or gives a node

@@ -485,7 +485,7 @@ fn serve(rt: &HostRuntime, job: &Job<'_>, stdio: &mut Stdio) -> Result<End, Refu
         }
         Job::Check { image } => return check(rt, image, stdio),
         Job::Explain { file } => return explain(rt, file, stdio),
-        Job::Upgrade { old, new } => (*old, writing(old, new, NewLayout::Of(Version::Two))),
+        Job::Upgrade { old, new } => (*old, writing(old, new, NewLayout::Of(Version::NEWEST))),
         Job::Copy { image, new } => (*image, writing(image, new, NewLayout::Kept)),
         Job::Describe { image, sizes } => (*image, Query::Describe(sizes_of(sizes))),
         Job::Draw {

@@ -1,33 +1,41 @@
 -- Sealed clusters.
-use Rattle.sealed_layout.proofs.Names.{ℕ, List, length, take, drop, ap, sym, arith, drop-take, take-replicate, take-take, zeros, IsBlankBehind, shape_bytes}
-use Rattle.sealed_layout.proofs.Names.{IsSealed, body_of, IsCluster}
-use Rattle.std.proofs.Common.{◌≡◌, ◌+◌, ◌-◌, ◌*◌, ◌<◌, ◌≤◌, ◌++◌, ◌∙◌}
-use Rattle.layout.specs.declared.shape.Shape.TheVariants as shape
-
--- what lies before the seal is the same in both
-part_same : (x y : List ℕ) (at n : ℕ) → at + n ≤ 4072 → take 4072 x ≡ take 4072 y → take n (drop at x) ≡ take n (drop at y)
-part_same x y at n within same =
-    let front : take (at + n) x ≡ take (at + n) y =
-    sym (take-take (at + n) 4072 x within) ∙ ap (take (at + n)) same ∙ take-take (at + n) 4072 y within in
-    sym (drop-take at n x) ∙ ap (drop at) front ∙ drop-take at n y
-
-bodies : (x y : List ℕ) → length x ≡ 4096 → length y ≡ 4096 → body_of x ≡ body_of y → take 4072 x ≡ take 4072 y
-bodies x y size size' same = ap (λ (n : ℕ). take (n - 24) x) (sym size) ∙ same ∙ ap (λ (n : ℕ). take (n - 24) y) size'
+use Rattle.sealed_layout.proofs.Names.{ℕ, List, length, take, drop, ap, sym, arith, drop_at, drop-take, length-append, length-take-le, length-zeros, take_at}
+use Rattle.sealed_layout.proofs.Names.{take-replicate, take-take, zeros, IsSealed, body_of, IsCluster}
+use Rattle.std.proofs.Common.{◌≡◌, ◌+◌, ◌-◌, ◌*◌, ◌≤◌, ◌++◌, ◌∙◌}
 
 zeros_front : (m n : ℕ) → m ≤ n → take m (zeros n) ≡ zeros m
 unfolding zeros
 zeros_front m n le = take-replicate m n 0 le
 
-pub cluster_sealed : (old new : List ℕ) (nodes : ℕ) → nodes ≤ 5 → length old ≡ 4096 → length new ≡ 4096 → IsBlankBehind nodes old → IsSealed new
-    → body_of new ≡ body_of old → IsCluster nodes new
-cluster_sealed old new nodes few size size' blank is same = record {
-  seal = is;
-  blank =
-      part_same new old (800 * nodes) (4072 - 800 * nodes) (omega (arith, few)) (bodies new old size' size same)
-      ∙ ap (take (4072 - 800 * nodes)) blank ∙ zeros_front (4072 - 800 * nodes) (4096 - 800 * nodes) (omega arith);
-}
+-- zeros are put behind the frames, and a seal over the end
+module _ (old blanked new : List ℕ) (nodes : ℕ) (few : nodes ≤ 5) (size : length old ≡ 4096) (size' : length new ≡ length blanked)
+    (is : blanked ≡ take (800 * nodes) old ++ zeros (length old - 800 * nodes)) (same : body_of new ≡ body_of blanked) where
+  abbrev end : ℕ
+  end = 800 * nodes
 
-pub places_sealed : (first old new : List ℕ) (nodes rank : ℕ) → nodes ≤ 5 → rank < nodes → length old ≡ 4096 → length new ≡ 4096 → body_of new ≡ body_of old
-    → shape_bytes (shape.Packed rank) old ≡ shape_bytes (shape.Packed rank) first → shape_bytes (shape.Packed rank) new ≡ shape_bytes (shape.Packed rank) first
-places_sealed first old new nodes rank few lt size size' same stays =
-    ap (λ (part : List ℕ). part ++ zeros 224) (part_same new old (800 * rank) 800 (omega (arith, lt, few)) (bodies new old size' size same)) ∙ stays
+  front : length (take end old) ≡ end
+  front = length-take-le end old (omega (arith, few, size))
+
+  pub long : length new ≡ 4096
+  long =
+      let all = length-append (take end old) (zeros (length old - end)) in
+      size' ∙ ap length is ∙ all ∙ omega (arith, front, length-zeros (length old - end), size, few)
+
+  before_seal : take 4072 new ≡ take 4072 blanked
+  before_seal = ap (λ (n : ℕ). take (n - 24) new) (sym long) ∙ same ∙ ap (λ (n : ℕ). take (n - 24) blanked) (sym size' ∙ long)
+
+  pub front_stays : take end new ≡ take end old
+  front_stays =
+      sym (take-take end 4072 new (omega (arith, few))) ∙ ap (take end) before_seal ∙ take-take end 4072 blanked (omega (arith, few)) ∙ ap (take end) is ∙
+      take_at (take end old) (zeros (length old - end)) end front
+
+  pub cluster_sealed : IsSealed new → IsCluster nodes new
+  cluster_sealed sealed = record {
+    seal = sealed;
+    blank =
+        let sum : end + (4072 - end) ≡ 4072 = omega (arith, few) in
+        sym (drop-take end (4072 - end) new) ∙ ap (λ (n : ℕ). drop end (take n new)) sum ∙ ap (drop end) before_seal ∙
+        ap (λ (n : ℕ). drop end (take n blanked)) (sym sum) ∙ drop-take end (4072 - end) blanked ∙
+        ap (take (4072 - end)) (ap (drop end) is ∙ drop_at (take end old) (zeros (length old - end)) end front) ∙
+        zeros_front (4072 - end) (length old - end) (omega (arith, size));
+  }

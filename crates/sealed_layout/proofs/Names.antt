@@ -1,13 +1,10 @@
 -- The names that the proofs here cite: of other crates, and of the definitions of this one.
 pub use Rattle.byteorder.specs.Endian.{IsRead, little_number}
 pub use Rattle.byteorder.specs.Numbers.{little_number-reads_back}
-pub use Rattle.layout.proofs.Clusters.{length-zeros}
-pub use Rattle.layout.proofs.Numbers.{AllFit, IsBytes, drop_filled, length-number, number_read, stream, stream_splits}
+pub use Rattle.layout.proofs.Numbers.{AllFit, IsBytes, drop_filled, length-number, length-zeros, number_read, stream, stream_splits}
 unfoldable pub use Rattle.layout.specs.Bytes.{number, zeros}
-pub use Rattle.layout.specs.Clusters.{IsBlankBehind}
 pub use Rattle.layout.specs.Directory.{AllFitting}
 unfoldable pub use Rattle.layout.specs.Frame.{words_bytes}
-pub use Rattle.layout.specs.Shape.{shape_bytes}
 pub use Rattle.layout.specs.declared.directory.Entry.{Entry}
 pub use Rattle.layout.specs.declared.extent.HomeRange.{HomeRange}
 pub use Rattle.model.specs.Object.{role_number}

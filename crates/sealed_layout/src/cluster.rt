@@ -1,11 +1,8 @@
 // Sealed clusters of nodes.
-ghost use Rattle.std.specs.Prelude.{◌≡◌, ◌<◌, ◌≤◌, ◌↔◌, ℕ, length, IsTrue};
-ghost use Rattle.layout.specs.declared.shape.Shape.TheVariants as shape;
-ghost use Rattle.layout.specs.Shape.{shape_bytes};
+ghost use Rattle.std.specs.Prelude.{◌≡◌, ◌*◌, ◌≤◌, ◌↔◌, length, take, IsTrue};
 ghost use Rattle.sealed_layout.specs.Cluster.{IsCluster};
 
-use crate::sector::is_blank;
-use layout::blank_behind;
+use layout::{are_zeros, blank_from};
 use seal::{is_sealed, seal};
 
 // How many bytes the frame of a node takes.
@@ -20,11 +17,10 @@ pub fn seal_cluster(cluster: &mut [u8], nodes: u64)
     requires nodes { nodes ≤ 5 }
     requires cluster { length cluster.old ≡ 4096 }
     ensures sealed { IsCluster nodes cluster.new }
-    ensures places { (rank : ℕ) → rank < nodes →
-        shape_bytes (shape.Packed rank) cluster.new ≡ shape_bytes (shape.Packed rank) cluster.old }
+    ensures frames { take (800 * nodes) cluster.new ≡ take (800 * nodes) cluster.old }
     ensures size { length cluster.new ≡ 4096 }
 {
-    blank_behind(cluster, nodes);
+    blank_from(cluster, PLACE_BYTES * nodes as usize);
     seal(cluster);
 }
 
@@ -35,5 +31,5 @@ pub fn is_cluster(cluster: &[u8], nodes: u64) -> bool
     ensures { IsTrue result ↔ IsCluster nodes cluster.now }
 {
     let end = PLACE_BYTES * nodes as usize;
-    is_sealed(cluster) && is_blank(&cluster[end..CLUSTER_SEAL_AT])
+    is_sealed(cluster) && are_zeros(&cluster[end..CLUSTER_SEAL_AT])
 }

@@ -7,7 +7,8 @@ ghost use Rattle.sealed_layout.specs.Page.{HasWords, IsPage, IsPageHeader, page_
 ghost use Rattle.sealed_layout.specs.Page.{page_header_numbers};
 ghost use Rattle.sealed_layout.specs.Sector.{AreWords};
 
-use crate::sector::{decode_sector, encode_sector, is_blank};
+use crate::sector::{decode_sector, encode_sector};
+use layout::are_zeros;
 use model::{ObjectHeader, Role};
 use seal::{Sums, sums_of};
 
@@ -108,7 +109,7 @@ fn has_words(header: PageHeader, words: &[u8]) -> bool
     ensures { IsTrue result ↔ HasWords words.now header }
 {
     let is_free = header.object.role == Role::Free;
-    sums_of(words) == header.words && (!is_free || is_blank(words))
+    sums_of(words) == header.words && (!is_free || are_zeros(words))
 }
 
 /// Reads the header sector of a page's frame of 4608 bytes, and checks the words by it. Returns `None` if the bytes are

@@ -1,34 +1,14 @@
 // Sealed sectors of numbers.
 ghost use Rattle.std.specs.Prelude.{◌≡◌, ◌*◌, ◌^◌, ◌<◌, ◌≤◌, ◌↔◌, ℕ, List, length, IsTrue};
-ghost use Rattle.layout.specs.Bytes.{zeros};
 ghost use Rattle.layout.specs.Frame.{words_bytes};
 ghost use Rattle.sealed_layout.specs.Sector.{AreWords, sector_bytes};
 
 use byteorder::{ByteOrder, LittleEndian};
+use layout::{are_zeros, blank};
 use seal::{is_sealed, seal};
 
 /// Where the seal of a sector begins.
 pub const SEAL_AT: usize = 488;
-
-/// Whether all bytes are 0.
-#[tactic(auto, using(layout::proofs::Numbers::sum_more, layout::proofs::Numbers::ends_zeros))]
-pub fn is_blank(bytes: &[u8]) -> bool
-    ensures { IsTrue result ↔ (bytes.now ≡ zeros (length bytes.now)) }
-{
-    let mut any = 0;
-    for byte in bytes {
-        any |= *byte;
-    }
-    any == 0
-}
-
-/// Sets all bytes to 0.
-#[tactic(auto, using(layout::proofs::Numbers::all_blank))]
-pub fn blank(bytes: &mut [u8])
-    ensures { bytes.new ≡ zeros (length bytes.old) }
-{
-    bytes.fill(0);
-}
 
 // Fills `into` with the numbers of 8 bytes each.
 fn read_numbers(bytes: &[u8], into: &mut [u64])
@@ -65,5 +45,5 @@ pub fn decode_sector(bytes: &[u8], into: &mut [u64]) -> bool
 {
     let end = 8 * into.len();
     read_numbers(&bytes[..end], into);
-    is_sealed(bytes) && is_blank(&bytes[end..SEAL_AT])
+    is_sealed(bytes) && are_zeros(&bytes[end..SEAL_AT])
 }

@@ -23,7 +23,7 @@ const USAGE: &str =
 // The layout that a command writes, or `None` if the word names no such command.
 fn layout_of(word: &str) -> Option<NewLayout> {
     match word {
-        "upgrade" => Some(NewLayout::Of(Version::Two)),
+        "upgrade" => Some(NewLayout::Of(Version::NEWEST)),
         "copy" => Some(NewLayout::Kept),
         _ => None,
     }

@@ -7,25 +7,20 @@ ghost use Rattle.description_explainer.specs.Broken.{BreaksGeometry, BreaksRange
 
 use crate::faults::place::Limit;
 use home_ranges::NumberRange;
-use layout::{MAX_LOG, MAX_RANGES};
+use layout::{MAX_LOG, MAX_NODES, MAX_PAGES, MAX_RANGES, MIN_LOG, MIN_NODES};
 use model::Geometry;
-
-// The least number of nodes and of slots in a half of the log, and the greatest of nodes and of pages.
-const LEAST: u64 = 16;
-
-const GREATEST: u64 = 4096;
 
 /// The first count that is outside its limits, if one is: of nodes, pages and slots in half of the log.
 pub fn bad_count(geometry: Geometry) -> Option<Limit>
     ensures { MatchOption result (IsGeometry geometry) (λ limit. BreaksGeometry geometry limit) }
 {
-    if geometry.nodes < LEAST || geometry.nodes > GREATEST {
+    if geometry.nodes < MIN_NODES || geometry.nodes > MAX_NODES {
         return Some(Limit::Nodes);
     }
-    if geometry.pages < 1 || geometry.pages > GREATEST {
+    if geometry.pages < 1 || geometry.pages > MAX_PAGES {
         return Some(Limit::Pages);
     }
-    if geometry.log < LEAST || geometry.log > MAX_LOG as u64 {
+    if geometry.log < MIN_LOG || geometry.log > MAX_LOG as u64 {
         return Some(Limit::Log);
     }
     None

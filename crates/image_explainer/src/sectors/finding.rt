@@ -119,14 +119,13 @@ fn find_at(
     ensures { (image : Image) → IsCopy image bytes.now
         → FitsOr geometry age number (shaped_at image sector shape) result }
 {
-    match shape {
-        Shape::Node => find_part(sectors(bytes, sector, 2), geometry, number, age, scratch),
-        Shape::Packed(rank) => {
-            let mut node = [0; NODE_FRAME_BYTES];
-            unpack_node(sectors(bytes, sector, 8), rank as usize, &mut node);
-            find_part(&node, geometry, number, age, scratch)
-        }
-        Shape::Page => find_part(sectors(bytes, sector, 9), geometry, number, age, scratch),
+    let block = sectors(bytes, sector, shape.sectors as usize);
+    if number < geometry.nodes {
+        let mut node = [0; NODE_FRAME_BYTES];
+        unpack_node(block, shape, &mut node);
+        find_part(&node, geometry, number, age, scratch)
+    } else {
+        find_part(block, geometry, number, age, scratch)
     }
 }
 

@@ -10,7 +10,9 @@ ghost use Rattle.image_explainer.specs.SectorFinding.{BreaksSector};
 use crate::sectors::fault::{GeometryPart, SectorFault, SuperblockPart};
 use crate::sectors::reading::number_at;
 use device::MAX_SECTORS;
-use layout::{BadImage, Superblock, decode_superblock};
+use layout::{
+    BadImage, MAX_LOG, MAX_NODES, MAX_PAGES, MIN_LOG, MIN_NODES, Superblock, decode_superblock,
+};
 use std::ops::ControlFlow;
 
 // Whether a superblock's sector has a version that there is.
@@ -48,11 +50,11 @@ fn geometry_part(bytes: &[u8]) -> GeometryPart
     let pages = number_at(bytes, 24);
     let log = number_at(bytes, 32);
     let total = number_at(bytes, 56);
-    if nodes < 16 || nodes > 4096 {
+    if nodes < MIN_NODES || nodes > MAX_NODES {
         GeometryPart::Nodes(nodes)
-    } else if pages < 1 || pages > 4096 {
+    } else if pages < 1 || pages > MAX_PAGES {
         GeometryPart::Pages(pages)
-    } else if log < 16 || log > 4096 {
+    } else if log < MIN_LOG || log > MAX_LOG as u64 {
         GeometryPart::Log(log)
     } else if total > MAX_SECTORS {
         GeometryPart::Total(total)

@@ -15,16 +15,15 @@ ghost use Rattle.migrator.specs.Saving.{IsIdle, MayReplace};
 
 use crate::books::Books;
 use crate::directory::Directory;
-use crate::read::read_header_of;
 use ckpt_log::Log;
 use device::{Device, Failed};
 use home_ranges::Home;
-use layout::{CheckpointHeader, Entry};
+use layout::{CheckpointHeader, Entry, read_header};
 use model::ObjectHeader;
 
 impl Books {
-    /// The header of the saved frame of an object, where all that is saved is home. One sector is read, or the 8 of a
-    /// cluster, and no memory is taken.
+    /// The header of the saved frame of an object, where all that is saved is home. Its block is read,
+    /// and no memory is taken.
     pub(crate) fn saved_header<D: Device>(
         &self,
         device: &mut D,
@@ -40,7 +39,7 @@ impl Books {
     {
         let home = Home::new(&self.plan);
         let at = home.place(number);
-        read_header_of(device, at, self.plan.shape(number))
+        read_header(device, at, self.plan.shape(number))
     }
 
     // Writes a page with other words, under its saved header, into the first slot of the half of the log that the saved

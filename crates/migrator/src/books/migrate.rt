@@ -35,7 +35,14 @@ impl Books {
             self.moved += 1;
             return Ok(());
         }
-        copy_home(device, &self.plan, generation, entries, entry, buffer)?;
+        copy_home(
+            device,
+            &self.plan,
+            generation,
+            entries,
+            entry.object,
+            buffer,
+        )?;
         self.moved += 1;
         Ok(())
     }

@@ -1,9 +1,9 @@
-use Rattle.image_writer.proofs.Names.{arith, rules, inr, nat_tests, home_place, place_length, shape_of, frames_in, places_within, frames_before}
+use Rattle.image_writer.proofs.Names.{arith, rules, inr, nat_tests, home_place, place_length, frames_in, places_within, subst, IsFirstOf}
 use Rattle.std.proofs.Common.{◌≡◌, ◌<◌, ◌∙◌}
 use Rattle.image_writer.proofs.ClosedGates.{closed_on, leaves_closed}
-use Rattle.image_writer.proofs.HomeFrames.{is_there, later, one_more, one_more_ends, stays_between, still_ends}
+use Rattle.image_writer.proofs.HomeFrames.{is_there, one_more, one_more_ends, stays_between, still_ends}
 use Rattle.image_writer.proofs.homes.write_homes.Goals as goal
-use Rattle.image_writer.proofs.homes.write_homes.Goals.{then-is_first+in_ok-write_shared, else-is_first}
+use Rattle.image_writer.proofs.homes.write_homes.Goals.{then-first-number+in_ok-write_shared, else-first-number}
 
 pub loop-number-preserved : goal.loop-number-preserved
 loop-number-preserved g c =
@@ -12,9 +12,9 @@ loop-number-preserved g c =
     let p = c.args.home.now in
     let n = c.loop-number.number in
     let frames = frames_in c.args.headers.now c.args.contents.now in
-    elim c.if-is_first.branch [
-      | then-is_first+in_ok-write_shared w ↦
-          let first : frames_before (shape_of c.args.home.now c.loop-number.number) ≡ 0 = search rules in
+    elim c.if-first-number.branch [
+      | then-first-number+in_ok-write_shared w ↦
+          let first = subst (IsFirstOf p n) w.if-first-number.true c.first.ensures.first in
           let writes = rw w.place-at.ensures.value at w.write_shared.ensures.writes in
           let same : (g.D.Device.disk w.write_shared.new.device).failures ≡ (g.D.Device.disk c.loop-number.device).failures = search rules in
           rw w.device-is (
@@ -34,17 +34,17 @@ loop-number-preserved g c =
                 p n c.requires.plan lt writes.elsewhere frames first c.loop-number.invariant.6
                 (rw w.place-at.ensures.value at w.in_ok-write_shared.ensures.written),
           )
-      | else-is_first w ↦
-          let not_first : frames_before (shape_of c.args.home.now c.loop-number.number) ≡ 0 → ⊥ = search rules in
-          let before = later p n c.requires.plan lt not_first in
+      | else-first-number w ↦
+          let start = c.first.ensures.first in
+          let before : c.first.result < n = omega (arith, start.below, w.if-first-number.false) in
           rw w.device-is (
-            is_there p frames n (g.D.Device.disk c.loop-number.device).seen before.0 before.1 c.loop-number.invariant.0,
+            is_there p frames n c.first.result (g.D.Device.disk c.loop-number.device).seen before start.home c.loop-number.invariant.0,
             c.loop-number.invariant.1,
             c.loop-number.invariant.2,
             c.loop-number.invariant.3,
             c.loop-number.invariant.4,
             c.loop-number.invariant.5,
-            still_ends p n (g.D.Device.disk c.loop-number.device).seen not_first c.loop-number.invariant.6,
+            still_ends p n c.first.result (g.D.Device.disk c.loop-number.device).seen c.requires.plan lt before start.home c.loop-number.invariant.6,
           )
     ]
 

@@ -1,25 +1,25 @@
-use Rattle.migrator.proofs.Names.{sym, arith, shape_of, own_of}
+use Rattle.migrator.proofs.Names.{sym, subst, arith, IsWhole}
 use Rattle.std.proofs.Common.{◌∙◌}
 use Rattle.migrator.proofs.PlacesApart.{alone_beside, found_there, none_there}
 use Rattle.migrator.proofs.find.find_beside.Goals as goal
 use Rattle.migrator.proofs.find.find_beside.Goals.{else-at-entries-via-then-at-entries+else-place, else-at-entries-via-else-at-entries}
 
-pub returns-in_default : goal.returns-in_default
-returns-in_default c =
+pub returns-then-is_whole : goal.returns-then-is_whole
+returns-then-is_whole c =
     sym (alone_beside c.shape.ensures.plan c.requires.directory c.requires.object
-    (own_of (shape_of c.args.plan.now c.args.number) (λ rank is. c.in_default.not-Packed rank (c.shape.ensures.value ∙ is))) c.requires.none)
+    (subst IsWhole c.shape.ensures.value (c.is_whole.ensures.0 c.if-is_whole.true)) c.requires.none)
 
 pub returns-then-place : goal.returns-then-place
 returns-then-place c =
-    sym (found_there c.args.plan.now c.args.entries.now c.args.number c.in-Packed.rank c.first_from-at.result c.shape.ensures.plan c.requires.directory
-    c.requires.object (sym c.shape.ensures.value ∙ c.in-Packed.is)
+    sym (found_there c.args.plan.now c.args.entries.now c.args.number c.first.result c.first_from-at.result c.shape.ensures.plan c.requires.directory
+    c.requires.object (rw c.new-home.ensures at c.first.ensures.first)
     c.first_from-at.ensures.below c.first_from-at.ensures.from c.if-at-entries.true
     (sym (rw c.new-home.ensures at c.place.ensures.value) ∙ c.if-place.true ∙ rw c.new-home.ensures at c.place-then-at-entries.ensures.value))
 
 pub returns-else-at-entries : goal.returns-else-at-entries
 returns-else-at-entries c =
-    sym (none_there c.args.plan.now c.args.entries.now c.args.number c.in-Packed.rank c.first_from-at.result c.shape.ensures.plan c.requires.directory
-    c.requires.object (sym c.shape.ensures.value ∙ c.in-Packed.is)
+    sym (none_there c.args.plan.now c.args.entries.now c.args.number c.first.result c.first_from-at.result c.shape.ensures.plan c.requires.directory
+    c.requires.object (rw c.new-home.ensures at c.first.ensures.first)
     c.first_from-at.ensures.below c.first_from-at.ensures.from (λ within same. elim c.else-at-entries.branch [
       | else-at-entries-via-then-at-entries+else-place w ↦ w.if-place.false
           (rw c.new-home.ensures at w.place.ensures.value ∙ same ∙ sym (rw c.new-home.ensures at w.place-then-at-entries.ensures.value))

@@ -1,40 +1,62 @@
-use Rattle.migrator.proofs.Names.{subst, arith, rules, Image, agrees_is, frame_in, Plan, IsPlan, HaveHome}
-use Rattle.std.proofs.Common.{◌≡◌, ◌∙◌, ◌+◌}
-use Rattle.migrator.proofs.Gathering.{frame_end, one_more, rank_there, all_in}
-use Rattle.migrator.proofs.Opening.{reads_more}
+use Rattle.migrator.proofs.Names.{ℕ, length, refl, sym, ap, subst, arith, rules, inr, Image, agrees_is, frame_in, shape_of, shape_bytes, shape_end, Plan}
+use Rattle.migrator.proofs.Names.{one_length, length-zeros, zeros, all_blank, all_ended, all_in, ended_more, none_ended, one_frame_more}
+use Rattle.std.proofs.Common.{◌≡◌, ◌∙◌, ◌+◌, ◌-◌, ◌*◌, ◌≤◌}
+use Rattle.migrator.proofs.Opening.{reads_more, reads_none}
 use Rattle.migrator.proofs.gather.gather.Goals as goal
 
-pub read_node-requires-clause-shape : goal.read_node-requires-clause-shape
-read_node-requires-clause-shape g c =
-    let plan = subst IsPlan c.new-home.ensures c.sharers-rank-end.ensures.plan in
-    let have = subst (λ (p : Plan). HaveHome p c.args.first c.sharers-rank-end.result) c.new-home.ensures c.sharers-rank-end.ensures.all in
-    rank_there plan c.requires.object c.requires.shape have c.loop-rank-test.true
+pub loop-k-init : goal.loop-k-init
+unfolding zeros
+loop-k-init g c = (
+  reads_none (g.met.D.Device.only_now c.args.device.now),
+  refl,
+  (λ k lt. absurd (omega (arith, lt))),
+  none_ended c.args.plan.now c.first-first.result c.blank.new.bytes (all_blank (length c.args.block.now) c.blank.ensures),
+  ap length c.blank.ensures ∙ length-zeros (length c.args.block.now),
+)
 
-pub pack_node-requires-clause-end : goal.pack_node-requires-clause-end
-pack_node-requires-clause-end g c =
-    let plan = subst IsPlan c.new-home.ensures c.sharers-rank-end.ensures.plan in
-    let have = subst (λ (p : Plan). HaveHome p c.args.first c.sharers-rank-end.result) c.new-home.ensures c.sharers-rank-end.ensures.all in
-    frame_end (g.D.Device.disk c.loop-rank.device).seen c.args.plan.now c.args.generation c.args.directory.now (c.args.first + c.loop-rank.rank)
-    (rank_there plan c.requires.object c.requires.shape have c.loop-rank-test.true) c.in_ok-node.ensures.found (omega arith)
+pub gather_one-requires-clause-object : goal.gather_one-requires-clause-object
+gather_one-requires-clause-object g c = (rw (c.new-home.ensures) at c.sharers-k-end.ensures.all).object c.loop-k.k c.loop-k-test.true
 
-pub loop-rank-preserved : goal.loop-rank-preserved
-loop-rank-preserved g c =
-    let seen = agrees_is (g.D.Device.disk c.loop-rank.device).seen (g.D.Device.disk c.args.device.now).seen c.loop-rank.invariant.0.seen in
-    let same : (g.D.Device.disk c.read_node.new.device).failures ≡ (g.D.Device.disk c.loop-rank.device).failures = search rules in
-    let here = subst (λ (i : Image). c.in_ok-node.node ≡ frame_in i c.args.plan.now c.args.generation c.args.directory.now (c.args.first + c.loop-rank.rank))
-    seen c.in_ok-node.ensures.found in (
-      reads_more c.loop-rank.invariant.0 c.read_node.ensures.reads,
-      same ∙ c.loop-rank.invariant.1,
-      one_more (g.D.Device.disk c.args.device.now).seen c.args.plan.now c.args.generation c.args.directory.now c.args.first c.loop-rank.cluster
-          c.pack_node.new.cluster
-          (omega (arith, c.loop-rank-test.true, c.sharers-rank-end.ensures.few)) c.loop-rank.invariant.2 (c.pack_node.ensures.packed ∙ here)
-          c.pack_node.ensures.others,
-      c.pack_node.ensures.size,
+pub gather_one-requires-clause-block : goal.gather_one-requires-clause-block
+gather_one-requires-clause-block g c =
+    let have = rw (c.new-home.ensures) at c.sharers-k-end.ensures.all in
+    let start = rw (c.new-home.ensures) at c.first-first.ensures.first in
+    let k : ℕ = c.loop-k.k in
+    let one = one_length c.args.plan.now (c.first-first.result + k) c.args.number (rw (c.new-home.ensures) at c.sharers-k-end.ensures.plan)
+    (have.object k c.loop-k-test.true) c.requires.object (have.same k c.loop-k-test.true ∙ start.home) in
+    c.loop-k.invariant.4 ∙ c.requires.block ∙ ap (λ (n : ℕ). 512 * n) (sym one)
+
+pub loop-k-preserved : goal.loop-k-preserved
+loop-k-preserved g c =
+    let p : Plan = c.args.plan.now in
+    let first : ℕ = c.first-first.result in
+    let plan = rw (c.new-home.ensures) at c.sharers-k-end.ensures.plan in
+    let have = rw (c.new-home.ensures) at c.sharers-k-end.ensures.all in
+    let k : ℕ = c.loop-k.k in
+    let end : ℕ = shape_end (shape_of p (first + k)) in
+    let image = (g.D.Device.disk c.args.device.now).seen in
+    let old = c.loop-k.block in
+    let new = c.gather_one.new.block in
+    let same : (g.D.Device.disk c.gather_one.new.device).failures ≡ (g.D.Device.disk c.loop-k.device).failures = search rules in
+    let here = subst (λ (i : Image). shape_bytes (shape_of p (first + k)) new ≡ frame_in i p c.args.generation c.args.directory.now (first + k))
+    (agrees_is (g.D.Device.disk c.loop-k.device).seen image c.loop-k.invariant.0.seen) c.in_ok-gather_one.ensures.gathered in (
+      reads_more c.loop-k.invariant.0 c.gather_one.ensures.reads,
+      same ∙ c.loop-k.invariant.1,
+      one_frame_more first k old new plan have c.loop-k-test.true (frame_in image p c.args.generation c.args.directory.now) c.loop-k.invariant.2 here
+          (λ s le. c.gather_one.ensures.others s (inr le)),
+      ended_more first k old new plan have c.loop-k-test.true c.loop-k.invariant.3
+          (λ blank. c.gather_one.ensures.behind ∙ blank ∙ ap (λ (n : ℕ). zeros (n - end)) (sym c.gather_one.ensures.size)),
+      c.gather_one.ensures.size ∙ c.loop-k.invariant.4,
     )
 
 pub returns-clause-gathered : goal.returns-clause-gathered
 returns-clause-gathered g c =
-    let plan = subst IsPlan c.new-home.ensures c.sharers-rank-end.ensures.plan in
-    let have = subst (λ (p : Plan). HaveHome p c.args.first c.sharers-rank-end.result) c.new-home.ensures c.sharers-rank-end.ensures.all in
-    all_in (g.D.Device.disk c.args.device.now).seen c.args.generation c.args.directory.now c.loop-rank.cluster plan c.requires.object c.requires.shape have
-    (λ k lt. c.loop-rank.invariant.2 k (omega (arith, lt, c.loop-rank-test.false)))
+    all_in c.loop-k.block (rw (c.new-home.ensures) at c.first-first.ensures.first) (rw (c.new-home.ensures) at c.sharers-k-end.ensures.all) c.loop-k.k
+    (omega (arith, c.loop-k-test.false)) (frame_in (g.D.Device.disk c.args.device.now).seen c.args.plan.now c.args.generation c.args.directory.now)
+    c.loop-k.invariant.2
+
+pub returns-clause-zeros : goal.returns-clause-zeros
+returns-clause-zeros g c =
+    let most : c.loop-k.k ≤ c.sharers-k-end.result = search rules in
+    all_ended c.loop-k.block (rw (c.new-home.ensures) at c.first-first.ensures.first) (rw (c.new-home.ensures) at c.sharers-k-end.ensures.all) c.loop-k.k
+    (omega (arith, c.loop-k-test.false)) most c.loop-k.invariant.3

@@ -1,13 +1,17 @@
-use Rattle.sealed_layout.proofs.Clusters.{cluster_sealed, places_sealed}
+use Rattle.sealed_layout.proofs.Clusters.{cluster_sealed, front_stays, long}
 use Rattle.sealed_layout.proofs.cluster.seal_cluster.Goals as goal
-use Rattle.std.proofs.Common.{◌∙◌}
 
 pub returns-clause-sealed : goal.returns-clause-sealed
 returns-clause-sealed c =
-    cluster_sealed c.blank_behind.new.cluster c.seal.new.row c.args.nodes c.requires.nodes c.blank_behind.ensures.size
-    (c.seal.auto.row ∙ c.blank_behind.ensures.size) c.blank_behind.ensures.blank c.seal.ensures.sealed c.seal.ensures.body
+    cluster_sealed c.args.cluster.now c.blank_from.new.bytes c.seal.new.row c.args.nodes c.requires.nodes c.requires.cluster c.seal.auto.row
+    c.blank_from.ensures c.seal.ensures.body c.seal.ensures.sealed
 
-pub returns-clause-places : goal.returns-clause-places
-returns-clause-places c = λ rank lt.
-    places_sealed c.args.cluster.now c.blank_behind.new.cluster c.seal.new.row c.args.nodes rank c.requires.nodes lt c.blank_behind.ensures.size
-    (c.seal.auto.row ∙ c.blank_behind.ensures.size) c.seal.ensures.body (c.blank_behind.ensures.places rank lt)
+pub returns-clause-frames : goal.returns-clause-frames
+returns-clause-frames c =
+    front_stays c.args.cluster.now c.blank_from.new.bytes c.seal.new.row c.args.nodes c.requires.nodes c.requires.cluster c.seal.auto.row
+    c.blank_from.ensures c.seal.ensures.body
+
+pub returns-clause-size : goal.returns-clause-size
+returns-clause-size c =
+    long c.args.cluster.now c.blank_from.new.bytes c.seal.new.row c.args.nodes c.requires.nodes c.requires.cluster c.seal.auto.row c.blank_from.ensures
+    c.seal.ensures.body

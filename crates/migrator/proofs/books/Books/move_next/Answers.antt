@@ -1,4 +1,3 @@
-use Rattle.migrator.proofs.Names.{arith, own_slot}
 use Rattle.migrator.proofs.Moving.{copied_durable, copied_moved, moved_on, passed_durable, uncopied_durable, uncopied_moved}
 use Rattle.migrator.proofs.Publishing.{on_err}
 use Rattle.migrator.proofs.books.Books.move_next.Goals as goal
@@ -34,9 +33,3 @@ pub returns-clause-moved : goal.returns-clause-moved
 returns-clause-moved g c =
     copied_moved (g.D.Device.disk c.copy_home.new.device) c.requires.stands c.requires.some
     (rw c.as_slice-entries.ensures at (c.is_first.ensures.yes c.if-not-is_first.false)) (rw c.as_slice-entries.ensures at c.copy_home.ensures.touches)
-
-pub copy_home-requires-clause-entry : goal.copy_home-requires-clause-entry
-copy_home-requires-clause-entry g c =
-    let b = c.args.self.now in
-    rw c.as_slice-entries.ensures
-    (own_slot b.directory b.moved c.requires.stands.kept.directory.rising (omega (arith, c.requires.some, c.requires.stands.kept.count)))

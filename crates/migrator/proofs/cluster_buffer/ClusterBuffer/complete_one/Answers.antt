@@ -1,5 +1,5 @@
 use Rattle.migrator.proofs.Names.{rules, ℕ, List, Option, None, Disk, Entry, KeepsOne, Plan, ReadsOnly, elsewhere_same, slot_bytes, subst, unwritten_of}
-use Rattle.migrator.proofs.Names.{on_ok_weaker, Some, refl, sym, ap, arith, Image, agrees_is, slot_sector, entry_at, shape_of, own_of, Unwritten, counted_ok}
+use Rattle.migrator.proofs.Names.{on_ok_weaker, Some, refl, sym, ap, arith, Image, agrees_is, slot_sector, entry_at, IsWhole, Unwritten, counted_ok}
 use Rattle.migrator.proofs.Names.{counts_on, mended}
 use Rattle.std.proofs.Common.{◌≡◌, ◌∙◌, ◌-◌}
 use Rattle.std.specs.Vec.{with_items}
@@ -7,7 +7,7 @@ use Rattle.migrator.proofs.PlacesApart.{touches_on, reads_touch}
 use Rattle.migrator.proofs.Tables.{rewritten}
 use Rattle.migrator.proofs.Opening.{reads_none}
 use Rattle.migrator.proofs.Publishing.{err_counts, ok_counts}
-use Rattle.migrator.proofs.Completing.{either_of, kept_one, one_complete, own_complete, later_complete, zeros_written}
+use Rattle.migrator.proofs.Completing.{either_of, kept_one, one_complete, long_of, own_complete, later_complete, whole_length, zeros_written}
 use Rattle.migrator.proofs.cluster_buffer.ClusterBuffer.complete_one.Goals as goal
 
 -- nothing is written
@@ -24,18 +24,21 @@ none_still : (sector : Option ℕ) (old new : List ℕ) {was : Option Unwritten}
 none_still None old new is none = refl
 none_still (Some sector) old new is none = cc
 
-pub returns-in_default : goal.returns-in_default
-returns-in_default g c =
+pub returns-then-is_whole : goal.returns-then-is_whole
+returns-then-is_whole g c =
     let disk = g.D.Device.disk c.args.device.now in
-    let own = own_of (shape_of c.args.plan.now (entry_at c.args.entries.now c.args.index).object)
-    (λ rank is. c.in_default.not-Packed rank (c.shape.ensures.value ∙ is)) in
+    let own = subst IsWhole c.shape.ensures.value (c.is_whole.ensures.0 c.if-is_whole.true) in
     record {
       none = c.requires.none;
       complete = own_complete c.args.generation c.args.index c.shape.ensures.plan c.requires.directory c.requires.within disk.seen own;
-      zeros = λ first rank is. absurd (c.in_default.not-Packed rank (c.shape.ensures.value ∙ is));
+      zeros = λ first long. absurd (whole_length c.args.plan.now (entry_at c.args.entries.now c.args.index).object own long);
       keeps = read_keeps c.requires.none (reads_none (g.met.D.Device.only_now c.args.device.now));
       cause = ok_counts refl;
     }
+
+pub fill-requires-clause-sectors : goal.fill-requires-clause-sectors
+fill-requires-clause-sectors g c =
+    long_of c.args.plan.now (entry_at c.args.entries.now c.args.index).object c.shape.ensures.value c.if-is_whole.false c.is_whole.ensures.1
 
 pub returns-then-not-is_first : goal.returns-then-not-is_first
 returns-then-not-is_first g c =
@@ -44,7 +47,7 @@ returns-then-not-is_first g c =
     record {
       none = c.requires.none;
       complete = later_complete c.args.generation c.args.index c.shape.ensures.plan c.requires.directory c.requires.within disk.seen follows;
-      zeros = λ first. absurd (first (c.args.index - 1) (omega (arith, follows.0)) follows.1);
+      zeros = λ first long. absurd (first (c.args.index - 1) (omega (arith, follows.0)) follows.1);
       keeps = read_keeps c.requires.none (reads_none (g.met.D.Device.only_now c.args.device.now));
       cause = ok_counts refl;
     }
@@ -65,7 +68,7 @@ returns g c =
     let old = g.D.Device.disk c.args.device.now in
     let mid = g.D.Device.disk c.fill.new.device in
     let entry = entry_at c.args.entries.now c.args.index in
-    let packed = sym c.shape.ensures.value ∙ c.in-Packed.is in
+    let packed = long_of c.args.plan.now entry.object c.shape.ensures.value c.if-is_whole.false c.is_whole.ensures.1 in
     let u : Unwritten = record { sector = slot_sector c.args.plan.now c.args.generation entry.slot; bytes = c.fill.new.cluster } in
     let bytes = rewritten c.self.inside.bytes.items (c.fill.ensures.size ∙ sym c.self.invariant) c.self.inside.bytes.ok.0 in
     let there = rw (c.slot_sector.ensures.value, c.new-log.ensures, bytes) at c.write.ensures.seen in
@@ -79,7 +82,7 @@ returns g c =
       complete = on_ok_weaker c.write.result
           (λ none. one_complete c.args.generation c.args.index c.shape.ensures.plan c.requires.directory c.requires.within packed c.fill.new.cluster
           c.fill.ensures.size c.write.new.self c.in_ok-fill.ensures.filled seen touches either none) c.write.ensures.written;
-      zeros = on_ok_weaker c.write.result (λ none first. zeros_written entry.object mid.seen (g.D.Device.disk c.write.new.device).seen u c.fill.ensures.size
+      zeros = on_ok_weaker c.write.result (λ none first long. zeros_written c.args.plan.now entry.object mid.seen (g.D.Device.disk c.write.new.device).seen u c.fill.ensures.size
           there none c.in_ok-fill.ensures.zeros) c.write.ensures.written;
       keeps = kept_one c.args.generation c.args.index c.shape.ensures.plan c.requires.directory c.requires.within packed c.fill.new.cluster
           c.fill.ensures.size c.write.new.self c.in_ok-fill.ensures.filled seen touches either;

@@ -1,0 +1,78 @@
+// The frames in a block.
+ghost use Rattle.std.specs.Prelude.{◌≡◌, ◌+◌, ◌*◌, ◌≤◌, length, take, drop};
+ghost use Rattle.layout.specs.declared.shape.Shape.{Shape};
+ghost use Rattle.layout.specs.Frame.{frame_bytes, frame_length};
+ghost use Rattle.layout.specs.Shape.{AreBeside, IsBlankFrom, IsShapeFor, shape_bytes, shape_end};
+ghost use Rattle.model.specs.Frame.{content_behind};
+
+use crate::bytes::blank_from;
+use crate::frame::encode_frame;
+use crate::node_frame::NODE_FRAME_BYTES;
+use crate::page_frame::PAGE_FRAME_BYTES;
+use crate::shape::Shape;
+use model::{Cap, ContentRef, Geometry, ObjectHeader};
+
+/// The most bytes that a block takes.
+pub const BLOCK_BYTES: usize = 4608;
+
+/// Copies a node's frame from its place in a block into the 1024 bytes of `node`.
+pub fn unpack_node(block: &[u8], shape: Shape, node: &mut [u8])
+    requires block { shape_end shape ≤ length block.now }
+    requires shape { shape.bytes ≤ 1024 }
+    requires node { length node.old ≡ 1024 }
+    ensures { node.new ≡ shape_bytes shape block.now }
+{
+    let at = shape.offset as usize;
+    let size = shape.bytes as usize;
+    node[..size].copy_from_slice(&block[at..at + size]);
+    blank_from(node, size);
+}
+
+/// Copies the frame in a place of a block to the same place of another. The bytes beside it stay.
+pub fn copy_frame(from: &[u8], shape: Shape, to: &mut [u8])
+    requires from { shape_end shape ≤ length from.now }
+    requires to { shape_end shape ≤ length to.old }
+    ensures copied { shape_bytes shape to.new ≡ shape_bytes shape from.now }
+    ensures others { (other : Shape) → AreBeside shape other
+        → shape_bytes other to.new ≡ shape_bytes other to.old }
+    ensures behind { drop (shape_end shape) to.new ≡ drop (shape_end shape) to.old }
+    ensures size { length to.new ≡ length to.old }
+{
+    let at = shape.offset as usize;
+    let end = at + shape.bytes as usize;
+    to[at..end].copy_from_slice(&from[at..end]);
+}
+
+// Returns how many bytes the frame of an object takes.
+fn frame_size(geometry: Geometry, number: u64) -> usize
+    ensures { result ≡ 512 * frame_length geometry number }
+{
+    if number < geometry.nodes {
+        NODE_FRAME_BYTES
+    } else {
+        PAGE_FRAME_BYTES
+    }
+}
+
+/// Writes the frame of an object into its place in a block. The bytes before it stay. Where the bytes
+/// behind its place are zeros, they stay zeros; others may change.
+pub fn put_frame(
+    geometry: Geometry,
+    number: u64,
+    header: ObjectHeader,
+    content: ContentRef<'_>,
+    shape: Shape,
+    block: &mut [u8],
+)
+    requires shape { IsShapeFor geometry number shape }
+    requires block { length block.old ≡ 4608 }
+    ensures put { shape_bytes shape block.new ≡ frame_bytes geometry number
+        (record { header = header; content = content_behind content.entry }) }
+    ensures before { take shape.offset block.new ≡ take shape.offset block.old }
+    ensures behind { IsBlankFrom (shape_end shape) block.old → IsBlankFrom (shape_end shape) block.new }
+    ensures size { length block.new ≡ 4608 }
+{
+    let at = shape.offset as usize;
+    let size = frame_size(geometry, number);
+    encode_frame(geometry, number, header, content, &mut block[at..at + size]);
+}
