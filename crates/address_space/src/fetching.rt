@@ -11,6 +11,7 @@ use device::Failed;
 /// Fetches one object.
 pub fn fetch_one<F: Frames>(frames: &mut F, number: u64) -> Result<(), Failed>
     requires known { number < length (F.parts frames.old).headers }
+    requires usable { F.IsUsable frames.old }
     requires sound { AreSound (F.parts frames.old) }
     ensures fetched { OnOk result (F.IsFetched frames.new number) }
     ensures fetches { FetchesOrFails F.parts F.ContinuesTo frames.old frames.new result }
@@ -21,6 +22,7 @@ pub fn fetch_one<F: Frames>(frames: &mut F, number: u64) -> Result<(), Failed>
 /// The address space of a process: void where it is stale.
 #[tactic(auto, using(capability::proofs::FrameLists::process_known, crate::proofs::Known::space_held))]
 pub fn space_of<F: Frames>(frames: &mut F, process: u64) -> Result<Capability, Failed>
+    requires usable { F.IsUsable frames.old }
     requires sound { AreSound (F.parts frames.old) }
     requires process { IsTrue (is_process (objects_in (F.parts frames.old)) process) }
     ensures held { IfOk result (MayBeHeld (objects_in (F.parts frames.old))) }

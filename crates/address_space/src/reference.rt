@@ -25,6 +25,7 @@ pub fn load<F: Frames>(
     process: u64,
     address: u64,
 ) -> Result<Result<u64, MemoryFault>, Failed>
+    requires usable { F.IsUsable frames.old }
     requires sound { AreSound (F.parts frames.old) }
     requires process { IsTrue (is_running_process (objects_in (F.parts frames.old)) process) }
     ensures loaded { IfOk result (λ loaded.
@@ -53,6 +54,7 @@ pub fn store<F: PresentFrames>(
     address: u64,
     word: u64,
 ) -> Result<Result<(), MemoryFault>, Refusal>
+    requires usable { F.IsUsable frames.old }
     requires sound { AreSound (F.parts frames.old) }
     requires process { IsTrue (is_running_process (objects_in (F.parts frames.old)) process) }
     ensures stored { IfOk result (λ stored. IsStored (F.parts frames.old).geometry.log
@@ -79,6 +81,7 @@ fn reach<F: Frames>(
     address: u64,
     for_write: bool,
 ) -> Result<Result<Reached, MemoryFault>, Failed>
+    requires usable { F.IsUsable frames.old }
     requires sound { AreSound (F.parts frames.old) }
     requires process { IsTrue (is_running_process (objects_in (F.parts frames.old)) process) }
     ensures reached { IfOk result (λ found.
@@ -94,6 +97,7 @@ fn reach<F: Frames>(
 // Announces a page, and puts a word into it.
 #[tactic(auto, using(crate::proofs::Known::page_known))]
 fn put<F: PresentFrames>(frames: &mut F, page: u64, index: usize, word: u64) -> Result<(), Refusal>
+    requires usable { F.IsUsable frames.old }
     requires sound { AreSound (F.parts frames.old) }
     requires page { IsTrue (is_page (content_at (objects_in (F.parts frames.old)) page)) }
     requires within { index < 512 }

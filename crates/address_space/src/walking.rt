@@ -77,6 +77,7 @@ pub fn walk<F: Frames>(
     address: u64,
     for_write: bool,
 ) -> Result<Result<Reached, MemoryFault>, Failed>
+    requires usable { F.IsUsable frames.old }
     requires sound { AreSound (F.parts frames.old) }
     requires held { MayBeHeld (objects_in (F.parts frames.old)) capability }
     ensures reached { IfOk result (λ reached. reported reached ≡ allowed for_write
@@ -97,6 +98,7 @@ fn find<F: Frames>(
     capability: Capability,
     index: u64,
 ) -> Result<Result<Reached, MemoryFault>, Failed>
+    requires usable { F.IsUsable frames.old }
     requires sound { AreSound (F.parts frames.old) }
     requires held { MayBeHeld (objects_in (F.parts frames.old)) capability }
     ensures reached { IfOk result (λ reached.
@@ -133,6 +135,7 @@ fn descend<F: Frames>(
     tree: Tree,
     index: u64,
 ) -> Result<Result<Reached, MemoryFault>, Failed>
+    requires usable { F.IsUsable frames.old }
     requires sound { AreSound (F.parts frames.old) }
     requires held { MayBeHeld (objects_in (F.parts frames.old)) (Capability.Space tree.node tree.height tree.access) }
     ensures reached { IfOk result (λ reached. reported reached ≡ walk_along (objects_in (F.parts frames.old))
@@ -167,6 +170,7 @@ fn descend<F: Frames>(
 
 // What the node of a tree holds on the way to the page with an index.
 fn next_slot<F: Frames>(frames: &mut F, tree: Tree, index: u64) -> Result<Capability, Failed>
+    requires usable { F.IsUsable frames.old }
     requires sound { AreSound (F.parts frames.old) }
     requires held { MayBeHeld (objects_in (F.parts frames.old))
         (Capability.Space tree.node tree.height tree.access) }

@@ -4,7 +4,7 @@ use Rattle.capability.specs.Names.{IfErr, OnOk, OnErr, IsErrOf, Cap, Frame, Obje
 use Rattle.capability.specs.Names.{Object, frame_at, frames_in, header_at, held_at, given_up, objects_of, AreCurrent}
 use Rattle.capability.specs.Names.{AreKeepable, IsSoundFrames, touching, touched_count, all_slots, role_of, zero_words}
 use Rattle.capability.specs.Names.{is_given_up, is_member, Failed, IsErr, Refusal}
-use Rattle.std.specs.Prelude.{◌≡◌, ◌↔◌, ◌+◌, ◌<◌, ◌≤◌, ◌^◌, if◌then◌else◌}
+use Rattle.std.specs.Prelude.{◌≡◌, ◌↔◌, ◌+◌, ◌-◌, ◌<◌, ◌≤◌, ◌^◌, if◌then◌else◌}
 use Rattle.model.specs.declared.answer.Refusal.TheVariants as refusal
 use Rattle.model.specs.declared.object.Content.TheVariants as content
 use Rattle.capability.specs.declared.present.Fresh.{Fresh}
@@ -30,6 +30,11 @@ objects_in p = objects_of (frames_of p)
 -- they are sound, at some age
 abbrev pub AreSound : Parts → Type 0
 AreSound p = (age : ℕ) × IsSoundFrames p.geometry age (frames_of p)
+
+-- bodies may be fetched: the store is usable, and its frames can be kept at each age
+pub record MayFetch {S : Type 0} (Usable : S → Type 0) (parts : S → Parts) (s : S) : Type 0 where
+  pub usable : Usable s
+  pub keepable : AreKeepable (parts s).geometry (2 ^ 64 - 1) (frames_of (parts s))
 
 -- the parts with another header, content, or both, at a number
 abbrev pub with_header : Parts → ℕ → ObjectHeader → Parts

@@ -64,6 +64,8 @@ impl Plain {
 impl Frames for Plain {
     ghost parts = { parts_of };
 
+    ghost IsUsable = { λ s. Unit {0} };
+
     ghost IsFetched = { IsThere };
 
     ghost ContinuesTo = { λ s t. t ≡ s };
@@ -95,6 +97,8 @@ impl Frames for Plain {
     ghost use Rattle.std.proofs.Common.{◌∙◌, refl};
 
     ghost known_fetched = { λ s n h. h };
+
+    ghost stays_usable = { λ s t went stayed usable. usable };
 
     ghost continues_same = { λ s. refl };
 

@@ -4,11 +4,10 @@ ghost use Rattle.std.specs.List.{All, Contains};
 ghost use Rattle.model.specs.declared.object.Content.TheVariants as content;
 ghost use Rattle.model.specs.Machine.{touched_count};
 ghost use Rattle.model.specs.Frame.{content_behind, header_at, held_at, void_held, given_up, owned_by, called, claimed};
-ghost use Rattle.model.specs.Keepable.{AreKeepable};
 ghost use Rattle.model.specs.Object.{role_of, with_slot_in, with_word_in};
 ghost use Rattle.capability.specs.Objects.{changed_root, with_root_in, with_slots_in};
-ghost use Rattle.capability.specs.Parts.{Parts, frames_of, with_header, with_held, with_both, fresh_content, IsFreshAt};
-ghost use Rattle.capability.specs.Parts.{Becomes, OnlyFetches, Prepares};
+ghost use Rattle.capability.specs.Parts.{Parts, with_header, with_held, with_both, fresh_content, IsFreshAt};
+ghost use Rattle.capability.specs.Parts.{Becomes, MayFetch, OnlyFetches, Prepares};
 
 use crate::table::ObjectTable;
 use device::Failed;
@@ -79,6 +78,9 @@ impl RootChange {
 pub trait Frames: Drop {
     ghost parts: { Self → Parts };
 
+    /// The store was opened, and the device has not failed since: objects can be read and changed.
+    ghost IsUsable: { Self → Type 0 };
+
     ghost IsFetched: { Self → ℕ → Type 0 };
 
     /// What lies beside the frames went on with no commit.
@@ -87,7 +89,8 @@ pub trait Frames: Drop {
     /// The counts of nodes, pages and log slots. By `within`, no more than `log` numbers are touched.
     fn geometry(&self) -> Geometry
         ensures geometry { result ≡ (parts self.now).geometry }
-        ensures within { touched_count (parts self.now).touched ≤ (parts self.now).geometry.log };
+        ensures within { IsUsable self.now
+            → touched_count (parts self.now).touched ≤ (parts self.now).geometry.log };
 
     /// The headers of all objects, fetched or not.
     fn table(&self) -> &ObjectTable
@@ -98,8 +101,7 @@ pub trait Frames: Drop {
     fn fetch(&mut self, numbers: &[u64]) -> Result<(), Failed>
         requires few { length numbers.now ≤ MAX_FETCHED }
         requires known { All (λ n. n < length (parts self.old).headers) numbers.now }
-        requires keepable { AreKeepable (parts self.old).geometry u64.MAX
-            (frames_of (parts self.old)) }
+        requires may { MayFetch IsUsable parts self.old }
         ensures fetched { OnOk result ((n : ℕ) → Contains numbers.now n → IsFetched self.new n) }
         ensures same { OnOk result (parts self.new ≡ parts self.old) }
         ensures cause { IsErr result ↔ ((parts self.old).failures < (parts self.new).failures) }
@@ -112,6 +114,10 @@ pub trait Frames: Drop {
 
     ghost known_fetched: { (s : Self) (n : ℕ) → IsFetched s n → (n < length (parts s).headers)
         × (n < length (parts s).contents) };
+
+    /// A usable store stays usable until the device fails.
+    ghost stays_usable: { (s t : Self) → ContinuesTo s t → (parts t).failures ≡ (parts s).failures
+        → IsUsable s → IsUsable t };
 
     ghost continues_same: { (s : Self) → ContinuesTo s s };
 
@@ -133,8 +139,7 @@ pub trait PresentFrames: Frames {
         requires few { length fetched.now ≤ MAX_FETCHED }
         requires known { All (λ n. n < length (Self.parts self.old).headers) fetched.now }
         requires announced { All (λ n. n < length (Self.parts self.old).headers) written.now }
-        requires keepable { AreKeepable (Self.parts self.old).geometry u64.MAX
-            (frames_of (Self.parts self.old)) }
+        requires may { MayFetch Self.IsUsable Self.parts self.old }
 
         ensures fetched { OnOk result
             ((n : ℕ) → Contains fetched.now n → Self.IsFetched self.new n) }

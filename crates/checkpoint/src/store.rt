@@ -1,7 +1,6 @@
 // The trait of object stores.
-ghost use Rattle.std.specs.Prelude.{◌≡◌, ◌⊎◌, ℕ, ◌-◌, ◌<◌, ◌≤◌, ◌^◌, None, Some, length, nat_lt, IfOk, IfErr, OnOk};
+ghost use Rattle.std.specs.Prelude.{◌≡◌, ◌⊎◌, ◌↔◌, ℕ, ◌-◌, ◌<◌, ◌≤◌, ◌^◌, None, Some, length, nat_lt, IfOk, IfErr, OnOk};
 ghost use Rattle.std.specs.Prelude.{OnErr, IsErrOf};
-ghost use Rattle.model.specs.Keepable.{AreKeepable};
 ghost use Rattle.model.specs.Machine.{untouched, touched_count};
 ghost use Rattle.device.specs.Disk.{Image};
 ghost use Rattle.device.specs.Calls.{Counts};
@@ -11,7 +10,7 @@ ghost use Rattle.checkpoint.specs.Snapshots.{MayCommit, committed, freezing, jou
 ghost use Rattle.checkpoint.specs.Snapshots.{next_saved};
 ghost use Rattle.checkpoint.specs.Journal.{is_page_now, is_still_saved, next_journaled, words_now};
 ghost use Rattle.checkpoint.specs.Opened.{Refuses};
-ghost use Rattle.capability.specs.Parts.{AreSameUnlessFailed, frames_of};
+ghost use Rattle.capability.specs.Parts.{AreSameUnlessFailed, MayFetch, frames_of};
 ghost use Rattle.checkpoint.specs.Refused.{IsCommitAnswer, IsFreezeAnswer, IsJournalAnswer, IsRefused, IsTurnedAway};
 ghost use Rattle.checkpoint.specs.Store.{all_frozen, all_untouched, whole, FrozenFrames, View, Continues, OpensStore, stabilized};
 ghost use Rattle.checkpoint.specs.Store.{IsStabilizeAnswer};
@@ -78,8 +77,7 @@ pub trait ObjectStore<D: Device>: PresentFrames + Sized {
     /// Removes an object from memory, if the store's policy lets it. Fails exactly if the device fails.
     fn evict(&mut self, number: u64) -> Result<(), Failed>
         requires known { number < length (Self.parts self.old).headers }
-        requires keepable { AreKeepable (Self.parts self.old).geometry u64.MAX
-            (frames_of (Self.parts self.old)) }
+        requires may { MayFetch Self.IsUsable Self.parts self.old }
         ensures same { AreSameUnlessFailed (Self.parts self.old) (Self.parts self.new) }
         ensures continues { Self.ContinuesTo self.old self.new }
         ensures cause { Counts (D.disk (view self.old).beneath) (D.disk (view self.new).beneath) result };
@@ -90,9 +88,7 @@ pub trait ObjectStore<D: Device>: PresentFrames + Sized {
     /// It is refused by `CheckpointRunning` exactly where one is on its way, and else by
     /// `MigrationPending` exactly where something saved isn't home, and changes nothing then.
     fn freeze(&mut self) -> Result<u64, Refusal>
-        requires usable { (view self.old).usable }
-        requires keepable { AreKeepable (Self.parts self.old).geometry u64.MAX
-            (frames_of (Self.parts self.old)) }
+        requires may { MayFetch Self.IsUsable Self.parts self.old }
         ensures answer { IsFreezeAnswer (left_in whole (view self.old).snapshots)
             (view self.old).snapshots.saved.entries result }
         ensures unchanged { OnErr result (self.new ≡ self.old) }
@@ -171,9 +167,7 @@ pub trait ObjectStore<D: Device>: PresentFrames + Sized {
     /// device failed; then a crash leaves what was saved or, where nothing else refuses it, that with the
     /// page.
     fn journal(&mut self, number: u64, age: u64) -> Result<u64, Refusal>
-        requires keepable { AreKeepable (Self.parts self.old).geometry u64.MAX
-            (frames_of (Self.parts self.old)) }
-        requires usable { (view self.old).usable }
+        requires may { MayFetch Self.IsUsable Self.parts self.old }
         requires later { (view self.old).snapshots.saved.age < age }
         requires most { age ≤ 2 ^ 62 }
         ensures answer { IsJournalAnswer (D.disk (view self.old).beneath) (D.disk (view self.new).beneath)
@@ -199,6 +193,9 @@ pub trait ObjectStore<D: Device>: PresentFrames + Sized {
     /// Where nothing was written since and no checkpoint is on its way, the device was only read.
     ghost continues_peeks: { (s t : Self) → Self.ContinuesTo s t → touched_count (Self.parts t).touched ≡ 0
         → (view s).snapshots.frozen ≡ None → Peeks (D.disk (view s).beneath) (D.disk (view t).beneath) };
+
+    /// The same of the present objects and of the store over its device.
+    ghost usable_is: { (s : Self) → Self.IsUsable s ↔ (view s).usable };
 
     /// A store that can be used: a crash leaves what is saved.
     ghost sound_holds: { (s : Self) (c : Image) → (view s).usable → (D.disk (view s).beneath).may_leave c

@@ -7,7 +7,7 @@ ghost use Rattle.model.specs.Invoke.{after_gate, can_start};
 ghost use Rattle.model.specs.Keepable.{AreCurrent, AreKeepable};
 ghost use Rattle.model.specs.Text.{Fits};
 ghost use Rattle.model.specs.World.{annex_at, is_process, is_running_process};
-ghost use Rattle.capability.specs.Parts.{AreSound, KeepsRest, frames_of, objects_in, Prepares};
+ghost use Rattle.capability.specs.Parts.{AreSound, KeepsRest, MayFetch, Prepares, frames_of, objects_in};
 ghost use Rattle.std.specs.List.{All};
 ghost use Rattle.space_bank.specs.Banks.{AreCounted};
 ghost use Rattle.gate.specs.Invoke.{entered, gate_capability, received, written_through, IsRequested, IsKernelObject};
@@ -88,8 +88,7 @@ fn announce_gate<F: PresentFrames>(
     receiver: u64,
     annex: u64,
 ) -> Result<(), Refusal>
-    requires keepable { AreKeepable (F.parts store.old).geometry u64.MAX
-        (frames_of (F.parts store.old)) }
+    requires may { MayFetch F.IsUsable F.parts store.old }
     requires process { invocation.now.process < length (F.parts store.old).headers }
     requires receiver { receiver < length (F.parts store.old).headers }
     requires annex { annex < length (F.parts store.old).headers }
@@ -193,6 +192,7 @@ pub fn invoke_gate<F: PresentFrames>(
     caller: Caller,
     gate: Gate,
 ) -> Result<Option<ResultCode>, Refusal>
+    requires usable { F.IsUsable store.old }
     requires sound { AreSound (F.parts store.old) }
     requires running { IsTrue (is_running_process
         (objects_in (F.parts store.old)) invocation.now.process) }

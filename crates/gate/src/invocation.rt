@@ -31,6 +31,7 @@ pub fn invoke<F: PresentFrames>(
     banks: &mut Banks,
     invocation: &Invocation,
 ) -> Result<Option<ResultCode>, Refusal>
+    requires usable { F.IsUsable store.old }
     requires sound { AreSound (F.parts store.old) }
     requires process { IsTrue (is_process
         (objects_in (F.parts store.old)) invocation.now.process) }

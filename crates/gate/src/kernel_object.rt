@@ -2,12 +2,11 @@
 ghost use Rattle.std.specs.Prelude.{◌≡◌, ℕ, ◌<◌, ◌≤◌, ◌^◌, ◌++◌, length, slice_index, IfOk, OnOk, IsErrOf, IsTrue};
 ghost use Rattle.std.specs.List.{All, Contains};
 ghost use Rattle.model.specs.declared.command.Command.TheVariants as command;
-ghost use Rattle.model.specs.Keepable.{AreKeepable};
 ghost use Rattle.model.specs.Order.{IsNoBankOrder};
 ghost use Rattle.model.specs.Text.{Fits};
 ghost use Rattle.model.specs.World.{is_running_process};
 ghost use Rattle.capability.specs.Changes.{written_of};
-ghost use Rattle.capability.specs.Parts.{AreSound, frames_of, objects_in, Prepares};
+ghost use Rattle.capability.specs.Parts.{AreSound, MayFetch, Prepares, objects_in};
 ghost use Rattle.space_bank.specs.Allocating.{numbers_of};
 ghost use Rattle.space_bank.specs.Banks.{AreCounted};
 ghost use Rattle.space_bank.specs.Planning.{writers};
@@ -44,6 +43,7 @@ fn plan_object_order<F: Frames>(
     invocation: &Invocation,
     caller: Caller,
 ) -> Result<OrderPlan, Failed>
+    requires usable { F.IsUsable store.old }
     requires sound { AreSound (F.parts store.old) }
     requires counted { AreCounted (F.parts store.old).geometry
         (objects_in (F.parts store.old)) banks.old }
@@ -74,6 +74,7 @@ fn plan_order<F: Frames>(
     invocation: &Invocation,
     caller: Caller,
 ) -> Result<OrderPlan, Failed>
+    requires usable { F.IsUsable store.old }
     requires sound { AreSound (F.parts store.old) }
     requires running { IsTrue (is_running_process
         (objects_in (F.parts store.old)) invocation.now.process) }
@@ -149,8 +150,7 @@ fn announce_order<F: PresentFrames>(
     caller: Caller,
     change: Change,
 ) -> Result<(), Refusal>
-    requires keepable { AreKeepable (F.parts store.old).geometry u64.MAX
-        (frames_of (F.parts store.old)) }
+    requires may { MayFetch F.IsUsable F.parts store.old }
     requires process { caller.process < length (F.parts store.old).headers }
     requires annex { caller.annex < length (F.parts store.old).headers }
     requires known { All (λ n. n < length (F.parts store.old).headers) listed.now }
@@ -172,6 +172,7 @@ pub fn invoke_order<F: PresentFrames>(
     invocation: &Invocation,
     caller: Caller,
 ) -> Result<Option<ResultCode>, Refusal>
+    requires usable { F.IsUsable store.old }
     requires sound { AreSound (F.parts store.old) }
     requires running { IsTrue (is_running_process
         (objects_in (F.parts store.old)) invocation.now.process) }

@@ -2,11 +2,10 @@
 ghost use Rattle.std.specs.Prelude.{◌≡◌, ℕ, ◌<◌, ◌^◌, false, length, Some, IfOk, OnOk, IsTrue};
 ghost use Rattle.model.specs.Capability.{named};
 ghost use Rattle.model.specs.Invoke.{sent_by};
-ghost use Rattle.model.specs.Keepable.{AreKeepable};
 ghost use Rattle.model.specs.Object.{is_annex};
 ghost use Rattle.model.specs.Sound.{NamesItsKind};
 ghost use Rattle.model.specs.World.{annex_at, content_at, is_process};
-ghost use Rattle.capability.specs.Parts.{frames_of, objects_in};
+ghost use Rattle.capability.specs.Parts.{MayFetch, objects_in};
 ghost use Rattle.space_bank.specs.Banks.{AreCounted};
 ghost use Rattle.gate.specs.Ordering.{AreEnough, ReadsOnlyWords, arguments_of};
 ghost use Rattle.capability.specs.Parts.{FetchesOrFails};
@@ -21,8 +20,7 @@ use space_bank::Banks;
 
 /// Fetches a process and its annex. Returns the annex.
 pub fn fetch_process<F: Frames>(store: &mut F, banks: &Banks, process: u64) -> Result<u64, Failed>
-    requires keepable { AreKeepable (F.parts store.old).geometry u64.MAX
-        (frames_of (F.parts store.old)) }
+    requires may { MayFetch F.IsUsable F.parts store.old }
     requires process { IsTrue (is_process (objects_in (F.parts store.old)) process) }
     requires annex { IsTrue (is_annex
         (content_at (objects_in (F.parts store.old))
@@ -48,8 +46,7 @@ pub fn fetch_named<F: Frames>(
     banks: &Banks,
     capability: Capability,
 ) -> Result<(), Failed>
-    requires keepable { AreKeepable (F.parts store.old).geometry u64.MAX
-        (frames_of (F.parts store.old)) }
+    requires may { MayFetch F.IsUsable F.parts store.old }
     requires counted { AreCounted (F.parts store.old).geometry
         (objects_in (F.parts store.old)) banks.now }
     requires kind { NamesItsKind (objects_in (F.parts store.old)) capability }

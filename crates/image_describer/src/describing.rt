@@ -23,6 +23,7 @@ fn tell_all<F: Frames, E: DescribedEntry>(
     store: &mut F,
     entries: &mut Vec<E>,
 ) -> Result<(), Refusal>
+    requires usable { F.IsUsable store.old }
     requires sound { AreSound (F.parts store.old) }
     requires none { entries.old.items ≡ [] }
     ensures entry_of { let objects = objects_in (F.parts store.old) in
@@ -42,6 +43,7 @@ fn tell_objects<F: Frames>(
     store: &mut F,
     description: &mut Description,
 ) -> Result<(), Refusal>
+    requires usable { F.IsUsable store.old }
     requires sound { AreSound (F.parts store.old) }
     requires none { HasNoObjects description.old }
     ensures entry_of { OnOk result (TellsObjects (objects_in (F.parts store.old)) description.new) }
@@ -67,7 +69,8 @@ pub fn describe<F: Frames>(
     ranges: Vec<NumberRange>,
     version: Version,
 ) -> Result<Description, Refusal>
-    requires { IsSoundFrames (F.parts store.old).geometry age (frames_of (F.parts store.old)) }
+    requires usable { F.IsUsable store.old }
+    requires sound { IsSoundFrames (F.parts store.old).geometry age (frames_of (F.parts store.old)) }
     ensures describes { let parts = F.parts store.old in
         IfOk result (Describes parts.geometry (world_at age (frames_of parts))) }
     ensures ranges { IfOk result (λ d. d.ranges ≡ ranges) }

@@ -27,6 +27,7 @@ fn has_role<F: Frames>(store: &F, number: u64, role: Role) -> bool
 
 // An object, fetched, its stale capabilities void.
 fn object<F: Frames>(alloc: Global, store: &mut F, number: u64) -> Result<Object, Refusal>
+    requires usable { F.IsUsable store.old }
     requires sound { AreSound (F.parts store.old) }
     requires known { number < length (F.parts store.old).headers }
     ensures object { IfOk result (λ object.
@@ -39,6 +40,7 @@ fn object<F: Frames>(alloc: Global, store: &mut F, number: u64) -> Result<Object
 
 // The registers of a process that aren't void, by its annex, which is fetched.
 fn registers<F: Frames>(alloc: Global, store: &mut F, annex: u64) -> Result<Vec<SlotEntry>, Refusal>
+    requires usable { F.IsUsable store.old }
     requires sound { AreSound (F.parts store.old) }
     requires annex { IsTrue (is_annex
         (content_at (objects_in (F.parts store.old)) annex)) }
@@ -68,6 +70,7 @@ pub(crate) trait DescribedEntry: Drop {
         store: &mut F,
         number: u64,
     ) -> Result<Option<Self>, Refusal>
+        requires usable { F.IsUsable store.old }
         requires sound { AreSound (F.parts store.old) }
         requires known { number < length (F.parts store.old).headers }
         ensures entry_of { let objects = objects_in (F.parts store.old) in

@@ -2,8 +2,8 @@
 ghost use Rattle.std.specs.Prelude.{◌≡◌, ◌<◌, length, IfNone, IfOk, IfSome};
 ghost use Rattle.std.specs.List.{All};
 ghost use Rattle.model.specs.Frame.{frame_at};
-ghost use Rattle.model.specs.Keepable.{AreKeepable, caps_in};
-ghost use Rattle.capability.specs.Parts.{OnlyReads, frames_of};
+ghost use Rattle.model.specs.Keepable.{caps_in};
+ghost use Rattle.capability.specs.Parts.{MayFetch, OnlyReads, frames_of};
 ghost use Rattle.capability.specs.Consistency.{IsNamed};
 ghost use Rattle.recovery.specs.Noted.{AreNoted};
 ghost use Rattle.image_explainer.specs.Breaking.{IsMisnamed};
@@ -65,8 +65,7 @@ fn find_at<F: Frames>(
     number: u64,
 ) -> Result<Option<Misnamed>, Refusal>
     requires known { number < length (F.parts store.old).headers }
-    requires keepable { AreKeepable (F.parts store.old).geometry u64.MAX
-        (frames_of (F.parts store.old)) }
+    requires may { MayFetch F.IsUsable F.parts store.old }
     requires notes { AreNoted (frames_of (F.parts store.old)) notes.now }
     ensures found { IfOk result (λ found. IfSome found (IsMisnamed (frames_of (F.parts store.old)))) }
     ensures first { IfOk result (λ found. IfSome found (IsFirstOf (frames_of (F.parts store.old)) number)) }
@@ -84,8 +83,7 @@ pub(crate) fn find_misnamed<F: Frames>(
     store: &mut F,
     notes: &[Option<Noted>],
 ) -> Result<Option<Misnamed>, Refusal>
-    requires keepable { AreKeepable (F.parts store.old).geometry u64.MAX
-        (frames_of (F.parts store.old)) }
+    requires may { MayFetch F.IsUsable F.parts store.old }
     requires notes { AreNoted (frames_of (F.parts store.old)) notes.now }
     ensures found { IfOk result (NamesOr (frames_of (F.parts store.old))) }
     ensures only_reads { OnlyReads F.parts F.ContinuesTo store.old store.new result }

@@ -1,7 +1,6 @@
 // What is wrong with the objects that an image saves: reasons 8 to 10.
 ghost use Rattle.std.specs.Prelude.{IfOk};
-ghost use Rattle.model.specs.Keepable.{AreKeepable};
-ghost use Rattle.capability.specs.Parts.{OnlyReads, frames_of};
+ghost use Rattle.capability.specs.Parts.{MayFetch, OnlyReads, frames_of};
 ghost use Rattle.image_explainer.specs.Finding.{IsConsistentOr};
 
 use crate::capabilities::find_misnamed;
@@ -18,7 +17,7 @@ pub(crate) fn find_in_objects<F: Frames>(
     alloc: Global,
     store: &mut F,
 ) -> Result<Option<ImageFault>, Refusal>
-    requires { AreKeepable (F.parts store.old).geometry u64.MAX (frames_of (F.parts store.old)) }
+    requires may { MayFetch F.IsUsable F.parts store.old }
     ensures found { IfOk result (IsConsistentOr (frames_of (F.parts store.old))) }
     ensures only_reads { OnlyReads F.parts F.ContinuesTo store.old store.new result }
 {

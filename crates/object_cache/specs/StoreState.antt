@@ -71,8 +71,12 @@ module _ {D : Type 0} (disk : D → Disk) where
     to_move = (stored_of disk s.durable).to_move;
   }
 
+  -- it can be used if a crash leaves what is saved
+  abbrev pub IsUsableIn : StoreState D → Type 0
+  IsUsableIn s = is_sound disk s.durable
+
   abbrev pub view_of : StoreState D → View D
-  view_of s = record { beneath = s.durable.beneath; snapshots = snapshots_of s; usable = is_sound disk s.durable }
+  view_of s = record { beneath = s.durable.beneath; snapshots = snapshots_of s; usable = IsUsableIn s }
 
   -- only present objects change: the saved and frozen frames stay, and the device was only read if nothing is touched
   -- and nothing frozen

@@ -1,5 +1,5 @@
 // What is saved on a device, as the commands read it.
-ghost use Rattle.std.specs.Prelude.{◌≡◌, IfErr, IfOk};
+ghost use Rattle.std.specs.Prelude.{◌≡◌, IfErr, IfOk, OnOk};
 ghost use Rattle.model.specs.Frame.{objects_of};
 ghost use Rattle.model.specs.Keepable.{IsSoundFrames};
 ghost use Rattle.layout.specs.Image.{SavedState};
@@ -29,10 +29,12 @@ pub trait SavedPart: Drop + Sized {
 
     /// Reads it from a store that has what its device saves. Fails only if memory runs out: it makes no device call.
     fn read<D: Device, S: WholeStore<D>>(alloc: Global, store: &mut S) -> Result<Self, AllocError>
+        requires usable { S.IsUsable store.old }
         requires saved { frames_of (S.parts store.old) ≡ (saved_by D.disk (S.durable store.old)).frames }
         requires sound { let s = saved_by D.disk (S.durable store.old) in
             IsSoundFrames s.plan.geometry s.header.age s.frames }
         ensures part { IfOk result (λ part. is_part (saved_by D.disk (S.durable store.old)) part) }
+        ensures usable { OnOk result (S.IsUsable store.new) }
         ensures same { S.durable store.new ≡ S.durable store.old }
         ensures frames { frames_of (S.parts store.new) ≡ frames_of (S.parts store.old) };
 }

@@ -9,6 +9,7 @@ use std::alloc::Global;
 
 // An object, fetched, its stale capabilities void.
 fn object<F: Frames>(alloc: Global, store: &mut F, number: u64) -> Result<Object, Refusal>
+    requires usable { F.IsUsable store.old }
     requires sound { AreSound (F.parts store.old) }
     requires known { number < length (F.parts store.old).headers }
     ensures object { IfOk result (λ object. object ≡ object_at (objects_in (F.parts store.old)) number) }
@@ -22,7 +23,8 @@ fn object<F: Frames>(alloc: Global, store: &mut F, number: u64) -> Result<Object
 ///
 /// `NoMemory` if memory runs out, and `Fault` exactly if the device fails.
 pub fn read_objects<F: Frames>(alloc: Global, store: &mut F) -> Result<Vec<Object>, Refusal>
-    requires { AreSound (F.parts store.old) }
+    requires usable { F.IsUsable store.old }
+    requires sound { AreSound (F.parts store.old) }
     ensures objects { IfOk result (λ objects. objects.items ≡ objects_in (F.parts store.old)) }
     ensures only_reads { OnlyReads F.parts F.ContinuesTo store.old store.new result }
 {

@@ -52,3 +52,14 @@ named_more fs held i e inside before here k d next = elim (cases_lt k i) [
   | inl earlier ↦ before k d earlier
   | inr later ↦ grind (arith, nat_tests, get_or_default)
 ]
+
+-- one more object
+pub named_next : (fs : List Frame) (n : ℕ) → ((m : ℕ) → m < n → All (IsNamed fs) (caps_in (frame_at fs m).content)) →
+    All (IsNamed fs) (caps_in (frame_at fs n).content) → (m : ℕ) → m < n + 1 → All (IsNamed fs) (caps_in (frame_at fs m).content)
+named_next fs n before here m next = elim (cases_lt m n) [
+  | inl earlier ↦ before m earlier
+  | inr later ↦ (
+      let is : n ≡ m = omega (arith, later, next) in
+      subst (λ (k : ℕ). All (IsNamed fs) (caps_in (frame_at fs k).content)) is here
+      )
+]

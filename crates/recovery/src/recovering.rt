@@ -17,6 +17,7 @@ use std::alloc::Global;
 
 // Checks that the frames of a store stand for a sound world at an age, and counts its banks.
 fn examine<F: Frames>(alloc: Global, store: &mut F, age: u64) -> Result<Banks, OpenFault>
+    requires usable { F.IsUsable store.old }
     requires keepable { AreKeepable (F.parts store.old).geometry age
         (frames_of (F.parts store.old)) }
     requires most { age ≤ 2 ^ 62 }

@@ -3,11 +3,10 @@ ghost use Rattle.std.specs.Prelude.{◌≡◌, ◌↔◌, ℕ, ◌+◌, ◌<◌,
 ghost use Rattle.std.specs.Prelude.{IsTrue};
 ghost use Rattle.std.specs.List.{range_with_len};
 ghost use Rattle.model.specs.Bank.{usage as usage_of};
-ghost use Rattle.model.specs.Keepable.{AreKeepable};
 ghost use Rattle.model.specs.Object.{is_bank as counts_as_bank, limit_in};
 ghost use Rattle.model.specs.World.{content_at};
 ghost use Rattle.model_laws.proofs.BankTree.{IsTree};
-ghost use Rattle.capability.specs.Parts.{AreSound, FetchesOrFails, HaveTheirRoles, OnlyReads, frames_of, objects_in};
+ghost use Rattle.capability.specs.Parts.{AreSound, FetchesOrFails, HaveTheirRoles, MayFetch, OnlyReads, frames_of, objects_in};
 ghost use Rattle.space_bank.specs.Banks.{AreCounted};
 ghost use Rattle.space_bank.specs.Counting.{AreKept, AreMarked, kept_number};
 
@@ -47,8 +46,7 @@ fn number_there<F: Frames>(store: &F, number: u64, role: Role) -> u64
 // The number that is kept of an object with a role, which is fetched for it; 0 in another role.
 fn read_number<F: Frames>(store: &mut F, number: u64, role: Role) -> Result<u64, Failed>
     requires known { number < length (F.parts store.old).headers }
-    requires keepable { AreKeepable (F.parts store.old).geometry u64.MAX
-        (frames_of (F.parts store.old)) }
+    requires may { MayFetch F.IsUsable F.parts store.old }
     ensures kept { IfOk result (λ kept. kept
         ≡ kept_number role (content_at (objects_in (F.parts store.old)) number)) }
     ensures fetches { FetchesOrFails F.parts F.ContinuesTo store.old store.new result }
@@ -72,8 +70,7 @@ pub fn read_numbers<F: Frames>(
     role: Role,
 ) -> Result<Vec<u64>, Refusal>
     requires known { count ≤ length (F.parts store.old).headers }
-    requires keepable { AreKeepable (F.parts store.old).geometry u64.MAX
-        (frames_of (F.parts store.old)) }
+    requires may { MayFetch F.IsUsable F.parts store.old }
     ensures kept { let objects = objects_in (F.parts store.old) in
         IfOk result (λ kept. kept.items
         ≡ map (λ n. kept_number role (content_at objects n)) (range_with_len 0 count)) }
@@ -92,8 +89,7 @@ pub fn read_numbers<F: Frames>(
 /// `NoMemory` if memory ran out, and `Fault` exactly if the device failed. No object changes.
 pub fn read_limits<F: Frames>(alloc: Global, store: &mut F, count: u64) -> Result<Vec<u64>, Refusal>
     requires known { count ≤ length (F.parts store.old).headers }
-    requires keepable { AreKeepable (F.parts store.old).geometry u64.MAX
-        (frames_of (F.parts store.old)) }
+    requires may { MayFetch F.IsUsable F.parts store.old }
     ensures limits { let objects = objects_in (F.parts store.old) in
         IfOk result (λ limits. limits.items
         ≡ map (λ n. limit_in (content_at objects n)) (range_with_len 0 count)) }
@@ -167,6 +163,7 @@ impl Banks {
     /// Takes all the memory that any order will need; no other call takes any. `NoMemory` if memory
     /// ran out, and `Fault` exactly if the device failed. No object changes.
     pub fn count<F: Frames>(alloc: Global, store: &mut F) -> Result<Banks, Refusal>
+        requires usable { F.IsUsable store.old }
         requires sound { AreSound (F.parts store.old) }
         ensures counted { IfOk result (AreCounted (F.parts store.old).geometry
             (objects_in (F.parts store.old))) }

@@ -12,6 +12,7 @@ use model::Refusal;
 /// store untouched. Fails exactly if the device fails.
 #[tactic(auto, using(gate::proofs::Standing::keepable_most))]
 pub fn early<F: Frames>(store: &mut F, process: u64) -> Result<Option<Refusal>, Failed>
+    requires usable { F.IsUsable store.old }
     requires sound { (age : ℕ) × IsSoundFrames (F.parts store.old).geometry age (frames_of (F.parts store.old)) }
     ensures why { IfOk result (λ why. IsEarly (objects_in (F.parts store.old)) process why) }
     ensures untouched { IfOk result (λ why. IfSome why (λ reported. NeedsNoDeviceCall reported

@@ -17,6 +17,7 @@ use space_bank::Banks;
 // Refuses an invocation at the greatest age: by `Worn`, if the process runs.
 #[inline(never)]
 fn refuse_worn<F: Frames>(store: &mut F, invocation: &Invocation) -> Refusal
+    requires usable { F.IsUsable store.old }
     requires sound { (age : ℕ) × IsSoundFrames (F.parts store.old).geometry age (frames_of (F.parts store.old)) }
     ensures serves { (age : ℕ) → IsSoundFrames (F.parts store.old).geometry age (frames_of (F.parts store.old))
         → 2 ^ 62 ≤ age
@@ -47,6 +48,7 @@ pub fn invoke<F: PresentFrames>(
     age: &mut u64,
     invocation: &Invocation,
 ) -> Result<Option<ResultCode>, Refusal>
+    requires usable { F.IsUsable store.old }
     requires sound { IsSoundFrames (F.parts store.old).geometry age.old
         (frames_of (F.parts store.old)) }
     requires counted { AreCounted (F.parts store.old).geometry

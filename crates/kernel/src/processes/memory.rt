@@ -16,7 +16,8 @@ use model::{Answer, Refusal};
 /// applies of `NoProcess` and `NotRunning`, and nothing is changed; at `NoProcess` the store isn't
 /// touched. `Fault` exactly if the device failed; nothing is said of the objects then.
 pub fn load<F: Frames>(store: &mut F, process: u64, address: u64) -> Result<Answer, Refusal>
-    requires { (age : ℕ) × IsSoundFrames (F.parts store.old).geometry age (frames_of (F.parts store.old)) }
+    requires usable { F.IsUsable store.old }
+    requires sound { (age : ℕ) × IsSoundFrames (F.parts store.old).geometry age (frames_of (F.parts store.old)) }
     ensures serves { (age : ℕ) → IsSoundFrames (F.parts store.old).geometry age (frames_of (F.parts store.old))
         → Performs age (F.parts store.old) (command.Load process address) (answer_of result) age (F.parts store.new) }
     ensures untouched { MakesNoDeviceCall (answer_of result) → store.new ≡ store.old }
@@ -44,7 +45,8 @@ pub fn store<F: PresentFrames>(
     address: u64,
     word: u64,
 ) -> Result<Answer, Refusal>
-    requires { (age : ℕ) × IsSoundFrames (F.parts store.old).geometry age (frames_of (F.parts store.old)) }
+    requires usable { F.IsUsable store.old }
+    requires sound { (age : ℕ) × IsSoundFrames (F.parts store.old).geometry age (frames_of (F.parts store.old)) }
     ensures serves { (age : ℕ) → IsSoundFrames (F.parts store.old).geometry age (frames_of (F.parts store.old))
         → Performs age (F.parts store.old) (command.Store process address word) (answer_of result) age
         (F.parts store.new) }

@@ -1,11 +1,11 @@
 // The step of showing an object.
 ghost use Rattle.std.specs.Prelude.{ℕ, ◌≡◌, ◌≢◌, ◌<◌, IfOk, IsTrue, length, if◌then◌else◌, slice_index};
 ghost use Rattle.model.specs.declared.command.Command.TheVariants as command;
-ghost use Rattle.model.specs.Keepable.{AreKeepable, IsSoundFrames};
+ghost use Rattle.model.specs.Keepable.{IsSoundFrames};
 ghost use Rattle.model.specs.Step.{shown};
 ghost use Rattle.model.specs.Object.{is_annex, is_bank, slots_in};
 ghost use Rattle.model.specs.World.{content_at};
-ghost use Rattle.capability.specs.Parts.{OnlyReads, OnlyFetches, frames_of, objects_in};
+ghost use Rattle.capability.specs.Parts.{MayFetch, OnlyFetches, OnlyReads, frames_of, objects_in};
 ghost use Rattle.space_bank.specs.Banks.{AreCounted};
 ghost use Rattle.kernel.specs.Machine.{MakesNoDeviceCall, Performs, answer_of};
 
@@ -30,8 +30,7 @@ fn registers_of<F: Frames>(
     store: &mut F,
     annex: u64,
 ) -> Result<Slots<Capability>, Refusal>
-    requires keepable { AreKeepable (F.parts store.old).geometry u64.MAX
-        (frames_of (F.parts store.old)) }
+    requires may { MayFetch F.IsUsable F.parts store.old }
     requires annex { IsTrue (is_annex
         (content_at (objects_in (F.parts store.old)) annex)) }
     ensures registers { IfOk result
@@ -50,6 +49,7 @@ fn shown<F: Frames>(
     banks: &Banks,
     number: u64,
 ) -> Result<Answer, Refusal>
+    requires usable { F.IsUsable store.old }
     requires sound { (age : ℕ) × IsSoundFrames (F.parts store.old).geometry age (frames_of (F.parts store.old)) }
     requires counted { AreCounted (F.parts store.old).geometry
         (objects_in (F.parts store.old)) banks.now }
@@ -83,6 +83,7 @@ pub fn show<F: Frames>(
     banks: &Banks,
     number: u64,
 ) -> Result<Answer, Refusal>
+    requires usable { F.IsUsable store.old }
     requires sound { (age : ℕ) × IsSoundFrames (F.parts store.old).geometry age (frames_of (F.parts store.old)) }
     requires counted { AreCounted (F.parts store.old).geometry
         (objects_in (F.parts store.old)) banks.now }

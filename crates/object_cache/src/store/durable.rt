@@ -1,14 +1,13 @@
 // A store of objects over a device: opening it, and the stages of a checkpoint.
 ghost use Rattle.std.specs.Prelude.{◌≡◌, ◌<◌, ℕ, true, false, length, replicate, IfOk, IfErr, OnOk};
-ghost use Rattle.capability.specs.Parts.{AreSameUnlessFailed, frames_of};
+ghost use Rattle.capability.specs.Parts.{AreSameUnlessFailed, MayFetch};
 ghost use Rattle.checkpoint.specs.Opened.{Refuses};
-ghost use Rattle.checkpoint.specs.Saved.{most};
 ghost use Rattle.device.specs.Calls.{Counts};
 ghost use Rattle.model.specs.Frame.{header_at};
-ghost use Rattle.model.specs.Keepable.{AreKeepable};
 ghost use Rattle.checkpoint.specs.Store.{OpensStore};
 ghost use Rattle.object_cache.specs.Memory.{mark_at};
-ghost use Rattle.object_cache.specs.StoreState.{ContinuesIn, on_device, parts_of, cached_at, view_of, without_cached};
+ghost use Rattle.object_cache.specs.StoreState.{ContinuesIn, IsUsableIn, on_device, parts_of, cached_at, view_of};
+ghost use Rattle.object_cache.specs.StoreState.{without_cached};
 
 use crate::headers::FrozenHeaders;
 use crate::policy::Policy;
@@ -112,8 +111,7 @@ impl<D: Device, P: Policy> ObjectStore<D> for Store<D, P> {
     /// if it has no entry. Fails exactly if the device fails.
     fn evict(&mut self, number: u64) -> Result<(), Failed>
         requires known { number < length self.old.headers }
-        requires keepable { AreKeepable (parts_of D.disk self.old).geometry most
-            (frames_of (parts_of D.disk self.old)) }
+        requires may { MayFetch (IsUsableIn D.disk) (parts_of D.disk) self.old }
         ensures gone { OnOk result (P.KEEPS_ALL ≡ false → cached_at self.new.cached number ≡ false) }
         ensures away { OnOk result (P.KEEPS_ALL ≡ false → cached_at self.old.cached number ≡ true
             → self.new ≡ without_cached number (on_device self.old self.new)) }
@@ -193,6 +191,8 @@ impl<D: Device, P: Policy> ObjectStore<D> for Store<D, P> {
     ghost continues = { λ s t h. continues_by D.disk s t h.goes_on };
 
     ghost continues_peeks = { λ s t h none idle. h.goes_on.only_reads none idle };
+
+    ghost usable_is = { λ s. (λ usable. usable, λ usable. usable) };
 
     ghost sound_holds = { λ s c sound left. holds_by D.disk s c sound left };
 

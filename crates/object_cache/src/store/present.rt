@@ -2,11 +2,10 @@
 ghost use Rattle.std.specs.Prelude.{◌≡◌, ◌↔◌, ◌<◌, ◌≤◌, ℕ, true, false, length, take, OnOk, IsErr};
 ghost use Rattle.std.specs.List.{All, Contains};
 ghost use Rattle.cache_entries.specs.Order.{used_in_turn};
-ghost use Rattle.capability.specs.Parts.{OnlyFetches, Prepares, frames_of, fresh_content};
+ghost use Rattle.capability.specs.Parts.{MayFetch, OnlyFetches, Prepares, fresh_content};
 ghost use Rattle.model.specs.Frame.{void_held};
-ghost use Rattle.model.specs.Keepable.{AreKeepable};
 ghost use Rattle.model.specs.Object.{role_of};
-ghost use Rattle.object_cache.specs.StoreState.{ContinuesIn, IsAnnouncedIn, IsFetchedIn, parts_of};
+ghost use Rattle.object_cache.specs.StoreState.{ContinuesIn, IsAnnouncedIn, IsFetchedIn, IsUsableIn, parts_of};
 
 use crate::policy::Policy;
 use crate::store::Store;
@@ -30,6 +29,8 @@ fn role_of(fresh: Fresh) -> Role
 impl<D: Device, P: Policy> Frames for Store<D, P> {
     ghost parts = { parts_of D.disk };
 
+    ghost IsUsable = { IsUsableIn D.disk };
+
     ghost IsFetched = { IsFetchedIn };
 
     ghost ContinuesTo = { ContinuesIn P.KEEPS_ALL D.disk };
@@ -47,8 +48,7 @@ impl<D: Device, P: Policy> Frames for Store<D, P> {
     fn fetch(&mut self, numbers: &[u64]) -> Result<(), Failed>
         requires few { length numbers.now ≤ MAX_FETCHED }
         requires known { All (λ n. n < length (parts_of D.disk self.old).headers) numbers.now }
-        requires keepable { AreKeepable (parts_of D.disk self.old).geometry u64.MAX
-            (frames_of (parts_of D.disk self.old)) }
+        requires may { MayFetch (IsUsableIn D.disk) (parts_of D.disk) self.old }
         ensures fetched { OnOk result ((n : ℕ) → Contains numbers.now n → IsFetchedIn self.new n) }
         ensures order { P.KEEPS_ALL ≡ false → OnOk result (self.new.order
             ≡ take self.old.capacity (used_in_turn numbers.now self.old.order)) }
@@ -80,6 +80,8 @@ impl<D: Device, P: Policy> Frames for Store<D, P> {
 
     ghost known_fetched = { λ s n there. (there.header, there.content) };
 
+    ghost stays_usable = { λ s t went stayed. went.goes_on.goes_on.sound };
+
     ghost continues_same = { λ s. continues_same D.disk P.KEEPS_ALL D.only_now s };
 
     ghost continues_twice = { λ s t u first second.
@@ -96,8 +98,7 @@ impl<D: Device, P: Policy> PresentFrames for Store<D, P> {
         requires few { length fetched.now ≤ MAX_FETCHED }
         requires known { All (λ n. n < length (parts_of D.disk self.old).headers) fetched.now }
         requires announced { All (λ n. n < length (parts_of D.disk self.old).headers) written.now }
-        requires keepable { AreKeepable (parts_of D.disk self.old).geometry u64.MAX
-            (frames_of (parts_of D.disk self.old)) }
+        requires may { MayFetch (IsUsableIn D.disk) (parts_of D.disk) self.old }
         ensures fetched { OnOk result ((n : ℕ) → Contains fetched.now n → IsFetchedIn self.new n) }
         ensures announced { OnOk result ((n : ℕ) → Contains written.now n → IsAnnouncedIn self.new n) }
         ensures order { P.KEEPS_ALL ≡ false → OnOk result (self.new.order

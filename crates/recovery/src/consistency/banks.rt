@@ -3,8 +3,7 @@ ghost use Rattle.std.specs.Prelude.{◌≡◌, ◌≢◌, ◌↔◌, ℕ, ◌<�
 ghost use Rattle.std.specs.List.{Contains};
 ghost use Rattle.model.specs.Bank.{chain};
 ghost use Rattle.model.specs.Frame.{objects_of};
-ghost use Rattle.model.specs.Keepable.{AreKeepable};
-ghost use Rattle.capability.specs.Parts.{OnlyReads, frames_of};
+ghost use Rattle.capability.specs.Parts.{MayFetch, OnlyReads, frames_of};
 ghost use Rattle.capability.specs.Consistency.{AreBanked, AreOwned, owner_of};
 ghost use Rattle.recovery.specs.Consistency.{IsAboveLimit, IsUnbanked};
 ghost use Rattle.capability.specs.Consistency.{role_at};
@@ -88,7 +87,7 @@ fn find_above_limit<F: Frames>(store: &F, usages: &[u64], limits: &[u64]) -> Opt
 ///
 /// `NoMemory` if memory ran out, and `Fault` exactly if the device failed. No object changes.
 pub fn find_unbanked<F: Frames>(alloc: Global, store: &mut F) -> Result<Option<Unbanked>, Refusal>
-    requires { AreKeepable (F.parts store.old).geometry u64.MAX (frames_of (F.parts store.old)) }
+    requires may { MayFetch F.IsUsable F.parts store.old }
     ensures found { let frames = frames_of (F.parts store.old) in IfOk result (λ found.
         MatchOption found (AreBanked frames) (λ why. IsUnbanked frames why)) }
     ensures only_reads { OnlyReads F.parts F.ContinuesTo store.old store.new result }

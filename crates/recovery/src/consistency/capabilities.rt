@@ -3,8 +3,8 @@ ghost use Rattle.std.specs.Prelude.{◌≡◌, ◌↔◌, ◌<◌, Some, false, 
 ghost use Rattle.std.specs.List.{All};
 ghost use Rattle.model.specs.Capability.{named};
 ghost use Rattle.model.specs.Frame.{frame_at};
-ghost use Rattle.model.specs.Keepable.{AreKeepable, caps_in};
-ghost use Rattle.capability.specs.Parts.{HaveTheirRoles, OnlyReads, frames_of};
+ghost use Rattle.model.specs.Keepable.{caps_in};
+ghost use Rattle.capability.specs.Parts.{HaveTheirRoles, MayFetch, OnlyReads, frames_of};
 ghost use Rattle.capability.specs.Consistency.{AreNamed, IsNamed, NamesItsRole};
 ghost use Rattle.recovery.specs.Noted.{AreNoted};
 ghost use Rattle.recovery.specs.Roles.{role_for};
@@ -128,8 +128,7 @@ fn has_named<F: Frames>(
     number: u64,
 ) -> Result<bool, Refusal>
     requires known { number < length (F.parts store.old).headers }
-    requires keepable { AreKeepable (F.parts store.old).geometry u64.MAX
-        (frames_of (F.parts store.old)) }
+    requires may { MayFetch F.IsUsable F.parts store.old }
     requires notes { AreNoted (frames_of (F.parts store.old)) notes.now }
     ensures named { let frames = frames_of (F.parts store.old) in IfOk result (λ named.
         IsTrue named ↔ All (IsNamed frames) (caps_in (frame_at frames number).content)) }
@@ -145,8 +144,7 @@ fn has_named<F: Frames>(
 /// Whether each capability that an object holds has no greater count than the object that it names,
 /// and where the counts are the same names what it is for. Objects are fetched one at a time.
 pub(crate) fn are_named<F: Frames>(store: &mut F, notes: &[Option<Noted>]) -> Result<bool, Refusal>
-    requires keepable { AreKeepable (F.parts store.old).geometry u64.MAX
-        (frames_of (F.parts store.old)) }
+    requires may { MayFetch F.IsUsable F.parts store.old }
     requires notes { AreNoted (frames_of (F.parts store.old)) notes.now }
     ensures named { IfOk result (λ named. IsTrue named ↔ AreNamed (frames_of (F.parts store.old))) }
     ensures only_reads { OnlyReads F.parts F.ContinuesTo store.old store.new result }

@@ -1,7 +1,7 @@
 // The check of all frames.
 ghost use Rattle.std.specs.Prelude.{◌≡◌, ◌↔◌, ◌<◌, ◌≤◌, ◌^◌, IfOk, OnOk, IsErrOf};
 ghost use Rattle.model.specs.Keepable.{AreKeepable, IsSoundFrames};
-ghost use Rattle.capability.specs.Parts.{OnlyReads, OnlyFetches, frames_of};
+ghost use Rattle.capability.specs.Parts.{MayFetch, OnlyFetches, OnlyReads, frames_of};
 ghost use Rattle.recovery.specs.Consistency.{IsInconsistent, Tells};
 
 use crate::consistency::banks::find_unbanked;
@@ -15,7 +15,7 @@ use std::alloc::Global;
 
 // The least reason why frames that can be kept are inconsistent, if there is one.
 fn reason<F: Frames>(alloc: Global, store: &mut F) -> Result<Option<BadImage>, Refusal>
-    requires { AreKeepable (F.parts store.old).geometry u64.MAX (frames_of (F.parts store.old)) }
+    requires may { MayFetch F.IsUsable F.parts store.old }
     ensures tells { IfOk result (λ why. Tells (frames_of (F.parts store.old)) why) }
     ensures only_reads { OnlyReads F.parts F.ContinuesTo store.old store.new result }
 {
@@ -42,6 +42,7 @@ fn reason<F: Frames>(alloc: Global, store: &mut F) -> Result<Option<BadImage>, R
 /// first, then the processes, then the banks. `NoMemory` if memory ran out, and `Failed` exactly if
 /// the device failed.
 pub fn check<F: Frames>(alloc: Global, store: &mut F, age: u64) -> Result<(), OpenFault>
+    requires usable { F.IsUsable store.old }
     requires keepable { AreKeepable (F.parts store.old).geometry age
         (frames_of (F.parts store.old)) }
     requires most { age ≤ 2 ^ 62 }

@@ -1,9 +1,8 @@
 // Whether each process is a root and its annex.
 ghost use Rattle.std.specs.Prelude.{◌≡◌, ◌↔◌, ℕ, ◌<◌, true, false, length, IfOk, IsTrue};
 ghost use Rattle.model.specs.Frame.{frame_at};
-ghost use Rattle.model.specs.Keepable.{AreKeepable};
 ghost use Rattle.model.specs.Object.{is_waiting as state_waits};
-ghost use Rattle.capability.specs.Parts.{OnlyReads, frames_of};
+ghost use Rattle.capability.specs.Parts.{MayFetch, OnlyReads, frames_of};
 ghost use Rattle.capability.specs.Consistency.{AreWholeProcesses, IsAnnexFor, role_at};
 ghost use Rattle.recovery.specs.Noted.{AreNoted, AreTaken, is_taken, noted_in, waits_at, IsTaking};
 
@@ -46,8 +45,7 @@ fn note_there<F: Frames>(store: &F, number: u64) -> Option<Noted>
 // What is noted of an object. A root is fetched for it.
 fn read_note<F: Frames>(store: &mut F, number: u64) -> Result<Option<Noted>, Refusal>
     requires known { number < length (F.parts store.old).headers }
-    requires keepable { AreKeepable (F.parts store.old).geometry u64.MAX
-        (frames_of (F.parts store.old)) }
+    requires may { MayFetch F.IsUsable F.parts store.old }
     ensures note { IfOk result (λ note.
         note ≡ noted_in (frame_at (frames_of (F.parts store.old)) number).content) }
     ensures only_reads { OnlyReads F.parts F.ContinuesTo store.old store.new result }
@@ -62,7 +60,7 @@ fn read_note<F: Frames>(store: &mut F, number: u64) -> Result<Option<Noted>, Ref
 /// Notes of all objects by number, nothing of what is no root. Each root is fetched, one at a time.
 #[tactic(auto, using(capability::proofs::FrameLists::length_in, crate::proofs::Notes::noted_whole))]
 pub fn read_notes<F: Frames>(alloc: Global, store: &mut F) -> Result<Vec<Option<Noted>>, Refusal>
-    requires { AreKeepable (F.parts store.old).geometry u64.MAX (frames_of (F.parts store.old)) }
+    requires may { MayFetch F.IsUsable F.parts store.old }
     ensures notes { IfOk result (λ notes.
         AreNoted (frames_of (F.parts store.old)) notes.items) }
     ensures only_reads { OnlyReads F.parts F.ContinuesTo store.old store.new result }

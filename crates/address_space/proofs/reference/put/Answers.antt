@@ -4,8 +4,8 @@ use Rattle.capability.specs.Parts.{touched_too}
 use Rattle.address_space.proofs.Known.{sound_keepable, word_stays_sound, word_written}
 use Rattle.address_space.proofs.reference.put.Goals as goal
 
-pub prepare-requires-clause-keepable : goal.prepare-requires-clause-keepable
-prepare-requires-clause-keepable g c = search (rules, sound_keepable)
+pub prepare-requires-clause-may : goal.prepare-requires-clause-may
+prepare-requires-clause-may g c = record { usable = c.requires.usable; keepable = search (rules, sound_keepable) }
 
 pub returns-clause-writes : goal.returns-clause-writes
 returns-clause-writes g c =

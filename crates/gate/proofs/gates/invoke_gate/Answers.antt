@@ -6,8 +6,11 @@ use Rattle.gate.proofs.Standing.{announced_same, running_process, gate_no_bank, 
 use Rattle.gate.proofs.Standing.{keepable_most, now_sound}
 use Rattle.gate.proofs.gates.invoke_gate.Goals as goal
 
-pub fetch_process-requires-clause-keepable : goal.fetch_process-requires-clause-keepable
-fetch_process-requires-clause-keepable g c = keepable_most (g.F.Frames.parts c.args.store.now) c.requires.sound
+pub fetch_process-requires-clause-may : goal.fetch_process-requires-clause-may
+fetch_process-requires-clause-may g c = record {
+  usable = c.requires.usable;
+  keepable = keepable_most (g.F.Frames.parts c.args.store.now) c.requires.sound;
+}
 
 pub fetch_process-requires-clause-process : goal.fetch_process-requires-clause-process
 fetch_process-requires-clause-process g c =
@@ -32,7 +35,11 @@ announce_gate-requires g c =
     let i = c.args.invocation.now in
     let there : (n : ℕ) → n < length old.headers → n < length now.headers = λ n known. subst (λ (p : Parts). n < length p.headers) same known in
     record {
-      keepable = keepable_most now (subst AreSound same c.requires.sound);
+      may = record {
+        usable = g.met.F.Frames.stays_usable c.args.store.now c.fetch_process.new.store c.in_ok-annex.ensures.fetches.snapshots.continues
+            (ap (λ (p : Parts). p.failures) (sym same)) c.requires.usable;
+        keepable = keepable_most now (subst AreSound same c.requires.sound);
+      };
       process = there i.process (process_known old i.process (running_process (objects_in old) i.process c.requires.running));
       receiver = there c.args.gate.process (process_known old c.args.gate.process process);
       annex = there c.in_ok-annex.annex

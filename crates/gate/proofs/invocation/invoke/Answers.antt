@@ -4,8 +4,11 @@ use Rattle.gate.proofs.Effects.{invoked_looked}
 use Rattle.gate.proofs.Standing.{gate_no_bank, keepable_most, requested_by}
 use Rattle.gate.proofs.invocation.invoke.Goals as goal
 
-pub fetch_process-requires-clause-keepable : goal.fetch_process-requires-clause-keepable
-fetch_process-requires-clause-keepable g c = keepable_most (g.F.Frames.parts c.args.store.now) c.requires.sound
+pub fetch_process-requires-clause-may : goal.fetch_process-requires-clause-may
+fetch_process-requires-clause-may g c = record {
+  usable = c.requires.usable;
+  keepable = keepable_most (g.F.Frames.parts c.args.store.now) c.requires.sound;
+}
 
 pub returns-in-Some-clause-counted : goal.returns-in-Some-clause-counted
 returns-in-Some-clause-counted g c = search (rules, counted_after, gate_no_bank)

@@ -22,7 +22,11 @@ announce_order-requires g c =
     (requested_annex old c.requires.sound i.process caller.annex (running_process os i.process c.requires.running) c.requires.requested.annex) in
     let inside : (n : ℕ) → n < length os → n < length now.headers = λ n within. known n (inside_known old n within) in
     record {
-      keepable = keepable_most now (subst AreSound same c.requires.sound);
+      may = record {
+        usable = g.met.F.Frames.stays_usable c.args.store.now c.plan_order.new.store c.in_ok-plan.ensures.fetches.snapshots.continues
+            (ap (λ (p : Parts). p.failures) (sym same)) c.requires.usable;
+        keepable = keepable_most now (subst AreSound same c.requires.sound);
+      };
       process = there;
       annex = annex;
       known = subst (λ (ns : List ℕ). All (λ n. n < length now.headers) ns) (sym c.listed.ensures)

@@ -23,7 +23,7 @@ fetch_named-requires g c =
     let i = c.args.invocation.now in
     let kind = register_kind p c.requires.sound i.process i.register c.args.caller.invoked c.requires.requested.invoked in
     record {
-      keepable = keepable_most p c.requires.sound;
+      may = record { usable = c.requires.usable; keepable = keepable_most p c.requires.sound };
       counted = c.requires.counted;
       kind = kind;
       annex = λ q is. annex_there p c.requires.sound q (process_there (objects_in p) c.args.caller.invoked kind q is);

@@ -8,10 +8,13 @@ pub returns-then-is_worn-clause-serves : goal.returns-then-is_worn-clause-serves
 returns-then-is_worn-clause-serves g c =
     too_old _ _ _ g.met.D.Device.only_now g.met.S.ObjectStore.sound_holds c.args.live.now c.args.number (c.is_worn.ensures.worn c.if-is_worn.true)
 
-pub journal-requires-clause-keepable : goal.journal-requires-clause-keepable
-journal-requires-clause-keepable g c =
+pub journal-requires-clause-may : goal.journal-requires-clause-may
+journal-requires-clause-may g c =
     let up = c.requires in
-    keepable_most up.0 (g.S.Frames.parts c.args.live.now.store) c.args.live.now.age up.1.sound.geometry up.1.sound.now
+    record {
+      usable = (g.met.S.ObjectStore.usable_is c.args.live.now.store).1 up.1.store;
+      keepable = keepable_most up.0 (g.S.Frames.parts c.args.live.now.store) c.args.live.now.age up.1.sound.geometry up.1.sound.now;
+    }
 
 pub returns-clause-serves : goal.returns-clause-serves
 returns-clause-serves g c =

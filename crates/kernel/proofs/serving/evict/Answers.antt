@@ -9,10 +9,13 @@ returns-then-number-count-clause-serves g c =
     bad_number _ _ _ g.met.D.Device.only_now g.met.S.ObjectStore.sound_holds c.args.live.now c.args.number
     (omega (arith, c.if-number-count.true, c.count.ensures, ap length c.table.ensures))
 
-pub evict-requires-clause-keepable : goal.evict-requires-clause-keepable
-evict-requires-clause-keepable g c =
+pub evict-requires-clause-may : goal.evict-requires-clause-may
+evict-requires-clause-may g c =
     let up = c.requires in
-    keepable_most up.0 (g.S.Frames.parts c.args.live.now.store) c.args.live.now.age up.1.sound.geometry up.1.sound.now
+    record {
+      usable = (g.met.S.ObjectStore.usable_is c.args.live.now.store).1 up.1.store;
+      keepable = keepable_most up.0 (g.S.Frames.parts c.args.live.now.store) c.args.live.now.age up.1.sound.geometry up.1.sound.now;
+    }
 
 pub returns-clause-serves : goal.returns-clause-serves
 returns-clause-serves g c =

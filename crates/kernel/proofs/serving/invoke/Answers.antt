@@ -21,3 +21,6 @@ returns-clause-cause g c =
 pub returns-clause-code : goal.returns-clause-code
 returns-clause-code g c =
     up_code _ _ _ c.args.live.now c.args.invocation.now c.invoke.result c.invoke.ensures.code
+
+pub invoke-requires-clause-usable : goal.invoke-requires-clause-usable
+invoke-requires-clause-usable g c = (g.met.S.ObjectStore.usable_is c.args.live.now.store).1 c.requires.1.store

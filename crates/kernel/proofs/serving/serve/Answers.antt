@@ -68,11 +68,20 @@ returns-in-Show-clause-cause g c =
     caused (failures c.args.live.now.store) (failures c.show.new.store)
     (c.show.ensures.serves c.args.live.now.age (up_sound _ _ _ c.args.live.now c.requires.up))
 
-pub load-requires : goal.load-requires
-load-requires g c = (c.args.live.now.age, up_sound _ _ _ c.args.live.now c.requires.up)
+pub load-requires-clause-usable : goal.load-requires-clause-usable
+load-requires-clause-usable g c = (g.met.S.ObjectStore.usable_is c.args.live.now.store).1 c.requires.up.1.store
 
-pub store-requires : goal.store-requires
-store-requires g c = (c.args.live.now.age, up_sound _ _ _ c.args.live.now c.requires.up)
+pub load-requires-clause-sound : goal.load-requires-clause-sound
+load-requires-clause-sound g c = (c.args.live.now.age, up_sound _ _ _ c.args.live.now c.requires.up)
+
+pub store-requires-clause-usable : goal.store-requires-clause-usable
+store-requires-clause-usable g c = (g.met.S.ObjectStore.usable_is c.args.live.now.store).1 c.requires.up.1.store
+
+pub store-requires-clause-sound : goal.store-requires-clause-sound
+store-requires-clause-sound g c = (c.args.live.now.age, up_sound _ _ _ c.args.live.now c.requires.up)
+
+pub show-requires-clause-usable : goal.show-requires-clause-usable
+show-requires-clause-usable g c = (g.met.S.ObjectStore.usable_is c.args.live.now.store).1 c.requires.up.1.store
 
 pub show-requires-clause-sound : goal.show-requires-clause-sound
 show-requires-clause-sound g c = (c.args.live.now.age, up_sound _ _ _ c.args.live.now c.requires.up)

@@ -3,6 +3,7 @@ use Rattle.queries.proofs.saved.read_saved.Goals as goal
 
 pub read-read-requires : goal.read-read-requires
 read-read-requires g c = record {
+  usable = (g.met.S.ObjectStore.usable_is _).1 c.in-Ok.ensures.opened.up.store;
   saved = frames_are g.met.D.Device.seen_left g.S.WholeStore.durable g.met.S.WholeStore.is_over c.in-Ok.ensures.opened;
   sound = sound g.met.D.Device.seen_left g.S.WholeStore.durable g.met.S.WholeStore.is_over c.in-Ok.ensures.opened;
 }

@@ -33,3 +33,6 @@ returns-in-Err-examine-clause-refused g c =
     (risen_later (parts s) (parts t) (disk (view s).beneath) (disk (view t).beneath) (laws.failures_are s) (laws.failures_are t) said.snapshots.later)
     (refused_cause (parts s) (parts t) (disk (view s).beneath) (disk (view t).beneath) (laws.failures_are s) (laws.failures_are t) c.in-Err-examine.fault
     said.cause) (refused_for c.in-Err-examine.fault said.bad) c.into_device.result c.into_device.ensures
+
+pub examine-requires-clause-usable : goal.examine-requires-clause-usable
+examine-requires-clause-usable g c = (g.met.S.ObjectStore.usable_is c.in-Ok.store).1 c.in-Ok.ensures.opened.usable

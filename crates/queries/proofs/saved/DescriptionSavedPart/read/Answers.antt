@@ -3,8 +3,8 @@ use Rattle.std.specs.declared.alloc.Global.{Global}
 use Rattle.std.proofs.Common.{◌∙◌}
 use Rattle.queries.proofs.saved.DescriptionSavedPart.read.Goals as goal
 
-pub describe-requires : goal.describe-requires
-describe-requires g c =
+pub describe-requires-clause-sound : goal.describe-requires-clause-sound
+describe-requires-clause-sound g c =
     let saved = (g.met.S.WholeStore.is_over c.args.store.now).saved in
     let geometry = g.met.S.ObjectStore.geometry_is c.args.store.now ∙ ap (λ (x : SavedFrames). x.geometry) saved in
     let age = c.saved-age.ensures.age ∙ ap (λ (x : SavedFrames). x.age) saved in

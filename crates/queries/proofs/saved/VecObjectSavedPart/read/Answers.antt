@@ -2,8 +2,8 @@ use Rattle.queries.proofs.Names.{ap, SavedFrames}
 use Rattle.std.proofs.Common.{◌∙◌}
 use Rattle.queries.proofs.saved.VecObjectSavedPart.read.Goals as goal
 
-pub read_objects-requires : goal.read_objects-requires
-read_objects-requires g c =
+pub read_objects-requires-clause-sound : goal.read_objects-requires-clause-sound
+read_objects-requires-clause-sound g c =
     let geometry = g.met.S.ObjectStore.geometry_is c.args.store.now
     ∙ ap (λ (x : SavedFrames). x.geometry) (g.met.S.WholeStore.is_over c.args.store.now).saved in
     ((g.S.WholeStore.durable c.args.store.now).books.header.age, rw (geometry, c.requires.saved) c.requires.sound)

@@ -11,7 +11,7 @@ write_and_evict-requires g c = record {
   fetched = fetched_by g.D.Device.disk c.self.view_is c.self.invariant c.args.number c.requires.known (sym c.holds.ensures ∙ c.if-holds.true);
   keepable =
       keepable_at (stored_of g.D.Device.disk c.args.self.now.durable).saved.geometry most (parts_of g.D.Device.disk c.args.self.now) c.args.number
-      c.requires.known c.requires.keepable;
+      c.requires.known c.requires.may.keepable;
   some = sym c.KEEPS_ALL.ensures ∙ c.if-KEEPS_ALL.false;
 }
 

@@ -58,4 +58,4 @@ read_all_in-read-requires-clause-bounded g c = c.use_again.ensures.few
 
 pub read_all_in-read-requires-clause-keepable : goal.read_all_in-read-requires-clause-keepable
 read_all_in-read-requires-clause-keepable g c =
-    all_keepable c.use_again.ensures.continues (moves_used c.use_again.ensures.rest c.use_again.ensures.continues).rest c.requires.keepable
+    all_keepable c.use_again.ensures.continues (moves_used c.use_again.ensures.rest c.use_again.ensures.continues).rest c.requires.may.keepable
