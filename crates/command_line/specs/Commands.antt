@@ -46,6 +46,10 @@ processes_rule = record (new_rule (codes "P")) {
 abbrev pub flag_rule : Text → Rule
 flag_rule name = record (new_rule name) { long = Some name; action = Some SetTrue }
 
+-- --json, by which answers are written as JSON
+abbrev pub json_rule : Rule
+json_rule = flag_rule (codes "json")
+
 -- --verbose, which every subcommand takes
 abbrev pub cause_rule : Rule
 cause_rule = flag_rule (codes "verbose")
@@ -80,11 +84,11 @@ rules_of sub.Build = file_rule (codes "DESCRIPTION") ∷ file_rule (codes "IMAGE
 rules_of sub.Run = file_rule (codes "IMAGE") ∷ file_rule (codes "SCRIPT") ∷ cache_rule ∷ flag_rule (codes "trace")
     ∷ flag_rule (codes "strict") ∷ flag_rule (codes "save") ∷ number_rule (codes "stop-after") ∷ cause_rule ∷ []
 rules_of sub.Shell = file_rule (codes "IMAGE") ∷ cache_rule ∷ cause_rule ∷ []
-rules_of sub.Check = file_rule (codes "IMAGE") ∷ cause_rule ∷ []
+rules_of sub.Check = file_rule (codes "IMAGE") ∷ json_rule ∷ cause_rule ∷ []
 rules_of sub.Explain = file_rule (codes "FILE") ∷ cause_rule ∷ []
-rules_of sub.Info = file_rule (codes "IMAGE") ∷ cause_rule ∷ []
+rules_of sub.Info = file_rule (codes "IMAGE") ∷ json_rule ∷ cause_rule ∷ []
 rules_of sub.Reach = file_rule (codes "IMAGE") ∷ processes_rule ∷ flag_rule (codes "reads") ∷ number_rule (codes "shows")
-    ∷ number_rule (codes "to") ∷ numbers_rule (codes "trust") ∷ cause_rule ∷ []
+    ∷ number_rule (codes "to") ∷ numbers_rule (codes "trust") ∷ json_rule ∷ cause_rule ∷ []
 rules_of sub.Upgrade = file_rule (codes "OLD") ∷ file_rule (codes "NEW") ∷ cause_rule ∷ []
 rules_of sub.Copy = file_rule (codes "IMAGE") ∷ file_rule (codes "NEW") ∷ cause_rule ∷ []
 rules_of sub.Describe = file_rule (codes "IMAGE") ∷ number_rule (codes "nodes") ∷ number_rule (codes "pages")

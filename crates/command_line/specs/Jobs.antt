@@ -34,13 +34,17 @@ IsJob name rows (job.Run image script cache trace strict saves stop_after) = (na
     × IsGiven rows (codes "IMAGE") image.now × (word : Text) × IsGiven rows (codes "SCRIPT") word × IsScript word script
 IsJob name rows (job.Shell image cache) = (name ≡ codes "shell") × IsCache rows cache × IsGiven rows (codes "IMAGE")
     image.now
-IsJob name rows (job.Check image) = (name ≡ codes "check") × IsGiven rows (codes "IMAGE") image.now
+IsJob name rows (job.Check image json) = (name ≡ codes "check") × IsGiven rows (codes "IMAGE") image.now
+    × IsFlag rows (codes "json") json
 IsJob name rows (job.Explain file) = (name ≡ codes "explain") × IsGiven rows (codes "FILE") file.now
-IsJob name rows (job.Info image) = (name ≡ codes "info") × IsGiven rows (codes "IMAGE") image.now
-IsJob name rows (job.Reach image processes reads shows to trusted) = (name ≡ codes "reach") × IsGiven rows (codes "IMAGE") image.now
+IsJob name rows (job.Info image json) = (name ≡ codes "info") × IsGiven rows (codes "IMAGE") image.now
+    × IsFlag rows (codes "json") json
+IsJob name rows (job.Reach image processes reads shows to trusted json) = (name ≡ codes "reach") × IsGiven rows (codes "IMAGE")
+    image.now
     × AreNumbersIfAny rows (codes "P") processes.items × IsFlag rows (codes "reads") reads
     × IsNumberOption rows (codes "shows") shows
     × IsNumberOption rows (codes "to") to × AreNumbersIfAny rows (codes "trust") trusted.items
+    × IsFlag rows (codes "json") json
 IsJob name rows (job.Upgrade old new) = (name ≡ codes "upgrade")
     × IsGiven rows (codes "OLD") old.now × IsGiven rows (codes "NEW") new.now × (old.now ≢ new.now)
 IsJob name rows (job.Copy image new) = (name ≡ codes "copy")

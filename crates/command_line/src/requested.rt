@@ -9,8 +9,8 @@ ghost use Rattle.command_line.specs.Refusals.{Explains};
 
 use crate::arguments::{flag_of, numbers_of, option_of};
 use crate::subcommands::{
-    CACHE, DESCRIPTION, FILE, FROM, IMAGE, LOG, NEW, NEW_ONLY, NODES, OLD, PAGES, PROCESS, READS,
-    SAVE, SCRIPT, SHOWS, STOP_AFTER, STRICT, Subcommand, TO, TRACE, TRUST, VERBOSE,
+    CACHE, DESCRIPTION, FILE, FROM, IMAGE, JSON, LOG, NEW, NEW_ONLY, NODES, OLD, PAGES, PROCESS,
+    READS, SAVE, SCRIPT, SHOWS, STOP_AFTER, STRICT, Subcommand, TO, TRACE, TRUST, VERBOSE,
 };
 use clap::error::ErrorKind;
 use clap::{ArgMatches, Command, Error};
@@ -73,6 +73,8 @@ pub enum Job<'a> {
     /// Checks an image.
     Check {
         image: &'a str,
+        /// Whether the answer is JSON.
+        json: bool,
     },
     /// Says why a description or an image is refused.
     Explain {
@@ -81,6 +83,8 @@ pub enum Job<'a> {
     /// Prints the sizes of an image and the state of its checkpoint.
     Info {
         image: &'a str,
+        /// Whether the answer is JSON.
+        json: bool,
     },
     /// Prints what processes of an image can ever change.
     Reach {
@@ -95,6 +99,8 @@ pub enum Job<'a> {
         to: Option<u64>,
         /// The processes that are trusted, in the order of the words.
         trusted: Vec<u64>,
+        /// Whether the answer is JSON.
+        json: bool,
     },
     /// Writes what an image saves to a new image, of version 2 of the layout. The two names differ.
     Upgrade {
@@ -221,7 +227,8 @@ fn check_of<'a>(inner: &ArgMatches<'a>) -> Option<Job<'a>>
     ensures none { IsNone result → IsNoJob (codes "check") (rows_of (found_of inner.now)) }
 {
     let image = inner.get_str(IMAGE)?;
-    Some(Job::Check { image })
+    let json = flag_of(inner, JSON);
+    Some(Job::Check { image, json })
 }
 
 // The explanation that the matches name, or `None` where the file is missing.
@@ -239,7 +246,8 @@ fn info_of<'a>(inner: &ArgMatches<'a>) -> Option<Job<'a>>
     ensures none { IsNone result → IsNoJob (codes "info") (rows_of (found_of inner.now)) }
 {
     let image = inner.get_str(IMAGE)?;
-    Some(Job::Info { image })
+    let json = flag_of(inner, JSON);
+    Some(Job::Info { image, json })
 }
 
 // The analysis of these processes, with these trusted, that the matches name, or `None` where the image is missing or an option
@@ -260,6 +268,7 @@ fn reach_from<'a>(inner: &ArgMatches<'a>, processes: Vec<u64>, trusted: Vec<u64>
         shows,
         to,
         trusted,
+        json: flag_of(inner, JSON),
     })
 }
 

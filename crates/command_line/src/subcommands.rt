@@ -54,6 +54,8 @@ pub(crate) const READS: &str = "reads";
 
 pub(crate) const TRUST: &str = "trust";
 
+pub(crate) const JSON: &str = "json";
+
 pub(crate) const STOP_AFTER: &str = "stop-after";
 
 /// What `eros --version` prints behind the name.
@@ -145,6 +147,12 @@ impl<'a> Argument<'a> {
 // An image that is only read.
 const READ: Argument<'static> = Argument::File(IMAGE, "The image, which isn't changed");
 
+// Answers for programs.
+const AS_JSON: Argument<'static> = Argument::Flag(
+    JSON,
+    "Prints JSON, an object a line; a fault too, as {\"fault\": ..}",
+);
+
 // The cause of a fault.
 const CAUSE: Argument<'static> = Argument::Flag(
     VERBOSE,
@@ -194,8 +202,8 @@ const SHELL: &[Argument<'static>] = &[
     CAUSE,
 ];
 
-// An image that is only read, with no option of the command's own.
-const READ_ONLY: &[Argument<'static>] = &[READ, CAUSE];
+// An image that is only read, and told about.
+const TOLD: &[Argument<'static>] = &[READ, AS_JSON, CAUSE];
 
 const EXPLAIN: &[Argument<'static>] = &[
     Argument::File(FILE, "The description or the image, which isn't changed"),
@@ -224,6 +232,7 @@ const REACH: &[Argument<'static>] = &[
         "S",
         "Trusts process S: leaves out what is reached only by starting it, as --trust 5; repeatable",
     ),
+    AS_JSON,
     CAUSE,
 ];
 
@@ -368,7 +377,7 @@ impl Subcommand {
             Subcommand::Build => BUILD,
             Subcommand::Run => RUN,
             Subcommand::Shell => SHELL,
-            Subcommand::Check | Subcommand::Info => READ_ONLY,
+            Subcommand::Check | Subcommand::Info => TOLD,
             Subcommand::Explain => EXPLAIN,
             Subcommand::Reach => REACH,
             Subcommand::Upgrade => UPGRADE,
@@ -419,6 +428,7 @@ fn bare<'a>(alloc: Global) -> Result<Command<'a>, AllocError>
              eros reach first.image 1                            prints what process 1 can ever change\n  \
              eros explain examples/first-steps.toml              prints: ok, or what is wrong and where\n  \
              eros info first.image                               prints its sizes and its checkpoint\n  \
+             eros info --json first.image                        prints the same as JSON, an object a line\n  \
              eros run --trace first.image examples/journal.eros  also writes the result of each line\n  \
              eros shell first.image                              reads commands from the terminal\n  \
              eros upgrade first.image second.image               prints: upgraded 399 sectors\n  \

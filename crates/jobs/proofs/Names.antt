@@ -13,6 +13,7 @@ pub use Rattle.image_builder.specs.Upgraded.{ReadsAndCloses, Upgrades, new_plan}
 pub use Rattle.image_builder.specs.declared.new_layout.NewLayout.{NewLayout}
 pub use Rattle.image_builder.specs.declared.upgrade_fault.UpgradeFault.{UpgradeFault}
 pub use Rattle.image_writer.specs.Written.{first_saved}
+pub use Rattle.json_lines.specs.declared.format.Format.{Format}
 pub use Rattle.layout.specs.declared.open_fault.OpenFault.{OpenFault}
 pub use Rattle.model.specs.Machine.{Up, opened}
 pub use Rattle.model.specs.Run.{Turn}

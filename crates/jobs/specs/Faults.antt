@@ -1,8 +1,10 @@
 -- The message of a fault, and the exit status of a command.
 use Rattle.jobs.specs.Names.{Written, ℕ, List, [], codes, decimal, Option, None, Some, Result, Ok, Err, OpenFault}
 use Rattle.jobs.specs.Names.{line_of, spaced, BuildFault, UpgradeFault, fault_number, GrowthFault, Stop, cause_text}
-use Rattle.jobs.specs.Names.{Refusal, RunFault, Writes, reason_number, refusal_text}
+use Rattle.jobs.specs.Names.{Refusal, RunFault, Writes, reason_number, refusal_text, text_object}
 use Rattle.std.specs.Prelude.{◌≡◌, ◌≢◌, ◌∷◌, ◌++◌}
+use Rattle.json_lines.specs.declared.key.Key.TheVariants as key
+use Rattle.json_lines.specs.declared.object.Member.TheVariants as member
 use Rattle.layout.specs.declared.open_fault.OpenFault.TheVariants as opening
 use Rattle.description.specs.declared.fault.BuildFault.TheVariants as build
 use Rattle.image_builder.specs.declared.upgrade_fault.UpgradeFault.TheVariants as upgrade
@@ -58,6 +60,31 @@ fault_text (fault.NoObject o) = spaced (codes "eros: no object" ∷ decimal o �
 fault_text (fault.Sizes why) = sizes_text why
 fault_text (fault.NotSaved why) = not_saved_text why
 fault_text (fault.NoProcess p) = spaced (codes "eros: no process" ∷ decimal p ∷ [])
+
+-- in JSON
+abbrev pub open_json : OpenFault → List ℕ
+open_json opening.Failed = text_object (codes "fault") (codes "device failed") []
+open_json opening.NoMemory = text_object (codes "fault") (codes "no memory") []
+open_json (opening.Bad reason) = text_object (codes "fault") (codes "bad image")
+    (member.Number key.Reason (reason_number reason) ∷ [])
+
+-- of a command that only reads an image; those of others have one name each
+abbrev pub fault_json : Fault → List ℕ
+fault_json fault.CannotReadDescription = text_object (codes "fault") (codes "cannot read description") []
+fault_json fault.NotToml = text_object (codes "fault") (codes "bad description") []
+fault_json fault.CannotWriteImage = text_object (codes "fault") (codes "cannot write image") []
+fault_json fault.CannotOpenImage = text_object (codes "fault") (codes "cannot open image") []
+fault_json fault.CannotReadScript = text_object (codes "fault") (codes "cannot read script") []
+fault_json fault.CannotWriteOutput = text_object (codes "fault") (codes "cannot write output") []
+fault_json fault.NoMemory = text_object (codes "fault") (codes "no memory") []
+fault_json (fault.Open why) = open_json why
+fault_json (fault.NoProcess p) = text_object (codes "fault") (codes "no process") (member.Number key.Number p ∷ [])
+fault_json (fault.NoObject o) = text_object (codes "fault") (codes "no object") (member.Number key.Number o ∷ [])
+fault_json (fault.Build why) = text_object (codes "fault") (codes "not built") []
+fault_json (fault.Upgrade why) = text_object (codes "fault") (codes "not upgraded") []
+fault_json (fault.Stopped stop) = text_object (codes "fault") (codes "stopped") []
+fault_json (fault.Sizes why) = text_object (codes "fault") (codes "not renumbered") []
+fault_json (fault.NotSaved why) = text_object (codes "fault") (codes "not saved") []
 
 -- a run that was ended by its observer has a place where it was
 abbrev pub HasStop : Result (Result (Unit {0}) RunFault) OpenFault → Option Stop → Type 0

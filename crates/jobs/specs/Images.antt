@@ -3,8 +3,11 @@ use Rattle.jobs.specs.Names.{Written, Wrote, ℕ, List, [], codes, decimal, Bool
 use Rattle.jobs.specs.Names.{Geometry, Saved, Turn, line_of, spaced, Disk, NewLayout, OnlyReads, OpenFault, new_plan}
 use Rattle.jobs.specs.Names.{Parts, View, Power, RefusesToOpen, Opens, Denotes, IsDeviceOf, Description, IsDescription}
 use Rattle.jobs.specs.Names.{BuildsFrom, Refuses, plan_for, IsNotUpgraded, Upgrades, Stop, RunsOver, RunsSeen, RunFault}
-use Rattle.jobs.specs.Names.{WroteFront}
+use Rattle.jobs.specs.Names.{Format, WroteFront, number_object}
 use Rattle.std.specs.Prelude.{◌≡◌, ◌≢◌, ◌↔◌, ◌<◌, ◌∷◌}
+use Rattle.json_lines.specs.declared.format.Format.TheVariants as format
+use Rattle.json_lines.specs.declared.key.Key.TheVariants as key
+use Rattle.json_lines.specs.declared.object.Member.TheVariants as member
 use Rattle.layout.specs.declared.open_fault.OpenFault.TheVariants as opening
 use Rattle.description.specs.declared.fault.BuildFault.TheVariants as build
 use Rattle.image_builder.specs.declared.new_layout.NewLayout.TheVariants as layout
@@ -18,10 +21,12 @@ use Rattle.jobs.specs.Faults.{IsRunEnd}
 abbrev pub built_text : ℕ → List ℕ
 built_text total = spaced (codes "built" ∷ decimal total ∷ codes "sectors" ∷ [])
 
-abbrev pub checked_text : ℕ → ℕ → ℕ → List ℕ
-checked_text generation age entries =
+abbrev pub checked_text : Format → ℕ → ℕ → ℕ → List ℕ
+checked_text format.Text generation age entries =
     spaced (codes "ok generation" ∷ decimal generation ∷ codes "age" ∷ decimal age ∷ codes "entries" ∷ decimal entries ∷
     [])
+checked_text format.Json generation age entries =
+    number_object (codes "generation") generation (member.Number key.Age age ∷ member.Number key.Entries entries ∷ [])
 
 -- the total of the image of a table is written
 abbrev pub TellsTotal : Members → (List ℕ → Type 0) → Type 0
@@ -117,18 +122,18 @@ module _ {D S : Type 0} (disk : D → Disk) (view : S → View D) (parts : S →
 
 -- a device was opened with no failure, nothing was written to it at any moment, and `Reported` holds of what is saved
 -- on it
-abbrev pub TellsSaved : {D : Type 0} → (D → Disk) → D → D → (List ℕ → Type 0) → Type 0
-TellsSaved disk device back Reported =
+abbrev pub TellsSaved : {D : Type 0} → Format → (D → Disk) → D → D → (List ℕ → Type 0) → Type 0
+TellsSaved f disk device back Reported =
     (geometry : Geometry) × (saved : Saved) × Denotes geometry (disk device).sectors (disk device).seen saved × Reported
-    (line_of (checked_text saved.generation saved.world.age saved.entries))
+    (line_of (checked_text f saved.generation saved.world.age saved.entries))
     × OnlyReads (disk device) (disk back) × ((disk back).failures ≡ (disk device).failures)
 
 -- so it was; or that couldn't be written whole; or the device wasn't opened
-abbrev pub ChecksImage : {D : Type 0} → (D → Disk) → D → D → Written → Written →
+abbrev pub ChecksImage : {D : Type 0} → Format → (D → Disk) → D → D → Written → Written →
     Result (Unit {0}) Fault → Type 0
-ChecksImage disk device back output output_left (Ok a) = TellsSaved disk device back (Wrote output output_left)
-ChecksImage disk device back output output_left (Err fault.CannotWriteOutput) = TellsSaved disk device back
+ChecksImage f disk device back output output_left (Ok a) = TellsSaved f disk device back (Wrote output output_left)
+ChecksImage f disk device back output output_left (Err fault.CannotWriteOutput) = TellsSaved f disk device back
     (WroteFront output output_left)
-ChecksImage disk device back output output_left (Err (fault.Open why)) = RefusesToOpen disk device back why ×
+ChecksImage f disk device back output output_left (Err (fault.Open why)) = RefusesToOpen disk device back why ×
     (output_left ≡ output)
-ChecksImage disk device back output output_left (Err _) = ⊥
+ChecksImage f disk device back output output_left (Err _) = ⊥

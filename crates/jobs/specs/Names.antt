@@ -15,6 +15,8 @@ pub use Rattle.image_builder.specs.Upgraded.{IsNotUpgraded, Upgrades, new_plan}
 pub use Rattle.image_builder.specs.declared.new_layout.NewLayout.{NewLayout}
 pub use Rattle.image_builder.specs.declared.upgrade_fault.UpgradeFault.{UpgradeFault}
 pub use Rattle.image_writer.specs.Written.{first_saved}
+pub use Rattle.json_lines.specs.Objects.{number_object, text_object}
+pub use Rattle.json_lines.specs.declared.format.Format.{Format}
 pub use Rattle.kernel.specs.Opening.{Opens}
 pub use Rattle.kernel.specs.Power.{Power}
 pub use Rattle.kernel.specs.Standing.{IsDeviceOf}

@@ -1,13 +1,16 @@
 // Why a command of `eros` fails.
-ghost use Rattle.std.specs.Prelude.{◌≡◌, ◌≤◌, length};
+ghost use Rattle.std.specs.Prelude.{◌≡◌, ◌≤◌, ◌∷◌, [], codes, length};
+ghost use Rattle.json_lines.specs.Objects.{text_object};
 ghost use Rattle.model.specs.Text.{line_of};
 ghost use Rattle.script.specs.Writing.{Writes};
-ghost use Rattle.jobs.specs.Faults.{HasStop, IsRunEnd, IsReported, after_write, build_text, fault_text, open_text};
+ghost use Rattle.jobs.specs.Faults.{HasStop, IsRunEnd, IsReported, after_write, build_text, fault_json, fault_text};
+ghost use Rattle.jobs.specs.Faults.{open_json, open_text};
 ghost use Rattle.jobs.specs.Faults.{not_saved_text, sizes_text, status_of, stop_text, upgrade_text};
 
 use checkpoint::OpenFault;
 use description::GrowthFault;
 use image_builder::{BuildFault, UpgradeFault};
+use json_lines::{Key, Member, text_object};
 use model::Refusal;
 use runs::Stop;
 use script::{LineText, Output, RunFault, refusal_line};
@@ -108,6 +111,30 @@ fn open_line(fault: OpenFault) -> LineText
     }
 }
 
+// The same in JSON.
+fn open_json(fault: OpenFault) -> LineText
+    ensures text { result ≡ open_json fault }
+    ensures short { length result ≤ 300 }
+{
+    match fault {
+        OpenFault::Failed => text_object(b"fault", b"device failed", &[]),
+        OpenFault::NoMemory => text_object(b"fault", b"no memory", &[]),
+        OpenFault::Bad(reason) => {
+            let reason = Member::Number(Key::Reason, reason.number());
+            text_object(b"fault", b"bad image", &[reason])
+        }
+    }
+}
+
+// A fault about a number, in JSON.
+fn numbered_json(name: &[u8], number: u64) -> LineText
+    requires { length name.now ≤ 40 }
+    ensures text { result ≡ text_object (codes "fault") name.now (Member.Number Key.Number number ∷ []) }
+    ensures short { length result ≤ 300 }
+{
+    text_object(b"fault", name, &[Member::Number(Key::Number, number)])
+}
+
 // The message where no image was upgraded.
 fn upgrade_line(fault: UpgradeFault) -> LineText
     ensures text { result ≡ upgrade_text fault }
@@ -178,6 +205,40 @@ impl Fault {
             Fault::Sizes(fault) => sizes_line(fault),
             Fault::NotSaved(refusal) => unsaved_line(refusal),
         }
+    }
+
+    // The object in JSON of this fault. The faults of commands without `--json` have only a name.
+    fn json(self) -> LineText
+        ensures text { result ≡ fault_json self }
+        ensures short { length result ≤ 300 }
+    {
+        match self {
+            Fault::CannotReadDescription => {
+                text_object(b"fault", b"cannot read description", &[])
+            }
+            Fault::NotToml => text_object(b"fault", b"bad description", &[]),
+            Fault::CannotWriteImage => text_object(b"fault", b"cannot write image", &[]),
+            Fault::CannotOpenImage => text_object(b"fault", b"cannot open image", &[]),
+            Fault::CannotReadScript => text_object(b"fault", b"cannot read script", &[]),
+            Fault::CannotWriteOutput => text_object(b"fault", b"cannot write output", &[]),
+            Fault::NoMemory => text_object(b"fault", b"no memory", &[]),
+            Fault::Open(fault) => open_json(fault),
+            Fault::NoProcess(number) => numbered_json(b"no process", number),
+            Fault::NoObject(number) => numbered_json(b"no object", number),
+            Fault::Build(_) => text_object(b"fault", b"not built", &[]),
+            Fault::Upgrade(_) => text_object(b"fault", b"not upgraded", &[]),
+            Fault::Stopped(_) => text_object(b"fault", b"stopped", &[]),
+            Fault::Sizes(_) => text_object(b"fault", b"not renumbered", &[]),
+            Fault::NotSaved(_) => text_object(b"fault", b"not saved", &[]),
+        }
+    }
+
+    /// Writes it as an object in JSON, on a line. `RunFault::Write` where the writer fails or takes nothing.
+    pub fn tell_json<W: Output>(self, writer: &mut W) -> Result<(), RunFault>
+        ensures { Writes (W.written writer.old) (W.written writer.new) result
+            (line_of (fault_json self)) }
+    {
+        self.json().write_to(writer)
     }
 
     /// Writes it as a line. `RunFault::Write` where the writer fails or takes nothing.

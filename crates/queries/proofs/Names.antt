@@ -36,6 +36,7 @@ unfoldable pub use Rattle.image_drawer.specs.Graph.{graph_text}
 pub use Rattle.image_writer.specs.Written.{first_saved}
 pub use Rattle.jobs.proofs.WrittenTexts.{text_written}
 pub use Rattle.jobs.specs.declared.fault.Fault.{Fault}
+pub use Rattle.json_lines.specs.declared.format.Format.{Format}
 pub use Rattle.layout.specs.Image.{Encodes, SavedState}
 pub use Rattle.layout.specs.Superblock.{Plan, version_number}
 pub use Rattle.layout.specs.declared.version.Version.{Version}

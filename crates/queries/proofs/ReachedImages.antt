@@ -1,5 +1,5 @@
 -- What the command says of the objects that processes can ever change.
-use Rattle.queries.proofs.Names.{Written, ℕ, List, Result, Err, sym, subst, Object, objects_of, Disk, SavedState, AreSoundObjects, Fault, ReachesImage}
+use Rattle.queries.proofs.Names.{Format, Written, ℕ, List, Result, Err, sym, subst, Object, objects_of, Disk, SavedState, AreSoundObjects, Fault, ReachesImage}
 use Rattle.queries.proofs.Names.{ReadsSaved, TellsReach, ReachQuestion, AreProcesses, AreStarts, TellsOf, is_process, Contains, slice_index_or, IsTrue, []}
 use Rattle.queries.proofs.Names.{refl, length, false, get_or_default, find, IfSome, not, Option, None, Some, inr, IsFirstMissing}
 use Rattle.std.specs.Prelude.{◌==◌}
@@ -7,11 +7,11 @@ use Rattle.std.proofs.Common.{◌≡◌, ◌↔◌, ◌∷◌}
 use Rattle.jobs.specs.declared.fault.Fault.TheVariants as fault
 
 -- what is told of the processes that a question is about
-pub tells_of_starts : (os : List Object) (named starts trusted : List ℕ) (q : ReachQuestion) (output output_left : Written) → AreStarts os named starts
-    → (outcome : Result (Unit {0}) Fault) → TellsOf os starts trusted q output output_left outcome → TellsReach os named trusted q output output_left outcome
-tells_of_starts os named starts trusted q output output_left are (Err (fault.NoProcess p)) tells = absurd tells
-tells_of_starts os named starts trusted q output output_left are (Err fault.NoMemory) tells = tells
-tells_of_starts os named starts trusted q output output_left are outcome tells = (starts, are, tells)
+pub tells_of_starts : (f : Format) (os : List Object) (named starts trusted : List ℕ) (q : ReachQuestion) (output output_left : Written) → AreStarts os named starts
+    → (outcome : Result (Unit {0}) Fault) → TellsOf f os starts trusted q output output_left outcome → TellsReach f os named trusted q output output_left outcome
+tells_of_starts f os named starts trusted q output output_left are (Err (fault.NoProcess p)) tells = absurd tells
+tells_of_starts f os named starts trusted q output output_left are (Err fault.NoMemory) tells = tells
+tells_of_starts f os named starts trusted q output output_left are outcome tells = (starts, are, tells)
 
 -- all that are listed are processes
 pub listed_processes : (os : List Object) (all : List ℕ) → ((n : ℕ) → Contains all n ↔ IsTrue (is_process os n)) → AreProcesses os all
@@ -34,8 +34,8 @@ module _ {D : Type 0} {disk : D → Disk} {device back : D} {s : SavedState} (re
   pub objects_sound : AreSoundObjects objects
   objects_sound = subst AreSoundObjects (sym are) (s.plan.geometry, s.header.age, reads.sound.sound)
 
-  pub reaches_image : (named trusted : List ℕ) (q : ReachQuestion) (output output_left : Written) (outcome : Result (Unit {0}) Fault) →
-      TellsReach objects named trusted q output output_left outcome → ReachesImage disk named trusted q device back output output_left outcome
-  reaches_image named trusted q output output_left (Err (fault.Open why)) tells = absurd tells.2
-  reaches_image named trusted q output output_left outcome tells =
-      (s, reads, subst (λ (os : List Object). TellsReach os named trusted q output output_left outcome) are tells)
+  pub reaches_image : (f : Format) (named trusted : List ℕ) (q : ReachQuestion) (output output_left : Written) (outcome : Result (Unit {0}) Fault) →
+      TellsReach f objects named trusted q output output_left outcome → ReachesImage f disk named trusted q device back output output_left outcome
+  reaches_image f named trusted q output output_left (Err (fault.Open why)) tells = absurd tells.2
+  reaches_image f named trusted q output output_left outcome tells =
+      (s, reads, subst (λ (os : List Object). TellsReach f os named trusted q output output_left outcome) are tells)

@@ -2,8 +2,11 @@
 use Rattle.queries.specs.Names.{Written, Wrote, ℕ, List, [], codes, decimal, map, Result, Ok, Err, count_by, flat_map}
 use Rattle.queries.specs.Names.{ObjectHeader, Role, Saved, role_number, role_of, line_of, spaced, World, Disk}
 use Rattle.queries.specs.Names.{HomeRange, SavedState, Plan, version_number, Checkpoint, kept_of, saved_of, WroteFront}
-use Rattle.queries.specs.Names.{Fault}
+use Rattle.queries.specs.Names.{Fault, Format, number_line, number_object}
 use Rattle.std.specs.Prelude.{◌==◌, ◌∷◌, ◌++◌}
+use Rattle.json_lines.specs.declared.format.Format.TheVariants as format
+use Rattle.json_lines.specs.declared.key.Key.TheVariants as key
+use Rattle.json_lines.specs.declared.object.Member.TheVariants as member
 use Rattle.model.specs.declared.object.Role.TheVariants as role
 use Rattle.jobs.specs.declared.fault.Fault.TheVariants as fault
 use Rattle.queries.specs.Images.{TellsImage}
@@ -14,25 +17,27 @@ use Rattle.queries.specs.declared.info.InfoLine.TheVariants as line
 abbrev pub objects_with : Role → World → ℕ
 objects_with r w = count_by (λ o. role_number (role_of o.content) == role_number r) w.objects
 
--- a line is a key and its numbers
-abbrev pub info_line : InfoLine → List ℕ
-info_line (line.Layout n) = spaced (codes "layout" ∷ decimal n ∷ [])
-info_line (line.Nodes n) = spaced (codes "nodes" ∷ decimal n ∷ [])
-info_line (line.Pages n) = spaced (codes "pages" ∷ decimal n ∷ [])
-info_line (line.Log n) = spaced (codes "log" ∷ decimal n ∷ [])
-info_line (line.Range first count) = spaced (codes "range" ∷ decimal first ∷ decimal count ∷ [])
-info_line (line.Sectors n) = spaced (codes "sectors" ∷ decimal n ∷ [])
-info_line (line.Generation n) = spaced (codes "generation" ∷ decimal n ∷ [])
-info_line (line.Age n) = spaced (codes "age" ∷ decimal n ∷ [])
-info_line (line.Entries n) = spaced (codes "entries" ∷ decimal n ∷ [])
-info_line (line.Free n) = spaced (codes "free" ∷ decimal n ∷ [])
-info_line (line.PageObjects n) = spaced (codes "page" ∷ decimal n ∷ [])
-info_line (line.NodeObjects n) = spaced (codes "node" ∷ decimal n ∷ [])
-info_line (line.Processes n) = spaced (codes "process" ∷ decimal n ∷ [])
-info_line (line.Banks n) = spaced (codes "bank" ∷ decimal n ∷ [])
+-- a line is a name and its numbers
+abbrev pub info_line : Format → InfoLine → List ℕ
+info_line f (line.Layout n) = number_line f (codes "layout") n
+info_line f (line.Nodes n) = number_line f (codes "nodes") n
+info_line f (line.Pages n) = number_line f (codes "pages") n
+info_line f (line.Log n) = number_line f (codes "log") n
+info_line f (line.Sectors n) = number_line f (codes "sectors") n
+info_line f (line.Generation n) = number_line f (codes "generation") n
+info_line f (line.Age n) = number_line f (codes "age") n
+info_line f (line.Entries n) = number_line f (codes "entries") n
+info_line f (line.Free n) = number_line f (codes "free") n
+info_line f (line.PageObjects n) = number_line f (codes "page") n
+info_line f (line.NodeObjects n) = number_line f (codes "node") n
+info_line f (line.Processes n) = number_line f (codes "process") n
+info_line f (line.Banks n) = number_line f (codes "bank") n
+info_line format.Text (line.Range first count) = spaced (codes "range" ∷ decimal first ∷ decimal count ∷ [])
+info_line format.Json (line.Range first count) = number_object (codes "range") first
+    (member.Number key.Count count ∷ [])
 
-abbrev pub info_text : List InfoLine → List ℕ
-info_text lines = flat_map (λ l. line_of (info_line l)) lines
+abbrev pub info_text : Format → List InfoLine → List ℕ
+info_text f lines = flat_map (λ l. line_of (info_line f l)) lines
 
 abbrev pub range_line : HomeRange → InfoLine
 range_line r = line.Range r.first r.count
@@ -59,14 +64,14 @@ info_lines p saved = lines_with p
     (λ r. objects_with r saved.world)
 
 -- the lines about what is saved were written; or couldn't be written whole
-abbrev pub TellsInfo : SavedState → Written → Written → Result (Unit {0}) Fault → Type 0
-TellsInfo s output output_left (Ok a) = Wrote output output_left
-    (info_text (info_lines s.plan (saved_of (kept_of s))))
-TellsInfo s output output_left (Err fault.CannotWriteOutput) = WroteFront output output_left
-    (info_text (info_lines s.plan (saved_of (kept_of s))))
-TellsInfo s output output_left (Err _) = ⊥
+abbrev pub TellsInfo : Format → SavedState → Written → Written → Result (Unit {0}) Fault → Type 0
+TellsInfo f s output output_left (Ok a) = Wrote output output_left
+    (info_text f (info_lines s.plan (saved_of (kept_of s))))
+TellsInfo f s output output_left (Err fault.CannotWriteOutput) = WroteFront output output_left
+    (info_text f (info_lines s.plan (saved_of (kept_of s))))
+TellsInfo f s output output_left (Err _) = ⊥
 
-abbrev pub InspectsImage : {D : Type 0} → (D → Disk) → D → D → Written → Written →
+abbrev pub InspectsImage : {D : Type 0} → Format → (D → Disk) → D → D → Written → Written →
     Result (Unit {0}) Fault → Type 0
-InspectsImage disk device back output output_left outcome = TellsImage disk device back output output_left
-    (λ s o. TellsInfo s output output_left o) outcome
+InspectsImage f disk device back output output_left outcome = TellsImage disk device back output output_left
+    (λ s o. TellsInfo f s output output_left o) outcome

@@ -5,6 +5,7 @@ ghost use Rattle.script.specs.Writing.{Writes};
 ghost use Rattle.queries.specs.Info.{headers_with, info_line, info_text, lines_with, range_line};
 
 use checkpoint::Checkpoint;
+use json_lines::{Format, Key, Member, number_line, number_object};
 use layout::{HomeRange, Superblock};
 use model::{ObjectHeader, Role};
 use script::{LineText, Output, RunFault};
@@ -37,54 +38,63 @@ pub(crate) enum InfoLine {
 
 impl InfoLine {
     // The line of a home range.
-    fn range_text(first: u64, count: u64) -> LineText
-        ensures text { result ≡ info_line (InfoLine.Range first count) }
-        ensures short { length result ≤ 60 }
+    fn range_text(format: Format, first: u64, count: u64) -> LineText
+        ensures text { result ≡ info_line format (InfoLine.Range first count) }
+        ensures short { length result ≤ 300 }
     {
-        let mut line = LineText::numbered(b"range", first);
-        line.number(count);
-        line
+        match format {
+            Format::Text => {
+                let mut line = LineText::numbered(b"range", first);
+                line.number(count);
+                line
+            }
+            Format::Json => { number_object(b"range", first, &[Member::Number(Key::Count, count)]) }
+        }
     }
 
     // The line.
-    fn text(self) -> LineText
-        ensures text { result ≡ info_line self }
-        ensures short { length result ≤ 60 }
+    fn text(self, format: Format) -> LineText
+        ensures text { result ≡ info_line format self }
+        ensures short { length result ≤ 300 }
     {
         match self {
-            InfoLine::Layout(n) => LineText::numbered(b"layout", n),
-            InfoLine::Nodes(n) => LineText::numbered(b"nodes", n),
-            InfoLine::Pages(n) => LineText::numbered(b"pages", n),
-            InfoLine::Log(n) => LineText::numbered(b"log", n),
-            InfoLine::Range { first, count } => InfoLine::range_text(first, count),
-            InfoLine::Sectors(n) => LineText::numbered(b"sectors", n),
-            InfoLine::Generation(n) => LineText::numbered(b"generation", n),
-            InfoLine::Age(n) => LineText::numbered(b"age", n),
-            InfoLine::Entries(n) => LineText::numbered(b"entries", n),
-            InfoLine::Free(n) => LineText::numbered(b"free", n),
-            InfoLine::PageObjects(n) => LineText::numbered(b"page", n),
-            InfoLine::NodeObjects(n) => LineText::numbered(b"node", n),
-            InfoLine::Processes(n) => LineText::numbered(b"process", n),
-            InfoLine::Banks(n) => LineText::numbered(b"bank", n),
+            InfoLine::Layout(n) => number_line(format, b"layout", n),
+            InfoLine::Nodes(n) => number_line(format, b"nodes", n),
+            InfoLine::Pages(n) => number_line(format, b"pages", n),
+            InfoLine::Log(n) => number_line(format, b"log", n),
+            InfoLine::Range { first, count } => InfoLine::range_text(format, first, count),
+            InfoLine::Sectors(n) => number_line(format, b"sectors", n),
+            InfoLine::Generation(n) => number_line(format, b"generation", n),
+            InfoLine::Age(n) => number_line(format, b"age", n),
+            InfoLine::Entries(n) => number_line(format, b"entries", n),
+            InfoLine::Free(n) => number_line(format, b"free", n),
+            InfoLine::PageObjects(n) => number_line(format, b"page", n),
+            InfoLine::NodeObjects(n) => number_line(format, b"node", n),
+            InfoLine::Processes(n) => number_line(format, b"process", n),
+            InfoLine::Banks(n) => number_line(format, b"bank", n),
         }
     }
 
     // Writes the line.
-    fn print<W: Output>(&self, writer: &mut W) -> Result<(), RunFault>
+    fn print<W: Output>(&self, format: Format, writer: &mut W) -> Result<(), RunFault>
         ensures { Writes (W.written writer.old) (W.written writer.new) result
-            (line_of (info_line self.now)) }
+            (line_of (info_line format self.now)) }
     {
-        self.text().write_to(writer)
+        self.text(format).write_to(writer)
     }
 }
 
 /// Writes lines.
-pub(crate) fn print_lines<W: Output>(lines: &[InfoLine], writer: &mut W) -> Result<(), RunFault>
+pub(crate) fn print_lines<W: Output>(
+    format: Format,
+    lines: &[InfoLine],
+    writer: &mut W,
+) -> Result<(), RunFault>
     ensures { Writes (W.written writer.old) (W.written writer.new) result
-        (info_text lines.now) }
+        (info_text format lines.now) }
 {
     for line in lines {
-        line.print(writer)?;
+        line.print(format, writer)?;
     }
     Ok(())
 }

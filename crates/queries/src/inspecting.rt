@@ -7,11 +7,12 @@ use crate::info::{InfoLine, print_lines};
 use crate::saved::read_saved;
 use device::Device;
 use jobs::{Done, Fault, of_write};
+use json_lines::Format;
 use migrator::WholeStore;
 use script::Output;
 use std::alloc::Global;
 
-/// Opens a device as a run does, and writes a line for each fact about its image: the version of
+/// Opens a device as a run does, and writes a line in a format for each fact about its image: the version of
 /// the layout, how many nodes, pages and slots there may be, its home ranges, its sectors, the
 /// generation, age and entries of the checkpoint that it holds, and how many objects of each kind
 /// that saves. Then the status is 0. After a fault one line is written to `errors`, and the status
@@ -23,16 +24,17 @@ pub fn info_image<D: Device, S: WholeStore<D>, W: Output, V: Output>(
     alloc: Global,
     device: D,
     setting: S::Setting,
+    format: Format,
     writer: &mut W,
     errors: &mut V,
 ) -> Done<D>
     ensures { (outcome : Result (Unit {0}) Fault) × (result.status ≡ status_of outcome)
         × IsReported outcome (V.written errors.old) (V.written errors.new)
-        × InspectsImage D.disk device result.device (W.written writer.old) (W.written writer.new) outcome }
+        × InspectsImage format D.disk device result.device (W.written writer.old) (W.written writer.new) outcome }
 {
     match read_saved::<Vec<InfoLine>, D, S>(alloc, device, setting) {
         Ok((lines, device)) => {
-            let outcome = of_write(print_lines(&lines, writer));
+            let outcome = of_write(print_lines(format, &lines, writer));
             Done::report(outcome, device, errors)
         }
         Err(refused) => Done::unopened(refused, errors),

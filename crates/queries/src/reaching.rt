@@ -10,6 +10,7 @@ ghost use Rattle.queries.specs.declared.reaching.ReachQuestion.TheVariants.{Chai
 use crate::saved::read_saved;
 use device::Device;
 use jobs::{Done, Fault, of_write};
+use json_lines::Format;
 use migrator::WholeStore;
 use model::{Content, Object};
 use reach::{
@@ -45,6 +46,7 @@ impl ReachQuestion {
 // Writes the least closed set that contains some processes.
 fn tell_set<W: Output>(
     alloc: Global,
+    format: Format,
     objects: &[Object],
     purpose: Purpose,
     processes: &[u64],
@@ -54,11 +56,11 @@ fn tell_set<W: Output>(
     requires sound { AreSoundObjects objects.now }
     requires processes { AreProcesses objects.now processes.now }
     requires trusted { AreProcesses objects.now trusted.now }
-    ensures { TellsOf objects.now processes.now trusted.now (Set purpose) (W.written writer.old) (W.written writer.new)
-        result }
+    ensures { TellsOf format objects.now processes.now trusted.now (Set purpose) (W.written writer.old)
+        (W.written writer.new) result }
 {
     match reach(alloc, objects, purpose, processes, trusted) {
-        Ok(inside) => of_write(print_reach(objects, &inside, writer)),
+        Ok(inside) => of_write(print_reach(format, objects, &inside, writer)),
         Err(_) => Err(Fault::NoMemory),
     }
 }
@@ -66,6 +68,7 @@ fn tell_set<W: Output>(
 // Writes a shortest chain from some processes to an object.
 fn tell_chain<W: Output>(
     alloc: Global,
+    format: Format,
     objects: &[Object],
     purpose: Purpose,
     processes: &[u64],
@@ -77,11 +80,11 @@ fn tell_chain<W: Output>(
     requires processes { AreProcesses objects.now processes.now }
     requires trusted { AreProcesses objects.now trusted.now }
     requires there { is_free (content_at objects.now object) ≡ false }
-    ensures { TellsOf objects.now processes.now trusted.now (Chain purpose object) (W.written writer.old)
+    ensures { TellsOf format objects.now processes.now trusted.now (Chain purpose object) (W.written writer.old)
         (W.written writer.new) result }
 {
     match shortest_chain(alloc, objects, purpose, processes, trusted, object) {
-        Ok(chain) => of_write(print_chain(objects, purpose, object, &chain, writer)),
+        Ok(chain) => of_write(print_chain(format, objects, purpose, object, &chain, writer)),
         Err(_) => Err(Fault::NoMemory),
     }
 }
@@ -89,6 +92,7 @@ fn tell_chain<W: Output>(
 // Writes which of some processes can ever change an object, or read it.
 fn tell_changers<W: Output>(
     alloc: Global,
+    format: Format,
     objects: &[Object],
     purpose: Purpose,
     processes: &[u64],
@@ -100,11 +104,11 @@ fn tell_changers<W: Output>(
     requires processes { AreProcesses objects.now processes.now }
     requires trusted { AreProcesses objects.now trusted.now }
     requires there { is_free (content_at objects.now object) ≡ false }
-    ensures { TellsOf objects.now processes.now trusted.now (Changers purpose object) (W.written writer.old)
+    ensures { TellsOf format objects.now processes.now trusted.now (Changers purpose object) (W.written writer.old)
         (W.written writer.new) result }
 {
     match changers(alloc, objects, purpose, processes, trusted, object) {
-        Ok(inside) => of_write(print_changers(objects, &inside, writer)),
+        Ok(inside) => of_write(print_changers(format, objects, &inside, writer)),
         Err(_) => Err(Fault::NoMemory),
     }
 }
@@ -135,6 +139,7 @@ fn missing_object(objects: &[Object], question: ReachQuestion) -> Option<u64>
 // Writes the answer to a question about some processes.
 fn tell_of<W: Output>(
     alloc: Global,
+    format: Format,
     objects: &[Object],
     processes: &[u64],
     trusted: &[u64],
@@ -144,21 +149,21 @@ fn tell_of<W: Output>(
     requires sound { AreSoundObjects objects.now }
     requires processes { AreProcesses objects.now processes.now }
     requires trusted { AreProcesses objects.now trusted.now }
-    ensures { TellsOf objects.now processes.now trusted.now question (W.written writer.old) (W.written writer.new)
-        result }
+    ensures { TellsOf format objects.now processes.now trusted.now question (W.written writer.old)
+        (W.written writer.new) result }
 {
     if let Some(object) = missing_object(objects, question) {
         return Err(Fault::NoObject(object));
     }
     match question {
         ReachQuestion::Set(purpose) => {
-            tell_set(alloc, objects, purpose, processes, trusted, writer)
+            tell_set(alloc, format, objects, purpose, processes, trusted, writer)
         }
         ReachQuestion::Chain(purpose, object) => tell_chain(
-            alloc, objects, purpose, processes, trusted, object, writer,
+            alloc, format, objects, purpose, processes, trusted, object, writer,
         ),
         ReachQuestion::Changers(purpose, object) => tell_changers(
-            alloc, objects, purpose, processes, trusted, object, writer,
+            alloc, format, objects, purpose, processes, trusted, object, writer,
         ),
     }
 }
@@ -166,6 +171,7 @@ fn tell_of<W: Output>(
 // Writes the answer to a question about all processes.
 fn tell_of_all<W: Output>(
     alloc: Global,
+    format: Format,
     objects: &[Object],
     trusted: &[u64],
     question: ReachQuestion,
@@ -173,10 +179,11 @@ fn tell_of_all<W: Output>(
 ) -> Result<(), Fault>
     requires sound { AreSoundObjects objects.now }
     requires trusted { AreProcesses objects.now trusted.now }
-    ensures { TellsReach objects.now [] trusted.now question (W.written writer.old) (W.written writer.new) result }
+    ensures { TellsReach format objects.now [] trusted.now question (W.written writer.old)
+        (W.written writer.new) result }
 {
     match all_processes(alloc, objects) {
-        Ok(all) => tell_of(alloc, objects, &all, trusted, question, writer),
+        Ok(all) => tell_of(alloc, format, objects, &all, trusted, question, writer),
         Err(_) => Err(Fault::NoMemory),
     }
 }
@@ -184,6 +191,7 @@ fn tell_of_all<W: Output>(
 // Writes the answer to a question about the named processes, or about all if none is named.
 fn tell_named<W: Output>(
     alloc: Global,
+    format: Format,
     objects: &[Object],
     named: &[u64],
     trusted: &[u64],
@@ -193,13 +201,13 @@ fn tell_named<W: Output>(
     requires sound { AreSoundObjects objects.now }
     requires named { AreProcesses objects.now named.now }
     requires trusted { AreProcesses objects.now trusted.now }
-    ensures { TellsReach objects.now named.now trusted.now question (W.written writer.old) (W.written writer.new)
+    ensures { TellsReach format objects.now named.now trusted.now question (W.written writer.old) (W.written writer.new)
         result }
 {
     if named.is_empty() {
-        return tell_of_all(alloc, objects, trusted, question, writer);
+        return tell_of_all(alloc, format, objects, trusted, question, writer);
     }
-    tell_of(alloc, objects, named, trusted, question, writer)
+    tell_of(alloc, format, objects, named, trusted, question, writer)
 }
 
 // The first number that isn't the number of a process, of those named and else of those trusted.
@@ -217,6 +225,7 @@ fn first_missing(objects: &[Object], named: &[u64], trusted: &[u64]) -> Option<u
 // Writes the answer to a question about the named processes, or about all if none is named.
 fn tell_reach<W: Output>(
     alloc: Global,
+    format: Format,
     objects: &[Object],
     named: &[u64],
     trusted: &[u64],
@@ -224,17 +233,17 @@ fn tell_reach<W: Output>(
     writer: &mut W,
 ) -> Result<(), Fault>
     requires { AreSoundObjects objects.now }
-    ensures { TellsReach objects.now named.now trusted.now question (W.written writer.old) (W.written writer.new)
+    ensures { TellsReach format objects.now named.now trusted.now question (W.written writer.old) (W.written writer.new)
         result }
 {
     if let Some(number) = first_missing(objects, named, trusted) {
         return Err(Fault::NoProcess(number));
     }
-    tell_named(alloc, objects, named, trusted, question, writer)
+    tell_named(alloc, format, objects, named, trusted, question, writer)
 }
 
-/// Opens a device as a run does, and answers a question about the processes named, or about all processes
-/// if none is named. Then the status is 0. The answer is
+/// Opens a device as a run does, and answers a question in a format about the processes named, or about all
+/// processes if none is named. Then the status is 0. The answer is
 /// - what they can ever change, or read, but for messages to the processes `trusted`: the least closed set
 ///   of numbers that contains them, where a member may start a trusted process outside the set;
 /// - a shortest chain of steps to an object, or `cannot change` or `cannot read` with its kind and number
@@ -253,6 +262,7 @@ pub fn reach_image<D: Device, S: WholeStore<D>, W: Output, V: Output>(
     alloc: Global,
     device: D,
     setting: S::Setting,
+    format: Format,
     named: &[u64],
     trusted: &[u64],
     question: ReachQuestion,
@@ -261,12 +271,12 @@ pub fn reach_image<D: Device, S: WholeStore<D>, W: Output, V: Output>(
 ) -> Done<D>
     ensures { (outcome : Result (Unit {0}) Fault) × (result.status ≡ status_of outcome)
         × IsReported outcome (V.written errors.old) (V.written errors.new)
-        × ReachesImage D.disk named.now trusted.now question device result.device
+        × ReachesImage format D.disk named.now trusted.now question device result.device
         (W.written writer.old) (W.written writer.new) outcome }
 {
     match read_saved::<Vec<Object>, D, S>(alloc, device, setting) {
         Ok((objects, device)) => {
-            let outcome = tell_reach(alloc, &objects, named, trusted, question, writer);
+            let outcome = tell_reach(alloc, format, &objects, named, trusted, question, writer);
             Done::report(outcome, device, errors)
         }
         Err(refused) => Done::unopened(refused, errors),

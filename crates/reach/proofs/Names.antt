@@ -4,12 +4,13 @@ pub use Rattle.capability.specs.Parts.{objects_in}
 pub use Rattle.collections.specs.Marks.{is_marked}
 pub use Rattle.confinement.proofs.TrustedRuns.{run_confined}
 pub use Rattle.confinement.specs.Trusted.{IsClosedBut, IsConfinedBut, StartsOne, StaysBut}
+pub use Rattle.json_lines.specs.Objects.{number_line}
 pub use Rattle.model.specs.Capability.{IsWeak, named}
 pub use Rattle.model.specs.Closed.{StaysInside}
 pub use Rattle.model.specs.Object.{free, is_bank, is_free, is_node, is_page, is_root, root_in, slots_in}
 pub use Rattle.model.specs.Revoke.{is_member}
 pub use Rattle.model.specs.Sound.{NamesItsKind}
-pub use Rattle.model.specs.Text.{line_of, spaced}
+pub use Rattle.model.specs.Text.{line_of}
 pub use Rattle.model.specs.World.{annex_at, content_at, is_process, object_at, owner_at, root_at, slot_at}
 pub use Rattle.model.specs.declared.capability.Capability.{Capability}
 pub use Rattle.model.specs.declared.capability.Capability.TheVariants.{Bank, Node, Page, Process, Resume, Space, Start, Void}
@@ -20,9 +21,9 @@ pub use Rattle.model_laws.specs.Confinement.{AreBy, with_free}
 pub use Rattle.script.proofs.Fronts.{first_front, second_front, text_fails, writes_after, writes_fail, wrote_trans}
 pub use Rattle.script.proofs.NumberedLines.{lines_all, lines_more, lines_split}
 pub use Rattle.script.specs.Writing.{Writes, Wrote}
-pub use Rattle.std.proofs.Common.{Bool, List, None, Option, Some, Vec, [], add-one, ap, append-nil, arith, codes, decimal, drop, false, get_or, inl, inr}
-pub use Rattle.std.proofs.Common.{is_some, length, length-set, max, not, option_and_then, refl, replicate, reverse, rules, slice_index_or, slice_set, subst}
-pub use Rattle.std.proofs.Common.{suc, sym, take, true, zero, ℕ, ⊎_elim}
+pub use Rattle.std.proofs.Common.{Bool, List, None, Option, Some, Vec, [], add-one, ap, append-nil, arith, codes, drop, false, get_or, inl, inr, is_some}
+pub use Rattle.std.proofs.Common.{length, length-set, max, not, option_and_then, refl, replicate, reverse, rules, slice_index_or, slice_set, subst, suc, sym}
+pub use Rattle.std.proofs.Common.{take, true, zero, ℕ, ⊎_elim}
 pub use Rattle.std.proofs.Math.Seq.{take-suc}
 pub use Rattle.std.proofs.lemmas.Bool.{cases_eq, cases_lt}
 pub use Rattle.std.proofs.lemmas.Bool.Decides.{nat_tests}
@@ -42,7 +43,7 @@ unfoldable pub use Rattle.reach.specs.ChainLines.{chain_text}
 pub use Rattle.reach.specs.Laws.{ClosedSetsAre, ReachIsChange, StepsAreAuthority}
 pub use Rattle.reach.specs.Levels.{Begins, FindsBy, IsAfter, IsAt, IsBy, IsFirst, IsFoundBy, IsFoundIn, IsFrom, IsFromLevel, IsHeldIn, IsOwnedBelow, IsSearched}
 pub use Rattle.reach.specs.Levels.{IsTheStep, NamesWithin, found_at, has_level}
-pub use Rattle.reach.specs.Lines.{counted_text, member_line, member_pulls, pull_line, words_of}
+pub use Rattle.reach.specs.Lines.{counted_text, member_line, member_pulls, object_text, pull_line}
 unfoldable pub use Rattle.reach.specs.Lines.{reach_text}
 pub use Rattle.reach.specs.Links.{IsClosedFor, Links, StaysAs, StaysFor, links}
 pub use Rattle.reach.specs.Missing.{missing}

@@ -1,8 +1,11 @@
 -- The lines that print a closed set, with a reason for each member.
 use Rattle.reach.specs.Names.{ℕ, Bool, false, not, List, [], codes, decimal, count_by, enumerate_from, flat_map}
 use Rattle.reach.specs.Names.{is_marked, Capability, Process, Start, Resume, Bank, Object, slots_in, capability_text}
-use Rattle.reach.specs.Names.{line_of, spaced, content_at}
+use Rattle.reach.specs.Names.{line_of, spaced, content_at, Format, Key, Member, key_text, number_line, text_object}
 use Rattle.std.specs.Prelude.{◌==◌, if◌then◌else◌, ◌∷◌, ◌++◌}
+use Rattle.json_lines.specs.declared.format.Format.TheVariants as format
+use Rattle.json_lines.specs.declared.key.Key.TheVariants as key
+use Rattle.json_lines.specs.declared.object.Member.TheVariants as member
 use Rattle.model.specs.declared.object.Content.TheVariants as content
 
 -- the words with which `show` begins an object
@@ -17,9 +20,30 @@ words_of n o = elim o.content [
   | content.Bank limit ↦ codes "bank" ∷ decimal n ∷ codes "owner" ∷ decimal o.owner ∷ codes "limit" ∷ decimal limit ∷ []
 ]
 
+-- in JSON: `{"kind": "process", "number": 3` and more
+abbrev pub kind_object : List ℕ → ℕ → List Member → List ℕ
+kind_object kind n rest = text_object (codes "kind") kind (member.Number key.Number n ∷ rest)
+
+-- the same values as the words
+abbrev pub object_json : ℕ → Object → List ℕ
+object_json n o = elim o.content [
+  | content.Free ↦ kind_object (codes "free") n []
+  | content.Page words ↦ kind_object (codes "page") n (member.Number key.Owner o.owner ∷ [])
+  | content.Node slots ↦ kind_object (codes "node") n (member.Number key.Owner o.owner ∷ [])
+  | content.Annex registers ↦ kind_object (codes "annex") n (member.Number key.Owner o.owner ∷ [])
+  | content.Root root ↦ kind_object (codes "process") n
+      (member.Number key.Owner o.owner ∷ member.Number key.Annex root.annex ∷ [])
+  | content.Bank limit ↦ kind_object (codes "bank") n
+      (member.Number key.Owner o.owner ∷ member.Number key.Limit limit ∷ [])
+]
+
+abbrev pub object_text : Format → ℕ → Object → List ℕ
+object_text format.Text n o = spaced (words_of n o)
+object_text format.Json n o = object_json n o
+
 -- the line of a member, and nothing for any other object
-abbrev pub member_line : List Bool → ℕ × Object → List ℕ
-member_line marks p = if is_marked marks p.0 then line_of (spaced (words_of p.0 p.1)) else []
+abbrev pub member_line : Format → List Bool → ℕ × Object → List ℕ
+member_line f marks p = if is_marked marks p.0 then line_of (object_text f p.0 p.1) else []
 
 -- whether a capability of an object pulls another process or another bank into its set
 abbrev pub pulls : ℕ → Capability → Bool
@@ -30,36 +54,39 @@ pulls n (Bank b) = not (b == n)
 pulls n _ = false
 
 -- a capability that an object holds: `process 3, register 2: bank 6`
-abbrev pub held_text : List ℕ → ℕ → List ℕ → ℕ → Capability → List ℕ
-held_text name n place i c = spaced
-    (name ∷ (decimal n ++ codes ",") ∷ place ∷ (decimal i ++ codes ":") ∷ capability_text c ∷ [])
+abbrev pub held_text : Format → List ℕ → ℕ → Key → ℕ → Capability → List ℕ
+held_text format.Text name n place i c = spaced
+    (name ∷ (decimal n ++ codes ",") ∷ key_text place ∷ (decimal i ++ codes ":") ∷ capability_text c ∷ [])
+held_text format.Json name n place i c = kind_object name n
+    (member.Number place i ∷ member.Capability key.Capability c ∷ [])
 
-abbrev pub pull_line : List ℕ → ℕ → List ℕ → ℕ × Capability → List ℕ
-pull_line name n place p = if pulls n p.1 then line_of (held_text name n place p.0 p.1) else []
+abbrev pub pull_line : Format → List ℕ → ℕ → Key → ℕ × Capability → List ℕ
+pull_line f name n place p = if pulls n p.1 then line_of (held_text f name n place p.0 p.1) else []
 
-abbrev pub pull_lines : List ℕ → ℕ → List ℕ → List Capability → List ℕ
-pull_lines name n place capabilities = flat_map (pull_line name n place) (enumerate_from 0 capabilities)
+abbrev pub pull_lines : Format → List ℕ → ℕ → Key → List Capability → List ℕ
+pull_lines f name n place capabilities = flat_map (pull_line f name n place) (enumerate_from 0 capabilities)
 
 -- those of an object: a process has the registers of its annex
-abbrev pub object_pulls : List Object → ℕ → Object → List ℕ
-object_pulls os n o = elim o.content [
-  | content.Node slots ↦ pull_lines (codes "node") n (codes "slot") slots
-  | content.Root root ↦ pull_lines (codes "process") n (codes "register") (slots_in (content_at os root.annex))
+abbrev pub object_pulls : Format → List Object → ℕ → Object → List ℕ
+object_pulls f os n o = elim o.content [
+  | content.Node slots ↦ pull_lines f (codes "node") n key.Slot slots
+  | content.Root root ↦ pull_lines f (codes "process") n key.Register (slots_in (content_at os root.annex))
   | _ ↦ []
 ]
 
-abbrev pub member_pulls : List Object → List Bool → ℕ × Object → List ℕ
-member_pulls os marks p = if is_marked marks p.0 then object_pulls os p.0 p.1 else []
+abbrev pub member_pulls : Format → List Object → List Bool → ℕ × Object → List ℕ
+member_pulls f os marks p = if is_marked marks p.0 then object_pulls f os p.0 p.1 else []
 
 -- the members in rising order, and their count after a word
-abbrev pub counted_text : List ℕ → List Object → List Bool → List ℕ
-counted_text word os marks = flat_map (member_line marks) (enumerate_from 0 os)
-    ++ line_of (spaced (word ∷ decimal (count_by (λ b. b) marks) ∷ []))
+abbrev pub counted_text : Format → List ℕ → List Object → List Bool → List ℕ
+counted_text f word os marks = flat_map (member_line f marks) (enumerate_from 0 os)
+    ++ line_of (number_line f word (count_by (λ b. b) marks))
 
 -- processes, and their count
-abbrev pub changers_text : List Object → List Bool → List ℕ
-changers_text os marks = counted_text (codes "processes") os marks
+abbrev pub changers_text : Format → List Object → List Bool → List ℕ
+changers_text f os marks = counted_text f (codes "processes") os marks
 
 -- the members, their count, and what pulls in processes and banks
-unfoldable pub reach_text : List Object → List Bool → List ℕ
-reach_text os marks = counted_text (codes "closed") os marks ++ flat_map (member_pulls os marks) (enumerate_from 0 os)
+unfoldable pub reach_text : Format → List Object → List Bool → List ℕ
+reach_text f os marks = counted_text f (codes "closed") os marks
+    ++ flat_map (member_pulls f os marks) (enumerate_from 0 os)

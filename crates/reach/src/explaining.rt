@@ -1,17 +1,19 @@
 // The lines that print a chain of steps.
 ghost use Rattle.std.specs.Prelude.{◌≡◌, ◌≤◌, ◌<◌, length};
 ghost use Rattle.std.specs.List.{flat_map};
-ghost use Rattle.model.specs.Text.{line_of, spaced};
+ghost use Rattle.model.specs.Text.{line_of};
 ghost use Rattle.model.specs.World.{content_at, object_at};
 ghost use Rattle.script.specs.Writing.{Writes};
-ghost use Rattle.reach.specs.ChainLines.{chain_text, denial_of, kind_of, place_of, step_line, step_text, steps_text};
-ghost use Rattle.reach.specs.ChainLines.{unchanged_text};
-ghost use Rattle.reach.specs.Lines.{words_of};
+ghost use Rattle.reach.specs.ChainLines.{chain_text, denial_of, denied_key, kind_of, place_of, step_line, step_text};
+ghost use Rattle.reach.specs.ChainLines.{steps_text, unchanged_text};
+ghost use Rattle.reach.specs.Lines.{object_text};
+ghost use Rattle.json_lines.specs.declared.format.Format.TheVariants.{Json, Text};
 ghost use Rattle.reach.specs.declared.step.Way.TheVariants.{Owner};
 
 use crate::authority::Purpose;
 use crate::printing::{line_of_held, line_of_object};
 use crate::step::{Step, Way};
+use json_lines::{Format, Key, Member, text_object};
 use model::{Content, Object};
 use script::{LineText, Output, RunFault};
 
@@ -34,22 +36,21 @@ fn kind_at(objects: &[Object], number: u64) -> &'static [u8]
 }
 
 // What an object holds capabilities in.
-fn place_at(objects: &[Object], number: u64) -> &'static [u8]
-    ensures place { result.now ≡ place_of (content_at objects.now number) }
-    ensures short { length result.now ≤ 8 }
+fn place_at(objects: &[Object], number: u64) -> Key
+    ensures { result ≡ place_of (content_at objects.now number) }
 {
     match objects.get(number as usize) {
         Some(object) => match object.content {
-            Content::Node(_) => b"slot",
-            _ => b"register",
+            Content::Node(_) => Key::Slot,
+            _ => Key::Register,
         },
-        None => b"register",
+        None => Key::Register,
     }
 }
 
 // The line of a step from a bank to what it owns.
 fn line_of_owner(objects: &[Object], bank: u64, owned: u64) -> LineText
-    ensures text { result ≡ step_text objects.now bank Owner owned }
+    ensures text { result ≡ step_text Text objects.now bank Owner owned }
     ensures short { length result < 320 }
 {
     let mut line = LineText::numbered(b"bank", bank);
@@ -58,9 +59,9 @@ fn line_of_owner(objects: &[Object], bank: u64, owned: u64) -> LineText
     line
 }
 
-// The line of a step.
-fn line_of_step(objects: &[Object], step: Step) -> LineText
-    ensures text { result ≡ step_text objects.now step.from step.way step.to }
+// The line of a step, for people.
+fn words_of_step(objects: &[Object], step: Step) -> LineText
+    ensures text { result ≡ step_text Text objects.now step.from step.way step.to }
     ensures short { length result < 320 }
 {
     match step.way {
@@ -78,51 +79,101 @@ fn line_of_step(objects: &[Object], step: Step) -> LineText
         }
         Way::Slot { index, capability } => {
             let (kind, place) = (kind_at(objects, step.from), place_at(objects, step.from));
-            line_of_held(kind, step.from, place, index, capability)
+            line_of_held(Format::Text, kind, step.from, place, index, capability)
         }
+    }
+}
+
+// The object in JSON of a step.
+fn json_of_step(objects: &[Object], step: Step) -> LineText
+    ensures text { result ≡ step_text Json objects.now step.from step.way step.to }
+    ensures short { length result < 320 }
+{
+    let number = Member::Number(Key::Number, step.from);
+    match step.way {
+        Way::Annex => {
+            let annex = Member::Number(Key::Annex, step.to);
+            text_object(b"kind", b"process", &[number, annex])
+        }
+        Way::Owner => {
+            let owns = Member::Number(Key::Owns, step.to);
+            text_object(b"kind", b"bank", &[number, owns])
+        }
+        Way::Space(capability) => {
+            let space = Member::Capability(Key::Space, capability);
+            text_object(b"kind", b"process", &[number, space])
+        }
+        Way::Slot { index, capability } => {
+            let (kind, place) = (kind_at(objects, step.from), place_at(objects, step.from));
+            line_of_held(Format::Json, kind, step.from, place, index, capability)
+        }
+    }
+}
+
+// The line of a step.
+fn line_of_step(format: Format, objects: &[Object], step: Step) -> LineText
+    ensures text { result ≡ step_text format objects.now step.from step.way step.to }
+    ensures short { length result < 320 }
+{
+    match format {
+        Format::Text => words_of_step(objects, step),
+        Format::Json => json_of_step(objects, step),
     }
 }
 
 // Writes the lines of steps.
 #[tactic(auto, using(crate::proofs::TextLines::plain_all))]
 fn print_steps<W: Output>(
+    format: Format,
     objects: &[Object],
     steps: &[Step],
     writer: &mut W,
 ) -> Result<(), RunFault>
     ensures { Writes (W.written writer.old) (W.written writer.new) result
-        (flat_map (step_line objects.now) steps.now) }
+        (flat_map (step_line format objects.now) steps.now) }
 {
     for step in steps {
-        line_of_step(objects, *step).write_to(writer)?;
+        line_of_step(format, objects, *step).write_to(writer)?;
     }
     Ok(())
 }
 
 // Writes the line of an object.
-fn print_object<W: Output>(objects: &[Object], number: u64, writer: &mut W) -> Result<(), RunFault>
+fn print_object<W: Output>(
+    format: Format,
+    objects: &[Object],
+    number: u64,
+    writer: &mut W,
+) -> Result<(), RunFault>
     ensures { Writes (W.written writer.old) (W.written writer.new) result
-        (line_of (spaced (words_of number (object_at objects.now number)))) }
+        (line_of (object_text format number (object_at objects.now number))) }
 {
     match objects.get(number as usize) {
-        Some(object) => line_of_object(number, object).write_to(writer),
-        None => LineText::numbered(b"free", number).write_to(writer),
+        Some(object) => line_of_object(format, number, object).write_to(writer),
+        None => {
+            let free = Object {
+                owner: 0,
+                content: Content::Free,
+            };
+            line_of_object(format, number, &free).write_to(writer)
+        }
     }
 }
 
 // Writes the lines of a chain to an object.
 #[tactic(auto, using(script::proofs::Fronts::writes_after))]
 fn print_to<W: Output>(
+    format: Format,
     objects: &[Object],
     object: u64,
     steps: &[Step],
     writer: &mut W,
 ) -> Result<(), RunFault>
     ensures { Writes (W.written writer.old) (W.written writer.new) result
-        (steps_text objects.now steps.now object) }
+        (steps_text format objects.now steps.now object) }
 {
-    print_steps(objects, steps, writer)?;
-    print_object(objects, object, writer)
+    print_steps(format, objects, steps, writer)?;
+    print_object(format, objects, object, writer)
 }
 
 // What is said of an object to which no chain leads.
@@ -136,23 +187,45 @@ fn denial(purpose: Purpose) -> &'static [u8]
     }
 }
 
-// The line of an object to which no chain leads.
-fn line_of_unchanged(objects: &[Object], purpose: Purpose, number: u64) -> LineText
-    ensures text { result ≡ unchanged_text objects.now purpose number }
-    ensures short { length result < 320 }
+// The same in JSON.
+fn denied(purpose: Purpose) -> Key
+    ensures { result ≡ denied_key purpose }
 {
-    let mut line = LineText::new(denial(purpose));
-    line.named(kind_at(objects, number), number);
-    line
+    match purpose {
+        Purpose::Change => Key::CanChange,
+        Purpose::Read => Key::CanRead,
+    }
 }
 
-/// Writes a chain to an object: a line for each step, first step first, and the line of the object as
+// The line of an object to which no chain leads.
+fn line_of_unchanged(format: Format, objects: &[Object], purpose: Purpose, number: u64) -> LineText
+    ensures text { result ≡ unchanged_text format objects.now purpose number }
+    ensures short { length result < 320 }
+{
+    match format {
+        Format::Text => {
+            let mut line = LineText::new(denial(purpose));
+            line.named(kind_at(objects, number), number);
+            line
+        }
+        Format::Json => {
+            let members = [
+                Member::Number(Key::Number, number),
+                Member::No(denied(purpose)),
+            ];
+            text_object(b"kind", kind_at(objects, number), &members)
+        }
+    }
+}
+
+/// Writes a chain to an object in a format: a line for each step, first step first, and the line of the object as
 /// `show` begins it. Without a chain it writes `cannot change`, or `cannot read`, with the object's kind
 /// and number.
 ///
 /// `RunFault::Write` if the writer fails or takes nothing: then a beginning of that text was written.
 /// It takes no memory.
 pub fn print_chain<W: Output>(
+    format: Format,
     objects: &[Object],
     purpose: Purpose,
     object: u64,
@@ -160,10 +233,10 @@ pub fn print_chain<W: Output>(
     writer: &mut W,
 ) -> Result<(), RunFault>
     ensures { Writes (W.written writer.old) (W.written writer.new) result
-        (chain_text objects.now purpose object chain.now) }
+        (chain_text format objects.now purpose object chain.now) }
 {
     match chain {
-        Some(steps) => print_to(objects, object, steps, writer),
-        None => line_of_unchanged(objects, purpose, object).write_to(writer),
+        Some(steps) => print_to(format, objects, object, steps, writer),
+        None => line_of_unchanged(format, objects, purpose, object).write_to(writer),
     }
 }

@@ -6,9 +6,11 @@ ghost use Rattle.model.specs.Text.{spaced};
 ghost use Rattle.model.specs.World.{content_at};
 ghost use Rattle.script.specs.Writing.{Writes};
 ghost use Rattle.reach.specs.Lines.{held_text, member_line, member_pulls, object_pulls, pull_line, pull_lines, pulls};
-ghost use Rattle.reach.specs.Lines.{changers_text, counted_text, reach_text, words_of};
+ghost use Rattle.reach.specs.Lines.{changers_text, counted_text, object_json, object_text, reach_text};
+ghost use Rattle.reach.specs.Lines.{words_of};
 
 use collections::NumberSet;
+use json_lines::{Format, Key, Member, number_line, text_object};
 use model::{Capability, Content, Object};
 use script::{LineText, Output, RunFault};
 
@@ -23,8 +25,8 @@ fn begin(name: &[u8], number: u64, owner: u64) -> LineText
     line
 }
 
-/// The line of an object, as `show` begins it.
-pub(crate) fn line_of_object(number: u64, object: &Object) -> LineText
+// The line of an object, as `show` begins it.
+fn words_of_object(number: u64, object: &Object) -> LineText
     ensures text { result ≡ spaced (words_of number object.now) }
     ensures short { length result ≤ 120 }
 {
@@ -47,8 +49,43 @@ pub(crate) fn line_of_object(number: u64, object: &Object) -> LineText
     }
 }
 
+// The object in JSON of an object.
+fn json_of_object(number: u64, object: &Object) -> LineText
+    ensures text { result ≡ object_json number object.now }
+    ensures short { length result ≤ 300 }
+{
+    let number = Member::Number(Key::Number, number);
+    let owner = Member::Number(Key::Owner, object.owner);
+    match &object.content {
+        Content::Free => text_object(b"kind", b"free", &[number]),
+        Content::Page(_) => text_object(b"kind", b"page", &[number, owner]),
+        Content::Node(_) => text_object(b"kind", b"node", &[number, owner]),
+        Content::Annex(_) => text_object(b"kind", b"annex", &[number, owner]),
+        Content::Root(root) => {
+            let annex = Member::Number(Key::Annex, root.annex);
+            text_object(b"kind", b"process", &[number, owner, annex])
+        }
+        Content::Bank { limit } => {
+            let limit = Member::Number(Key::Limit, *limit);
+            text_object(b"kind", b"bank", &[number, owner, limit])
+        }
+    }
+}
+
+/// The line of an object.
+pub(crate) fn line_of_object(format: Format, number: u64, object: &Object) -> LineText
+    ensures text { result ≡ object_text format number object.now }
+    ensures short { length result ≤ 300 }
+{
+    match format {
+        Format::Text => words_of_object(number, object),
+        Format::Json => json_of_object(number, object),
+    }
+}
+
 // Writes the line of a member.
 fn print_member<W: Output>(
+    format: Format,
     inside: &NumberSet,
     number: usize,
     object: &Object,
@@ -56,12 +93,12 @@ fn print_member<W: Output>(
 ) -> Result<(), RunFault>
     requires { number < length inside.now }
     ensures { Writes (W.written writer.old) (W.written writer.new) result
-        (member_line inside.now (number, object.now)) }
+        (member_line format inside.now (number, object.now)) }
 {
     if !inside.contains(number) {
         return Ok(());
     }
-    line_of_object(number as u64, object).write_to(writer)
+    line_of_object(format, number as u64, object).write_to(writer)
 }
 
 // Whether a capability of an object names another process or another bank, with authority.
@@ -79,57 +116,68 @@ fn pulls(number: u64, capability: Capability) -> bool
 
 /// The line of a capability that an object holds.
 pub(crate) fn line_of_held(
+    format: Format,
     name: &[u8],
     number: u64,
-    place: &[u8],
+    place: Key,
     index: u64,
     capability: Capability,
 ) -> LineText
-    requires name { length name.now ≤ 8 }
-    requires place { length place.now ≤ 8 }
-    ensures text { result ≡ held_text name.now number place.now index capability }
+    requires { length name.now ≤ 8 }
+    ensures text { result ≡ held_text format name.now number place index capability }
     ensures short { length result < 320 }
 {
-    let mut line = LineText::numbered(name, number);
-    line.push(b",");
-    line.named(place, index);
-    line.push(b":");
-    line.capability(capability);
-    line
+    match format {
+        Format::Text => {
+            let mut line = LineText::numbered(name, number);
+            line.push(b",");
+            line.named(place.name(), index);
+            line.push(b":");
+            line.capability(capability);
+            line
+        }
+        Format::Json => {
+            let number = Member::Number(Key::Number, number);
+            let index = Member::Number(place, index);
+            let held = Member::Capability(Key::Capability, capability);
+            text_object(b"kind", name, &[number, index, held])
+        }
+    }
 }
 
 // Writes the line of a capability that pulls in another process or another bank.
 fn print_pull<W: Output>(
+    format: Format,
     name: &[u8],
     number: u64,
-    place: &[u8],
+    place: Key,
     index: usize,
     capability: Capability,
     writer: &mut W,
 ) -> Result<(), RunFault>
-    requires name { length name.now ≤ 8 }
-    requires place { length place.now ≤ 8 }
+    requires { length name.now ≤ 8 }
     ensures { Writes (W.written writer.old) (W.written writer.new) result
-        (pull_line name.now number place.now (index, capability)) }
+        (pull_line format name.now number place (index, capability)) }
 {
     if !pulls(number, capability) {
         return Ok(());
     }
-    line_of_held(name, number, place, index as u64, capability).write_to(writer)
+    line_of_held(format, name, number, place, index as u64, capability).write_to(writer)
 }
 
 // Writes the lines of the members.
 fn print_members<W: Output>(
+    format: Format,
     objects: &[Object],
     inside: &NumberSet,
     writer: &mut W,
 ) -> Result<(), RunFault>
     requires { length inside.now ≡ length objects.now }
     ensures { Writes (W.written writer.old) (W.written writer.new) result
-        (flat_map (member_line inside.now) (enumerate_from 0 objects.now)) }
+        (flat_map (member_line format inside.now) (enumerate_from 0 objects.now)) }
 {
     for (number, object) in objects.iter().enumerate() {
-        print_member(inside, number, object, writer)?;
+        print_member(format, inside, number, object, writer)?;
     }
     Ok(())
 }
@@ -137,19 +185,19 @@ fn print_members<W: Output>(
 // Writes the lines of the capabilities of an object that pull in processes and banks.
 #[tactic(auto, using(script::proofs::NumberedLines::lines_all))]
 fn print_pulls<W: Output>(
+    format: Format,
     name: &[u8],
     number: u64,
-    place: &[u8],
+    place: Key,
     capabilities: &[Capability],
     writer: &mut W,
 ) -> Result<(), RunFault>
-    requires name { length name.now ≤ 8 }
-    requires place { length place.now ≤ 8 }
+    requires { length name.now ≤ 8 }
     ensures { Writes (W.written writer.old) (W.written writer.new) result
-        (pull_lines name.now number place.now capabilities.now) }
+        (pull_lines format name.now number place capabilities.now) }
 {
     for (index, capability) in capabilities.iter().enumerate() {
-        print_pull(name, number, place, index, *capability, writer)?;
+        print_pull(format, name, number, place, index, *capability, writer)?;
     }
     Ok(())
 }
@@ -169,19 +217,27 @@ pub(crate) fn slots_of(objects: &[Object], number: u64) -> &[Capability]
 
 // Writes what an object pulls in: a process by the registers of its annex.
 fn print_object_pulls<W: Output>(
+    format: Format,
     objects: &[Object],
     number: u64,
     object: &Object,
     writer: &mut W,
 ) -> Result<(), RunFault>
     ensures { Writes (W.written writer.old) (W.written writer.new) result
-        (object_pulls objects.now number object.now) }
+        (object_pulls format objects.now number object.now) }
 {
     match &object.content {
-        Content::Node(slots) => print_pulls(b"node", number, b"slot", slots.as_slice(), writer),
+        Content::Node(slots) => print_pulls(
+            format,
+            b"node",
+            number,
+            Key::Slot,
+            slots.as_slice(),
+            writer,
+        ),
         Content::Root(root) => {
             let registers = slots_of(objects, root.annex);
-            print_pulls(b"process", number, b"register", registers, writer)
+            print_pulls(format, b"process", number, Key::Register, registers, writer)
         }
         _ => Ok(()),
     }
@@ -189,6 +245,7 @@ fn print_object_pulls<W: Output>(
 
 // Writes what a member pulls in.
 fn print_member_pulls<W: Output>(
+    format: Format,
     objects: &[Object],
     inside: &NumberSet,
     number: usize,
@@ -197,27 +254,28 @@ fn print_member_pulls<W: Output>(
 ) -> Result<(), RunFault>
     requires { number < length inside.now }
     ensures { Writes (W.written writer.old) (W.written writer.new) result
-        (member_pulls objects.now inside.now (number, object.now)) }
+        (member_pulls format objects.now inside.now (number, object.now)) }
 {
     if !inside.contains(number) {
         return Ok(());
     }
-    print_object_pulls(objects, number as u64, object, writer)
+    print_object_pulls(format, objects, number as u64, object, writer)
 }
 
 // Writes what the members pull in.
 #[tactic(auto, using(script::proofs::NumberedLines::lines_all))]
 fn print_all_pulls<W: Output>(
+    format: Format,
     objects: &[Object],
     inside: &NumberSet,
     writer: &mut W,
 ) -> Result<(), RunFault>
     requires { length inside.now ≡ length objects.now }
     ensures { Writes (W.written writer.old) (W.written writer.new) result
-        (flat_map (member_pulls objects.now inside.now) (enumerate_from 0 objects.now)) }
+        (flat_map (member_pulls format objects.now inside.now) (enumerate_from 0 objects.now)) }
 {
     for (number, object) in objects.iter().enumerate() {
-        print_member_pulls(objects, inside, number, object, writer)?;
+        print_member_pulls(format, objects, inside, number, object, writer)?;
     }
     Ok(())
 }
@@ -239,6 +297,7 @@ fn count_members(inside: &NumberSet, total: usize) -> u64
 // Writes a set of numbers: the line of each member as `show` begins it, by rising numbers, and a word with
 // their count.
 fn print_counted<W: Output>(
+    format: Format,
     word: &[u8],
     objects: &[Object],
     inside: &NumberSet,
@@ -247,43 +306,45 @@ fn print_counted<W: Output>(
     requires word { length word.now ≤ 9 }
     requires count { length inside.now ≡ length objects.now }
     ensures { Writes (W.written writer.old) (W.written writer.new) result
-        (counted_text word.now objects.now inside.now) }
+        (counted_text format word.now objects.now inside.now) }
 {
-    print_members(objects, inside, writer)?;
-    LineText::numbered(word, count_members(inside, objects.len())).write_to(writer)
+    print_members(format, objects, inside, writer)?;
+    number_line(format, word, count_members(inside, objects.len())).write_to(writer)
 }
 
-/// Writes a set of numbers: the line of each member as `show` begins it, by rising numbers; `closed`
+/// Writes a set of numbers in a format: the line of each member as `show` begins it, by rising numbers; `closed`
 /// with their count; and each capability of a member that names another process or another bank.
 ///
 /// `RunFault::Write` if the writer fails or takes nothing: then a beginning of that text was written.
 /// It takes no memory.
 pub fn print_reach<W: Output>(
+    format: Format,
     objects: &[Object],
     inside: &NumberSet,
     writer: &mut W,
 ) -> Result<(), RunFault>
     requires { length inside.now ≡ length objects.now }
     ensures { Writes (W.written writer.old) (W.written writer.new) result
-        (reach_text objects.now inside.now) }
+        (reach_text format objects.now inside.now) }
 {
-    print_counted(b"closed", objects, inside, writer)?;
-    print_all_pulls(objects, inside, writer)
+    print_counted(format, b"closed", objects, inside, writer)?;
+    print_all_pulls(format, objects, inside, writer)
 }
 
-/// Writes a set of processes: the line of each as `show` begins it, by rising numbers, and `processes`
+/// Writes a set of processes in a format: the line of each as `show` begins it, by rising numbers, and `processes`
 /// with their count.
 ///
 /// `RunFault::Write` if the writer fails or takes nothing: then a beginning of that text was written.
 /// It takes no memory.
 pub fn print_changers<W: Output>(
+    format: Format,
     objects: &[Object],
     inside: &NumberSet,
     writer: &mut W,
 ) -> Result<(), RunFault>
     requires { length inside.now ≡ length objects.now }
     ensures { Writes (W.written writer.old) (W.written writer.new) result
-        (changers_text objects.now inside.now) }
+        (changers_text format objects.now inside.now) }
 {
-    print_counted(b"processes", objects, inside, writer)
+    print_counted(format, b"processes", objects, inside, writer)
 }

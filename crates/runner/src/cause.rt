@@ -94,8 +94,8 @@ fn opened_by<'j>(job: &Job<'j>) -> Option<&'j str> {
     match job {
         Job::Run { image, .. }
         | Job::Shell { image, .. }
-        | Job::Check { image }
-        | Job::Info { image }
+        | Job::Check { image, .. }
+        | Job::Info { image, .. }
         | Job::Reach { image, .. }
         | Job::Copy { image, .. }
         | Job::Describe { image, .. }

@@ -2,23 +2,24 @@
 #![tactic(auto)]
 
 mod cause;
+mod json;
 mod making;
 mod query;
 
 use crate::cause::{Cause, NO_FILE, Refusal, tell_cause, tell_line};
+use crate::json::{format_of, tell_json};
 use crate::making::build;
-use crate::query::Query;
+use crate::query::{Query, drawing, purpose_of, reaching, sizes_of, writing};
 use checkpoint::ObjectStore;
 use command_line::{CommandLine, Job, JobFault, Script, command_line};
-use description::Sizes;
 use device::Device;
 use devices::{FileDevice, FileFault, Fuse};
 use image_builder::NewLayout;
 use jobs::{Done, Fault, check_image, finish, run_and_save, run_image, run_shell, run_traced};
+use json_lines::Format;
 use layout::Version;
 use object_cache::{Capacity, KeepAll, KeepRecent, PlainStore, Policy, Store};
-use queries::{Focus, ReachQuestion, explain_description};
-use reach::Purpose;
+use queries::explain_description;
 use runs::{ScriptReader, TraceOptions, Tracer};
 use script::{BufferedOutput, CountedWriter, Output};
 use shell::{Shell, TOPICS, TypedLines};
@@ -136,7 +137,7 @@ enum Mode {
     Watched { options: TraceOptions, saves: bool },
     Shell,
     // The image is only checked.
-    Check,
+    Check(Format),
 }
 
 // Runs a script over the image on a device, by a store of this kind, with a tracer, and returns its end.
@@ -224,9 +225,10 @@ fn run_in_mode<D: Device, S: ObjectStore<D>, R: Read + Drop, W: Output, V: Outpu
             )
         }
         Mode::Shell => shell_by::<_, S, _, _, _>(rt, device, setting, script, notes, streams),
-        Mode::Check => {
+        Mode::Check(format) => {
+            let alloc = rt.alloc();
             let Streams { output, errors } = streams;
-            let done = check_image::<_, S, _, _>(rt.alloc(), device, setting, output, errors);
+            let done = check_image::<_, S, _, _>(alloc, device, setting, format, output, errors);
             End::of_done(done)
         }
     }
@@ -301,13 +303,21 @@ fn open_image_and_run(
 }
 
 // Checks whether an image can be opened, and returns its end. A check fetches one object at a time.
-fn check(rt: &HostRuntime, image: &str, stdio: &mut Stdio) -> Result<End, Refusal> {
+fn check(rt: &HostRuntime, image: &str, format: Format, stdio: &mut Stdio) -> Result<End, Refusal> {
     let device = open_to_read(rt, image)?;
     let Some(least) = Capacity::new(8) else {
         unreachable!()
     };
     let (cache, notes) = (Some(least), errors_of(rt));
-    Ok(run_with_cache(rt, device, cache, io::empty(), Mode::Check, notes, stdio))
+    Ok(run_with_cache(
+        rt,
+        device,
+        cache,
+        io::empty(),
+        Mode::Check(format),
+        notes,
+        stdio,
+    ))
 }
 
 /// Answers a query about the image on a device, and returns the end of the command. Only here a store is named for
@@ -410,55 +420,6 @@ fn explain(rt: &HostRuntime, file: &str, stdio: &mut Stdio) -> Result<End, Refus
     }
 }
 
-// The sizes that the words name, as those of an image.
-fn sizes_of(sizes: &command_line::Sizes) -> Sizes {
-    Sizes {
-        nodes: sizes.nodes,
-        pages: sizes.pages,
-        log: sizes.log,
-    }
-}
-
-// The query of `upgrade` and of `copy`.
-fn writing<'a>(old: &'a str, new: &'a str, layout: NewLayout) -> Query<'a> {
-    Query::Upgrade { old, new, layout }
-}
-
-// What is sought: what may be read, or else what may be changed.
-fn purpose_of(reads: bool) -> Purpose {
-    if reads {
-        Purpose::Read
-    } else {
-        Purpose::Change
-    }
-}
-
-// The query of `draw`.
-fn drawing(from: Option<u64>, purpose: Purpose, to: Option<u64>) -> Query<'static> {
-    Query::Draw(Focus { from, purpose, to })
-}
-
-// The query of `reach`: which processes can change, or read, the object of `--to`, or else a chain to that of
-// `--shows`.
-fn reaching<'a>(
-    processes: &'a [u64],
-    purpose: Purpose,
-    trusted: &'a [u64],
-    shows: Option<u64>,
-    to: Option<u64>,
-) -> Query<'a> {
-    let question = match (to, shows) {
-        (Some(object), _) => ReachQuestion::Changers(purpose, object),
-        (None, Some(object)) => ReachQuestion::Chain(purpose, object),
-        (None, None) => ReachQuestion::Set(purpose),
-    };
-    Query::Reach {
-        processes,
-        trusted,
-        question,
-    }
-}
-
 // Does a job, and returns its end.
 fn serve(rt: &HostRuntime, job: &Job<'_>, stdio: &mut Stdio) -> Result<End, Refusal> {
     let (image, query) = match job {
@@ -483,7 +444,7 @@ fn serve(rt: &HostRuntime, job: &Job<'_>, stdio: &mut Stdio) -> Result<End, Refu
             let (script, mode) = (Script::Input, Mode::Shell);
             return open_image_and_run(rt, image, &script, *cache, mode, None, stdio);
         }
-        Job::Check { image } => return check(rt, image, stdio),
+        Job::Check { image, json } => return check(rt, image, format_of(*json), stdio),
         Job::Explain { file } => return explain(rt, file, stdio),
         Job::Upgrade { old, new } => (*old, writing(old, new, NewLayout::Of(Version::NEWEST))),
         Job::Copy { image, new } => (*image, writing(image, new, NewLayout::Kept)),
@@ -494,7 +455,7 @@ fn serve(rt: &HostRuntime, job: &Job<'_>, stdio: &mut Stdio) -> Result<End, Refu
             reads,
             to,
         } => (*image, drawing(*from, purpose_of(*reads), *to)),
-        Job::Info { image } => (*image, Query::Info),
+        Job::Info { image, json } => (*image, Query::Info(format_of(*json))),
         Job::Reach {
             image,
             processes,
@@ -502,11 +463,19 @@ fn serve(rt: &HostRuntime, job: &Job<'_>, stdio: &mut Stdio) -> Result<End, Refu
             shows,
             to,
             trusted,
+            json,
         } => {
             let (processes, trusted) = (processes.as_slice(), trusted.as_slice());
             (
                 *image,
-                reaching(processes, purpose_of(*reads), trusted, *shows, *to),
+                reaching(
+                    processes,
+                    purpose_of(*reads),
+                    trusted,
+                    *shows,
+                    *to,
+                    format_of(*json),
+                ),
             )
         }
     };
@@ -536,6 +505,9 @@ fn serve_line(rt: &HostRuntime, job: &Job<'_>, is_verbose: bool) -> u8 {
             (End::of_outcome(Err(fault)), cause)
         }
     };
+    if let Some(fault) = end.fault {
+        tell_json(rt, job, fault);
+    }
     if let Some(fault) = end.fault
         && (is_verbose || rt.stderr().is_terminal())
     {

@@ -6,10 +6,12 @@ use description::Sizes;
 use device::Device;
 use image_builder::{NewLayout, OldImage};
 use jobs::{Fault, upgrade_opened};
+use json_lines::Format;
 use migrator::WholeStore;
 use queries::{
     Focus, ReachQuestion, describe_image, draw_image, explain_image, info_image, reach_image,
 };
+use reach::Purpose;
 use script::Output;
 
 /// What a command asks about an image that it only reads.
@@ -22,12 +24,13 @@ pub(crate) enum Query<'w> {
     /// Why a run refuses it.
     Explain,
     /// Its sizes, and what it holds.
-    Info,
+    Info(Format),
     /// A question about what the processes named can ever change, or all processes if none is named.
     Reach {
         processes: &'w [u64],
         trusted: &'w [u64],
         question: ReachQuestion,
+        format: Format,
     },
     /// What it saves, in a new image.
     Upgrade {
@@ -35,6 +38,57 @@ pub(crate) enum Query<'w> {
         new: &'w str,
         layout: NewLayout,
     },
+}
+
+/// The sizes that the words name, as those of an image.
+pub(crate) fn sizes_of(sizes: &command_line::Sizes) -> Sizes {
+    Sizes {
+        nodes: sizes.nodes,
+        pages: sizes.pages,
+        log: sizes.log,
+    }
+}
+
+/// The query of `upgrade` and of `copy`.
+pub(crate) fn writing<'a>(old: &'a str, new: &'a str, layout: NewLayout) -> Query<'a> {
+    Query::Upgrade { old, new, layout }
+}
+
+/// What is sought: what may be read, or else what may be changed.
+pub(crate) fn purpose_of(reads: bool) -> Purpose {
+    if reads {
+        Purpose::Read
+    } else {
+        Purpose::Change
+    }
+}
+
+/// The query of `draw`.
+pub(crate) fn drawing(from: Option<u64>, purpose: Purpose, to: Option<u64>) -> Query<'static> {
+    Query::Draw(Focus { from, purpose, to })
+}
+
+/// The query of `reach`: which processes can change, or read, the object of `--to`, or else a chain to that of
+/// `--shows`.
+pub(crate) fn reaching<'a>(
+    processes: &'a [u64],
+    purpose: Purpose,
+    trusted: &'a [u64],
+    shows: Option<u64>,
+    to: Option<u64>,
+    format: Format,
+) -> Query<'a> {
+    let question = match (to, shows) {
+        (Some(object), _) => ReachQuestion::Changers(purpose, object),
+        (None, Some(object)) => ReachQuestion::Chain(purpose, object),
+        (None, None) => ReachQuestion::Set(purpose),
+    };
+    Query::Reach {
+        processes,
+        trusted,
+        question,
+        format,
+    }
 }
 
 // Writes what the image on a device saves to a new one, and returns its end. The new file is made only once the old
@@ -77,13 +131,16 @@ impl<'w> Query<'w> {
                 alloc, device, setting, focus, output, errors,
             ),
             Query::Explain => explain_image::<_, S, _, _>(alloc, device, setting, output, errors),
-            Query::Info => info_image::<_, S, _, _>(alloc, device, setting, output, errors),
+            Query::Info(format) => info_image::<_, S, _, _>(
+                alloc, device, setting, format, output, errors,
+            ),
             Query::Reach {
                 processes,
                 trusted,
                 question,
+                format,
             } => reach_image::<_, S, _, _>(
-                alloc, device, setting, processes, trusted, question, output, errors,
+                alloc, device, setting, format, processes, trusted, question, output, errors,
             ),
             Query::Upgrade { old, new, layout } => {
                 return upgrade::<_, S, _, _>(rt, device, setting, old, new, layout, output, errors);

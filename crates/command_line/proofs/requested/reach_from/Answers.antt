@@ -23,4 +23,5 @@ returns-clause-named c = λ numbers trusts. (
   held (IsNumberOption (rows_of (found_of c.args.inner.now)) (codes "shows")) c.number_of.result c.in_ok-shows.shows c.number_of.ensures.named (search rules),
   held (IsNumberOption (rows_of (found_of c.args.inner.now)) (codes "to")) c.number_of-2.result c.in_ok-to.to c.number_of-2.ensures.named (search rules),
   trusts,
+  c.flag_of.ensures,
 )

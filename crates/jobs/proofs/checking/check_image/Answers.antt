@@ -10,13 +10,13 @@ returns g c =
     let is = c.saved.ensures in
     let old = g.W.Output.written c.args.writer.now in
     let new = g.W.Output.written c.write_to.new.writer in
-    let checks = checked c.in-Ok.ensures.opened _ c.into_device-device.ensures _ (is.generation, is.age, is.entries) in (
+    let checks = checked c.args.format c.in-Ok.ensures.opened _ c.into_device-device.ensures _ (is.generation, is.age, is.entries) in (
       c.of_write-outcome.result,
       (r.status, r.fault),
       r.reported,
-      rw r.device (rw c.of_write-outcome.ensures (text_written old new _ (λ o. ChecksImage g.D.Device.disk c.args.device c.into_device-device.result old new o)
+      rw r.device (rw c.of_write-outcome.ensures (text_written old new _ (λ o. ChecksImage c.args.format g.D.Device.disk c.args.device c.into_device-device.result old new o)
           (λ a wrote. checks (Wrote old new) wrote) (λ front. checks (WroteFront old new) front) c.write_to.result
-          (rw c.checked_line-line.ensures.text at c.write_to.ensures))),
+          (rw c.line_of_saved-line.ensures.text at c.write_to.ensures))),
     )
 
 pub returns-in-Err : goal.returns-in-Err

@@ -11,8 +11,8 @@ returns-in-Ok g c =
       c.of_write-outcome.result,
       r.status,
       r.reported,
-      rw r.device (rw c.of_write-outcome.ensures (text_written old new (info_text c.in-Ok.lines.items)
-          (λ o. InspectsImage g.D.Device.disk c.args.device c.in-Ok.device old new o) (λ a wrote. (read.0, read.1, rw read.2 at wrote))
+      rw r.device (rw c.of_write-outcome.ensures (text_written old new (info_text c.args.format c.in-Ok.lines.items)
+          (λ o. InspectsImage c.args.format g.D.Device.disk c.args.device c.in-Ok.device old new o) (λ a wrote. (read.0, read.1, rw read.2 at wrote))
           (λ front. (read.0, read.1, rw read.2 at front)) c.print_lines.result (rw c.deref.ensures.value at c.print_lines.ensures))),
     )
 

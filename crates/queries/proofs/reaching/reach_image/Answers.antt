@@ -13,7 +13,7 @@ returns-in-Ok g c =
       c.tell_reach-outcome.result,
       r.status,
       r.reported,
-      rw r.device (reaches_image read.1 _ read.2 c.args.named.now c.args.trusted.now c.args.question (g.W.Output.written c.args.writer.now)
+      rw r.device (reaches_image read.1 _ read.2 c.args.format c.args.named.now c.args.trusted.now c.args.question (g.W.Output.written c.args.writer.now)
           (g.W.Output.written c.tell_reach-outcome.new.writer) c.tell_reach-outcome.result (rw c.deref.ensures.value at c.tell_reach-outcome.ensures)),
     )
 

@@ -11,8 +11,8 @@ pub returns-in-Ok : goal.returns-in-Ok
 returns-in-Ok g c =
     let old = g.W.Output.written c.args.writer.now in
     let new = g.W.Output.written c.print_reach.new.writer in
-    let text = reach_text c.args.objects.now c.in-Ok.inside in
-    let is : IsSetText c.args.objects.now c.args.purpose c.args.processes.now c.args.trusted.now text =
+    let text = reach_text c.args.format c.args.objects.now c.in-Ok.inside in
+    let is : IsSetText c.args.format c.args.objects.now c.args.purpose c.args.processes.now c.args.trusted.now text =
     record { marks = c.in-Ok.inside; reach = c.in-Ok.ensures.reach; bounds = c.in-Ok.ensures.bounds; spelled = refl } in
-    rw c.of_write.ensures (text_written old new text (TellsOf c.args.objects.now c.args.processes.now c.args.trusted.now (Set c.args.purpose) old new)
+    rw c.of_write.ensures (text_written old new text (TellsOf c.args.format c.args.objects.now c.args.processes.now c.args.trusted.now (Set c.args.purpose) old new)
     (λ a wrote. (text, is, wrote)) (λ front. (text, is, front)) c.print_reach.result c.print_reach.ensures)

@@ -3,4 +3,4 @@ use Rattle.reach.proofs.printing.print_all_pulls.Given as goal
 
 abbrev pub invariant-loop-number : goal.invariant-loop-number
 invariant-loop-number g l = Wrote (g.W.Output.written l.fn.writer) (g.W.Output.written l.writer)
-    (flat_map (member_pulls l.objects l.inside) (enumerate_from 0 (take l.number l.objects)))
+    (flat_map (member_pulls l.format l.objects l.inside) (enumerate_from 0 (take l.number l.objects)))

@@ -3,4 +3,4 @@ use Rattle.reach.proofs.printing.print_members.Given as goal
 
 abbrev pub invariant-loop-number : goal.invariant-loop-number
 invariant-loop-number g l = Wrote (g.W.Output.written l.fn.writer) (g.W.Output.written l.writer)
-    (flat_map (member_line l.inside) (enumerate_from 0 (take l.number l.objects)))
+    (flat_map (member_line l.format l.inside) (enumerate_from 0 (take l.number l.objects)))

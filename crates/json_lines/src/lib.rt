@@ -1,0 +1,10 @@
+//! Answers as JSON Lines: each line is an object.
+#![tactic(auto)]
+
+mod format;
+mod key;
+mod object;
+
+pub use format::Format;
+pub use key::Key;
+pub use object::{Member, number_line, number_object, text_object};
