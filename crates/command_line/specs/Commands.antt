@@ -96,7 +96,7 @@ rules_of sub.Describe = file_rule (codes "IMAGE") ∷ number_rule (codes "nodes"
 rules_of sub.Draw = file_rule (codes "IMAGE") ∷ number_rule (codes "from") ∷ flag_rule (codes "reads")
     ∷ number_rule (codes "to") ∷ cause_rule ∷ []
 
--- a command with arguments more
+-- a command with more arguments
 abbrev pub with_rules : App → List Rule → App
 with_rules app [] = app
 with_rules app (r ∷ rs) = with_rules (with_rule app r) rs

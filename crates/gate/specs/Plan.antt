@@ -62,7 +62,7 @@ IsFor os c args (change.SetState process state) = process_named c ≡ Some proce
 IsFor os c args (change.Space process held) = (process_named c ≡ Some process) × (held ≡ args.capability) × IsSpace held
 IsFor os c args (change.Bank made) = ⊥
 
--- a capability whose orders need no object, and no access; what a bank doesn't know is refused without a fetch
+-- a capability that is no page, node, space or process, nor a bank with an order that it knows
 abbrev pub IsPlain : Capability → ℕ → Type 0
 IsPlain (Page o a) w = ⊥
 IsPlain (Node o a) w = ⊥
@@ -86,7 +86,7 @@ IsOfProcess os (change.SetState process state) = IsTrue (is_process os process)
 IsOfProcess os (change.Space process held) = IsTrue (is_process os process)
 IsOfProcess os _ = Unit {0}
 
--- a capability that can be kept where its object was never freed, and so live wherever it is
+-- a capability that can be kept with count 0
 abbrev pub FitsCap : Geometry → Capability → Type 0
 FitsCap g c = IsKeptCap g 0 (record { what = c; count = 0 })
 

@@ -1,4 +1,4 @@
--- A number gets an entry, or has one no more: no object and no frozen frame is another.
+-- Adding or dropping a cache entry changes no object and no frozen frame.
 use Rattle.object_cache.proofs.Names.{ℕ, Bool, true, false, List, length, set, Option, Some, None, option_map, refl, sym, ap, arith, length-set, ne_eqb}
 use Rattle.object_cache.proofs.Names.{get_or-set_same, get_or-set_other, map-set, get_or-map-range_with_len, none-some, same_Some, Cap, Content, Role}
 use Rattle.object_cache.proofs.Names.{header_at, held_at, Disk, put_at, DurableState, Stored, below_at, stored_of, maps_same, map_set, Entry, entry_at}
@@ -170,7 +170,7 @@ module _ {s : Stored} {m : Memory} {all : Bool} {left count : ℕ} (is : IsCache
   some_now : entry_at more number ≡ Some e
   some_now = get_or-set_same m.entries number (Some e) None (omega (arith, within, is.headers, is.entries))
 
-  -- what wasn't written since is as it was frozen, if it is to be written
+  -- a pending number that isn't touched still has its frozen body
   as_frozen : mark_at m.pending number ≡ true → mark_at m.touched number ≡ false → c ≡ masked (header_at m.frozen_headers number).role (below_body s m number)
   as_frozen pending untouched = search arith
 

@@ -62,7 +62,7 @@ accepted_status (Ok true) = 0
 accepted_status (Ok false) = 1
 accepted_status (Err why) = 1
 
--- a fault of the text is none of the command
+-- a fault of the text isn't one of the command
 abbrev pub without_answer : Result Bool Fault → Result (Unit {0}) Fault
 without_answer (Ok is_accepted) = Ok tt
 without_answer (Err why) = Err why

@@ -59,7 +59,7 @@ IsFaultOf line (fault.NoRegister number) =
 abbrev pub IsOperand : Bool → List ℕ → Type 0
 IsOperand is_register word = (n : ℕ) × (n < (if is_register then 32 else 2 ^ 64)) × (word ≡ decimal n)
 
--- each of these words can stand at its place behind a keyword, and none is wanting
+-- the words are valid operands of the keyword, one for each place
 abbrev pub AreOperands : List Bool → Words → Type 0
 AreOperands [] [] = Unit {0}
 AreOperands (is_register ∷ others) (word ∷ words) = IsOperand is_register word × AreOperands others words

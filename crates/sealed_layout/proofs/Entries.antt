@@ -36,7 +36,7 @@ entry_put es i e old lt size before is =
     ∙ ap (λ (t : List ℕ). (t ++ e.object ∷ []) ++ e.slot ∷ []) before
     ∙ sym (numbers_push (take i es) e) ∙ ap entry_numbers (sym more)
 
--- one entry more is taken
+-- one more entry is taken
 pub entry_taken : (ns : List ℕ) (into : List Entry) (i : ℕ) → i < length into → length ns ≡ 2 * length into → take (2 * i) ns ≡ entry_numbers (take i into)
     → take (2 * (i + 1)) ns ≡ entry_numbers (take (i + 1) (set into i (entry_of (get_or ns (2 * i) 0) (get_or ns (2 * i + 1) 0))))
 entry_taken ns into i lt size before =

@@ -46,7 +46,7 @@ abbrev pub stage_of : ℕ → RawCommand
 stage_of kind =
     record { kind = kind; register = 0; sent = replicate 4 0; number = 2 ^ 64 - 1; words = replicate 4 0 }
 
--- the stages of a save, the first of which brings home what an earlier save left
+-- the stages of a save: what an earlier save left goes home first
 abbrev pub save_stages : List (Option Command)
 save_stages = Some (command.Migrate (2 ^ 64 - 1)) ∷ Some command.Checkpoint ∷ Some (command.Stabilize (2 ^ 64 - 1))
     ∷ Some command.Commit ∷ Some (command.Migrate (2 ^ 64 - 1)) ∷ []

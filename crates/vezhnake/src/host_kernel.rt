@@ -136,7 +136,8 @@ impl HostKernel {
 
     /// Runs a text as a script, as `runs::run` does, and appends the answers.
     ///
-    /// `RunFault::Write` if memory for the answers runs out. `RunFault::Read` after 2^64 - 1 reads.
+    /// `RunFault::Write` if memory for the answers runs out. `RunFault::Read` only
+    /// for a read after the end of the text.
     pub fn run_text(
         &mut self,
         alloc: Global,

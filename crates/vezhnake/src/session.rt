@@ -79,7 +79,7 @@ impl Session {
     /// Runs a text as a script, keeps the answers and copies them to the buffer.
     ///
     /// `SmallBuffer` if they don't fit; `NoMemory` if memory for the answers runs out: the lines up
-    /// to there were served. `Failed` after 2^64 - 1 reads.
+    /// to there were served. `Failed` only for a read after the end of the text.
     pub fn step(&mut self, text: &[u8], buffer: &mut [u8], size: &mut usize) -> Status
         ensures { StepsSession self.old self.new text.now buffer.old buffer.new size.new result }
     {

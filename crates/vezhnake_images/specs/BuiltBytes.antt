@@ -47,7 +47,7 @@ pub record IsImageOf (text bytes : List ℕ) : Type 0 where
   pub size : length bytes ≡ 512 * (plan_for description).total
   pub bytes_are : AreSectors (image_disk device).seen 0 bytes
 
--- whether the image of a text's description is in front of the buffer; else its length is told, and it is longer
+-- the buffer begins with the image of a text's description; or the image is longer than the buffer, and its length was written
 abbrev pub PutsImage : List ℕ → List ℕ → List ℕ → ℕ → Bool → Type 0
 PutsImage text old new size true = IsImageOf text (take size new) × (size ≤ length old) × (drop size new ≡ drop size old)
 PutsImage text old new size false =

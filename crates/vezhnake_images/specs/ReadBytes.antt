@@ -1,4 +1,4 @@
--- What is told of the bytes of an image, and of the text of a description.
+-- What the library answers about the bytes of an image, and the text of a description.
 use Rattle.std.specs.Prelude.{◌≡◌, ℕ, Bool, List, Option, IsUtf8}
 use Rattle.checkpoint.specs.Saved.{kept_of}
 use Rattle.image_explainer.specs.Explained.{IsExplainedBy}
@@ -20,7 +20,7 @@ use Rattle.vezhnake_images.specs.declared.raw_info.RawInfo.{RawInfo}
 abbrev pub IsInfoOf : List ℕ → RawInfo → Type 0
 IsInfoOf bytes info = (s : SavedState) × SavesState bytes s × (info ≡ info_of s.plan (saved_of (kept_of s)))
 
--- it is told; or why it is refused
+-- the numbers of an image were written; or why it is refused
 abbrev pub ChecksBytes : List ℕ → RawInfo → RawInfo → ImageStatus → Type 0
 ChecksBytes bytes before after status.Done = IsInfoOf bytes after
 ChecksBytes bytes before after refused = RefusesBytes bytes refused × (after ≡ before)

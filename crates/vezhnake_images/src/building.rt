@@ -103,7 +103,7 @@ fn read_all(device: &mut ImageDevice, bytes: &mut [u8])
 /// Builds the image of a description's text, and copies it to the buffer. Sets `size` to its length.
 ///
 /// `NotToml`, or `BadDescription` with the least rule that the description breaks. `SmallBuffer` if the image doesn't
-/// fit: then no rule from 3 on was tried. After an error the buffer is unchanged.
+/// fit. After an error the buffer is unchanged.
 #[tactic(auto, using(crate::proofs::Statuses::unbuilt_text))]
 pub fn build_bytes(alloc: Global, text: &[u8], image: &mut [u8], size: &mut usize) -> ImageStatus
     ensures { BuildsBytes text.now image.old image.new size.old size.new result }
