@@ -1,8 +1,8 @@
 -- Steps of the machine: which refusal applies, and what is carried out. The outcome of a command over present frames, from what each part reported.
 use Rattle.kernel.proofs.Names.{ℕ, Bool, true, false, List, Option, None, Some, refl, sym, ap, subst, inl, arith, nat_tests, Answer, Refusal, Command}
 use Rattle.kernel.proofs.Names.{Invocation, Geometry, Object, Effect, invoke, Running, Machine, Up, renewing, touching, touched_count, object_count, Step}
-use Rattle.kernel.proofs.Names.{refusal_of, carried_out, writing, shown, is_process, is_running_process, IsEarly, length, Result, Ok, Err, Frame, ResultCode}
-use Rattle.kernel.proofs.Names.{header_at, objects_of, IsSoundFrames, Frozen, Saved, is_free, content_at, none_given_up, renewing_none}
+use Rattle.kernel.proofs.Names.{refusal_of, carried_out, writing, shown, is_process, is_running_process, IsEarly, length, Result, Ok, Err, ResultCode}
+use Rattle.kernel.proofs.Names.{IsSoundFrames, Frozen, Saved, none_given_up, renewing_none}
 use Rattle.kernel.proofs.Names.{Parts, Renews, frames_of, objects_in, keepable_count, IsErr, IsErrOf, Invoked, Invokes, KeepsSoundFrames, TellsState, Failed}
 use Rattle.kernel.proofs.Names.{renews_none, Performs, machine_at, renewed_by, IsUnread, AreSameUnlessFailed, unrisen}
 use Rattle.kernel.specs.Machine.{StaysSound}

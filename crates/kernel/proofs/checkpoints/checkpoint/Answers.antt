@@ -10,12 +10,14 @@ returns-then-is_worn-clause-serves g c =
     refused _ _ _ g.met.D.Device.only_now g.met.S.ObjectStore.sound_holds c.args.live.now command.Checkpoint refusal.Worn
     (λ h up. worn h (running g.D.Device.disk g.S.ObjectStore.view g.S.Frames.parts c.args.live.now) (c.is_worn.ensures.worn c.if-is_worn.true))
 
-pub freeze-requires-clause-may : goal.freeze-requires-clause-may
-freeze-requires-clause-may g c =
+pub freeze-requires : goal.freeze-requires
+freeze-requires g c =
     let up = c.requires in
     record {
-      usable = (g.met.S.ObjectStore.usable_is c.args.live.now.store).1 up.1.store;
-      keepable = keepable_most up.0 (g.S.Frames.parts c.args.live.now.store) c.args.live.now.age up.1.sound.geometry up.1.sound.now;
+      may = record {
+        usable = (g.met.S.ObjectStore.usable_is c.args.live.now.store).1 up.1.store;
+        keepable = keepable_most up.0 (g.S.Frames.parts c.args.live.now.store) c.args.live.now.age up.1.sound.geometry up.1.sound.now;
+      };
     }
 
 pub returns-clause-serves : goal.returns-clause-serves
