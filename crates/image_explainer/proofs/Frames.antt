@@ -1,10 +1,9 @@
 -- Slots and frames.
-use Rattle.image_explainer.proofs.Names.{nat_tests, ℕ, nat_le, List, length, Option, Some, take, drop, refl, sym, ap, subst, arith, Image, Cap, Geometry, IsKeptCap}
-use Rattle.image_explainer.proofs.Names.{Entry, CheckpointHeader, Shape, capability_bytes, shape_of, HasDirectory, HasHeader, HasPlan, frame_in, frame_sector}
-use Rattle.image_explainer.proofs.Names.{sectors_from, shaped_at, shape_bytes, Plan, FramePart, HoldsCap, IsFault, FitsOr, IsWholeFrame}
+use Rattle.image_explainer.proofs.Names.{nat_tests, ℕ, nat_le, List, length, Option, Some, take, drop, refl, sym, ap, subst, arith, Image, Cap, Geometry}
+use Rattle.image_explainer.proofs.Names.{IsKeptCap, Entry, CheckpointHeader, Shape, capability_bytes, shape_of, HasDirectory, HasHeader, HasPlan, frame_in}
+use Rattle.image_explainer.proofs.Names.{frame_sector, sectors_from, shaped_at, shape_bytes, Plan, FramePart, HoldsCap, IsFault, FitsOr, IsWholeFrame}
+use Rattle.image_explainer.proofs.Names.{block_page, IsShapeFor}
 use Rattle.std.proofs.Common.{◌≡◌, ◌+◌, ◌-◌, ◌*◌, ◌<◌, ◌≤◌, ◌∙◌}
-use Rattle.layout.proofs.Blocks.{block_page}
-use Rattle.layout.specs.Shape.{IsShapeFor}
 use Rattle.image_explainer.specs.declared.sectors.fault.SectorFault.TheVariants as fault
 
 -- as the code cuts it

@@ -1,5 +1,6 @@
 -- The names that the proofs here cite: of other crates, and of the definitions of this one.
 pub use Rattle.byteorder.specs.Endian.{little_number}
+pub use Rattle.capability.proofs.Keeping.{keepable_later}
 pub use Rattle.capability.proofs.References.{not_annex, not_node, not_root}
 pub use Rattle.capability.specs.Consistency.{AreNamed, AreWholeProcesses, IsNamed}
 pub use Rattle.capability.specs.Parts.{Parts, frames_of}
@@ -11,6 +12,7 @@ pub use Rattle.device.proofs.Moments.{CountsNow}
 pub use Rattle.device.specs.Calls.{Agrees, AreSectors}
 pub use Rattle.device.specs.Disk.{Disk, Image}
 pub use Rattle.kernel.specs.Opening.{IsNoReason}
+pub use Rattle.layout.proofs.Blocks.{block_page}
 pub use Rattle.layout.proofs.Denoted.{frames_not_bad}
 pub use Rattle.layout.proofs.Directories.{directory_fits, entry_read, none_read, one_directory}
 pub use Rattle.layout.proofs.Halves.{half_within}
@@ -33,7 +35,7 @@ pub use Rattle.layout.specs.Image.{committed_of, committed_slot, directory_in, d
 pub use Rattle.layout.specs.Image.{shaped_at, slot_beside, slot_in, slot_sector, total_in}
 unfoldable pub use Rattle.layout.specs.Image.{sectors_from}
 pub use Rattle.layout.specs.Reason.{reason_number}
-pub use Rattle.layout.specs.Shape.{shape_bytes}
+pub use Rattle.layout.specs.Shape.{IsShapeFor, shape_bytes}
 pub use Rattle.layout.specs.Superblock.{HasMark, IsPlan, Plan, unused, version_number}
 unfoldable pub use Rattle.layout.specs.Superblock.{ranges_bytes, superblock_bytes}
 pub use Rattle.layout.specs.declared.bad_image.BadImage.{BadImage}
@@ -54,7 +56,7 @@ pub use Rattle.model.specs.declared.object.ContentRef.{ContentRef}
 pub use Rattle.recovery.proofs.BankFaults.{refuted}
 pub use Rattle.recovery.proofs.Denoted.{holds_one}
 pub use Rattle.recovery.proofs.Looking.{HasLooked}
-pub use Rattle.recovery.proofs.Named.{holds_none, named_more}
+pub use Rattle.recovery.proofs.Named.{holds_none, named_more, named_next, named_whole}
 pub use Rattle.recovery.proofs.Notes.{none_noted}
 pub use Rattle.recovery.proofs.Sound.{consistent_is_sound}
 pub use Rattle.recovery.proofs.Tables.{annex_known, content_read, header_read, table_read}

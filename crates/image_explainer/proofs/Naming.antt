@@ -1,7 +1,7 @@
 -- Capabilities that name what they can't.
-use Rattle.image_explainer.proofs.Names.{nat_tests, ℕ, List, [], Option, length, slice_index_or, sym, ap, subst, arith, IfNone, All, get_or_default, Cap, Frame}
-use Rattle.image_explainer.proofs.Names.{ObjectHeader, Content, current_count, frame_at, header_at, caps_in, Parts, frames_of, IsNamed, header_read, table_read}
-use Rattle.image_explainer.proofs.Names.{Misnamed, IsMisnamed, cap_at, void_held}
+use Rattle.image_explainer.proofs.Names.{nat_tests, ℕ, List, [], None, Option, length, slice_index_or, sym, ap, subst, arith, IfNone, All, get_or_default, Cap}
+use Rattle.image_explainer.proofs.Names.{Frame, ObjectHeader, Content, current_count, frame_at, header_at, caps_in, Parts, frames_of, IsNamed, header_read}
+use Rattle.image_explainer.proofs.Names.{table_read, Misnamed, IsMisnamed, cap_at, void_held}
 use Rattle.std.proofs.Common.{◌≡◌, ◌<◌, ◌∙◌}
 
 -- the capability of an index, which was read with the table
@@ -29,3 +29,8 @@ module _ (fs : List Frame) (c : Content Cap) (n : ℕ) (is : c ≡ (frame_at fs 
 
   pub nothing_there : caps_in c ≡ [] → All (IsNamed fs) (caps_in (frame_at fs n).content)
   nothing_there none = grind (arith, nat_tests)
+
+-- nothing was found among what an object holds
+pub none_found : (fs : List Frame) (n : ℕ) (found : Option Misnamed) → found ≡ None → IfNone found (All (IsNamed fs) (caps_in (frame_at fs n).content)) →
+    All (IsNamed fs) (caps_in (frame_at fs n).content)
+none_found fs n found is named = subst (λ (o : Option Misnamed). IfNone o (All (IsNamed fs) (caps_in (frame_at fs n).content))) is named

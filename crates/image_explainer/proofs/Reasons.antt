@@ -3,8 +3,8 @@ use Rattle.image_explainer.proofs.Names.{arith, ℕ, List, Option, None, Some, O
 use Rattle.image_explainer.proofs.Names.{Disk, Image, BadImage, OpenFault, OnlyReads, Holds, SavedFrames, IsInconsistent, frames_of, consistent_is_sound}
 use Rattle.image_explainer.proofs.Names.{OpensStore, View, Parts, saved_of, holds_one, frames_not_bad, SectorFault, IsFault, ImageFault, BreaksFrames}
 use Rattle.image_explainer.proofs.Names.{reason_of, Explains, IsExplainedBy, IsConsistentOr, AreBadForOneReason, IsMisnamed, IsUnmatched, Misnamed, Unmatched}
-use Rattle.image_explainer.proofs.Names.{AreNamed, Unbanked}
-use Rattle.std.proofs.Common.{◌≡◌, ◌≤◌, ◌^◌, ◌∙◌}
+use Rattle.image_explainer.proofs.Names.{AreNamed, Geometry, Unbanked, keepable_later}
+use Rattle.std.proofs.Common.{◌≡◌, ◌≤◌, ◌^◌, ◌-◌, ◌∙◌}
 use Rattle.std.specs.Prelude.{Result}
 use Rattle.image_explainer.proofs.OneReason.{one_reason as one_sector_reason}
 use Rattle.image_explainer.specs.declared.fault.ImageFault.TheVariants as fault
@@ -63,6 +63,17 @@ explained_found size c saved None holds is = (
   },
 )
 explained_found size c saved (Some f) holds is = explained_frames size c saved f holds is
+
+-- what a store holds that was made of a device can be kept at each age
+pub opened_keepable : {D : Type 0} (disk : D → Disk) (device : D) (parts : Parts) (view : View D) → OpensStore disk device parts view →
+    parts.geometry ≡ view.snapshots.saved.geometry → AreKeepable parts.geometry (2 ^ 64 - 1) (frames_of parts)
+opened_keepable disk device parts view opens geometry =
+    let saved = view.snapshots.saved in
+    let size = (disk device).sectors in
+    let c = (disk device).seen in
+    subst (λ (fs : List Frame). AreKeepable parts.geometry (2 ^ 64 - 1) fs) (sym opens.frames)
+    (subst (λ (g : Geometry). AreKeepable g (2 ^ 64 - 1) saved.frames) (sym geometry)
+    (keepable_later saved.geometry saved.age (2 ^ 64 - 1) saved.frames (omega (arith, within_age size c saved opens.holds)) (keepable size c saved opens.holds)))
 
 -- a store that was made of a device, and the device beneath it after a read
 module _ {D : Type 0} (disk : D → Disk) (device back : D) (parts : Parts) (view : View D) (opens : OpensStore disk device parts view)

@@ -1,6 +1,6 @@
 use Rattle.image_explainer.proofs.Names.{Err, ap, arith, sym, DurableState}
 use Rattle.std.proofs.Common.{◌≡◌, ◌∙◌}
-use Rattle.image_explainer.proofs.Reasons.{explains_found, explains_refused}
+use Rattle.image_explainer.proofs.Reasons.{explains_found, explains_refused, opened_keepable}
 use Rattle.image_explainer.proofs.explaining.explain_objects.Goals as goal
 
 pub returns-in-Ok : goal.returns-in-Ok
@@ -25,3 +25,14 @@ returns-in-Err g c = λ device opens.
     (c.into_device-device.ensures ∙ beneath) c.into.result
     (λ failed. absurd (omega (arith, same, c.in-Err.ensures.only_reads.cause.0 (ap Err (c.into.ensures.0.0 failed)))))
     c.into.ensures.1
+
+pub find_in_objects-found-requires : goal.find_in_objects-found-requires
+find_in_objects-found-requires g c =
+    let opens = c.requires.1 in
+    record {
+      may = record {
+        usable = (g.met.S.ObjectStore.usable_is c.args.store).1 opens.usable;
+        keepable = opened_keepable g.D.Device.disk c.requires.0 (g.S.Frames.parts c.args.store) (g.S.ObjectStore.view c.args.store) opens
+            (g.met.S.ObjectStore.geometry_is c.args.store);
+      };
+    }
