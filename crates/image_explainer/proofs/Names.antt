@@ -53,7 +53,7 @@ pub use Rattle.model.specs.declared.frame.ObjectHeader.{ObjectHeader}
 pub use Rattle.model.specs.declared.geometry.Geometry.{Geometry}
 pub use Rattle.model.specs.declared.object.Content.{Content}
 pub use Rattle.model.specs.declared.object.ContentRef.{ContentRef}
-pub use Rattle.recovery.proofs.BankFaults.{refuted}
+pub use Rattle.recovery.proofs.BankFaults.{refuted, unbanked_refuted}
 pub use Rattle.recovery.proofs.Denoted.{holds_one}
 pub use Rattle.recovery.proofs.Looking.{HasLooked}
 pub use Rattle.recovery.proofs.Named.{holds_none, named_more, named_next, named_whole}
@@ -65,7 +65,6 @@ pub use Rattle.recovery.specs.Denotes.{saved_of}
 pub use Rattle.recovery.specs.Laws.{AreBadForOneReason}
 pub use Rattle.recovery.specs.Noted.{AreNoted}
 pub use Rattle.recovery.specs.declared.consistency.processes.Noted.{Noted}
-pub use Rattle.recovery.specs.declared.consistency.reason.Unbanked.{Unbanked}
 pub use Rattle.std.proofs.Common.{Bool, ControlFlow, Err, List, None, Ok, Option, Result, Some, [], ap, append-nil, append_assoc, arith, drop, drop_at, false}
 pub use Rattle.std.proofs.Common.{inl, inr, length, length-append, nat_le, refl, replicate, slice_index_or, subst, suc, sym, take, take-add, take_at, true}
 pub use Rattle.std.proofs.Common.{zero, ℕ, ⊎_elim}

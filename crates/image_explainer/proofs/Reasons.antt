@@ -3,7 +3,7 @@ use Rattle.image_explainer.proofs.Names.{arith, ℕ, List, Option, None, Some, O
 use Rattle.image_explainer.proofs.Names.{Disk, Image, BadImage, OpenFault, OnlyReads, Holds, SavedFrames, IsInconsistent, frames_of, consistent_is_sound}
 use Rattle.image_explainer.proofs.Names.{OpensStore, View, Parts, saved_of, holds_one, frames_not_bad, SectorFault, IsFault, ImageFault, BreaksFrames}
 use Rattle.image_explainer.proofs.Names.{reason_of, Explains, IsExplainedBy, IsConsistentOr, AreBadForOneReason, IsMisnamed, IsUnmatched, Misnamed, Unmatched}
-use Rattle.image_explainer.proofs.Names.{AreNamed, Geometry, Unbanked, keepable_later}
+use Rattle.image_explainer.proofs.Names.{AreNamed, Geometry, keepable_later, unbanked_refuted}
 use Rattle.std.proofs.Common.{◌≡◌, ◌≤◌, ◌^◌, ◌-◌, ◌∙◌}
 use Rattle.std.specs.Prelude.{Result}
 use Rattle.image_explainer.proofs.OneReason.{one_reason as one_sector_reason}
@@ -17,15 +17,12 @@ misnamed_bad fs m is = grind (arith, nat_tests)
 unmatched_bad : (fs : List Frame) (u : Unmatched) → AreNamed fs → IsUnmatched fs u → IsInconsistent fs bad.BadProcess
 unmatched_bad fs u named is = grind (arith, nat_tests)
 
-unbanked_bad : (fs : List Frame) (u : Unbanked) → BreaksFrames fs (fault.Bank u) → IsInconsistent fs bad.BadBank
-unbanked_bad fs u is = grind (arith, nat_tests)
-
 -- frames with a fault are inconsistent for its reason
 inconsistent : (fs : List Frame) (f : ImageFault) → BreaksFrames fs f → IsInconsistent fs (reason_of f)
 inconsistent fs (fault.Sectors f) is = absurd is
 inconsistent fs (fault.Capability m) is = misnamed_bad fs m is.misnamed
 inconsistent fs (fault.Process u) is = unmatched_bad fs u is.0 is.1
-inconsistent fs (fault.Bank u) is = unbanked_bad fs u is
+inconsistent fs (fault.Bank u) is = (is.0, is.1, unbanked_refuted fs u is.2)
 
 explained_frames : (size : ℕ) (c : Image) (saved : SavedFrames) (f : ImageFault) → Holds size c saved → BreaksFrames saved.frames f →
     IsExplainedBy size c (Some f)

@@ -110,7 +110,7 @@ fn explain_sectors<D: Device>(
 
 /// Why the image on a device is refused: `None` if a kernel opens it, else what is wrong, and where. The
 /// reason of the fault is the least of the ten that holds. It holds for what the fault names, which is the first
-/// such place, but for a bank. Copies the sectors into memory.
+/// such place. Copies the sectors into memory.
 ///
 /// The device is returned. Nothing is written to it at any moment. `Failed` exactly if the device failed, and
 /// `NoMemory` if memory ran out; never `Bad`.

@@ -66,7 +66,7 @@ pub use Rattle.std.proofs.lemmas.Map.Views.{Contains-from_any}
 pub use Rattle.std.specs.List.{All, Contains, list_any, range_with_len}
 pub use Rattle.std.specs.Prelude.{Err, IsErrOf, IsTrue, MatchOption, Ok, Result, nat_eq, nat_lt}
 pub use Rattle.std.specs.Vec.{vec_capacity}
-pub use Rattle.recovery.specs.Consistency.{IsAboveLimit, IsInconsistent, IsUnbanked, Tells}
+pub use Rattle.recovery.specs.Consistency.{AllBefore, IsAboveLimit, IsInconsistent, IsOwnedAt, IsUnbanked, Tells}
 pub use Rattle.recovery.specs.ConsistencyLaws.{ConsistentIsSound, InconsistentIsUnsound}
 pub use Rattle.recovery.specs.Denotes.{Denotes, DenotesOne, IsSoundSaved, Leaves, saved_of}
 pub use Rattle.recovery.specs.Laws.{DenoteOneSaved, DenotedIsNotBad, DenotedIsOneOf, DenotedIsSound, NotBadIsDenoted}

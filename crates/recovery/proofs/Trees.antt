@@ -64,19 +64,22 @@ module _ (g : Geometry) (age : ℕ) (p : Parts) (k : AreKeepable g age (frames_o
     limit_there : (b : ℕ) → b < count → slice_index limits b ≡ limit_in (frame_at (frames_of p) b).content
     limit_there b inside = grind (arith, nat_tests, get_or-map-range_with_len, limit_is)
 
-    below : ((b : ℕ) → role_at (frames_of p) b ≡ role.Bank → slice_index usages b ≤ slice_index limits b) → AreLimited (frames_of p)
-    below low b bank =
+    within : (b : ℕ) → role_at (frames_of p) b ≡ role.Bank → slice_index usages b ≤ slice_index limits b →
+        usage (objects_in p) b ≤ limit_in (frame_at (frames_of p) b).content
+    within b bank low =
         let is = role_bank (frames_of p) (keepable_roles g age (frames_of p) k) b bank in
-        let least : slice_index usages b ≤ slice_index limits b = low b bank in
         grind (arith, nat_tests, limit_there, bank_counted)
 
-    above : (why : Unbanked) → IsAboveLimit (frames_of p) usages limits why → IsUnbanked (frames_of p) why
-    above why.Prime is = absurd is
-    above (why.Owner n owner) is = absurd is
-    above (why.Chain b) is = absurd is
-    above (why.Limit b most limit) is =
+    below : ((b : ℕ) → role_at (frames_of p) b ≡ role.Bank → slice_index usages b ≤ slice_index limits b) → AreLimited (frames_of p)
+    below low b bank = within b bank (low b bank)
+
+    above : AreOwned (frames_of p) → (why : Unbanked) → IsAboveLimit (frames_of p) usages limits why → IsUnbanked (frames_of p) why
+    above owned why.Prime is = absurd is
+    above owned (why.Owner n owner) is = absurd is
+    above owned (why.Chain b) is = absurd is
+    above owned (why.Limit b most limit) is =
         let bank = role_bank (frames_of p) (keepable_roles g age (frames_of p) k) b is.0 in
-        (is.0, is.1 ∙ used b bank, is.2 ∙ limit_there b (bank_counted b bank), is.3)
+        (is.0, is.1 ∙ used b bank, is.2 ∙ limit_there b (bank_counted b bank), is.3, owned, λ m less role. within m role (is.4 m less role))
 
     -- what was found by usages and limits
     pub limited : AreOwned (frames_of p) → (found : Option Unbanked)
@@ -84,4 +87,4 @@ module _ (g : Geometry) (age : ℕ) (p : Parts) (k : AreKeepable g age (frames_o
         (λ why. IsAboveLimit (frames_of p) usages limits why)
         → MatchOption found (AreBanked (frames_of p)) (λ why. IsUnbanked (frames_of p) why)
     limited owned None low = record { owned = owned; limited = below low }
-    limited owned (Some why) is = above why is
+    limited owned (Some why) is = above owned why is

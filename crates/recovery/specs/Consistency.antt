@@ -1,25 +1,42 @@
 -- The least of three reasons why frames that can be kept stand for no sound world.
 use Rattle.recovery.specs.Names.{ℕ, List, Option, None, Some, slice_index, Contains, Bank, Frame, chain, usage}
 use Rattle.recovery.specs.Names.{frame_at, objects_of, limit_in, BadImage, BadCapability, BadProcess, BadBank, role_at}
-use Rattle.recovery.specs.Names.{owner_of, AreNamed, AreWholeProcesses, AreBanked}
+use Rattle.recovery.specs.Names.{owner_of, AreNamed, AreWholeProcesses, AreBanked, AreOwned}
 use Rattle.std.specs.Prelude.{◌≡◌, ◌≢◌, ◌<◌, ◌≤◌}
 use Rattle.model.specs.declared.object.Role.TheVariants as role
 use Rattle.recovery.specs.declared.consistency.reason.Unbanked.{Unbanked}
 use Rattle.recovery.specs.declared.consistency.reason.Unbanked.TheVariants as bank
 
--- why banks aren't as they must be
+-- number 0 is a bank that owns itself
+abbrev pub HasPrime : List Frame → Type 0
+HasPrime fs = (role_at fs 0 ≡ role.Bank) × (owner_of fs 0 ≡ 0)
+
+-- an object is free or owned by a bank, and if it is a bank its chain reaches number 0
+abbrev pub IsOwnedAt : List Frame → ℕ → Type 0
+IsOwnedAt fs n = (role_at fs n ≢ role.Free → role_at fs (owner_of fs n) ≡ role.Bank) ×
+    (role_at fs n ≡ role.Bank → Contains (chain (objects_of fs) n) 0)
+
+-- all numbers before one have a property
+abbrev pub AllBefore : (ℕ → Type 0) → ℕ → Type 0
+AllBefore P n = (m : ℕ) → m < n → P m
+
+-- the first place where banks aren't as they must be: number 0; else the first object that isn't owned by a bank, or
+-- bank whose chain doesn't reach number 0; else the first bank that accounts for more than its limit
 abbrev pub IsUnbanked : List Frame → Unbanked → Type 0
-IsUnbanked fs bank.Prime = (role_at fs 0 ≡ role.Bank) × (owner_of fs 0 ≡ 0) → ⊥
+IsUnbanked fs bank.Prime = HasPrime fs → ⊥
 IsUnbanked fs (bank.Owner object owner) = (role_at fs object ≢ role.Free) × (owner_of fs object ≡ owner) ×
-    (role_at fs owner ≢ role.Bank)
-IsUnbanked fs (bank.Chain b) = (role_at fs b ≡ role.Bank) × (Contains (chain (objects_of fs) b) 0 → ⊥)
+    (role_at fs owner ≢ role.Bank) × HasPrime fs × AllBefore (IsOwnedAt fs) object
+IsUnbanked fs (bank.Chain b) = (role_at fs b ≡ role.Bank) × (Contains (chain (objects_of fs) b) 0 → ⊥) ×
+    (role_at fs (owner_of fs b) ≡ role.Bank) × HasPrime fs × AllBefore (IsOwnedAt fs) b
 IsUnbanked fs (bank.Limit b used limit) = (role_at fs b ≡ role.Bank) × (used ≡ usage (objects_of fs) b) ×
-    (limit ≡ limit_in (frame_at fs b).content) × (limit < used)
+    (limit ≡ limit_in (frame_at fs b).content) × (limit < used) × AreOwned fs ×
+    AllBefore (λ m. role_at fs m ≡ role.Bank → usage (objects_of fs) m ≤ limit_in (frame_at fs m).content) b
 
 -- the same of a limit, by usages and limits that were counted and read
 abbrev pub IsAboveLimit : List Frame → List ℕ → List ℕ → Unbanked → Type 0
 IsAboveLimit fs usages limits (bank.Limit b used limit) = (role_at fs b ≡ role.Bank) × (used ≡ slice_index usages b) ×
-    (limit ≡ slice_index limits b) × (limit < used)
+    (limit ≡ slice_index limits b) × (limit < used) ×
+    AllBefore (λ m. role_at fs m ≡ role.Bank → slice_index usages m ≤ slice_index limits m) b
 IsAboveLimit fs usages limits _ = ⊥
 
 -- The least of the reasons 8 to 10 why frames stand for no sound world:

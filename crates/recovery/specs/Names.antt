@@ -1,6 +1,6 @@
 -- The names of other crates that the definitions here cite.
-pub use Rattle.capability.specs.Consistency.{AreBanked, AreNamed, AreWholeProcesses, IsAnnexFor, IsRootOf, owner_of}
-pub use Rattle.capability.specs.Consistency.{role_at}
+pub use Rattle.capability.specs.Consistency.{AreBanked, AreNamed, AreOwned, AreWholeProcesses, IsAnnexFor, IsRootOf}
+pub use Rattle.capability.specs.Consistency.{owner_of, role_at}
 pub use Rattle.capability.specs.Parts.{Parts, frames_of, objects_in}
 pub use Rattle.checkpoint.specs.Opened.{OnlyReads}
 pub use Rattle.checkpoint.specs.Saved.{Holds, SavedFrames}

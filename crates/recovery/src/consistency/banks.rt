@@ -81,8 +81,8 @@ fn find_above_limit<F: Frames>(store: &F, usages: &[u64], limits: &[u64]) -> Opt
     None
 }
 
-/// Why an object isn't owned by a bank, the banks aren't a tree with number 0 at the top and at most 16 banks
-/// in a chain, or a bank accounts for more than its limit. Nothing where none of this is so. Banks are
+/// The first place where an object isn't owned by a bank, or a chain of at most 16 banks doesn't reach number 0;
+/// or else the first bank that accounts for more than its limit. Nothing where none of this is so. Banks are
 /// fetched one at a time for their limits.
 ///
 /// `NoMemory` if memory ran out, and `Fault` exactly if the device failed. No object changes.
