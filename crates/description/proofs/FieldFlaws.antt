@@ -3,7 +3,7 @@ use Rattle.description.proofs.Names.{ℕ, zero, suc, List, [], length, map, Opti
 use Rattle.description.proofs.Names.{sym, ap, arith, All, All-cons, All-head, All-map, All-tail, none-some, same_Some, slice_get_within, AreDistinct, AreSlots}
 use Rattle.description.proofs.Names.{AreWords, HasFields, IsProcessEntry, IsSomeCapability, Description, NodeEntry, PageEntry, ProcessEntry, SlotEntry}
 use Rattle.description.proofs.Names.{WordEntry, process_of, BreaksField, BreaksIndexed, BreaksProcess, BreaksSlots, IsFirst, IsTwice, Indexed, Part, SlotFlaw}
-use Rattle.description.proofs.Names.{inl, inr, slice_get-get_or, MatchOption, is_some, true, false, false≢true, true≢false, take, take_more, subst}
+use Rattle.description.proofs.Names.{inl, inr, slice_get-get_or, take, take_more, subst}
 use Rattle.description.proofs.Names.{Contains, Contains-append_cases}
 use Rattle.std.proofs.Common.{◌≡◌, ◌≢◌, ◌+◌, ◌<◌, ◌≤◌, ◌∷◌, ◌++◌, ◌∙◌}
 use Rattle.description.specs.declared.flaw.Indexed.TheVariants as indexed
@@ -127,13 +127,3 @@ unfolding BreaksProcess
 process_broken d (part.Slots k flaw) first = absurd (never_there _ first.1)
 process_broken d (part.Words k flaw) first = absurd (never_there _ first.1)
 process_broken d which first = first
-
--- a part that was found
-pub flaw_refuted : (d : Description) (which : Option Part) → MatchOption which (HasFields d) (λ part. BreaksField d part) → is_some which ≡ true →
-    HasFields d → ⊥
-flaw_refuted d None found there has = false≢true there
-flaw_refuted d (Some part) found there has = field_refuted d part found has
-
-pub unflawed : (d : Description) (which : Option Part) → MatchOption which (HasFields d) (λ part. BreaksField d part) → is_some which ≡ false → HasFields d
-unflawed d None found none = found
-unflawed d (Some part) found none = absurd (true≢false none)

@@ -4,7 +4,7 @@ use Rattle.description.proofs.Names.{arith, All, Contains, length-replicate, All
 use Rattle.description.proofs.Names.{Geometry, Available, IsWellFormed, blank_frame, frame_at, void_held, AreKeepable, AreKeptSlots, Follows, IsCount, IsKept}
 use Rattle.description.proofs.Names.{IsKeptCap, IsKeepable, IsOfKind, IsSpace, object_count, fresh_cap, BankEntry, Description, NodeEntry, PageEntry}
 use Rattle.description.proofs.Names.{ProcessEntry, SlotEntry, WordEntry, World, AreSlots, AreWords, HasFields, HasNamedWords, HasNumbers, HoldsNamed}
-use Rattle.description.proofs.Names.{IsSomeCapability, IsDescribed, IsProcessEntry, IsSpaceEntry, first_named, AreTargets, Entry, HasProcessTargets, HasTargets}
+use Rattle.description.proofs.Names.{IsSomeCapability, IsDescribed, IsProcessEntry, IsSpaceEntry, first_named, AllHave, AllIn, AllOfProcess, Entry, IfNamed}
 use Rattle.description.proofs.Names.{IsLaid, OfAnnex, OfBank, OfNode, OfPage, OfRoot, entries, frame_of, laid, number_of, slot_held, slots_of, IsTarget}
 use Rattle.description.proofs.Names.{words_of, Fits}
 use Rattle.layout.specs.Superblock.{IsGeometry}
@@ -67,15 +67,15 @@ no_count = (omega arith, omega arith)
 pub follows : (g : Geometry) (c : Capability) → IsGeometry g → IsWellFormed c → IsTarget g c → Follows g 0 0 c
 follows g c is formed target = grind (arith, nat_tests, page_fits, no_count, node_fits)
 
-slot_kept : (g : Geometry) (o : Option Capability) → IsGeometry g → IsSomeCapability o → IsTarget g (unwrap_or o Void) →
+slot_kept : (g : Geometry) (o : Option Capability) → IsGeometry g → IsSomeCapability o → IfNamed (IsTarget g) o →
     IsKeptCap g 0 (fresh_cap (unwrap_or o Void))
 slot_kept g o is formed target = search (arith, follows)
 
-space_kept : (g : Geometry) (o : Option Capability) → IsGeometry g → IsSpaceEntry o → IsTarget g (unwrap_or o Void) →
+space_kept : (g : Geometry) (o : Option Capability) → IsGeometry g → IsSpaceEntry o → IfNamed (IsTarget g) o →
     IsKeptCap g 0 (fresh_cap (unwrap_or o Void)) × IsSpace (unwrap_or o Void)
 space_kept g o is formed target = search (arith, follows)
 
-pub slots_kept : (g : Geometry) (first : ℕ) (es : List SlotEntry) → IsGeometry g → AreSlots first es → AreTargets g es → AreKeptSlots g 0 (slots_of es)
+pub slots_kept : (g : Geometry) (first : ℕ) (es : List SlotEntry) → IsGeometry g → AreSlots first es → AllIn (IsTarget g) es → AreKeptSlots g 0 (slots_of es)
 unfolding slots_of
 slots_kept g first es is are targets = record {
   count = length_each (λ s. s.index) slot_held es void_slots ∙ length-replicate 32 void_held;
@@ -85,7 +85,7 @@ slots_kept g first es is are targets = record {
 
 -- The frame of an object.
 
-kept_entry : (d : Description) (e : Entry) → IsGeometry d.geometry → HasNumbers d → HasFields d → HasTargets d.geometry d → IsOf d e → Fits e →
+kept_entry : (d : Description) (e : Entry) → IsGeometry d.geometry → HasNumbers d → HasFields d → AllHave (IsTarget d.geometry) d → IsOf d e → Fits e →
     IsKept d.geometry 0 (frame_of e)
 kept_entry d (OfBank b) is numbers fields targets of fits = record {
   role = refl;
@@ -97,8 +97,8 @@ kept_entry d (OfBank b) is numbers fields targets of fits = record {
 }
 kept_entry d (OfRoot p) is numbers fields targets of fits =
     let good : IsProcessEntry p = All-contains IsProcessEntry d.processes.items p fields.processes of in
-    let target : HasProcessTargets d.geometry p = All-contains (HasProcessTargets d.geometry) d.processes.items p targets.processes of in
-    let space = space_kept d.geometry p.space is good.space target.space in
+    let target = All-contains (AllOfProcess (IsTarget d.geometry)) d.processes.items p targets.processes of in
+    let space = space_kept d.geometry p.space is good.space target.0 in
     record {
       role = refl;
       allocations = no_count;
@@ -109,14 +109,14 @@ kept_entry d (OfRoot p) is numbers fields targets of fits =
     }
 kept_entry d (OfAnnex p) is numbers fields targets of fits =
     let good : IsProcessEntry p = All-contains IsProcessEntry d.processes.items p fields.processes of in
-    let target : HasProcessTargets d.geometry p = All-contains (HasProcessTargets d.geometry) d.processes.items p targets.processes of in
+    let target = All-contains (AllOfProcess (IsTarget d.geometry)) d.processes.items p targets.processes of in
     record {
       role = refl;
       allocations = no_count;
       calls = no_count;
       owner = fits;
       unowned = λ free. absurd cc;
-      content = (slots_kept d.geometry 1 p.registers.items is good.registers target.registers, first_void _ good.registers);
+      content = (slots_kept d.geometry 1 p.registers.items is good.registers target.1, first_void _ good.registers);
     }
 kept_entry d (OfNode n) is numbers fields targets of fits = record {
   role = refl;
@@ -125,7 +125,7 @@ kept_entry d (OfNode n) is numbers fields targets of fits = record {
   owner = fits;
   unowned = λ free. absurd cc;
   content = slots_kept _ 0 _ is (All-contains (λ m. AreSlots 0 m.slots.items) _ n fields.nodes of)
-      (All-contains (λ m. AreTargets d.geometry m.slots.items) _ n targets.nodes of);
+      (All-contains (λ m. AllIn (IsTarget d.geometry) m.slots.items) _ n targets.nodes of);
 }
 kept_entry d (OfPage p) is numbers fields targets of fits = record {
   role = refl;
@@ -192,7 +192,7 @@ laid_described d numbers fields = record {
 blank_kept : (g : Geometry) (n : ℕ) → IsKeepable g 0 n blank_frame
 blank_kept g n = grind (arith, nat_tests, no_count)
 
-pub laid_keepable : (d : Description) → IsGeometry d.geometry → HasNumbers d → HasFields d → HasTargets d.geometry d → All Fits (entries d)
+pub laid_keepable : (d : Description) → IsGeometry d.geometry → HasNumbers d → HasFields d → AllHave (IsTarget d.geometry) d → All Fits (entries d)
     → AreKeepable d.geometry 0 (laid (entries d) (blanks d))
 laid_keepable d is numbers fields targets fits = record {
   count = laid_count d;

@@ -13,7 +13,12 @@ pub mod FieldFlaws
 pub mod KeptFrames
 pub mod LaidFrames
 pub mod Lists
+pub mod NamedCapabilities
 pub mod NamedTargets
+pub mod NumberPlaces
+mod Ranges
+mod SeenNumbers
+pub mod BrokenLimits
 pub mod WholeProcesses
 pub mod Worlds
 pub mod FirstFlaws

@@ -1,10 +1,9 @@
 -- Distinct numbers, and writes at them.
 use Rattle.description.proofs.Names.{ℕ, zero, suc, inl, inr, List, [], map, length, replicate, Some, slice_get, drop, slice_index_or, slice_set, refl, sym, ap}
 use Rattle.description.proofs.Names.{subst, arith, All, Contains, cases_eq, nat_tests, get_or-set_same, get_or-set_other, length-set, drop_all, drop_more}
-use Rattle.description.proofs.Names.{All-head, All-set, All-tail, Contains-get_or, AreDistinct, first_named, set_each, is_marked, true, false, true≢false, Bool}
+use Rattle.description.proofs.Names.{All-head, All-set, All-tail, Contains-get_or, AreDistinct, first_named, set_each}
 use Rattle.description.proofs.Names.{Contains-append_left, Contains-append_right}
 use Rattle.std.proofs.Common.{◌≡◌, ◌≢◌, ◌⊎◌, ◌+◌, ◌<◌, ◌≤◌, ◌∷◌, ◌++◌, ◌∙◌}
-use Rattle.std.specs.Prelude.{◌↔◌}
 
 pub contains_here : {X : Type 0} → (x : X) (xs : List X) → Contains (x ∷ xs) x
 contains_here x xs = (0, omega arith, refl)
@@ -110,52 +109,6 @@ module _ {E V : Type 0} (index : E → ℕ) (value : E → V) where
   pub each_holds : (P : V → Type 0) (es : List E) (xs : List V) → All P xs → All (λ e. P (value e)) es → All P (set_each index value es xs)
   each_holds P [] xs old new = old
   each_holds P (e ∷ es) xs old new = each_holds P es _ (All-set P xs _ _ (All-head (λ f. P (value f)) e es new) old) (All-tail (λ f. P (value f)) e es new)
-
--- Numbers that are gone through in order, with those before marked.
-
-pub none_marked : (count m : ℕ) → is_marked (replicate count false) m ≡ false
-none_marked (suc c) (suc m) = none_marked c m
-none_marked count m = refl
-
--- the numbers differ, and none is marked
-pub record AreNew (marks : List Bool) (ns : List ℕ) : Type 0 where
-  pub distinct : AreDistinct ns
-  pub unmarked : (m : ℕ) → Contains ns m → is_marked marks m ≡ false
-
-pub all_new : (ns : List ℕ) (count : ℕ) → AreDistinct ns ↔ AreNew (replicate count false) ns
-all_new ns count = (λ d. record { distinct = d; unmarked = λ m h. none_marked count m }, λ new. new.distinct)
-
-pub not_new : (ns : List ℕ) (marks : List Bool) (i : ℕ) → i < length ns → is_marked marks (slice_index_or ns i 0) ≡ true
-    → (AreDistinct ns ↔ AreNew marks (drop i ns)) → AreDistinct ns → ⊥
-not_new ns marks i lt marked was distinct = search (arith, drop_more, contains_here)
-
--- one number more is marked
-next_new : (n : ℕ) (ns : List ℕ) (marks : List Bool) → n < length marks → is_marked marks n ≡ false
-    → AreNew marks (n ∷ ns) ↔ AreNew (slice_set marks n true) ns
-next_new n ns marks lt unmarked = (
-  λ new. record {
-    distinct = new.distinct.1;
-    unmarked = λ m h. get_or-set_other marks n m true false (λ (is : m ≡ n). new.distinct.0 (subst (Contains ns) is h))
-        ∙ new.unmarked m (contains_there m n ns h);
-  },
-  λ rest. record {
-    distinct = (λ h. true≢false (sym (get_or-set_same marks n true false lt) ∙ rest.unmarked n h), rest.distinct);
-    unmarked = λ m h. elim (contains_cases m n ns h) [
-      | inl is ↦ subst (λ (k : ℕ). is_marked marks k ≡ false) is unmarked
-      | inr r ↦ sym (get_or-set_other marks n m true false
-          (λ (is : m ≡ n). true≢false (sym (get_or-set_same marks n true false lt) ∙ rest.unmarked n (subst (Contains ns) is r))))
-          ∙ rest.unmarked m r
-    ];
-  },
-)
-
-pub still_new : (ns : List ℕ) (marks : List Bool) (i : ℕ) → i < length ns → slice_index_or ns i 0 < length marks
-    → is_marked marks (slice_index_or ns i 0) ≡ false → (AreDistinct ns ↔ AreNew marks (drop i ns))
-    → AreDistinct ns ↔ AreNew (slice_set marks (slice_index_or ns i 0) true) (drop (i + 1) ns)
-still_new ns marks i lt within unmarked was = search (arith, drop_more, next_new)
-
-pub ended_new : (ns : List ℕ) (marks : List Bool) (i : ℕ) → length ns ≤ i → (AreDistinct ns ↔ AreNew marks (drop i ns)) → AreDistinct ns
-ended_new ns marks i done was = was.1 (rw (drop_all i ns done) (record { distinct = tt; unmarked = λ m h. absurd (contains_none m h) }))
 
 module _ {E : Type 0} (index : E → ℕ) where
   -- where the entries differ, those with the same index are the same

@@ -1,13 +1,10 @@
--- In described frames in which each capability is named, each names a number of its kind.
-use Rattle.description.proofs.Names.{nat_tests, arith, inl, inr, ℕ, List, [], Option, Some, unwrap_or, refl, sym, ap, subst, All, get_or-map, All-contains}
-use Rattle.description.proofs.Names.{All-head, Cap, Capability, Void, Frame, ObjectHeader, Geometry, Content, blank_frame, current_count, frame_at, header_at}
-use Rattle.description.proofs.Names.{headers, caps_in, role_of, IsOfKind, object_count, fresh_cap, Description, NodeEntry, SlotEntry, AreNamed, IsNamed}
-use Rattle.description.proofs.Names.{NamesItsRole, AreSlots, HasFields, HasNumbers, HoldsNamed, IsDescribed, IsProcessEntry, first_frame, AreTargets, Entry}
-use Rattle.description.proofs.Names.{HasProcessTargets, HasTargets, OfAnnex, OfNode, OfRoot, number_of, IsTarget}
+-- In described frames no count was ever raised, and what is an object of a kind has a number of that kind.
+use Rattle.description.proofs.Names.{nat_tests, arith, inl, inr, ℕ, List, refl, sym, ap, subst, get_or-map, Cap, Capability, Frame, ObjectHeader, Geometry}
+use Rattle.description.proofs.Names.{Content, blank_frame, current_count, frame_at, header_at, headers, role_of, IsOfKind, object_count, Description}
+use Rattle.description.proofs.Names.{NamesItsRole, HasNumbers, IsDescribed, first_frame, Entry, number_of, IsTarget}
 use Rattle.std.proofs.Common.{◌≡◌, ◌≢◌, ◌<◌, ◌≤◌, ◌∙◌}
 use Rattle.model.specs.declared.object.Role.TheVariants as role
-use Rattle.description.proofs.Entries.{HasRange, IsFrameOf, described_cases, described_of, in_range}
-use Rattle.description.proofs.Lists.{all_from, all_got, first_of}
+use Rattle.description.proofs.Entries.{HasRange, IsFrameOf, described_cases, in_range}
 
 -- a frame of an object that was never rescinded, at a number of its kind
 pub record IsFirst (g : Geometry) (n : ℕ) (f : Frame) : Type 0 where
@@ -76,36 +73,3 @@ module _ (d : Description) (fs : List Frame) (numbers : HasNumbers d) (is : IsDe
 
   pub role_target : (c : Capability) → NamesItsRole fs c → IsTarget d.geometry c
   role_target c names = grind (arith, nat_tests, a_page, a_node, a_root, first_at, a_bank)
-
-  held_target : (c : Capability) → IsNamed fs (fresh_cap c) → IsTarget d.geometry c
-  held_target c named = role_target c (named.live (never_raised d fs c numbers is))
-
-  -- the capabilities of slots
-  slots_targets : (first : ℕ) (es : List SlotEntry) (slots : List Cap) → AreSlots first es → HoldsNamed es slots → All (IsNamed fs) slots →
-      AreTargets d.geometry es
-  slots_targets first es slots are holds named = all_from _ es (λ s of.
-      let place = All-contains (λ t. (first ≤ t.index) × (t.index < 32)) es s are.places of in
-      let what = first_of (λ t. t.index) (λ t. unwrap_or t.capability Void) Void es s are.distinct of in
-      let held : IsNamed fs (fresh_cap (unwrap_or s.capability Void)) =
-      all_got (IsNamed fs) slots s.index _ named (holds.each s.index place.1 ∙ ap (λ c. Some (fresh_cap c)) what) in
-      held_target (unwrap_or s.capability Void) held)
-
-  named_in : (n : ℕ) (f : Frame) → AreNamed fs → frame_at fs n ≡ f → All (IsNamed fs) (caps_in f.content)
-  named_in n f named same = subst (λ (g : Frame). All (IsNamed fs) (caps_in g.content)) same (named n)
-
-  pub named_targets : HasFields d → AreNamed fs → HasTargets d.geometry d
-  named_targets fields named = record {
-    processes = all_from (HasProcessTargets d.geometry) d.processes.items (λ p of.
-        let good : IsProcessEntry p = All-contains IsProcessEntry d.processes.items p fields.processes of in
-        let root = described_of d fs (OfRoot p) is of in
-        let annex = described_of d fs (OfAnnex p) is of in
-        let held : IsNamed fs (fresh_cap root.1) = All-head (IsNamed fs) (fresh_cap root.1) [] (named_in p.root _ named root.4) in
-        record {
-          space = subst (λ (o : Option Capability). IsTarget d.geometry (unwrap_or o Void)) (sym root.3) (held_target root.1 held);
-          registers = slots_targets 1 p.registers.items annex.0 good.registers annex.1 (named_in p.annex _ named annex.2);
-        });
-    nodes = all_from (λ (m : NodeEntry). AreTargets d.geometry m.slots.items) d.nodes.items (λ n of.
-        let node = described_of d fs (OfNode n) is of in
-        slots_targets 0 n.slots.items node.0 (All-contains (λ (m : NodeEntry). AreSlots 0 m.slots.items) d.nodes.items n fields.nodes of) node.1
-        (named_in n.number _ named node.2));
-  }

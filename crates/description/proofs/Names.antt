@@ -4,6 +4,10 @@ pub use Rattle.capability.proofs.Keeping.{keepable_later}
 pub use Rattle.capability.specs.Consistency.{AreNamed, AreWholeProcesses, IsAnnexFor, IsNamed, IsRootOf, NamesItsRole, annex_in, owner_of, role_at}
 pub use Rattle.capability.specs.Plain.{fresh_cap}
 pub use Rattle.collections.specs.Marks.{is_marked}
+pub use Rattle.home_ranges.specs.Laid.{MayBeLaid, placed}
+pub use Rattle.home_ranges.specs.declared.number_range.NumberRange.{NumberRange}
+pub use Rattle.layout.specs.Superblock.{Cover, version_number}
+pub use Rattle.layout.specs.declared.version.Version.{Version}
 pub use Rattle.model.specs.Capability.{IsWellFormed, named}
 pub use Rattle.model.specs.Frame.{blank_frame, blank_header, current_count, frame_at, header_at, headers, void_held}
 unfoldable pub use Rattle.model.specs.Frame.{frames_in}
@@ -26,7 +30,7 @@ pub use Rattle.model.specs.declared.object.State.{State}
 pub use Rattle.model.specs.declared.object.State.TheVariants.{Available, Running, Waiting}
 pub use Rattle.script.proofs.CapabilityTexts.{text_once}
 pub use Rattle.std.proofs.Common.{Bool, Bor, Err, Global, IfNone, IfSome, IsErrAnd, IsSomeAnd, List, MatchOption, None, Ok, Option, Result, Some, Vec, [], ap}
-pub use Rattle.std.proofs.Common.{arith, codes, drop, false, get_or, inl, inr, is_eq, is_some, length, map, nat_cmp, nat_eq, pos, refl, replicate, rules}
+pub use Rattle.std.proofs.Common.{option_map, arith, codes, drop, false, get_or, inl, inr, is_eq, is_some, length, map, nat_cmp, nat_eq, pos, refl, replicate, rules}
 pub use Rattle.std.proofs.Common.{slice_get, slice_index, slice_index_or, slice_set, subst, suc, sym, take, true, true≢false, unwrap_or, vec_len, zero, ℕ, ℤ}
 pub use Rattle.std.proofs.Math.ListN.{get_or-map}
 pub use Rattle.std.proofs.lemmas.Bool.{cases_eq, cases_lt, false≢true}
@@ -36,11 +40,12 @@ pub use Rattle.std.proofs.lemmas.Grind.{common_steps}
 pub use Rattle.std.proofs.lemmas.Int.{to_z-of_z}
 pub use Rattle.std.proofs.lemmas.Iterator.{YieldsList-from_map, YieldsList-from_slice, items_from_collect}
 pub use Rattle.std.proofs.lemmas.Iterator.Consumers.{YieldsList-at, YieldsList-from_chain}
-pub use Rattle.std.proofs.lemmas.List.{drop_all, drop_more, ext_get_or, get_or-set_other, get_or-set_same, length-replicate, length-set, take_all, take_more}
+pub use Rattle.std.proofs.lemmas.List.{drop_all, drop_more, ext_get_or, get_or-set_other, get_or-set_same, get_or_default, length-append, length-map}
+pub use Rattle.std.proofs.lemmas.List.{length-replicate, length-set, take_all, take_more}
 pub use Rattle.std.proofs.lemmas.List.Elements.{All-append, All-cons, All-contains, All-head, All-map, All-more, All-nil, All-replicate, All-set, All-tail}
 pub use Rattle.std.proofs.lemmas.List.Elements.{AllZip-get_or, Contains-append_cases, Contains-append_left, Contains-append_right, Contains-get_or}
 pub use Rattle.std.proofs.lemmas.List.Elements.{length_all_zip}
-pub use Rattle.std.proofs.lemmas.Option.{get_or_from_slice_get, none-some, same_Some, slice_get-get_or, slice_get_within}
+pub use Rattle.std.proofs.lemmas.Option.{get_or_from_slice_get, none-some, same_Some, slice_get-get_or, slice_get-map, slice_get_within}
 pub use Rattle.std.specs.Cmp.Lexicographic.{pointwise, slice_cmp}
 pub use Rattle.std.specs.Int.{is_negative}
 pub use Rattle.std.specs.List.{All, AllZip, Contains, list_any}
@@ -51,25 +56,29 @@ pub use Rattle.toml.specs.Data.{Data, Items, Members, array, as_array, as_intege
 pub use Rattle.toml.specs.Data.{string, table}
 pub use Rattle.toml.specs.View.{items_view, members_view, table_view, view}
 pub use Rattle.toml.specs.declared.value.Value.{Value}
+pub use Rattle.description.specs.Broken.{AllHave, AllIn, AllOfProcess, BreaksGeometry, BreaksLimit, BreaksNumber, BreaksRanges, BreaksTarget, BreaksWorld}
+pub use Rattle.description.specs.Broken.{FirstLacks, GoOn, GoesOn, IfNamed, IsFirstOutside, LacksIt, NamesItsObject, OneLacks, OneOf, count_in, is_node}
+pub use Rattle.description.specs.Broken.{number_at, place_of}
+unfoldable pub use Rattle.description.specs.Broken.{OneOfProcess}
 pub use Rattle.description.specs.Described.{AreDistinct, AreSlots, AreWords, HasFields, HasNamedWords, HasNumbers, HoldsNamed, IsDescribed, IsDescribedAnnex}
-pub use Rattle.description.specs.Described.{IsDescribedNode, IsDescribedPage, IsDescribedRoot, IsProcessEntry, IsSomeCapability, IsSpaceEntry, first_frame}
-pub use Rattle.description.specs.Described.{first_named, node_numbers, page_numbers}
+pub use Rattle.description.specs.Described.{IsDescribedNode, IsDescribedPage, IsDescribedRoot, IsProcessEntry, IsSomeCapability, IsSpaceEntry, IsWorldFault, first_frame}
+pub use Rattle.description.specs.Described.{first_named, named_at, node_numbers, page_numbers}
 pub use Rattle.description.specs.Describes.{plain_frame}
 unfoldable pub use Rattle.description.specs.Describes.{plain_frames}
 pub use Rattle.description.specs.Faults.{fault_number}
-pub use Rattle.description.specs.FieldFlaws.{BreaksField, IsFirst, IsTwice, process_of}
+pub use Rattle.description.specs.FieldFlaws.{BreaksField, IsFirst, IsFirstTwice, IsOutside, IsTwice, process_of}
 unfoldable pub use Rattle.description.specs.FieldFlaws.{BreaksIndexed, BreaksProcess, BreaksSlots}
-pub use Rattle.description.specs.Laid.{AreLaid, AreTargets, Entry, Fits, HasProcessTargets, HasTargets, IsLaid, IsPut, OfAnnex, OfBank, OfNode, OfPage, OfRoot}
+pub use Rattle.description.specs.Laid.{AreLaid, Entry, Fits, IsLaid, IsPut, OfAnnex, OfBank, OfNode, OfPage, OfRoot}
 pub use Rattle.description.specs.Laid.{entries, frame_of, frames_of, number_of, set_each, slot_held}
 unfoldable pub use Rattle.description.specs.Laid.{laid, slots_of, words_of}
 pub use Rattle.description.specs.Laws.{Each, IsSame, IsSameNode, IsSamePage, IsSameProcess, NoFault, NumberIsSpelledOnce, OneFault}
 pub use Rattle.description.specs.Outcomes.{AreBadEntries, AreBadTables, AtKey, Finds, IsBadList, IsBadTable, IsIn, IsMisfit, IsStranger, IsUnknown, Misses}
-pub use Rattle.description.specs.Outcomes.{Reads}
+pub use Rattle.description.specs.Outcomes.{Reads, world_fault}
 pub use Rattle.description.specs.Reading.{AreFour, AreItems, At, AtOr, HasList, HasNumberAndOwner, HasProcessFields, IsBank, IsCapability, IsDescription}
 pub use Rattle.description.specs.Reading.{IsGeometry, IsList, IsNode, IsNumber, IsPage, IsPair, IsProcess, IsRange, IsSlot, IsState, IsTable, IsWord, has_only}
 pub use Rattle.description.specs.Reading.{whole_ranges}
 unfoldable pub use Rattle.description.specs.Reading.{IsWideNumber}
-pub use Rattle.description.specs.Rules.{IsAccepted, IsFirstBroken, Rule}
+pub use Rattle.description.specs.Rules.{IsAccepted, IsFirstBroken, IsWithinLimits, Rule}
 pub use Rattle.description.specs.Shapes.{BreaksAt, BreaksShape, FitAll, FitsAt, FitsBefore, HasFirstItem, IsFirstFlaw, IsFirstInside, IsFirstItem, IsFormless}
 pub use Rattle.description.specs.Shapes.{IsItem, first_unknown, is_list, key_name, keys_of, misfit}
 pub use Rattle.description.specs.declared.entry.BankEntry.{BankEntry}
@@ -81,9 +90,14 @@ pub use Rattle.description.specs.declared.entry.SlotEntry.{SlotEntry}
 pub use Rattle.description.specs.declared.entry.WordEntry.{WordEntry}
 pub use Rattle.description.specs.declared.fault.BuildFault.{BuildFault}
 pub use Rattle.description.specs.declared.fault.BuildFault.TheVariants.{Failed, Field, Limits, NoMemory, Owner, Shape, Small, Target}
+pub use Rattle.description.specs.declared.flaw.Held.{Held}
 pub use Rattle.description.specs.declared.flaw.Indexed.{Indexed}
+pub use Rattle.description.specs.declared.flaw.Limit.{Limit}
+pub use Rattle.description.specs.declared.flaw.Misnumbered.{Misnumbered}
+pub use Rattle.description.specs.declared.flaw.Named.{Named}
 pub use Rattle.description.specs.declared.flaw.Part.{Part}
 pub use Rattle.description.specs.declared.flaw.SlotFlaw.{SlotFlaw}
+pub use Rattle.description.specs.declared.flaw.WorldFault.{WorldFault}
 pub use Rattle.description.specs.declared.object.ProcessFields.{ProcessFields}
 pub use Rattle.description.specs.declared.place.Flaw.{Flaw}
 pub use Rattle.description.specs.declared.place.Flaw.TheVariants.{Item, Misfit, Unknown}

@@ -1,6 +1,6 @@
 -- How frames are laid: object by object, over free ones.
 use Rattle.description.specs.Names.{ℕ, List, [], map, replicate, slice_set, unwrap_or, vec_len, All, Cap, Void, Frame}
-use Rattle.description.specs.Names.{Geometry, Content, Available, frames_in, void_held, AreKeptWords, IsTarget}
+use Rattle.description.specs.Names.{Content, Available, frames_in, void_held, AreKeptWords}
 use Rattle.description.specs.Names.{fresh_cap, length, AreKeepable, ObjectHeader, object_count}
 use Rattle.std.specs.Prelude.{◌≡◌, ◌^◌, ◌<◌, ◌∷◌, ◌++◌}
 use Rattle.description.specs.declared.entry.BankEntry.{BankEntry}
@@ -100,18 +100,6 @@ pub record IsPut (n : ℕ) (f : Frame) (old new : World) : Type 0 where
   pub frames : frames_of new ≡ slice_set (frames_of old) n f
   pub headers : vec_len new.headers ≡ vec_len old.headers
   pub contents : vec_len new.contents ≡ vec_len old.contents
-
-abbrev pub AreTargets : Geometry → List SlotEntry → Type 0
-AreTargets g slots = All (λ s. IsTarget g (unwrap_or s.capability Void)) slots
-
--- the same of all capabilities that are named
-pub record HasProcessTargets (g : Geometry) (p : ProcessEntry) : Type 0 where
-  pub space : IsTarget g (unwrap_or p.space Void)
-  pub registers : AreTargets g p.registers.items
-
-pub record HasTargets (g : Geometry) (d : Description) : Type 0 where
-  pub processes : All (HasProcessTargets g) d.processes.items
-  pub nodes : All (λ n. AreTargets g n.slots.items) d.nodes.items
 
 -- headers and contents are those of the described frames
 pub record AreLaid (d : Description) (headers : List ObjectHeader) (contents : List (Content Cap)) : Type 0 where

@@ -7,6 +7,7 @@ pub mod Outcomes
 pub mod Described
 pub mod Describes
 pub mod FieldFlaws
+pub mod Broken
 pub mod Laid
 pub mod Rules
 pub mod Sizes

@@ -6,6 +6,8 @@ use Rattle.description.specs.Reading.{IsTable}
 use Rattle.description.specs.Shapes.{IsFirstFlaw, IsFirstItem, first_unknown, key_name, keys_of, misfit}
 use Rattle.description.specs.declared.fault.BuildFault.{BuildFault}
 use Rattle.description.specs.declared.fault.BuildFault.TheVariants as fault
+use Rattle.description.specs.declared.flaw.WorldFault.{WorldFault}
+use Rattle.description.specs.declared.flaw.WorldFault.TheVariants as world
 use Rattle.description.specs.declared.place.Flaw.{Flaw}
 use Rattle.description.specs.declared.place.Flaw.TheVariants.{Unknown, Misfit, Item}
 use Rattle.description.specs.declared.place.Key.{Key}
@@ -80,3 +82,10 @@ AtKey key Bad ms place = (d : Data) × (get_member (key_name key) ms ≡ Some d)
 abbrev pub misread_fault : Misread → BuildFault
 misread_fault (Misshapen place) = fault.Shape
 misread_fault NoMemory = fault.NoMemory
+
+-- the fault for a description that names no world
+abbrev pub world_fault : WorldFault → BuildFault
+world_fault (world.Number n) = fault.Number
+world_fault (world.Field p) = fault.Field
+world_fault (world.Target h) = fault.Target
+world_fault world.NoMemory = fault.NoMemory

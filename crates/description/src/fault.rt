@@ -2,6 +2,7 @@
 ghost use Rattle.std.specs.Prelude.{◌≡◌};
 ghost use Rattle.description.specs.Faults.{fault_number};
 
+use crate::flaw::WorldFault;
 use crate::place::Misread;
 use device::Failed;
 use std::alloc::{AllocError, AllocFailed};
@@ -79,6 +80,21 @@ impl From<Misread<'_>> for BuildFault {
         match why {
             Misread::Misshapen(_) => BuildFault::Shape,
             Misread::NoMemory => BuildFault::NoMemory,
+        }
+    }
+}
+
+impl From<WorldFault> for BuildFault {
+    ghost use Rattle.description.specs.Outcomes.{world_fault};
+
+    ghost from_gives = { λ why fault. fault ≡ world_fault why };
+
+    fn from(why: WorldFault) -> BuildFault {
+        match why {
+            WorldFault::Number(_) => BuildFault::Number,
+            WorldFault::Field(_) => BuildFault::Field,
+            WorldFault::Target(_) => BuildFault::Target,
+            WorldFault::NoMemory => BuildFault::NoMemory,
         }
     }
 }

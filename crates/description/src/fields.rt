@@ -135,7 +135,7 @@ fn bad_pages(pages: &[PageEntry]) -> Option<(usize, Indexed)>
 /// The first field of an object that isn't of its form, or is named twice, if there is one. Processes come
 /// first, then nodes, then pages. In a process the order is state, key, space, registers. In a list an index
 /// out of its range comes first, then one that is named twice, then a text that is that of no capability.
-pub fn misfilled(description: &Description) -> Option<Part>
+pub(crate) fn misfilled(description: &Description) -> Option<Part>
     ensures { MatchOption result (HasFields description.now) (λ part. BreaksField description.now part) }
 {
     if let Some(part) = bad_processes(&description.processes) {

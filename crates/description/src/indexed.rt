@@ -69,7 +69,7 @@ fn is_within(first: u64, end: u64, number: u64) -> bool
 }
 
 /// The first number outside a range, if there is one.
-pub fn find_outside<N: Numbers>(first: u64, end: u64, numbers: N) -> Option<usize>
+pub(crate) fn find_outside<N: Numbers>(first: u64, end: u64, numbers: N) -> Option<usize>
     ensures { MatchOption result
         (All (λ n. (first ≤ n) × (n < end)) (N.numbers numbers))
         (λ i. IsOutside first end (N.numbers numbers) i) }
@@ -82,8 +82,8 @@ pub fn find_outside<N: Numbers>(first: u64, end: u64, numbers: N) -> Option<usiz
     None
 }
 
-// Where a number comes before a place, if it does.
-fn find_before<N: Numbers>(numbers: N, end: usize, number: u64) -> Option<usize>
+/// Where a number comes before a place, if it does.
+pub(crate) fn find_before<N: Numbers>(numbers: N, end: usize, number: u64) -> Option<usize>
     requires { end ≤ length (N.numbers numbers) }
     ensures { MatchOption result
         (Contains (take end (N.numbers numbers)) number → ⊥)
@@ -99,7 +99,7 @@ fn find_before<N: Numbers>(numbers: N, end: usize, number: u64) -> Option<usize>
 
 /// The places of one number: the first place whose number came before, and where it did. Nothing if no number
 /// comes twice.
-pub fn find_twice<N: Numbers>(numbers: N) -> Option<(usize, usize)>
+pub(crate) fn find_twice<N: Numbers>(numbers: N) -> Option<(usize, usize)>
     ensures { MatchOption result (AreDistinct (N.numbers numbers))
         (λ p. IsFirstTwice (N.numbers numbers) p.0 p.1) }
 {

@@ -4,45 +4,58 @@ ghost use Rattle.layout.specs.Superblock.{IsGeometry};
 ghost use Rattle.model.specs.Frame.{frames_in};
 ghost use Rattle.model.specs.Keepable.{AreKeepable};
 ghost use Rattle.model.specs.Sound.{object_count};
+ghost use Rattle.model.specs.Keepable.{IsTarget};
+ghost use Rattle.description.specs.Broken.{AllHave, BreaksWorld};
 ghost use Rattle.description.specs.Described.{HasFields, HasNumbers, IsDescribed, IsWorldFault};
-ghost use Rattle.description.specs.Laid.{HasTargets};
+ghost use Rattle.description.specs.Outcomes.{world_fault};
 
-use crate::Description;
-use crate::fault::BuildFault;
 use crate::fields::misfilled;
-use crate::numbers::has_numbers;
+use crate::numbers::misnumbered;
 use crate::objects::{lay_annexes, lay_banks, lay_nodes, lay_pages, lay_roots};
-use crate::targets::has_targets;
+use crate::targets::{OfItsKind, failing};
 use crate::world::World;
+use crate::{Description, WorldFault};
 use std::alloc::{AllocError, Global};
 
+// The first field, or else the first capability, for which a description names no world.
+fn check_objects(description: &Description) -> Result<(), WorldFault>
+    requires { HasNumbers description.now }
+    ensures fields { OnOk result (HasFields description.now) }
+    ensures targets { OnOk result (AllHave (IsTarget description.now.geometry) description.now) }
+    ensures place { IfErr result (BreaksWorld description.now) }
+    ensures fault { IfErr result (λ why. IsWorldFault description.now (world_fault why)) }
+{
+    if let Some(part) = misfilled(description) {
+        return Err(WorldFault::Field(part));
+    }
+    match failing(&OfItsKind::new(description.geometry), description) {
+        Some(held) => Err(WorldFault::Target(held)),
+        None => Ok(()),
+    }
+}
+
 // Why a description names no world, if it names none.
-fn check(alloc: Global, description: &Description) -> Result<(), BuildFault>
+fn check(alloc: Global, description: &Description) -> Result<(), WorldFault>
     requires { IsGeometry description.now.geometry }
     ensures numbers { OnOk result (HasNumbers description.now) }
     ensures fields { OnOk result (HasFields description.now) }
-    ensures targets { OnOk result (HasTargets description.now.geometry description.now) }
-    ensures fault { IfErr result (IsWorldFault description.now) }
+    ensures targets { OnOk result (AllHave (IsTarget description.now.geometry) description.now) }
+    ensures place { IfErr result (BreaksWorld description.now) }
+    ensures fault { IfErr result (λ why. IsWorldFault description.now (world_fault why)) }
 {
-    let numbered = has_numbers(alloc, description)?;
-    if !numbered {
-        return Err(BuildFault::Number);
+    let found = misnumbered(alloc, description)?;
+    match found {
+        Some(number) => Err(WorldFault::Number(number)),
+        None => check_objects(description),
     }
-    if misfilled(description).is_some() {
-        return Err(BuildFault::Field);
-    }
-    if !has_targets(description.geometry, description) {
-        return Err(BuildFault::Target);
-    }
-    Ok(())
 }
 
-/// Lays out the world of a description that has all that it needs. Fails only where memory runs out.
-pub fn lay_described(alloc: Global, description: &Description) -> Result<World, AllocError>
+// Lays out the world of a description that has all that it needs. Fails only where memory runs out.
+fn lay_described(alloc: Global, description: &Description) -> Result<World, AllocError>
     requires geometry { IsGeometry description.now.geometry }
     requires numbers { HasNumbers description.now }
     requires fields { HasFields description.now }
-    requires targets { HasTargets description.now.geometry description.now }
+    requires targets { AllHave (IsTarget description.now.geometry) description.now }
     ensures described { IfOk result (λ w.
         IsDescribed description.now (frames_in w.headers.items w.contents.items)) }
     ensures keepable { IfOk result (λ w. AreKeepable description.now.geometry 0
@@ -67,9 +80,9 @@ pub fn lay_described(alloc: Global, description: &Description) -> Result<World, 
 ///
 /// Fails with `Number` where a number is none of its kind or is named twice; else with `Field`
 /// where an object has a field that isn't of its form, or a slot, register or word is named twice;
-/// else with `Target` where a capability names a number that no object of its kind can have. Fails
-/// with `NoMemory` where memory runs out, whatever else applies.
-pub fn lay_world(alloc: Global, description: &Description) -> Result<World, BuildFault>
+/// else with `Target` where a capability names a number that no object of its kind can have. Each
+/// has the first place. Fails with `NoMemory` where memory runs out, whatever else applies.
+pub fn lay_world(alloc: Global, description: &Description) -> Result<World, WorldFault>
     requires { IsGeometry description.now.geometry }
     ensures described { IfOk result (λ w.
         IsDescribed description.now (frames_in w.headers.items w.contents.items)) }
@@ -80,7 +93,9 @@ pub fn lay_world(alloc: Global, description: &Description) -> Result<World, Buil
     ensures contents { IfOk result (λ w.
         vec_len w.contents ≡ object_count description.now.geometry) }
     ensures named { IfOk result (λ _. HasNumbers description.now × HasFields description.now) }
-    ensures fault { IfErr result (IsWorldFault description.now) }
+    ensures targets { OnOk result (AllHave (IsTarget description.now.geometry) description.now) }
+    ensures place { IfErr result (BreaksWorld description.now) }
+    ensures fault { IfErr result (λ why. IsWorldFault description.now (world_fault why)) }
 {
     check(alloc, description)?;
     let world = lay_described(alloc, description)?;

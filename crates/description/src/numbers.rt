@@ -1,15 +1,21 @@
-// The numbers that a description names.
-ghost use Rattle.std.specs.Prelude.{◌≡◌, ◌<◌, ◌↔◌, IfOk, IsTrue};
-ghost use Rattle.std.specs.List.{All};
+// The numbers that a description names, and which is none of its kind or comes twice.
+ghost use Rattle.std.specs.Prelude.{◌≡◌, ◌++◌, ◌<◌, ◌≤◌, ℕ, length, slice_get, slice_index, take, true, IfOk, IsTrue};
+ghost use Rattle.std.specs.Prelude.{MatchOption};
+ghost use Rattle.std.specs.List.{All, Contains};
+ghost use Rattle.collections.specs.Marks.{is_marked};
 ghost use Rattle.layout.specs.Superblock.{IsGeometry};
+ghost use Rattle.model.specs.Sound.{object_count};
 ghost use Rattle.description.specs.Described.{AreDistinct, HasNumbers, node_numbers, page_numbers};
+ghost use Rattle.description.specs.FieldFlaws.{IsFirstTwice, IsOutside};
+ghost use Rattle.description.specs.Broken.{BreaksNumber, is_node, number_at, place_of};
 
-use crate::{Description, find_outside};
+use crate::indexed::{find_before, find_outside};
+use crate::{Description, Misnumbered, Named};
 use collections::NumberSet;
 use std::alloc::{AllocError, Global};
 
-/// The numbers of banks, roots, annexes and nodes, in this order. Fails only where memory runs out.
-pub fn node_numbers(alloc: Global, description: &Description) -> Result<Vec<u64>, AllocError>
+// The numbers of banks, roots, annexes and nodes, in this order. Fails only where memory runs out.
+fn node_numbers(alloc: Global, description: &Description) -> Result<Vec<u64>, AllocError>
     ensures { IfOk result (λ numbers. numbers.items ≡ node_numbers description.now) }
 {
     let banks = description.banks.iter().map(|bank| bank.number);
@@ -23,46 +29,163 @@ pub fn node_numbers(alloc: Global, description: &Description) -> Result<Vec<u64>
         .collect(alloc)
 }
 
-/// The numbers of pages. Fails only where memory runs out.
-pub fn page_numbers(alloc: Global, description: &Description) -> Result<Vec<u64>, AllocError>
+// The numbers of pages. Fails only where memory runs out.
+fn page_numbers(alloc: Global, description: &Description) -> Result<Vec<u64>, AllocError>
     ensures { IfOk result (λ numbers. numbers.items ≡ page_numbers description.now) }
 {
     let pages = description.pages.iter();
     pages.map(|page| page.number).collect(alloc)
 }
 
-// Whether no number comes twice. Fails only if memory runs out.
-#[tactic(auto, using(crate::proofs::Lists::not_new))]
-fn are_distinct(alloc: Global, numbers: &[u64], count: usize) -> Result<bool, AllocError>
-    requires { All (λ n. n < count) numbers.now }
-    ensures { IfOk result (λ distinct. IsTrue distinct ↔ AreDistinct numbers.now) }
+// The bank, process or node whose number stands at a place among those of banks, roots, annexes and nodes.
+#[tactic(auto, using(crate::proofs::NumberPlaces::annex_number))]
+fn node_named_at(description: &Description, place: usize) -> Named
+    ensures number { number_at description.now result ≡ slice_get (node_numbers description.now) place }
+    ensures place { place_of description.now result ≡ place }
+    ensures kind { IsTrue (is_node result) }
 {
-    let mut seen = NumberSet::new(alloc, count)?;
-    for number in numbers {
-        let number = *number as usize;
-        if seen.contains(number) {
-            return Ok(false);
-        }
-        seen.set(number, true);
+    let banks = description.banks.len();
+    let processes = description.processes.len();
+    if place < banks {
+        return Named::Bank(place);
     }
-    Ok(true)
+    let root = place - banks;
+    if root < processes {
+        return Named::Root(root);
+    }
+    let annex = root - processes;
+    if annex < processes {
+        return Named::Annex(annex);
+    }
+    Named::Node(annex - processes)
 }
 
-// Whether each number is one of its kind, and none is named twice. Fails only where memory runs
-// out.
-pub(crate) fn has_numbers(alloc: Global, description: &Description) -> Result<bool, AllocError>
-    requires { IsGeometry description.now.geometry }
-    ensures { IfOk result (λ has. IsTrue has ↔ HasNumbers description.now) }
+// The object whose number stands at a place among all.
+fn named_at(description: &Description, nodes: usize, place: usize) -> Named
+    requires { nodes ≡ length (node_numbers description.now) }
+    ensures number { number_at description.now result
+        ≡ slice_get (node_numbers description.now ++ page_numbers description.now) place }
+    ensures place { place_of description.now result ≡ place }
 {
-    let mut numbers = node_numbers(alloc, description)?;
-    let pages = page_numbers(alloc, description)?;
-    let geometry = description.geometry;
-    let end = geometry.nodes + geometry.pages;
-    if find_outside(0, geometry.nodes, numbers.as_slice()).is_some()
-        || find_outside(geometry.nodes, end, pages.as_slice()).is_some()
-    {
-        return Ok(false);
+    if place < nodes {
+        node_named_at(description, place)
+    } else {
+        Named::Page(place - nodes)
     }
+}
+
+// The first number of a bank, a process or a node that isn't one of a node, if there is one.
+fn node_out_of_range(description: &Description, numbers: &[u64]) -> Option<Misnumbered>
+    requires { numbers.now ≡ node_numbers description.now }
+    ensures { MatchOption result
+        (All (λ n. (0 ≤ n) × (n < description.now.geometry.nodes)) numbers.now)
+        (BreaksNumber description.now) }
+{
+    match find_outside(0, description.geometry.nodes, numbers) {
+        Some(i) => Some(Misnumbered::OutOfRange(node_named_at(description, i))),
+        None => None,
+    }
+}
+
+// The first number of a page that isn't one of a page, if there is one.
+fn page_out_of_range(description: &Description, numbers: &[u64]) -> Option<Misnumbered>
+    requires geometry { IsGeometry description.now.geometry }
+    requires nodes { All (λ n. (0 ≤ n) × (n < description.now.geometry.nodes)) (node_numbers description.now) }
+    requires numbers { numbers.now ≡ page_numbers description.now }
+    ensures { MatchOption result
+        (All (λ n. (description.now.geometry.nodes ≤ n) × (n < object_count description.now.geometry)) numbers.now)
+        (BreaksNumber description.now) }
+{
+    let end = description.geometry.nodes + description.geometry.pages;
+    match find_outside(description.geometry.nodes, end, numbers) {
+        Some(i) => Some(Misnumbered::OutOfRange(Named::Page(i))),
+        None => None,
+    }
+}
+
+// Where the number at a place comes before, if it does. `seen` has each number that does.
+fn find_seen(numbers: &[u64], seen: &NumberSet, place: usize) -> Option<usize>
+    requires place { place < length numbers.now }
+    requires seen { (n : ℕ) → Contains (take place numbers.now) n → is_marked seen.now n ≡ true }
+    requires within { slice_index numbers.now place < length seen.now }
+    ensures { MatchOption result
+        (Contains (take place numbers.now) (slice_index numbers.now place) → ⊥)
+        (λ i. (i < place) × (slice_index numbers.now i ≡ slice_index numbers.now place)) }
+{
+    let number = numbers[place];
+    if seen.contains(number as usize) {
+        find_before(numbers, place, number)
+    } else {
+        None
+    }
+}
+
+// The first place whose number comes before, and where it does, if there is one. All numbers are below a count.
+fn first_twice(
+    alloc: Global,
+    numbers: &[u64],
+    count: usize,
+) -> Result<Option<(usize, usize)>, AllocError>
+    requires { All (λ n. n < count) numbers.now }
+    ensures { IfOk result (λ found. MatchOption found (AreDistinct numbers.now)
+        (λ p. IsFirstTwice numbers.now p.0 p.1)) }
+{
+    let mut seen = NumberSet::new(alloc, count)?;
+    for place in 0..numbers.len() {
+        if let Some(i) = find_seen(numbers, &seen, place) {
+            return Ok(Some((i, place)));
+        }
+        seen.set(numbers[place] as usize, true);
+    }
+    Ok(None)
+}
+
+// The first object whose number comes before too, and the object that has it there, if there are two.
+fn named_twice(
+    description: &Description,
+    nodes: usize,
+    numbers: &[u64],
+    found: Option<(usize, usize)>,
+) -> Option<Misnumbered>
+    requires nodes { nodes ≡ length (node_numbers description.now) }
+    requires node_kinds { All (λ n. (0 ≤ n) × (n < description.now.geometry.nodes)) (node_numbers description.now) }
+    requires page_kinds { All (λ n. (description.now.geometry.nodes ≤ n)
+        × (n < object_count description.now.geometry)) (page_numbers description.now) }
+    requires numbers { numbers.now ≡ node_numbers description.now ++ page_numbers description.now }
+    requires found { MatchOption found (AreDistinct numbers.now) (λ p. IsFirstTwice numbers.now p.0 p.1) }
+    ensures { MatchOption result (AreDistinct numbers.now) (BreaksNumber description.now) }
+{
+    match found {
+        Some(places) => Some(Misnumbered::Twice(
+            named_at(description, nodes, places.0),
+            named_at(description, nodes, places.1),
+        )),
+        None => None,
+    }
+}
+
+/// The first number of a description that is none of its kind; or, if there is none, the first that comes
+/// twice. The order is banks, roots, annexes, nodes and pages. Fails only where memory runs out.
+pub(crate) fn misnumbered(
+    alloc: Global,
+    description: &Description,
+) -> Result<Option<Misnumbered>, AllocError>
+    requires { IsGeometry description.now.geometry }
+    ensures { IfOk result (λ found. MatchOption found (HasNumbers description.now)
+        (BreaksNumber description.now)) }
+{
+    let nodes = node_numbers(alloc, description)?;
+    let pages = page_numbers(alloc, description)?;
+    if let Some(place) = node_out_of_range(description, &nodes) {
+        return Ok(Some(place));
+    }
+    if let Some(place) = page_out_of_range(description, &pages) {
+        return Ok(Some(place));
+    }
+    let count = nodes.len();
+    let mut numbers = nodes;
     numbers.extend_from_slice(&pages)?;
-    are_distinct(alloc, &numbers, end as usize)
+    let end = description.geometry.nodes + description.geometry.pages;
+    let found = first_twice(alloc, &numbers, end as usize)?;
+    Ok(named_twice(description, count, &numbers, found))
 }

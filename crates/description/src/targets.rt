@@ -1,48 +1,128 @@
-// The objects that capabilities of a description name.
-ghost use Rattle.std.specs.Prelude.{◌↔◌, unwrap_or, IsTrue};
-ghost use Rattle.model.specs.declared.capability.Capability.TheVariants.{Void};
+// Which capability of a description names no object of its kind.
+ghost use Rattle.std.specs.Prelude.{◌≡◌, ◌↔◌, false, IsTrue, MatchOption};
+ghost use Rattle.std.specs.List.{All};
+ghost use Rattle.model.specs.declared.capability.Capability.{Capability};
+ghost use Rattle.description.specs.FieldFlaws.{IsFirst};
 ghost use Rattle.model.specs.Keepable.{IsTarget};
-ghost use Rattle.description.specs.Laid.{AreTargets, HasProcessTargets, HasTargets};
+ghost use Rattle.description.specs.Broken.{OneOfNodes, OneOfProcess};
+ghost use Rattle.description.specs.Broken.{AllHave, AllIn, AllOfProcess, FirstLacks, IfNamed, LacksIt, OneOf};
 
-use crate::{Description, ProcessEntry, SlotEntry};
+use crate::{Description, Held, NodeEntry, ProcessEntry, SlotEntry};
 use model::{Capability, Geometry};
+use std::marker::Model;
 
-// Whether what a capability names is a number of its kind, where there is one.
-fn may_be_target(geometry: Geometry, capability: Option<Capability>) -> bool
-    ensures { IsTrue result ↔ IsTarget geometry (unwrap_or capability Void) }
+/// A test of what a capability names.
+pub trait Naming {
+    /// Whether a capability passes.
+    ghost Passes: { Self → Capability → Type 0 };
+
+    fn passes(&self, capability: Capability) -> bool
+        ensures { IsTrue result ↔ Passes self.now capability };
+}
+
+/// What a capability names is a number of its kind.
+#[derive(Drop)]
+pub(crate) struct OfItsKind {
+    geometry: Geometry,
+}
+
+impl Model for OfItsKind {
+    ghost use Rattle.model.specs.declared.geometry.Geometry.{Geometry};
+
+    ghost Value = { Geometry };
+
+    ghost view = { λ k. k.geometry };
+}
+
+impl OfItsKind {
+    pub(crate) fn new(geometry: Geometry) -> OfItsKind
+        ensures { result ≡ geometry }
+    {
+        OfItsKind { geometry }
+    }
+}
+
+impl Naming for OfItsKind {
+    ghost Passes = { λ g c. IsTarget g c };
+
+    fn passes(&self, capability: Capability) -> bool {
+        self.geometry.has_target(capability)
+    }
+}
+
+// Whether a capability that may be absent passes.
+fn may_pass<N: Naming>(naming: &N, capability: Option<Capability>) -> bool
+    ensures passes { IsTrue result → IfNamed (N.Passes naming.now) capability }
+    ensures fails { result ≡ false → LacksIt (N.Passes naming.now) capability }
 {
     match capability {
-        Some(capability) => geometry.has_target(capability),
+        Some(capability) => naming.passes(capability),
         None => true,
     }
 }
 
-// Whether each slot names a number of its kind, or none.
-fn are_targets(geometry: Geometry, slots: &[SlotEntry]) -> bool
-    ensures { IsTrue result ↔ AreTargets geometry slots.now }
+// The first slot whose capability doesn't pass, if there is one.
+fn first_failing<N: Naming>(naming: &N, slots: &[SlotEntry]) -> Option<usize>
+    ensures { MatchOption result (AllIn (N.Passes naming.now) slots.now)
+        (λ i. OneOf (N.Passes naming.now) slots.now i) }
 {
-    slots
-        .iter()
-        .all(|slot| may_be_target(geometry, slot.capability))
+    for (i, slot) in slots.iter().enumerate() {
+        if !may_pass(naming, slot.capability) {
+            return Some(i);
+        }
+    }
+    None
 }
 
-// Whether the space and each register of a process name numbers of their kinds, or none.
-fn has_process_targets(geometry: Geometry, process: &ProcessEntry) -> bool
-    ensures { IsTrue result ↔ HasProcessTargets geometry process.now }
+// The first capability of a process that doesn't pass, if there is one: its address space, then its registers.
+#[tactic(auto, unfolding(crate::specs::Broken::OneOfProcess))]
+fn failing_in_process<N: Naming>(naming: &N, k: usize, process: &ProcessEntry) -> Option<Held>
+    ensures { MatchOption result (AllOfProcess (N.Passes naming.now) process.now)
+        (λ at. OneOfProcess (N.Passes naming.now) k process.now at) }
 {
-    may_be_target(geometry, process.space) && are_targets(geometry, &process.registers)
+    if !may_pass(naming, process.space) {
+        return Some(Held::Space(k));
+    }
+    match first_failing(naming, &process.registers) {
+        Some(i) => Some(Held::Register(k, i)),
+        None => None,
+    }
 }
 
-// Whether each capability names a number of its kind.
-pub(crate) fn has_targets(geometry: Geometry, description: &Description) -> bool
-    ensures { IsTrue result ↔ HasTargets geometry description.now }
+// The first process with a capability that doesn't pass, by its index, and where it holds that.
+fn failing_in_processes<N: Naming>(naming: &N, processes: &[ProcessEntry]) -> Option<(usize, Held)>
+    ensures { MatchOption result (All (AllOfProcess (N.Passes naming.now)) processes.now)
+        (λ bad. IsFirst (AllOfProcess (N.Passes naming.now))
+        (λ p. OneOfProcess (N.Passes naming.now) bad.0 p bad.1) processes.now bad.0) }
 {
-    description
-        .processes
-        .iter()
-        .all(|process| has_process_targets(geometry, process))
-        && description
-            .nodes
-            .iter()
-            .all(|node| are_targets(geometry, &node.slots))
+    for (k, process) in processes.iter().enumerate() {
+        if let Some(at) = failing_in_process(naming, k, process) {
+            return Some((k, at));
+        }
+    }
+    None
+}
+
+// The first slot of a node whose capability doesn't pass, if there is one.
+fn failing_in_nodes<N: Naming>(naming: &N, nodes: &[NodeEntry]) -> Option<Held>
+    ensures { MatchOption result (All (λ n. AllIn (N.Passes naming.now) n.slots.items) nodes.now)
+        (λ at. OneOfNodes (N.Passes naming.now) nodes.now at) }
+{
+    for (k, node) in nodes.iter().enumerate() {
+        if let Some(i) = first_failing(naming, &node.slots) {
+            return Some(Held::Slot(k, i));
+        }
+    }
+    None
+}
+
+/// The first capability of a description that doesn't pass, if there is one: of processes, then of nodes.
+pub fn failing<N: Naming>(naming: &N, description: &Description) -> Option<Held>
+    ensures { MatchOption result (AllHave (N.Passes naming.now) description.now)
+        (λ at. FirstLacks (N.Passes naming.now) description.now at) }
+{
+    if let Some((_, at)) = failing_in_processes(naming, &description.processes) {
+        return Some(at);
+    }
+    failing_in_nodes(naming, &description.nodes)
 }

@@ -2,31 +2,27 @@
 use Rattle.description_explainer.proofs.Names.{ℕ, List, subst, Frame, Unbanked, AreNamed, NamesItsRole, IsUnbanked, unbanked_refuted, Description, HasFields}
 use Rattle.description_explainer.proofs.Names.{HasNumbers, IsDescribed, IsTarget, described_once, IsFirstBroken, IsWithinLimits, Refuses, field_broken}
 use Rattle.description_explainer.proofs.Names.{limits_broken, number_broken, owner_broken, target_broken, Held, Limit, Misnumbered, Part, BreaksField}
-use Rattle.description_explainer.proofs.Names.{BreaksLimit, BreaksNumber, BreaksTarget, AllHave, BreaksIt, FirstLacks, ExplainsDescription, IfNone, IfSome}
-use Rattle.description_explainer.proofs.Names.{MatchOption, Members, IsDescription, Rule, field_refuted, rule_fault, arith, none-some, same_Some, Misread}
-use Rattle.description_explainer.proofs.Names.{Misses, BreaksShape, shape_refuted, ShapePlace, Explains}
+use Rattle.description_explainer.proofs.Names.{BreaksLimit, BreaksNumber, BreaksTarget, BreaksWorld, AllHave, FirstLacks, ExplainsDescription, IfNone, IfSome}
+use Rattle.description_explainer.proofs.Names.{MatchOption, Members, IsDescription, Rule, WorldFault, field_refuted, rule_fault, Misread, Misses, BreaksShape}
+use Rattle.description_explainer.proofs.Names.{shape_refuted, ShapePlace, Explains, all_named, kind_broken, role_broken, target_refuted, limit_refuted}
+use Rattle.description_explainer.proofs.Names.{number_refuted}
 use Rattle.std.proofs.Common.{◌≡◌}
 use Rattle.std.specs.Prelude.{Option, Some, None}
-use Rattle.description_explainer.proofs.NamedCapabilities.{all_named, kind_broken, role_broken}
-use Rattle.description_explainer.proofs.NamedCapabilities.{target_refuted}
+use Rattle.description.specs.declared.flaw.WorldFault.TheVariants as fault
 use Rattle.description.specs.declared.place.Misread.TheVariants as misread
 use Rattle.description_explainer.specs.declared.place.Place.TheVariants as place
 use Rattle.description_explainer.specs.declared.place.Rule.TheVariants as rule
-use Rattle.description_explainer.proofs.Sizes.{limit_refuted}
-
-pub at_some : {A : Type 0} (P : Type 0) (Q : A → Type 0) (o : Option A) (x : A) → o ≡ Some x → MatchOption o P Q → Q x
-at_some P Q o x is known = search (arith, none-some, same_Some)
 
 module _ (d : Description) where
   pub explains_limit : (l : Limit) → BreaksLimit d l → ExplainsDescription d (Some (rule.Limit l))
   explains_limit l broken = (broken, λ sectors. limits_broken d sectors (limit_refuted d l broken))
 
   module _ (limits : IsWithinLimits d) where
-    pub explains_number : (place : Misnumbered) → BreaksIt (BreaksNumber d) (HasNumbers d) place → ExplainsDescription d (Some (rule.Number place))
-    explains_number place broken = (broken.0, λ sectors. number_broken d sectors limits broken.1)
+    explains_number : (place : Misnumbered) → BreaksNumber d place → ExplainsDescription d (Some (rule.Number place))
+    explains_number place broken = (broken, λ sectors. number_broken d sectors limits (number_refuted d place broken))
 
     module _ (numbers : HasNumbers d) where
-      pub explains_field : (part : Part) → BreaksField d part → ExplainsDescription d (Some (rule.Field part))
+      explains_field : (part : Part) → BreaksField d part → ExplainsDescription d (Some (rule.Field part))
       explains_field part broken = (broken, λ sectors. field_broken d sectors limits numbers (field_refuted d part broken))
 
       module _ (fields : HasFields d) where
@@ -34,7 +30,7 @@ module _ (d : Description) where
         explains_target at broken =
             (broken, λ sectors. target_broken d sectors limits numbers fields (λ rule. target_refuted d at numbers fields broken rule.0 rule.1 rule.2))
 
-        pub explains_kind : (at : Held) → FirstLacks (IsTarget d.geometry) d at → ExplainsDescription d (Some (rule.Target at))
+        explains_kind : (at : Held) → FirstLacks (IsTarget d.geometry) d at → ExplainsDescription d (Some (rule.Target at))
         explains_kind at lacks = explains_target at (kind_broken d at numbers lacks)
 
         module _ (fs : List Frame) (is : IsDescribed d fs) where
@@ -49,6 +45,24 @@ module _ (d : Description) where
                 (λ rule. unbanked_refuted rule.0 unbanked (subst (λ (hs : List Frame). IsUnbanked hs unbanked) (described_once d fs rule.0 is rule.1) why)
                 rule.2),
           )
+
+-- the rule for which a description names no world
+module _ (d : Description) (limits : IsWithinLimits d) (why : WorldFault) (broken : BreaksWorld d why) where
+  broken_as : (is : WorldFault) → why ≡ is → BreaksWorld d is
+  broken_as is same = subst (λ (w : WorldFault). BreaksWorld d w) same broken
+
+  pub explains_numbered : (place : Misnumbered) → why ≡ fault.Number place → ExplainsDescription d (Some (rule.Number place))
+  explains_numbered place is = explains_number d limits place (broken_as (fault.Number place) is)
+
+  pub explains_part : (part : Part) → why ≡ fault.Field part → ExplainsDescription d (Some (rule.Field part))
+  explains_part part is =
+      let at : HasNumbers d × BreaksField d part = broken_as (fault.Field part) is in
+      explains_field d limits at.0 part at.1
+
+  pub explains_held : (held : Held) → why ≡ fault.Target held → ExplainsDescription d (Some (rule.Target held))
+  explains_held held is =
+      let at : HasNumbers d × HasFields d × FirstLacks (IsTarget d.geometry) d held = broken_as (fault.Target held) is in
+      explains_kind d limits at.0 at.1 held at.2
 
 -- what the search of all capabilities finds in described frames
 module _ (d : Description) (fs gs : List Frame) (same : gs ≡ fs) (is : IsDescribed d fs) where

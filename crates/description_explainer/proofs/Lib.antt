@@ -1,7 +1,3 @@
 mod Names
 mod Explanations
-mod NamedCapabilities
-mod NumberPlaces
 mod OneLine
-mod Ranges
-mod Sizes

@@ -2,36 +2,33 @@
 pub use Rattle.capability.specs.Consistency.{AreNamed, IsNamed, NamesItsRole}
 pub use Rattle.capability.specs.Plain.{fresh_cap}
 pub use Rattle.description.proofs.DescribedOnce.{described_once}
-pub use Rattle.description.proofs.Entries.{IsFrameOf, IsOf, described_cases, described_of}
-pub use Rattle.description.proofs.FieldFlaws.{all_refuted, field_refuted, twice_refuted}
-pub use Rattle.description.proofs.Lists.{all_from, all_got, first_beyond, first_of, first_there}
-pub use Rattle.description.proofs.NamedTargets.{never_raised, role_target}
+pub use Rattle.description.proofs.BrokenLimits.{limit_refuted}
+pub use Rattle.description.proofs.FieldFlaws.{field_refuted}
+pub use Rattle.description.proofs.NamedCapabilities.{all_named, kind_broken, role_broken, target_refuted}
+pub use Rattle.description.proofs.NumberPlaces.{number_refuted}
 pub use Rattle.description.proofs.Rules.{field_broken, limits_broken, number_broken, owner_broken, target_broken}
 pub use Rattle.description.proofs.ShapeFaults.{shape_refuted}
-pub use Rattle.description.proofs.Taken.{one_more}
-pub use Rattle.description.specs.Described.{AreSlots, HasFields, HasNumbers, HoldsNamed, IsDescribed, IsProcessEntry, named_at, node_numbers, page_numbers}
+pub use Rattle.description.specs.Broken.{AllHave, BreaksLimit, BreaksNumber, BreaksTarget, BreaksWorld, FirstLacks, number_at}
+pub use Rattle.description.specs.Described.{HasFields, HasNumbers, IsDescribed}
 pub use Rattle.description.specs.Faults.{fault_number}
-pub use Rattle.description.specs.FieldFlaws.{BreaksField, IsFirst, IsFirstTwice, IsOutside}
-pub use Rattle.description.specs.Laid.{Entry, OfAnnex, OfBank, OfNode, OfPage, OfRoot}
+pub use Rattle.description.specs.FieldFlaws.{BreaksField}
 pub use Rattle.description.specs.Outcomes.{Misses}
 pub use Rattle.description.specs.Reading.{IsDescription}
 pub use Rattle.description.specs.Rules.{IsFirstBroken, IsWithinLimits, Refuses}
 pub use Rattle.description.specs.Shapes.{BreaksShape, key_name}
 pub use Rattle.description.specs.declared.entry.Description.{Description}
-pub use Rattle.description.specs.declared.entry.NodeEntry.{NodeEntry}
-pub use Rattle.description.specs.declared.entry.ProcessEntry.{ProcessEntry}
-pub use Rattle.description.specs.declared.entry.SlotEntry.{SlotEntry}
 pub use Rattle.description.specs.declared.fault.BuildFault.{BuildFault}
+pub use Rattle.description.specs.declared.flaw.Held.{Held}
+pub use Rattle.description.specs.declared.flaw.Limit.{Limit}
+pub use Rattle.description.specs.declared.flaw.Misnumbered.{Misnumbered}
+pub use Rattle.description.specs.declared.flaw.Named.{Named}
 pub use Rattle.description.specs.declared.flaw.Part.{Part}
+pub use Rattle.description.specs.declared.flaw.WorldFault.{WorldFault}
 pub use Rattle.description.specs.declared.place.Flaw.{Flaw}
 pub use Rattle.description.specs.declared.place.Key.{Key}
 pub use Rattle.description.specs.declared.place.Misread.{Misread}
 pub use Rattle.description.specs.declared.place.ShapePlace.{ShapePlace}
 pub use Rattle.description.specs.declared.place.TableName.{TableName}
-pub use Rattle.home_ranges.specs.Laid.{MayBeLaid, placed}
-pub use Rattle.home_ranges.specs.declared.number_range.NumberRange.{NumberRange}
-pub use Rattle.layout.specs.Superblock.{Cover, IsGeometry, version_number}
-pub use Rattle.layout.specs.declared.version.Version.{Version}
 pub use Rattle.model.specs.Frame.{frame_at}
 pub use Rattle.model.specs.Keepable.{IsTarget, caps_in}
 pub use Rattle.model.specs.Sound.{object_count}
@@ -60,19 +57,10 @@ pub use Rattle.std.specs.Prelude.{IfNone, IfSome, IsTrue, MatchOption, false, po
 pub use Rattle.std.specs.Slice.{IsItemAt}
 pub use Rattle.toml.specs.Data.{Members}
 pub use Rattle.toml.specs.View.{table_view}
-pub use Rattle.description_explainer.specs.Broken.{AllHave, AllIn, AllOfProcess, BreaksGeometry, BreaksLimit, BreaksNumber, BreaksRanges, BreaksTarget}
-pub use Rattle.description_explainer.specs.Broken.{FirstLacks, GoOn, GoesOn, IfNamed, IsFirstOutside, LacksIt, NamesItsObject, OneOf, count_in, is_node}
-pub use Rattle.description_explainer.specs.Broken.{number_at, place_of}
 pub use Rattle.description_explainer.specs.Explained.{ExplainsDescription}
-pub use Rattle.description_explainer.specs.FaultOutcomes.{BreaksIt, OneLacks}
-unfoldable pub use Rattle.description_explainer.specs.FaultOutcomes.{OneOfProcess}
 pub use Rattle.description_explainer.specs.Places.{Explains, rule_fault}
 pub use Rattle.description_explainer.specs.Text.{IsExplanation, IsFlawText, IsPlaceText, IsShapeText, entry_text, field_text, indexed_entry, item_text}
 pub use Rattle.description_explainer.specs.Text.{limit_text, listed_number, misnumbered_text, named_text, node_text, object_text, owner_text, page_text}
 pub use Rattle.description_explainer.specs.Text.{part_text, process_text, rule_text, slot_entry, table_text, target_text}
-pub use Rattle.description_explainer.specs.declared.faults.place.Held.{Held}
-pub use Rattle.description_explainer.specs.declared.faults.place.Limit.{Limit}
-pub use Rattle.description_explainer.specs.declared.faults.place.Misnumbered.{Misnumbered}
-pub use Rattle.description_explainer.specs.declared.faults.place.Named.{Named}
 pub use Rattle.description_explainer.specs.declared.place.Place.{Place}
 pub use Rattle.description_explainer.specs.declared.place.Rule.{Rule}

@@ -12,10 +12,10 @@ use Rattle.description.specs.declared.place.Flaw.TheVariants as flaw
 use Rattle.description.specs.declared.place.TableName.TheVariants as name
 use Rattle.description.specs.declared.flaw.Part.TheVariants as part
 use Rattle.recovery.specs.declared.consistency.reason.Unbanked.TheVariants as unbanked
-use Rattle.description_explainer.specs.declared.faults.place.Held.TheVariants as held
-use Rattle.description_explainer.specs.declared.faults.place.Limit.TheVariants as limit
-use Rattle.description_explainer.specs.declared.faults.place.Misnumbered.TheVariants as misnumbered
-use Rattle.description_explainer.specs.declared.faults.place.Named.TheVariants as named
+use Rattle.description.specs.declared.flaw.Held.TheVariants as held
+use Rattle.description.specs.declared.flaw.Limit.TheVariants as limit
+use Rattle.description.specs.declared.flaw.Misnumbered.TheVariants as misnumbered
+use Rattle.description.specs.declared.flaw.Named.TheVariants as named
 use Rattle.description_explainer.specs.declared.place.Place.TheVariants as place
 use Rattle.description_explainer.specs.declared.place.Rule.TheVariants as rule
 

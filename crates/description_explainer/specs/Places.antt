@@ -1,13 +1,14 @@
 -- Why the image of a table isn't built, and where.
-use Rattle.description_explainer.specs.Names.{ℕ, Option, None, Some, Members, Description, IsDescription, BuildFault}
-use Rattle.description_explainer.specs.Names.{IsAccepted, Refuses, plan_for, BreaksField, BreaksShape}
+use Rattle.description_explainer.specs.Names.{ℕ, List, Option, None, Some, Members, Description, IsDescribed}
+use Rattle.description_explainer.specs.Names.{IsDescription, BuildFault, IsAccepted, Refuses, plan_for, BreaksField}
+use Rattle.description_explainer.specs.Names.{BreaksShape, Frame, IsUnbanked, Unbanked}
 use Rattle.std.specs.Prelude.{◌≤◌}
 use Rattle.description.specs.declared.fault.BuildFault.TheVariants as fault
 use Rattle.description_explainer.specs.declared.place.Place.{Place}
 use Rattle.description_explainer.specs.declared.place.Place.TheVariants as place
 use Rattle.description_explainer.specs.declared.place.Rule.{Rule}
 use Rattle.description_explainer.specs.declared.place.Rule.TheVariants as rule
-use Rattle.description_explainer.specs.Broken.{BreaksLimit, BreaksNumber, BreaksOwner, BreaksTarget}
+use Rattle.description.specs.Broken.{BreaksLimit, BreaksNumber, BreaksTarget}
 
 -- the fault that `build` answers
 abbrev pub rule_fault : Rule → BuildFault
@@ -21,7 +22,11 @@ abbrev pub fault_of : Place → BuildFault
 fault_of (place.Shape s) = fault.Shape
 fault_of (place.Rule d r) = rule_fault r
 
--- what stands at a place breaks its rule
+-- the first place where the banks are no tree that owns all objects within their limits
+abbrev pub BreaksOwner : Description → Unbanked → Type 0
+BreaksOwner d unbanked = (frames : List Frame) → IsDescribed d frames → IsUnbanked frames unbanked
+
+-- what stands at a place breaks its rule, and is the first that does
 abbrev pub BreaksRule : Description → Rule → Type 0
 BreaksRule d (rule.Limit l) = BreaksLimit d l
 BreaksRule d (rule.Number n) = BreaksNumber d n

@@ -4,17 +4,17 @@ use Rattle.description_explainer.specs.Names.{unwrap_or, debug_str, list_any, Un
 use Rattle.description_explainer.specs.Names.{IsOneLine, Indexed, Part, SlotFlaw, Flaw, ShapePlace, TableName, key_name}
 use Rattle.std.specs.Prelude.{◌≡◌, ◌==◌, ◌||◌, if◌then◌else◌, ◌++◌}
 use Rattle.recovery.specs.declared.consistency.reason.Unbanked.TheVariants as unbanked
-use Rattle.description_explainer.specs.Broken.{number_at}
+use Rattle.description.specs.Broken.{number_at}
 use Rattle.description.specs.declared.place.Flaw.TheVariants as flaw
-use Rattle.description_explainer.specs.declared.faults.place.Held.{Held}
-use Rattle.description_explainer.specs.declared.faults.place.Held.TheVariants as held
+use Rattle.description.specs.declared.flaw.Held.{Held}
+use Rattle.description.specs.declared.flaw.Held.TheVariants as held
 use Rattle.description.specs.declared.flaw.Indexed.TheVariants as indexed
-use Rattle.description_explainer.specs.declared.faults.place.Limit.{Limit}
-use Rattle.description_explainer.specs.declared.faults.place.Limit.TheVariants as limit
-use Rattle.description_explainer.specs.declared.faults.place.Misnumbered.{Misnumbered}
-use Rattle.description_explainer.specs.declared.faults.place.Misnumbered.TheVariants as misnumbered
-use Rattle.description_explainer.specs.declared.faults.place.Named.{Named}
-use Rattle.description_explainer.specs.declared.faults.place.Named.TheVariants as named
+use Rattle.description.specs.declared.flaw.Limit.{Limit}
+use Rattle.description.specs.declared.flaw.Limit.TheVariants as limit
+use Rattle.description.specs.declared.flaw.Misnumbered.{Misnumbered}
+use Rattle.description.specs.declared.flaw.Misnumbered.TheVariants as misnumbered
+use Rattle.description.specs.declared.flaw.Named.{Named}
+use Rattle.description.specs.declared.flaw.Named.TheVariants as named
 use Rattle.description.specs.declared.flaw.Part.TheVariants as part
 use Rattle.description.specs.declared.flaw.SlotFlaw.TheVariants as slot
 use Rattle.description.specs.declared.place.TableName.TheVariants as name

@@ -1,28 +1,27 @@
 // Why the image of a table isn't built, and where.
-ghost use Rattle.std.specs.Prelude.{◌≡◌, Some, IfNone, IfOk, IfSome, MatchOption};
+ghost use Rattle.std.specs.Prelude.{◌≡◌, Some, IfNone, IfOk, IfSome};
 ghost use Rattle.toml.specs.Data.{Members};
 ghost use Rattle.toml.specs.View.{table_view};
 ghost use Rattle.model.specs.Frame.{frames_in};
 ghost use Rattle.capability.specs.Consistency.{AreNamed};
 ghost use Rattle.recovery.specs.Noted.{AreNoted};
 ghost use Rattle.description.specs.declared.entry.Description.{Description};
+ghost use Rattle.description.specs.Broken.{AllHave, BreaksWorld};
 ghost use Rattle.description.specs.Reading.{IsDescription};
-ghost use Rattle.description.specs.Described.{HasFields, HasNumbers};
 ghost use Rattle.description.specs.Outcomes.{Misses};
 ghost use Rattle.description.specs.Shapes.{BreaksShape};
-ghost use Rattle.description.specs.Laid.{HasTargets};
 ghost use Rattle.description.specs.Rules.{IsWithinLimits};
 ghost use Rattle.description.specs.Laid.{AreLaid};
 ghost use Rattle.model.specs.Keepable.{IsTarget};
-ghost use Rattle.description_explainer.specs.Broken.{AllHave};
 ghost use Rattle.description_explainer.specs.Explained.{ExplainsDescription};
 ghost use Rattle.description_explainer.specs.Places.{Explains};
 
-use crate::faults::{Held, OfItsKind, OfItsRole, failing, misnumbered};
-use crate::limits::beyond_limits;
 use crate::place::{Place, Rule};
+use crate::roles::OfItsRole;
 use capability::Plain;
-use description::{Description, Misread, World, lay_described, misfilled};
+use description::{
+    Description, Held, Misread, World, WorldFault, beyond_limits, failing, lay_world,
+};
 use recovery::{Noted, find_unbanked, read_notes};
 use std::alloc::{AllocError, Global};
 use toml::Table;
@@ -80,36 +79,31 @@ fn explain_frames(
     }
 }
 
-// The rule that a description breaks beyond those of its numbers, fields and the kinds of capabilities, if it
-// breaks one.
-fn explain_world(alloc: Global, description: &Description) -> Result<Option<Rule>, AllocError>
-    requires limits { IsWithinLimits description.now }
-    requires numbers { HasNumbers description.now }
-    requires fields { HasFields description.now }
-    requires targets { HasTargets description.now.geometry description.now }
-    requires kinds { AllHave (IsTarget description.now.geometry) description.now }
-    ensures { IfOk result (λ found. ExplainsDescription description.now found) }
+// The rule for which a description names no world.
+fn rule_of(why: WorldFault) -> Result<Option<Rule>, AllocError>
+    ensures { (d : Description) → IsWithinLimits d → BreaksWorld d why
+        → IfOk result (λ found. ExplainsDescription d found) }
 {
-    let World { headers, contents } = lay_described(alloc, description)?;
-    let mut frames = Plain::new(description.geometry, headers, contents);
-    explain_frames(alloc, description, &mut frames)
+    match why {
+        WorldFault::Number(place) => Ok(Some(Rule::Number(place))),
+        WorldFault::Field(part) => Ok(Some(Rule::Field(part))),
+        WorldFault::Target(held) => Ok(Some(Rule::Target(held))),
+        WorldFault::NoMemory => Err(AllocError),
+    }
 }
 
-// The rule for fields or for the kinds of capabilities, if a description breaks one of these.
-fn explain_objects(description: &Description) -> Option<Rule>
-    requires limits { IsWithinLimits description.now }
-    requires numbers { HasNumbers description.now }
-    ensures { MatchOption result
-        (HasFields description.now × HasTargets description.now.geometry description.now
-        × AllHave (IsTarget description.now.geometry) description.now)
-        (λ rule. ExplainsDescription description.now (Some rule)) }
+// The rule that a description within the limits breaks, if it breaks one.
+fn explain_world(alloc: Global, description: &Description) -> Result<Option<Rule>, AllocError>
+    requires { IsWithinLimits description.now }
+    ensures { IfOk result (λ found. ExplainsDescription description.now found) }
 {
-    if let Some(part) = misfilled(description) {
-        return Some(Rule::Field(part));
-    }
-    match failing(&OfItsKind::new(description.geometry), description) {
-        Some(at) => Some(Rule::Target(at)),
-        None => None,
+    match lay_world(alloc, description) {
+        Ok(world) => {
+            let World { headers, contents } = world;
+            let mut frames = Plain::new(description.geometry, headers, contents);
+            explain_frames(alloc, description, &mut frames)
+        }
+        Err(why) => rule_of(why),
     }
 }
 
@@ -118,15 +112,8 @@ fn explain_objects(description: &Description) -> Option<Rule>
 fn explain_rules(alloc: Global, description: &Description) -> Result<Option<Rule>, AllocError>
     ensures { IfOk result (λ found. ExplainsDescription description.now found) }
 {
-    if let Some(limit) = beyond_limits(description) {
-        return Ok(Some(Rule::Limit(limit)));
-    }
-    let found = misnumbered(alloc, description)?;
-    if let Some(number) = found {
-        return Ok(Some(Rule::Number(number)));
-    }
-    match explain_objects(description) {
-        Some(rule) => Ok(Some(rule)),
+    match beyond_limits(description) {
+        Some(limit) => Ok(Some(Rule::Limit(limit))),
         None => explain_world(alloc, description),
     }
 }

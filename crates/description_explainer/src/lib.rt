@@ -2,17 +2,12 @@
 #![tactic(auto)]
 
 mod explaining;
-mod faults;
-mod limits;
 mod naming;
 mod place;
 mod place_text;
+mod roles;
 mod text;
 
 pub use explaining::explain;
-pub use faults::{
-    Held, Limit, Misnumbered, Named, Naming, OfItsKind, OfItsRole, bad_count, bad_ranges, failing,
-    misnumbered,
-};
 pub use place::{Place, Rule};
 pub use text::{explanation, on_one_line};

@@ -4,8 +4,7 @@ ghost use Rattle.std.specs.List.{list_any};
 ghost use Rattle.description_explainer.specs.Text.{listed_number, node_text, object_text, page_text, part_text};
 ghost use Rattle.description_explainer.specs.Text.{process_text};
 
-use crate::faults::Named;
-use description::{BankEntry, Description, NodeEntry, ProcessEntry};
+use description::{BankEntry, Description, Named, NodeEntry, ProcessEntry};
 use std::alloc::AllocError;
 
 // The number of an object, or 0 if it isn't listed.

@@ -2,8 +2,7 @@
 ghost use Rattle.std.specs.Prelude.{◌≡◌};
 ghost use Rattle.description_explainer.specs.Places.{fault_of, rule_fault};
 
-use crate::faults::{Held, Limit, Misnumbered};
-use description::{BuildFault, Description, Part, ShapePlace};
+use description::{BuildFault, Description, Held, Limit, Misnumbered, Part, ShapePlace};
 use recovery::Unbanked;
 
 /// Where a description breaks one of the rules beyond its shape.

@@ -8,10 +8,12 @@ ghost use Rattle.description_explainer.specs.Text.{indexed_entry, item_text, lim
 ghost use Rattle.description_explainer.specs.Text.{node_text, owner_text, page_text, process_text, rule_text};
 ghost use Rattle.description_explainer.specs.Text.{slot_entry, table_text, target_text};
 
-use crate::faults::{Held, Limit, Misnumbered, Named};
 use crate::naming::{put_node, put_object, put_page, put_process};
 use crate::place::{Place, Rule};
-use description::{Description, Flaw, Indexed, Part, ShapePlace, SlotFlaw, TableName};
+use description::{
+    Description, Flaw, Held, Indexed, Limit, Misnumbered, Named, Part, ShapePlace, SlotFlaw,
+    TableName,
+};
 use recovery::Unbanked;
 use std::alloc::{AllocError, Global};
 

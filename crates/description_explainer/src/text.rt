@@ -3,14 +3,13 @@ ghost use Rattle.std.specs.Prelude.{◌≡◌, ◌++◌, IfOk, codes, decimal, s
 ghost use Rattle.script.specs.Lines.{IsOneLine};
 ghost use Rattle.description_explainer.specs.Text.{IsExplanation};
 
-use crate::faults::{Held, Limit, Misnumbered, Named};
 use crate::naming::listed_number;
 use crate::place::{Place, Rule};
 use crate::place_text::{indexed_entry, list_of, parts_of, place_text};
 use description::member::member;
 use description::{
-    Description, Flaw, Indexed, Key, Part, ProcessEntry, ShapePlace, SlotEntry, SlotFlaw,
-    TableName, WordEntry, is_capability,
+    Description, Flaw, Held, Indexed, Key, Limit, Misnumbered, Named, Part, ProcessEntry,
+    ShapePlace, SlotEntry, SlotFlaw, TableName, WordEntry, is_capability,
 };
 use home_ranges::NumberRange;
 use model::{Capability, Geometry};

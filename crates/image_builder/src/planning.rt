@@ -2,10 +2,23 @@
 ghost use Rattle.std.specs.Prelude.{◌≡◌, IfOk, IfErr};
 ghost use Rattle.description.specs.Rules.{IsWithinLimits, plan_for};
 
-use description::{BuildFault, Description};
+use description::{BuildFault, Description, beyond_limits};
 use home_ranges::lay_out;
 use layout::{Superblock, Version};
-use model::MAX_AGE;
+
+// Lays out the image of a description within the limits.
+fn lay_within(description: &Description) -> Superblock
+    requires { IsWithinLimits description.now }
+    ensures { result ≡ plan_for description.now }
+{
+    match Version::with_number(description.layout) {
+        Some(version) => match lay_out(version, description.geometry, &description.ranges) {
+            Some(superblock) => superblock,
+            None => unreachable!(),
+        },
+        None => unreachable!(),
+    }
+}
 
 /// Lays an image out.
 pub(crate) fn plan(description: &Description) -> Result<Superblock, BuildFault>
@@ -14,13 +27,8 @@ pub(crate) fn plan(description: &Description) -> Result<Superblock, BuildFault>
     ensures refused { IfErr result (λ fault.
         (fault ≡ BuildFault.Limits) × (IsWithinLimits description.now → ⊥)) }
 {
-    if description.age > MAX_AGE {
-        return Err(BuildFault::Limits);
-    }
-    match Version::with_number(description.layout) {
-        Some(version) => lay_out(version, description.geometry, &description.ranges).ok_or(
-            BuildFault::Limits,
-        ),
-        None => Err(BuildFault::Limits),
+    match beyond_limits(description) {
+        Some(_) => Err(BuildFault::Limits),
+        None => Ok(lay_within(description)),
     }
 }

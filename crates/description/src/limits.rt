@@ -1,0 +1,102 @@
+// Which size of a description no image has.
+ghost use Rattle.std.specs.Prelude.{◌≡◌, ◌+◌, ◌<◌, ◌≤◌, ◌↔◌, ◌^◌, length, map, IsTrue, MatchOption};
+ghost use Rattle.layout.specs.Superblock.{Cover, IsGeometry, IsNext};
+ghost use Rattle.home_ranges.specs.Laid.{MayBeLaid, placed};
+ghost use Rattle.model.specs.Sound.{object_count};
+ghost use Rattle.description.specs.Broken.{BreaksGeometry, BreaksLimit, BreaksRanges, GoesOn, HasRanges};
+ghost use Rattle.description.specs.Rules.{IsWithinLimits};
+
+use crate::{Description, Limit};
+use home_ranges::NumberRange;
+use layout::{MAX_LOG, MAX_NODES, MAX_PAGES, MAX_RANGES, MIN_LOG, MIN_NODES, Version};
+use model::{Geometry, MAX_AGE};
+
+// The first count that is outside its limits, if one is: of nodes, pages and slots in half of the log.
+fn bad_count(geometry: Geometry) -> Option<Limit>
+    ensures { MatchOption result (IsGeometry geometry) (λ limit. BreaksGeometry geometry limit) }
+{
+    if geometry.nodes < MIN_NODES || geometry.nodes > MAX_NODES {
+        return Some(Limit::Nodes);
+    }
+    if geometry.pages < 1 || geometry.pages > MAX_PAGES {
+        return Some(Limit::Pages);
+    }
+    if geometry.log < MIN_LOG || geometry.log > MAX_LOG as u64 {
+        return Some(Limit::Log);
+    }
+    None
+}
+
+// Whether a range goes on at a number, isn't empty, is of one kind, and doesn't go beyond the last number.
+fn goes_on(geometry: Geometry, range: NumberRange, next: u64) -> bool
+    requires geometry { IsGeometry geometry }
+    requires within { next ≤ object_count geometry }
+    ensures { IsTrue result ↔ GoesOn geometry range next }
+{
+    let is_of_one_kind = range.first >= geometry.nodes
+        || range.count <= geometry.nodes - range.first;
+    let is_within = range.count <= geometry.nodes + geometry.pages - next;
+    range.first == next && range.count > 0 && is_of_one_kind && is_within
+}
+
+// The first range that doesn't go on where the one before ends, or that they end before the last number.
+fn bad_range(geometry: Geometry, ranges: &[NumberRange]) -> Option<Limit>
+    requires geometry { IsGeometry geometry }
+    requires count { HasRanges ranges.now }
+    ensures { MatchOption result (Cover geometry 0 (map (placed 0) ranges.now))
+        (λ limit. BreaksRanges geometry ranges.now limit) }
+{
+    let mut next = 0;
+    for (index, range) in ranges.iter().enumerate() {
+        if !goes_on(geometry, *range, next) {
+            return Some(Limit::Range { index, next });
+        }
+        next += range.count;
+    }
+    if next < geometry.nodes + geometry.pages {
+        return Some(Limit::RangesEnd { next });
+    }
+    None
+}
+
+// What is wrong with the ranges, if anything is: their count, the first that doesn't go on, or their end.
+fn bad_ranges(geometry: Geometry, ranges: &[NumberRange]) -> Option<Limit>
+    requires { IsGeometry geometry }
+    ensures { MatchOption result (MayBeLaid geometry ranges.now)
+        (λ limit. BreaksRanges geometry ranges.now limit) }
+{
+    if ranges.is_empty() || ranges.len() > MAX_RANGES {
+        return Some(Limit::RangeCount);
+    }
+    bad_range(geometry, ranges)
+}
+
+// What is wrong with the layout or the ranges, if anything is.
+fn bad_layout(description: &Description) -> Option<Limit>
+    requires geometry { IsGeometry description.now.geometry }
+    requires age { description.now.age ≤ 2 ^ 62 }
+    ensures { MatchOption result (IsWithinLimits description.now)
+        (λ limit. BreaksLimit description.now limit) }
+{
+    match Version::with_number(description.layout) {
+        Some(_) => bad_ranges(description.geometry, &description.ranges),
+        None => Some(Limit::Layout),
+    }
+}
+
+/// The first size of a description that no image has, if there is one: nodes, pages, log, age, layout, ranges.
+#[tactic(auto, using(crate::proofs::BrokenLimits::count_broken))]
+pub fn beyond_limits(description: &Description) -> Option<Limit>
+    ensures { MatchOption result (IsWithinLimits description.now)
+        (λ limit. BreaksLimit description.now limit) }
+{
+    match bad_count(description.geometry) {
+        Some(limit) => Some(limit),
+        None => {
+            if description.age > MAX_AGE {
+                return Some(Limit::Age);
+            }
+            bad_layout(description)
+        }
+    }
+}

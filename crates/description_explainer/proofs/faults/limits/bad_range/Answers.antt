@@ -1,6 +1,0 @@
-use Rattle.description_explainer.proofs.Names.{common_steps, arith}
-use Rattle.description_explainer.proofs.Ranges.{gone_on}
-use Rattle.description_explainer.proofs.faults.limits.bad_range.Goals as goal
-
-pub loop-index-preserved : goal.loop-index-preserved
-loop-index-preserved c = grind (arith, common_steps, gone_on)

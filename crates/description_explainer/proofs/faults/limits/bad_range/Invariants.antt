@@ -1,5 +1,0 @@
-use Rattle.description_explainer.proofs.Ranges.{GoneTo}
-use Rattle.description_explainer.proofs.faults.limits.bad_range.Given as goal
-
-abbrev pub invariant-loop-index : goal.invariant-loop-index
-invariant-loop-index l = GoneTo l.geometry l.ranges l.index l.next

@@ -1,6 +1,0 @@
-use Rattle.description_explainer.proofs.Names.{take, All, AllOfProcess}
-use Rattle.description_explainer.proofs.faults.targets.failing_in_processes.Given as goal
-
--- the capabilities of the processes so far pass
-abbrev pub invariant-loop-k : goal.invariant-loop-k
-invariant-loop-k g l = All (AllOfProcess (g.N.Naming.Passes l.naming)) (take l.k l.processes)

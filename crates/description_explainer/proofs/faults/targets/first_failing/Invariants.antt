@@ -1,6 +1,0 @@
-use Rattle.description_explainer.proofs.Names.{take, All, IfNamed}
-use Rattle.description_explainer.proofs.faults.targets.first_failing.Given as goal
-
--- the capabilities so far pass
-abbrev pub invariant-loop-i : goal.invariant-loop-i
-invariant-loop-i g l = All (λ s. IfNamed (g.N.Naming.Passes l.naming) s.capability) (take l.i l.slots)
