@@ -18,7 +18,7 @@ IsLoaded os p address (Ok word) =
     (found : ℕ × Access) × (reached os p address ≡ Ok found) × (word ≡ word_at os found.0 (address % 512))
 IsLoaded os p address (Err why) = reached os p address ≡ Err why
 
--- a store puts a word into a page, which half of the log holds with the numbers written before, or says why it can't
+-- a store puts a word into a page, or says why it can't. Half of the log holds the page with the numbers written before
 abbrev pub IsStored : ℕ → List Object → List Bool → ℕ → ℕ → ℕ → List Object → List Bool →
     Result (Unit {0}) MemoryFault → Type 0
 IsStored log before touched p address word after touched_after (Ok done) =

@@ -1,4 +1,4 @@
--- What frames stand for once the header or the content at one number is another, or the root of a process. What an edit of present frames leaves.
+-- What frames stand for once the header or the content at one number has changed, or the root of a process. What an edit of present frames leaves.
 use Rattle.capability.proofs.Names.{ℕ, suc, inl, inr, nat_lt, List, [], map, length, slice_index_or, slice_set, refl, sym, ap, subst, arith, All, get_or-map}
 use Rattle.capability.proofs.Names.{map-set_same, cases_lt, nat_tests, length-set, map-set, set-get_or, All-replicate, All-set, Cap, Capability, Void, Page}
 use Rattle.capability.proofs.Names.{Node, Space, Process, Start, Resume, Bank, Frame, ObjectHeader, Content, Object, blank_header, conveyed, current_count}
@@ -100,7 +100,7 @@ module _ (p : Parts) (n : ℕ) (h : ObjectHeader) (c : Content Cap) (inside : n 
       λ k d within. let is = current_same p.headers n h same (slice_index_or (caps_in (held_at (slice_set p.contents n c) m)) k d).what in
       rw is (held k d within))
 
--- a content alone is another
+-- a content alone has changed
 module _ (p : Parts) (n : ℕ) (c : Content Cap) (known : n < length p.headers) (inside : n < length p.contents) where
   pub held_objects : objects_in (with_held p n c) ≡ with_content (objects_in p) n (map_content (conveyed p.headers) c)
   unfolding with_content
@@ -247,7 +247,7 @@ module _ (p q : Parts) (n : ℕ) (known : n < length p.headers) (inside : n < le
       ap (λ (d : Content Capability). content.Root (after (root_in d))) (sym there))
       (root_current p.headers change current held) (λ age allowed. root_keeps p.geometry age n (header_at p.headers n) change (stays age allowed) held)
 
--- capabilities in the slots from i on, behind the first
+-- capabilities in the slots from i on, after the first
 pub slots_edit : (p q : Parts) (n : ℕ) → n < length p.headers → n < length p.contents → (i : ℕ) → 0 < i → (cs : List Capability) →
     q ≡ with_held p n (with_slots_in (held_at p.contents n) i (map (live_cap p.headers) cs)) →
     IsEdit p q (with_slots_from (objects_in p) n i cs) (λ age. All (λ c. IsKeptCap p.geometry age (live_cap p.headers c)) cs)

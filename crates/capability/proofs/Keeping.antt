@@ -43,7 +43,7 @@ keepable_from g age p count each = grind (arith, nat_tests, length_in, frame_in)
 pub keepable_roles : (g : Geometry) (age : ℕ) (fs : List Frame) → AreKeepable g age fs → HaveTheirRoles fs
 keepable_roles g age fs k n = grind (arith, nat_tests, get_or_past)
 
--- one object is another that can be kept
+-- one object changes to one that can be kept
 module _ (g : Geometry) (age later : ℕ) (le : age ≤ later) (p q : Parts) (n : ℕ) (h : ObjectHeader) (c : Content Cap) (inside : n < length p.contents) where
   pub one_keepable : q ≡ with_both p n h c → IsKeepable g later n (record { header = h; content = c }) → AreKeepable g age (frames_of p) →
       AreKeepable g later (frames_of q)
@@ -86,7 +86,7 @@ with_word_keeps g age n h (content.Page words) i word fits k = search (refilled,
 with_word_keeps g age n h (content.Node slots) i word fits k = k
 with_word_keeps g age n h other i word fits k = k
 
--- one header is another, beside what its object holds
+-- one header changes, and what its object holds stays
 module _ (g : Geometry) (age later : ℕ) (le : age ≤ later) (p q : Parts) (n : ℕ) (h : ObjectHeader) where
   header_keepable : q ≡ with_header p n h → IsKeepable g later n (record { header = h; content = held_at p.contents n }) →
       AreKeepable g age (frames_of p) → AreKeepable g later (frames_of q)

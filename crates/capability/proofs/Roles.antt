@@ -22,7 +22,7 @@ content_there fs n = ap (λ (o : Object). o.content) (get_or-map (object_of (hea
 header_there : (p : Parts) (n : ℕ) → header_at p.headers n ≡ (frame_at (frames_of p) n).header
 header_there p n = cc (headers_in p.headers p.contents, get_or-map (λ (f : Frame). f.header) (frames_of p) n blank_frame)
 
--- a number is that of a process exactly where its role is that of a root
+-- a number is that of a process exactly if its role is that of a root
 pub process_by_role : (p : Parts) (n : ℕ) → HaveTheirRoles (frames_of p) → is_process (objects_in p) n ≡ is_root_role (header_at p.headers n).role
 process_by_role p n roles = grind (arith, nat_tests, content_there, mapped, root_of, header_there)
 

@@ -171,7 +171,7 @@ pub record Prepares {S T : Type 0} (parts : S → Parts) (Continues : S → S �
 abbrev pub IsOnce : List ℕ → Type 0
 IsOnce ns = (i : ℕ) → i < length ns → is_member (take i ns) (slice_index_or ns i 0) ≡ false
 
--- the members of a set are rescinded, and nothing else is another
+-- the members of a set are rescinded, and nothing else changes
 pub record AreGivenUp (set : List ℕ) (old new : Parts) : Type 0 where
   pub geometry : new.geometry ≡ old.geometry
   pub touched : new.touched ≡ old.touched

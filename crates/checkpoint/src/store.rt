@@ -40,7 +40,7 @@ pub trait ObjectStore<D: Device>: PresentFrames + Sized {
     /// Opens a device, and writes nothing to it. The present objects are the saved ones. The store takes
     /// from `memory` what it can use.
     ///
-    /// A refusal gives the device back: `Failed` exactly where the device failed, `NoMemory` only
+    /// A refusal gives the device back: `Failed` exactly if the device failed, `NoMemory` only
     /// where memory ran out, and else the least of the reasons 1 to 7 to refuse an image.
     fn open(
         alloc: Global,
@@ -85,8 +85,8 @@ pub trait ObjectStore<D: Device>: PresentFrames + Sized {
     /// Begins a checkpoint: all objects are frozen as they are. Answers how many were written since
     /// the last one began. It takes no memory, and makes no call of the device.
     ///
-    /// It is refused by `CheckpointRunning` exactly where one is on its way, and else by
-    /// `MigrationPending` exactly where something saved isn't home, and changes nothing then.
+    /// It is refused by `CheckpointRunning` exactly if one is on its way, and else by
+    /// `MigrationPending` exactly if something saved isn't home, and changes nothing then.
     fn freeze(&mut self) -> Result<u64, Refusal>
         requires may { MayFetch Self.IsUsable Self.parts self.old }
         ensures answer { IsFreezeAnswer (left_in whole (view self.old).snapshots)
@@ -139,7 +139,7 @@ pub trait ObjectStore<D: Device>: PresentFrames + Sized {
             → LeavesEither (D.disk (view self.old).beneath) (D.disk (view self.new).beneath)
             (view self.old).snapshots.saved (next_saved whole age f (view self.old).snapshots.saved) };
 
-    /// Copies `count` of the saved objects home, and answers how many are left. Fails exactly where
+    /// Copies `count` of the saved objects home, and answers how many are left. Fails exactly if
     /// the device does, and then a crash leaves what was saved, or the same with all of it home
     /// where that was to be reached. Where all of it is home already, as the header says, it makes
     /// no call of the device.
@@ -159,11 +159,11 @@ pub trait ObjectStore<D: Device>: PresentFrames + Sized {
     /// other objects what was saved: one page is durable without a checkpoint. Returns the new
     /// generation. It takes no memory.
     ///
-    /// It is refused by `CheckpointRunning` exactly where a checkpoint is on its way, else by
-    /// `MigrationPending` exactly where something saved isn't home, else by `BadNumber` exactly where no
-    /// object has the number, else by `NotJournaled(NotPage)` exactly where it isn't a page, else by
-    /// `NotJournaled(Renewed)` exactly where no page is saved, or the saved one was freed since; nothing is
-    /// written then, and only before `Renewed` the device is asked. It returns `Fault` exactly where the
+    /// It is refused by `CheckpointRunning` exactly if a checkpoint is on its way, else by
+    /// `MigrationPending` exactly if something saved isn't home, else by `BadNumber` exactly if no
+    /// object has the number, else by `NotJournaled(NotPage)` exactly if it isn't a page, else by
+    /// `NotJournaled(Renewed)` exactly if no page is saved, or the saved one was freed since; nothing is
+    /// written then, and only before `Renewed` the device is asked. It returns `Fault` exactly if the
     /// device failed; then a crash leaves what was saved or, where nothing else refuses it, that with the
     /// page.
     fn journal(&mut self, number: u64, age: u64) -> Result<u64, Refusal>

@@ -19,7 +19,7 @@ no_entries p generation image [] none = (
 )
 no_entries p generation image (e ∷ es) none = absurd (omega (arith, none))
 
--- a directory with no entries has no sectors, so nothing lies behind it
+-- a directory with no entries has no sectors, so nothing lies after it
 nothing_behind : (image : Image) (at : ℕ) → drop (16 * 0) (sectors_from image at (directory_length 0)) ≡ replicate (512 * directory_length 0 - 16 * 0) 0
 unfolding sectors_from
 nothing_behind image at = refl
@@ -28,7 +28,7 @@ pub none_behind : (image : Image) (at : ℕ) {n : ℕ} → n ≡ 0 → drop (16 
     (512 * directory_length n - 16 * n) 0
 none_behind image at none = rw none (nothing_behind image at)
 
--- behind the entries of one that is written over zeros there are zeros
+-- after the entries of one that is written over zeros there are zeros
 pub zeros_behind : (image : Image) (at n : ℕ) {most : ℕ} {run zeros : List ℕ} → 512 * directory_length n ≤ most → zeros ≡ replicate most 0
     → sectors_from image at ((n + 32 - 1) / 32) ≡ run → drop (16 * n) run ≡ drop (16 * n) (take (512 * ((n + 32 - 1) / 32)) zeros) →
     drop (16 * n) (sectors_from image at (directory_length n)) ≡ replicate (512 * directory_length n - 16 * n) 0

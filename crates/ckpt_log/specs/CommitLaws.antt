@@ -5,7 +5,7 @@ use Rattle.ckpt_log.specs.Names.{committed_bytes, IsObject, frame_at, Checkpoint
 use Rattle.std.specs.Prelude.{◌≡◌, ◌+◌, ◌<◌, ◌≤◌}
 use Rattle.ckpt_log.specs.Commit.{header_sector, HasNew}
 
--- home frames lie behind the headers
+-- home frames lie after the headers
 abbrev pub HomesAreBehind : Plan → Type 0
 HomesAreBehind p = (object : ℕ) → IsObject p.geometry object → 5 ≤ home_place p object
 

@@ -14,7 +14,7 @@ abbrev pub NextFollows : Type 0
 NextFollows = (image : Image) (room : ℕ) (h next : CheckpointHeader) → IsHeader room h → Commits image h →
     h.sequence + 1 ≡ next.sequence → Precedes image next
 
--- a change of the slot of a header leaves the superblock, and all that lies behind the headers
+-- a change of the slot of a header leaves the superblock, and all that lies after the headers
 abbrev pub HeadersSpareSectors : Type 0
 HeadersSpareSectors = (old new : Image) (h : CheckpointHeader) (at n : ℕ) → 5 ≤ at →
     Elsewhere (header_sector h) 2 old new → (new 0 ≡ old 0) × SameFrom at n old new

@@ -1,4 +1,4 @@
--- The slots and the directories of the log lie behind the headers, before the end, and apart.
+-- The slots and the directories of the log lie after the headers, before the end, and apart.
 use Rattle.ckpt_log.specs.Names.{ℕ, Extent, Plan, IsPlan, IsWithin, IsApart, IsInside, half_extent, place_length}
 use Rattle.ckpt_log.specs.Names.{half_sector, slot_sector, directory_sector, directory_length}
 use Rattle.std.specs.Prelude.{◌≡◌, ◌%◌, ◌<◌, ◌≤◌}
@@ -29,7 +29,7 @@ abbrev pub DirectoriesAreInside : Type 0
 DirectoriesAreInside = (p : Plan) (generation n : ℕ) → n ≤ p.geometry.log →
     IsInside (directory_extent p generation n) (half_extent p.geometry (half_sector p generation))
 
--- each half lies behind the headers and before the end
+-- each half lies after the headers and before the end
 abbrev pub HalvesAreWithin : Type 0
 HalvesAreWithin = (p : Plan) (generation : ℕ) → IsPlan p →
     IsWithin p.total (half_extent p.geometry (half_sector p generation))

@@ -21,7 +21,7 @@ const MAX_BYTES: usize = 65536;
 // How many entries a sector has.
 const ENTRIES_IN_SECTOR: usize = 32;
 
-// Writes the bytes of a directory, 16 for each entry. The bytes behind them stay.
+// Writes the bytes of a directory, 16 for each entry. The bytes after them stay.
 fn put_entries(entries: &[Entry], into: &mut [u8])
     requires room { 16 * length entries.now ≤ length into.old }
     ensures front { take (16 * length entries.now) into.new ≡ directory_bytes entries.now }
@@ -73,7 +73,7 @@ fn entries_in(bytes: &[u8], geometry: Geometry, into: &mut [Entry]) -> Result<()
 }
 
 impl<'a> Log<'a> {
-    /// Writes the directory of the half of a generation. The bytes behind the last entry of its last
+    /// Writes the directory of the half of a generation. The bytes after the last entry of its last
     /// sector are 0. For all other sectors it keeps their bytes and adds nothing to what a crash may leave in
     /// them.
     ///

@@ -19,7 +19,7 @@ pub fn saved_is_read_from_its_sectors()
 {}
 
 /// The slots and the directory of a generation lie in its half of the log and apart from one another.
-/// A frame lies in its slot. The halves lie behind the headers, before the end, and apart. So writes
+/// A frame lies in its slot. The halves lie after the headers, before the end, and apart. So writes
 /// for the next generation touch no sector of the last one. It does nothing: its contract is the law.
 #[tactic(auto, using(crate::proofs::Places::place_laws))]
 pub fn keep_halves_apart()
@@ -40,7 +40,7 @@ pub fn what_is_written_is_read()
 {}
 
 /// The bytes of a header have its sequence number, so `publish` may follow the committed header with
-/// the next number. A write of a header's slot changes neither the superblock nor what lies behind the
+/// the next number. A write of a header's slot changes neither the superblock nor what lies after the
 /// headers: frames and directories. It does nothing: its contract is the law.
 #[tactic(auto, using(crate::proofs::Places::header_laws))]
 pub fn headers_spare_the_rest()

@@ -62,6 +62,6 @@ module _ {X : Type 0} where
   pub not_all_counted : (p : X → Bool) (xs : List X) (n : ℕ) (d y : X) → n < length xs → p (get_or xs n d) ≡ false → p y ≡ true → count_by p xs < length xs
   not_all_counted p xs n d y within was is = omega (arith, one_counted p xs n d y within was is, count_by-le-length p (set xs n y), length-set xs n y)
 
--- what is read behind a map whose value at the default is the default
+-- what is read after a map whose value at the default is the default
 pub get_map : {X Y : Type 0} (f : X → Y) (xs : List X) (k : ℕ) (d : X) (e : Y) → f d ≡ e → get_or (map f xs) k e ≡ f (get_or xs k d)
 get_map f xs k d e is = grind (arith, nat_tests, get_or-map, get_or_past, length-map)

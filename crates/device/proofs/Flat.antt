@@ -14,7 +14,7 @@ front xs ys i inside =
     ap (λ (rest : List ℕ). take 512 rest) (drop-append-le (512 * i) xs ys (omega (arith, inside)))
     ∙ take-append-le 512 (drop (512 * i) xs) ys (omega (arith, inside, length-drop (512 * i) xs))
 
--- a sector behind the front of a list
+-- a sector after the front of a list
 behind : (xs ys : List ℕ) (at i : ℕ) → length xs ≡ 512 * at → image_of (xs ++ ys) (at + i) ≡ image_of ys i
 behind xs ys at i size =
     let place : 512 * (at + i) ≡ length xs + 512 * i = omega (arith, size) in

@@ -45,7 +45,7 @@ Tears at n old new = (c : Image) → new.may_leave c → IsTorn at n old c
 abbrev pub Only : Image → Disk → Type 0
 Only image disk = (c : Image) → disk.may_leave c → Agrees c image
 
--- the count of failures rises exactly where the call fails, and never falls
+-- the count of failures rises exactly if the call fails, and never falls
 pub record Counts {T E : Type 0} (old new : Disk) (result : Result T E) : Type 0 where
   pub never_falls : old.failures ≤ new.failures
   pub cause : IsErr result ↔ (old.failures < new.failures)

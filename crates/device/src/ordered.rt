@@ -29,7 +29,7 @@ pub fn write_durably<D: Device>(device: &mut D, at: u64, bytes: &[u8]) -> Result
 }
 
 /// Writes `first` into the sectors from `at` on and, once they are durable, `second` into those
-/// from `next` on, which lie behind them. After `Ok` the second run isn't durable yet.
+/// from `next` on, which lie after them. After `Ok` the second run isn't durable yet.
 pub fn write_in_order<D: Device>(
     device: &mut D,
     at: u64,

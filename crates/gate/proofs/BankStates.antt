@@ -90,7 +90,7 @@ module _ (old mid new : Parts) (i : Invocation) (s : BanksState) (sound : AreSou
   counted_after (Err e) done geometry unchanged stayed =
       subst (λ (p : Parts). AreCounted p.geometry (objects_in p) s) (sym (unchanged (stayed ∙ sym (ap (λ (p : Parts). p.failures) same)))) counted_mid
 
--- an order of the bank that is invoked may be planned
+-- an invoked bank may plan its order
 pub bank_may_ask : (p : Parts) (s : BanksState) (i : Invocation) (caller : Caller) (b : ℕ) (args : Arguments) → AreSound p →
     AreCounted p.geometry (objects_in p) s →
     Fits (command.Invoke i) → IsRequested (objects_in p) i caller → AreEnough (objects_in p) i caller.invoked args → caller.invoked ≡ Bank b → MayAsk p s b args

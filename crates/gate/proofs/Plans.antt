@@ -218,7 +218,7 @@ target_all P o all n is = grind (arith, nat_tests)
 all_target : (P : ℕ → Type 0) (o : Option ℕ) → ((n : ℕ) → o ≡ Some n → P n) → All P (option_to_list o)
 all_target P o each k d inside = grind (arith, nat_tests)
 
--- behind the numbers that the invocation writes itself
+-- after the numbers that the invocation writes itself
 pub behind_writers : (op : Operation) (p annex : ℕ) (ns : List ℕ) → drop (writer_count op) (writers op p annex ++ ns) ≡ ns
 behind_writers op p annex ns = grind (arith, nat_tests)
 

@@ -23,7 +23,7 @@ all_blank n {xs} is =
 abbrev pub AreIn : Plan → (ℕ → List ℕ) → ℕ → ℕ → List ℕ → Type 0
 AreIn p frame first n block = (k : ℕ) → k < n → shape_bytes (shape_of p (first + k)) block ≡ frame (first + k)
 
--- and behind their places it has zeros
+-- and after their places it has zeros
 abbrev pub AreEnded : Plan → ℕ → ℕ → List ℕ → Type 0
 AreEnded p first n block = (at : ℕ) → ((k : ℕ) → k < n → shape_end (shape_of p (first + k)) ≤ at) → IsBlankFrom at block
 

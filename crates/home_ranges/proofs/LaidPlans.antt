@@ -1,4 +1,4 @@
--- What is laid out one behind the other is a plan.
+-- What is laid out one after the other is a plan.
 use Rattle.home_ranges.proofs.Names.{nat_tests, ℕ, zero, suc, Bool, List, [], length, map, refl, sym, subst, arith, lt-ltb, le-ltb, All, Geometry, Extent}
 use Rattle.home_ranges.proofs.Names.{Version, One, Two, Cover, IsPlan, IsWithin, AreApart, extent_at, extents, half_extent, nodes_length, range_extent}
 use Rattle.home_ranges.proofs.Names.{NumberRange, MayBeLaid, behind, half_length, laid, placed, plan_from, sectors_of, cover_within, IfSome, IfNone, Plan}
@@ -38,7 +38,7 @@ follow_within total at [] low high follow k d lt = absurd (omega (arith, lt))
 follow_within total at (e ∷ es) low high follow zero d lt = grind (arith, nat_tests, ends_later)
 follow_within total at (e ∷ es) low high follow (suc k) d lt = follow_within total (at + e.length) es (omega (arith, low)) high follow.1 k d (omega (arith, lt))
 
--- ---- ranges that are laid, and what lies behind them
+-- ---- ranges that are laid, and what lies after them
 
 laid_follow : (v : Version) (g : Geometry) (at : ℕ) (rs : List NumberRange) (es : List Extent) → Follow (behind v g at rs) es →
     Follow at (map (range_extent v g) (laid v g at rs) ++ es)

@@ -1,4 +1,4 @@
--- Ranges are laid one behind the other.
+-- Ranges are laid one after the other.
 use Rattle.home_ranges.proofs.Names.{ℕ, suc, nat_lt, Bool, List, [], length, get_or, set, take, drop, refl, sym, ap, append_assoc, arith, append-nil, drop_all}
 use Rattle.home_ranges.proofs.Names.{drop_more, length-set, take_all, take_more_set, Geometry, HomeRange, Version, nodes_length, NumberRange, behind, laid}
 use Rattle.home_ranges.proofs.Names.{placed, sectors_of}

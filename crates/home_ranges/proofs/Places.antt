@@ -235,7 +235,7 @@ pub no_range : {p : Plan} {number : ℕ} → IsPlan p → IsObject p.geometry nu
 no_range {p} {number} fits is reported =
     let at = found number fits is in let never : None ≡ Some (range_at p.ranges at.0) = reported ∙ at.1.found in cc
 
--- a place of a number, behind the headers and before the end
+-- a place of a number, after the headers and before the end
 pub record IsPlace (p : Plan) (number place : ℕ) : Type 0 where
   pub value : place ≡ home_place p number
   pub behind : 5 ≤ place
@@ -259,7 +259,7 @@ module _ {g : Geometry} {r : HomeRange} {a b : ℕ} (has_a : Has g r a) (has_b :
   one_place : (v : Version) → (a - r.first) / frames_in_block v g b ≡ (b - r.first) / frames_in_block v g b → place_in v g r a ≡ place_in v g r b
   one_place v same = grind (arith, nat_tests)
 
-  -- its frame lies behind those before it
+  -- its frame lies after those before it
   rise_in : (v : Version) → place_in v g r a ≡ place_in v g r b → a < b → shape_end (shape_in v g r a) ≤ (shape_in v g r b).offset
   rise_in v same lt = grind (arith, nat_tests)
 
@@ -267,7 +267,7 @@ module _ {g : Geometry} {r : HomeRange} {a b : ℕ} (has_a : Has g r a) (has_b :
   whole_alone v same whole = grind (arith, nat_tests)
 
 module _ {p : Plan} {a b : ℕ} (fits : IsPlan p) (is_a : IsObject p.geometry a) (is_b : IsObject p.geometry b) (same : home_place p a ≡ home_place p b) where
-  -- of two that have one home, the frame of the greater lies behind that of the other
+  -- of two that have one home, the frame of the greater lies after that of the other
   pub frames_rise : a < b → shape_end (shape_of p a) ≤ (shape_of p b).offset
   frames_rise lt =
       let both = one_range fits is_a is_b same in
@@ -358,7 +358,7 @@ module _ {p : Plan} {number : ℕ} {r : HomeRange} (fits : IsPlan p) (is : IsObj
             omega (arith, first_at, least, at.0.low, here.low, few);
       }
 
-  -- it shares its home with those behind it, up to the end of its block or of the range
+  -- it shares its home with those after it, up to the end of its block or of the range
   pub block_shared : {n : ℕ} → n ≡ min (r.count - (number - r.first)) (k - (number - r.first) % k) → HaveHome p number n
   block_shared {n} count =
       let i : ℕ = number - r.first in

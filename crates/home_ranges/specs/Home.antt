@@ -8,7 +8,7 @@ abbrev pub HoldsHome : Plan → ℕ → List ℕ → Image → Type 0
 HoldsHome p number bytes image = (n : ℕ) → IsObject p.geometry n → home_place p n ≡ home_place p number →
     bytes_at image (home_place p n) p n ≡ shape_bytes (shape_of p n) bytes
 
--- the `n` numbers from `number` on have its home, and none behind them has it
+-- the `n` numbers from `number` on have its home, and none after them has it
 pub record HaveHome (p : Plan) (number n : ℕ) : Type 0 where
   pub object : (k : ℕ) → k < n → IsObject p.geometry (number + k)
   pub same : (k : ℕ) → k < n → home_place p (number + k) ≡ home_place p number
@@ -24,11 +24,11 @@ pub record IsFirstOf (p : Plan) (number first : ℕ) : Type 0 where
 abbrev pub frames_in_block : Version → Geometry → ℕ → ℕ
 frames_in_block v g number = if nat_lt number g.nodes then (row v).cluster_nodes else 1
 
--- a byte of a block lies behind the frames of all that have the home of an object
+-- a byte of a block lies after the frames of all that have the home of an object
 abbrev pub IsBehindAll : Plan → ℕ → ℕ → Type 0
 IsBehindAll p number at = (n : ℕ) → IsObject p.geometry n → home_place p n ≡ home_place p number → shape_end
     (shape_of p n) ≤ at
 
--- behind these frames a block has zeros
+-- after these frames a block has zeros
 abbrev pub EndsInZeros : Plan → ℕ → List ℕ → Type 0
 EndsInZeros p number bytes = (at : ℕ) → IsBehindAll p number at → IsBlankFrom at bytes

@@ -15,17 +15,17 @@ sectors_of v g r = (range_extent v g (placed 0 r)).length
 abbrev pub half_length : Geometry → ℕ
 half_length g = (half_extent g 0).length
 
--- ranges whose frames lie one behind the other from a sector on
+-- ranges whose frames lie one after the other from a sector on
 unfoldable pub laid : Version → Geometry → ℕ → List NumberRange → List HomeRange
 laid v g at [] = []
 laid v g at (r ∷ rs) = placed at r ∷ laid v g (at + sectors_of v g r) rs
 
--- the sector behind them
+-- the sector after them
 unfoldable pub behind : Version → Geometry → ℕ → List NumberRange → ℕ
 behind v g at [] = at
 behind v g at (r ∷ rs) = behind v g (at + sectors_of v g r) rs
 
--- the plan with ranges from sector 5 on, behind them the halves of the log, and nothing behind those
+-- the plan with ranges from sector 5 on, after them the halves of the log, and nothing after those
 abbrev pub plan_from : Version → Geometry → List NumberRange → Plan
 plan_from v g rs = plan_of v g (laid v g 5 rs) (behind v g 5 rs) (behind v g 5 rs + half_length g)
     (behind v g 5 rs + half_length g + half_length g)

@@ -11,7 +11,7 @@ use Rattle.home_ranges.specs.declared.number_range.NumberRange.{NumberRange}
 abbrev pub home_extent : Plan → ℕ → Extent
 home_extent p number = record { sector = home_place p number; length = place_length p number }
 
--- they lie behind the headers and before the end
+-- they lie after the headers and before the end
 abbrev pub PlacesAreWithin : Type 0
 PlacesAreWithin = (p : Plan) (a : ℕ) → IsPlan p → IsObject p.geometry a → IsWithin p.total (home_extent p a)
 

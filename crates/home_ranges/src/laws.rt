@@ -3,7 +3,7 @@
 ghost use Rattle.home_ranges.specs.Laws.{PlacesAreWithin, PlacesAreApart, NumbersAreApart, PlacesSpareLog, FramesStay};
 ghost use Rattle.home_ranges.specs.Laws.{FramesAreHome, SecondTakesFewMore};
 
-/// Homes lie behind the headers and before the end, apart from one another and from the log. A change
+/// Homes lie after the headers and before the end, apart from one another and from the log. A change
 /// of other sectors leaves the frame in a home. An object without a slot in the log has its home
 /// frame.
 pub fn keep_places_apart()

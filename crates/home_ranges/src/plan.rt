@@ -14,7 +14,7 @@ use model::Geometry;
 // The greatest number of objects.
 const MAX_OBJECTS: u64 = MAX_NODES + MAX_PAGES;
 
-// The sector behind the superblock and the headers.
+// The sector after the superblock and the headers.
 const FIRST_SECTOR: u64 = 5;
 
 // A range that is not used.
@@ -24,7 +24,7 @@ const UNUSED: HomeRange = HomeRange {
     sector: 0,
 };
 
-// Lays ranges one behind the other from sector 5 on, and returns the sector behind the last.
+// Lays ranges one after the other from sector 5 on, and returns the sector after the last.
 #[tactic(auto, using(crate::proofs::Laying::all_laid, crate::proofs::Laying::end_laid))]
 fn lay_ranges(
     version: Version,
@@ -61,7 +61,7 @@ fn are_few(ranges: &[NumberRange]) -> bool
 }
 
 /// Lays out an image of this version and geometry. From sector 5 on come the home ranges in their
-/// order, then the two halves of the log. The total is the sector behind the second half.
+/// order, then the two halves of the log. The total is the sector after the second half.
 ///
 /// Returns `None` exactly if one of these doesn't hold:
 ///

@@ -3,7 +3,7 @@ use Rattle.image_writer.proofs.Names.{ℕ, inl, inr, ⊎_elim, arith, Disk, Imag
 use Rattle.image_writer.proofs.Names.{SparesRest, WasKeptOrHasNone, none_committed, IsBeforeOrNone, LeavesClosed}
 use Rattle.std.proofs.Common.{◌≡◌, ◌⊎◌, ◌+◌, ◌≤◌}
 
--- sectors before the gates, or behind the headers
+-- sectors before the gates, or after the headers
 abbrev pub AreBeside : ℕ → ℕ → Type 0
 AreBeside at n = (at + n ≤ 2) ⊎ (5 ≤ at)
 

@@ -18,7 +18,7 @@ first_alone first second m n is isnt = rw (is, isnt) refl
 pub five : (p : Plan) → IsPlan p → 5 ≤ p.total
 five p fits = let within = half_within p 0 fits in omega (arith, within.0, within.1)
 
--- a change of the gate leaves what lies behind the headers
+-- a change of the gate leaves what lies after the headers
 behind : (at n : ℕ) (old new : Image) → 5 ≤ at → Elsewhere 2 1 old new → sectors_from new at n ≡ sectors_from old at n
 behind at n old new low change = same_sectors at n old new (λ i lt. change.after (at + i) (omega (arith, low)))
 

@@ -4,7 +4,7 @@ use Rattle.image_writer.proofs.Names.{places_within, KeepsImage, half_behind, fr
 use Rattle.std.proofs.Common.{◌≡◌, ◌+◌, ◌<◌, ◌≤◌}
 
 module _ (old new : Image) (kept : KeepsImage old new) where
-  -- behind the headers nothing changes
+  -- after the headers nothing changes
   behind : (at n : ℕ) → 5 ≤ at → sectors_from new at n ≡ sectors_from old at n
   behind at n low = same_sectors at n old new (λ i lt. kept.elsewhere (at + i) (λ is. omega (arith, low, is)) (λ is. omega (arith, low, is)))
 

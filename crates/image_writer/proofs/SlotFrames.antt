@@ -1,4 +1,4 @@
--- Slots of the log are written one after the other, behind the homes.
+-- Slots of the log are written one after the other, after the homes.
 use Rattle.image_writer.proofs.Names.{nat_tests, ℕ, Result, Option, Some, None, List, length, ⊎_elim, refl, sym, subst, ap, arith, OnOk, cases_lt, take, Frame}
 use Rattle.image_writer.proofs.Names.{frame_at, object_count, Image, Elsewhere, Entry, IsDirectory}
 use Rattle.image_writer.proofs.Names.{entry_at, frame_bytes, home_place, place_length, shape_of, bytes_at, directory_sector, frame_in, half_sector}
@@ -81,11 +81,11 @@ module _ (p : Plan) (generation : ℕ) (es : List Entry) (i : ℕ) (mid new : Im
       Elsewhere (half_sector p generation) (9 * p.geometry.log) old new
   stays_in_half old so_far = search (arith, fits, slot_length)
 
--- a slot lies behind the headers
+-- a slot lies after the headers
 pub slot_behind : (p : Plan) (generation slot : ℕ) → IsPlan p → 5 ≤ slot_sector p generation slot
 slot_behind p generation slot fits = let within = half_within p generation fits in omega (arith, within.0)
 
--- ---- the directory behind them
+-- ---- the directory after them
 
 frame_stays : (p : Plan) (generation at long : ℕ) (es : List Entry) (mid new : Image) → IsDirectory p.geometry es →
     at ≡ directory_sector p generation → Elsewhere at long mid new → (j a : ℕ) → j < length es →
@@ -130,7 +130,7 @@ all_slotted p generation es frames homes new fits change home slots a lt = by (f
       subst (λ (s : ℕ). bytes_at new (slot_sector p generation s) p a ≡ frame_bytes p.geometry a (frame_at frames a)) entry.slot_is
       ((slots entry.index entry.within).frame a lt (sym entry.home_is)))
 
--- and each block has zeros behind its frames
+-- and each block has zeros after its frames
 pub all_end : (p : Plan) (generation : ℕ) (es : List Entry) (frames : List Frame) (homes new : Image) → IsPlan p →
     Elsewhere (half_sector p generation) (half_extent p.geometry 0).length homes new → EndAtHome p (object_count p.geometry) homes
     → AreInSlots p generation es frames (length es) new → EndInZeros p generation es new

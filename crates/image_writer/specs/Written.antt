@@ -38,11 +38,11 @@ abbrev pub AreInSlots : Plan → ℕ → List Entry → List Frame → ℕ → I
 AreInSlots p generation es frames n image = (j : ℕ) → j < n →
     LieAt p frames (entry_at es j).object (slot_sector p generation (entry_at es j).slot) image
 
--- the homes of the first n numbers have zeros behind their frames
+-- the homes of the first n numbers have zeros after their frames
 abbrev pub EndAtHome : Plan → ℕ → Image → Type 0
 EndAtHome p n image = (a : ℕ) → a < n → HasZeros p a (home_place p a) image
 
--- each block has zeros behind its frames: at home, and in the slots of a directory's entries
+-- each block has zeros after its frames: at home, and in the slots of a directory's entries
 pub record EndInZeros (p : Plan) (generation : ℕ) (es : List Entry) (image : Image) : Type 0 where
   pub home : EndAtHome p (object_count p.geometry) image
   pub slots : (j : ℕ) → j < length es →

@@ -51,7 +51,7 @@ fn fill_block(
 }
 
 /// Writes the frames of all objects with the home of `number` into the sectors from `at` on, as they lie at home,
-/// and zeros behind them. Returns `Failed` exactly if the device failed.
+/// and zeros after them. Returns `Failed` exactly if the device failed.
 pub(crate) fn write_shared<D: Device>(
     device: &mut D,
     home: &Home,

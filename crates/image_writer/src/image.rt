@@ -113,7 +113,7 @@ fn write_parts<D: Device>(
 /// - one committed checkpoint with this header, of sequence number 0, and this directory
 /// - at home, the frames of all objects
 /// - in the slot of each entry, the frames of all objects with the home of the entry's object
-/// - in each cluster that has frames, zeros behind them
+/// - in each cluster that has frames, zeros after them
 ///
 /// After `Ok` a read gives that state, also after a crash. There are three steps, each durable before
 /// the next begins:

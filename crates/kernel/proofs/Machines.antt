@@ -272,7 +272,7 @@ module _ {D S : Type 0} (disk : D → Disk) (view : S → View D) (parts : S →
         reported (fault.Bad reason) r = absurd
             (one_not_bad g (disk device).sectors (disk device).seen ss reason (leaves (disk device).seen seen_left) r.is_why.1)
 
-  -- a device that a crash of a kernel left is an image
+  -- what a crash of a kernel leaves on its device is an image
   pub no_reason : (device back : D) (why : OpenFault) → (disk device).may_leave (disk device).seen → IsSomeDown disk device →
       RefusesToOpen disk device back why → IsNoReason why
   no_reason device back (fault.Bad reason) seen_left down refuses =

@@ -31,7 +31,7 @@ IsCheckpointOf (Up r) (Some c) = (c.generation ≡ r.saved.generation) × (c.age
 IsCheckpointOf (Up r) None = ⊥
 IsCheckpointOf (Down saved) reported = reported ≡ None
 
--- a command is answered with `Fault` exactly where the count of failures rises
+-- a command is answered with `Fault` exactly if the count of failures rises
 pub record IsCaused (old new : Disk) (a : Answer) : Type 0 where
   pub later : old.failures ≤ new.failures
   pub exact : (a ≡ answer.Refused refusal.Fault) ↔ (old.failures < new.failures)

@@ -141,7 +141,7 @@ impl<D: Device, S: ObjectStore<D>> Kernel<D, S> {
     /// Opens a device, and writes nothing to it: the machine is up at the saved part that its
     /// sectors denote.
     ///
-    /// A refusal gives the device back: `Failed` exactly where the device failed, `NoMemory` only
+    /// A refusal gives the device back: `Failed` exactly if the device failed, `NoMemory` only
     /// where memory ran out, and else the least of the ten reasons to refuse an image. What a crash
     /// of a kernel leaves is refused for none of them.
     #[tactic(auto, using(crate::proofs::Machines::opens_up))]

@@ -92,7 +92,7 @@ has_room g n s fits = elim (cases_lt n g.nodes) [
 
 -- ---- bytes are put into a block
 
--- what stands behind a place of n bytes
+-- what stands after a place of n bytes
 behind_put : (at k n : ℕ) (xs ys : List ℕ) → at ≤ length xs → drop (at + k) (put_mid at n xs ys) ≡ drop k (ys ++ drop (at + n) xs)
 behind_put at k n xs ys low =
     ap (drop (at + k)) (mid_put at n xs ys ∙ append_assoc (take at xs) ys (drop (at + n) xs)) ∙ sym (drop-drop k at (take at xs ++ (ys ++ drop (at + n) xs))) ∙

@@ -5,7 +5,7 @@ use Rattle.layout.proofs.Names.{HomeRange, extent_at, IsApart, AreApart, Cover, 
 use Rattle.std.proofs.Common.{◌≡◌, ◌+◌, ◌-◌, ◌<◌, ◌≤◌, ◌∷◌, ◌++◌, ◌∙◌}
 use Rattle.std.proofs.lemmas.List.{append_assoc}
 
--- the first i extents are apart from all behind them
+-- the first i extents are apart from all after them
 abbrev pub ApartBelow : List Extent → ℕ → Type 0
 ApartBelow es n = (i j : ℕ) → i < n → i < j → j < length es → IsApart (extent_at es i) (extent_at es j)
 
@@ -60,7 +60,7 @@ pub not_covered : (g : Geometry) (rs : List HomeRange) (i next : ℕ) → i < le
     (IsNext g (range_at rs i) next → (range_at rs i).count ≤ g.nodes + g.pages - next → ⊥) → Cover g 0 rs → ⊥
 not_covered g rs i next lt was hold c = grind (arith, nat_tests, drop_more, cover_within)
 
--- no range begins behind the last number, or counts more than all numbers
+-- no range begins after the last number, or counts more than all numbers
 pub ranges_within : (g : Geometry) (n : ℕ) (rs : List HomeRange) → Cover g n rs →
     All (λ r. (r.first ≤ g.nodes + g.pages) × (r.count ≤ g.nodes + g.pages)) rs
 ranges_within g n [] c k d lt = absurd (omega arith)

@@ -47,7 +47,7 @@ even_same a b same = grind (arith, nat_tests)
 same_parity : (a b : ℕ) → half_of a ≡ half_of b → a % 2 ≡ b % 2
 same_parity a b same = even_same a b (same_test (a % 2 == 0) (b % 2 == 0) same)
 
--- the half of a generation lies behind the headers and before the end
+-- the half of a generation lies after the headers and before the end
 pub half_within : (p : Plan) (generation : ℕ) → IsPlan p → IsWithin p.total (half_extent p.geometry (half_sector p generation))
 half_within p generation fits = within_by p (half_of generation) fits
 

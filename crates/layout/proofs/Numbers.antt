@@ -52,7 +52,7 @@ pub number_splits : (m n : ℕ) (x y : List ℕ) → m < 2 ^ 64 → n < 2 ^ 64 �
 unfolding number
 number_splits m n x y fits fits' e = grind (arith, nat_tests, take_at, drop_at, from_le_bytes-to_le_bytes_8)
 
--- any is 0 exactly where the first i bytes are
+-- any is 0 exactly if the first i bytes are
 pub record IsSum (bytes : List ℕ) (i any : ℕ) : Type 0 where
   pub zero_bytes : any ≡ 0 → (k : ℕ) → k < i → get_or bytes k 0 ≡ 0
   pub zero_sum : ((k : ℕ) → k < i → get_or bytes k 0 ≡ 0) → any ≡ 0

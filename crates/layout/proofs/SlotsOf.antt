@@ -45,7 +45,7 @@ own_slot (e ∷ es) (suc i) rising lt =
     let less = rising_above es e i rising (omega (arith, lt)) in
     slot_behind e es (entry_at es i).object (λ same. omega (arith, less, same)) ∙ own_slot es i (rising_behind e es rising) (omega (arith, lt))
 
--- each object is less than those behind it
+-- each object is less than those after it
 pub rising_to : (es : List Entry) (i j : ℕ) → AreRising es → i < j → j < length es → (entry_at es i).object < (entry_at es j).object
 rising_to [] i j rising lt within = absurd (omega (arith, within))
 rising_to (e ∷ es) zero zero rising lt within = absurd (omega (arith, lt))

@@ -329,7 +329,7 @@ pub plan_found : (v : Version) (bytes : List ℕ) (second : ℕ) (g : Geometry) 
 plan_found v bytes second g all half_0 half_1 total used read version u few eight others blank =
     grind (arith, nat_tests, length-take-le, all_from, plan_stream)
 
--- eight numbers are read, and the ranges behind them
+-- eight numbers are read, and the ranges after them
 pub eight_read : (bytes : List ℕ) (m s a b c d e f : ℕ) (all : List HomeRange) → bytes ≡ number m ++ drop 8 bytes → drop 8 bytes ≡ number s ++ drop 16 bytes →
     drop 16 bytes ≡ number a ++ drop 24 bytes
     → drop 24 bytes ≡ number b ++ drop 32 bytes → drop 32 bytes ≡ number c ++ drop 40 bytes → drop 40 bytes ≡ number d ++ drop 48 bytes →

@@ -5,7 +5,7 @@ use Rattle.layout.specs.Bytes.{number_from}
 use Rattle.layout.specs.Capability.{assembled}
 use Rattle.layout.specs.Frame.{role_in, body_in, page_body_in, content_of}
 
--- the capability with this head and the numbers behind it
+-- the capability with this head and the numbers after it
 abbrev pub cap_with : ℕ → ℕ → ℕ → Cap
 cap_with head object count = record {
   what = assembled (head % 256) (record { 0 = head / 256 % 256 }) (head / 65536 % 65536) (head / 4294967296 % 256)

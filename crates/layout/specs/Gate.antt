@@ -9,7 +9,7 @@ abbrev pub gate_bytes : Gate → List ℕ
 gate_bytes Closed = 0 ∷ zeros 511
 gate_bytes Open = 1 ∷ zeros 511
 
--- a gate is open exactly where its first byte is 1
+-- a gate is open exactly if its first byte is 1
 abbrev pub is_open : List ℕ → Bool
 is_open bytes = slice_index bytes 0 == 1
 

@@ -71,7 +71,7 @@ directory_sector p generation = half_sector p generation + 9 * p.geometry.log
 abbrev pub directory_length : ℕ → ℕ
 directory_length n = (n + 31) / 32
 
--- the bytes of a directory of n entries: those behind the last entry don't matter
+-- the bytes of a directory of n entries: those after the last entry don't matter
 abbrev pub directory_in : Image → Plan → ℕ → ℕ → List ℕ
 directory_in image p generation n = take (16 * n)
     (sectors_from image (directory_sector p generation) (directory_length n))
@@ -122,7 +122,7 @@ frame_in image p generation es object = bytes_at image (frame_sector p generatio
 abbrev pub IsTooSmall : Image → ℕ → Type 0
 IsTooSmall image size = (size < 5) ⊎ (size < total_in (image 0))
 
--- 2: another magic or version, or a byte behind the ranges that isn't 0
+-- 2: another magic or version, or a byte after the ranges that isn't 0
 abbrev pub IsNoSuperblock : Image → Type 0
 IsNoSuperblock image = HasMark (image 0) → ⊥
 

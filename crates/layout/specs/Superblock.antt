@@ -90,7 +90,7 @@ abbrev pub extents : Plan → List Extent
 extents p = map (range_extent p.version p.geometry) p.ranges ++ half_extent p.geometry p.half_0 ∷ half_extent p.geometry
     p.half_1 ∷ []
 
--- sectors behind the headers and before the end
+-- sectors after the headers and before the end
 abbrev pub IsWithin : ℕ → Extent → Type 0
 IsWithin total e = (5 ≤ e.sector) × (e.sector + e.length ≤ total)
 

@@ -55,7 +55,7 @@ fn frame_size(geometry: Geometry, number: u64) -> usize
 }
 
 /// Writes the frame of an object into its place in a block. The bytes before it stay. Where the bytes
-/// behind its place are zeros, they stay zeros; others may change.
+/// after its place are zeros, they stay zeros; others may change.
 pub fn put_frame(
     geometry: Geometry,
     number: u64,

@@ -1,4 +1,4 @@
-// The body of a frame, behind its header, and a scratch buffer for it.
+// The body of a frame, after its header, and a scratch buffer for it.
 ghost use Rattle.std.specs.Prelude.{◌≡◌, IfOk, replicate};
 ghost use Rattle.model.specs.Frame.{content_behind, void_held};
 ghost use Rattle.layout.specs.Frame.{content_of};

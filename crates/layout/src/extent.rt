@@ -84,14 +84,14 @@ pub fn fill_extents(
     into[ranges.len() + 1] = half_extent(geometry, half_1);
 }
 
-// Whether an extent lies behind the headers, which end at sector 5, and before sector `total`.
+// Whether an extent lies after the headers, which end at sector 5, and before sector `total`.
 fn is_within(total: u64, extent: Extent) -> bool
     ensures { IsTrue result ↔ IsWithin total extent }
 {
     extent.sector >= 5 && extent.length <= total && extent.sector <= total - extent.length
 }
 
-/// Whether all extents lie behind the headers, which end at sector 5, and before sector `total`.
+/// Whether all extents lie after the headers, which end at sector 5, and before sector `total`.
 pub fn are_within(total: u64, extents: &[Extent]) -> bool
     ensures { IsTrue result ↔ All (IsWithin total) extents.now }
 {

@@ -28,7 +28,7 @@ pub fn has_counts(header: ObjectHeader, age: u64) -> bool
     header.allocations <= age && header.calls <= age
 }
 
-/// Writes the 32 bytes of the front of a frame. The bytes behind them stay.
+/// Writes the 32 bytes of the front of a frame. The bytes after them stay.
 pub fn encode_front(header: ObjectHeader, into: &mut [u8])
     requires { 32 ≤ length into.old }
     ensures before { take 32 into.new ≡ front_numbers (role_number header.role) header }

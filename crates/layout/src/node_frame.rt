@@ -180,7 +180,7 @@ pub fn decode_node_frame(
     }
 }
 
-// Writes capabilities into a frame from byte 32 on, 24 bytes each, and zeros behind them.
+// Writes capabilities into a frame from byte 32 on, 24 bytes each, and zeros after them.
 fn put_slots(caps: &[Cap], into: &mut [u8])
     requires few { length caps.now ≤ 32 }
     requires size { length into.old ≡ 1024 }

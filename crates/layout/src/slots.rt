@@ -25,7 +25,7 @@ fn are_same(caps: &[Cap], others: &[Cap]) -> bool
     caps == others
 }
 
-/// Whether 32 slots hold `caps` first, and void capabilities behind them.
+/// Whether 32 slots hold `caps` first, and void capabilities after them.
 pub fn are_held(caps: &[Cap], slots: &[Cap]) -> bool
     requires size { length slots.now ≡ 32 }
     requires few { length caps.now ≤ 32 }

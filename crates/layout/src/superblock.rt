@@ -46,7 +46,7 @@ const RANGE_BYTES: usize = 24;
 // Where the ranges begin in the sector.
 const RANGES_AT: usize = 64;
 
-// Where the zeros behind them begin.
+// Where the zeros after them begin.
 const RANGES_END: usize = 256;
 
 // The frame of a page is a block.
@@ -341,7 +341,7 @@ pub fn encode_superblock(superblock: &Superblock, into: &mut [u8])
 }
 
 // Returns the version in a superblock's sector. Returns `None` for another magic, a version other
-// than 1 and 2, or a byte behind the ranges that isn't 0.
+// than 1 and 2, or a byte after the ranges that isn't 0.
 fn version_in(bytes: &[u8]) -> Option<Version>
     requires { length bytes.now ≡ 512 }
     ensures mark { IfSome result (λ _. HasMark bytes.now) }
@@ -386,7 +386,7 @@ fn read_plan(version: Version, bytes: &[u8]) -> Option<Superblock>
 
 /// Reads the 512 bytes of a superblock's sector.
 ///
-/// Returns `NotASuperblock` for another magic, a version other than 1 and 2, or a byte behind the
+/// Returns `NotASuperblock` for another magic, a version other than 1 and 2, or a byte after the
 /// ranges that isn't 0. Returns `BadGeometry` if the bytes spell no superblock for another reason.
 pub fn decode_superblock(bytes: &[u8]) -> Result<Superblock, BadImage>
     requires { length bytes.now ≡ 512 }

@@ -22,7 +22,7 @@ use Rattle.migrator.proofs.Putting.{put_is, later_half, other_parity, half_spare
 abbrev pub header_extent : CheckpointHeader → Extent
 header_extent h = record { sector = header_sector h; length = 2 }
 
--- all that is kept lies behind the headers
+-- all that is kept lies after the headers
 pub headers_spare : {size : ℕ} {image : Image} {b : Books} (h : CheckpointHeader) → IsIntact size image b → SparesKept b (header_extent h)
 headers_spare {size} {image} {b} h kept = grind (arith, nat_tests, frames_behind, homes_behind, places_within, half_within)
 

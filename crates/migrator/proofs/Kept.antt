@@ -39,7 +39,7 @@ goes_spared {old} {new} {b} {c} {e} plan header directory spares writes = record
 
 -- ---- lists by number
 
--- one of them is another
+-- one of them has changed
 pub map_set : {X : Type 0} (f g : ℕ → X) (n k : ℕ) (x : X) → k < n → g k ≡ x → ((i : ℕ) → i < n → (i ≡ k → ⊥) → g i ≡ f i) →
     map g (range_with_len 0 n) ≡ set (map f (range_with_len 0 n)) k x
 map_set {X} f g n k x within here others =

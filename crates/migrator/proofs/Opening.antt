@@ -93,7 +93,7 @@ pub only_failed : {g : Geometry} {age n : ℕ} (bytes : Image → List ℕ) {old
     (e : OpenFault) → IsRefused g age n (bytes mid) e → e ≡ refusal.Failed
 only_failed {g} {age} {n} bytes {old} {mid} {f} same is e refused = grind (arith, nat_tests, agrees_is)
 
--- and where such a failure is passed on, it is reported exactly where the device failed
+-- and where such a failure is passed on, it is reported exactly if the device failed
 pub failure_counts : {T U : Type 0} {old new : Disk} {e : OpenFault} {failed : Failed} → e ≡ refusal.Failed → CountsOpen {T = T} old new (Err e) →
     Counts {T = U} {E = Failed} old new (Err failed)
 failure_counts {T} {U} {old} {new} {e} {failed} is counts = grind (arith, nat_tests)

@@ -112,7 +112,7 @@ not_above es {a} {b} rising le within = search (arith, cases_lt, rising_to)
 pub not_same : {a b : ℕ} → not (nat_eq a b) ≡ true → a ≡ b → ⊥
 not_same {a} {b} differs same = let never : false ≡ true = ap not (sym (eq-eqb a b same)) ∙ differs in cc
 
--- is the one behind an entry of another home
+-- is the one after an entry of another home
 pub first_of : {p : Plan} {es : List Entry} {i : ℕ} → IsPlan p → IsDirectory p.geometry es → i < length es →
     (0 < i → home_place p (entry_at es (i - 1)).object ≡ home_place p (entry_at es i).object → ⊥) → IsFirst p es i
 first_of {p} {es} {i} fits is within other j less same =
@@ -231,7 +231,7 @@ spares_home {p} {h} {es} {m} {t} fits is few within has =
       place_inside,
     )
 
--- home frames lie behind the headers
+-- home frames lie after the headers
 pub homes_behind : {p : Plan} → IsPlan p → HomesAreBehind p
 homes_behind {p} fits n lt = (places_within p n fits lt).0
 
@@ -310,7 +310,7 @@ mended_before image u {i} lt = mended_by image u i {test = false} (grind (arith,
 mended_behind : (image : Image) (u : Unwritten) {i : ℕ} → u.sector + 8 ≤ i → mended image (Some u) i ≡ image i
 mended_behind image u {i} le = mended_by image u i {test = false} (grind (arith, nat_tests))
 
--- it is another image in those alone
+-- the image differs in those alone
 pub mended_elsewhere : {image : Image} (u : Unwritten) → Elsewhere u.sector 8 image (mended image (Some u))
 mended_elsewhere {image} u = record { before = λ i lt. mended_before image u lt; after = λ i le. mended_behind image u le }
 

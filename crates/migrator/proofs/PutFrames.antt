@@ -50,7 +50,7 @@ are_put : (since : Bool) {size : ℕ} {image : Image} (b : Books) (ps : List Pla
     ArePut image b.plan (generation_of since b) ps
 are_put since {size} {image} b ps kept = grind (arith, nat_tests)
 
--- the place of an object is another, with its slot
+-- the place of an object has changed, with its slot
 module _ {first : ℕ} {was : Image} {b : Books} (n : ℕ) (q : Place) (before : IsIntact first was b) where
   kept_places : (since : Bool) {size : ℕ} {image : Image} (ps : List Place) → n < length (places since b) → HasSlot since b n →
       slot_of q ≡ Some (slot_for (places since b) n) → IsIntact size image (with_places since b ps) →

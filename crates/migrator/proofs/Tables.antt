@@ -10,7 +10,7 @@ use native.Mathlib.Numerals.{unary_clauses}
 
 -- ---- counts
 
--- one place is another
+-- one place has changed
 pub tally-set : (has : Place → ℕ) (ps : List Place) (n : ℕ) (q : Place) → n < length ps → tally has (set ps n q) + has (place_at ps n) ≡ tally has ps + has q
 unfolding tally
 tally-set has [] n q lt = absurd (omega (arith, lt))

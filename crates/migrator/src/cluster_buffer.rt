@@ -50,7 +50,7 @@ impl Model for ClusterBuffer {
 }
 
 // Puts a cluster together for the slot of an entry: the frame that lies there, the frames of the other
-// nodes from home, and zeros behind them.
+// nodes from home, and zeros after them.
 fn fill<D: Device>(
     device: &mut D,
     plan: &Superblock,
@@ -89,7 +89,7 @@ impl ClusterBuffer {
         })
     }
 
-    /// Writes the cluster into its slot, where a device failed to. It is refused exactly where the
+    /// Writes the cluster into its slot, where a device failed to. It is refused exactly if the
     /// device fails.
     pub(crate) fn write<D: Device>(&mut self, device: &mut D) -> Result<(), Failed>
         requires inside { (u : Unwritten) → self.old ≡ Some u
@@ -180,7 +180,7 @@ impl ClusterBuffer {
     /// one, gets the frame that it has at home into the slot of the first of these. A cluster that
     /// the device failed to write before goes first.
     ///
-    /// It is refused exactly where the device fails; the frames of the entries are then read from
+    /// It is refused exactly if the device fails; the frames of the entries are then read from
     /// this buffer where they can't be from their slots.
     pub(crate) fn complete<D: Device>(
         &mut self,

@@ -47,7 +47,7 @@ impl<D: Device> Model for Durable<D> {
 impl<D: Device> Durable<D> {
     /// Puts the frame of an object, for the checkpoint after the one on its way or, where none is,
     /// for the next one. It is written into a slot of its own in the half of the log that nothing
-    /// saved or frozen lies in. It returns `Failed` exactly where the device failed; then the
+    /// saved or frozen lies in. It returns `Failed` exactly if the device failed; then the
     /// slot may hold any bytes.
     pub fn put_working(
         &mut self,
@@ -73,8 +73,8 @@ impl<D: Device> Durable<D> {
     }
 
     /// Puts the frame of an object for the checkpoint on its way. It is written into a slot of its
-    /// own in the half of the log that nothing saved lies in. It returns `Fault` exactly where the
-    /// device failed; then the slot may hold any bytes. It returns `NoCheckpoint` exactly where
+    /// own in the half of the log that nothing saved lies in. It returns `Fault` exactly if the
+    /// device failed; then the slot may hold any bytes. It returns `NoCheckpoint` exactly if
     /// no checkpoint is on its way.
     pub fn put_frozen(
         &mut self,
@@ -108,7 +108,7 @@ impl<D: Device> Durable<D> {
 
     /// Freezes what was put since the last checkpoint began: a checkpoint is on its way that writes
     /// `size` objects, those that were put among them. It makes no device call. It is refused by
-    /// `CheckpointRunning` exactly where one is on its way, and else by `MigrationPending` exactly
+    /// `CheckpointRunning` exactly if one is on its way, and else by `MigrationPending` exactly
     /// where something saved isn't home.
     pub fn freeze(&mut self, size: u64) -> Result<(), Refusal>
         requires enough { sum_of held_slot (stored_of D.disk self.old).working ≤ size }
@@ -135,9 +135,9 @@ impl<D: Device> Durable<D> {
     /// Commits the checkpoint on its way: its frames are saved, at an age, and those of the other
     /// objects as before. Answers its generation.
     ///
-    /// It is refused by `NoCheckpoint` exactly where none is on its way, and else by
-    /// `NotStable(left)` exactly where `left` of its frames are still to be put. It returns
-    /// `Fault` exactly where the device failed; then a crash leaves what was saved before, or what
+    /// It is refused by `NoCheckpoint` exactly if none is on its way, and else by
+    /// `NotStable(left)` exactly if `left` of its frames are still to be put. It returns
+    /// `Fault` exactly if the device failed; then a crash leaves what was saved before, or what
     /// the frozen frames make of it.
     pub fn commit(&mut self, age: u64) -> Result<u64, Refusal>
         requires sound { is_sound D.disk self.old }

@@ -18,7 +18,7 @@ use device::Device;
 use layout::{CheckpointHeader, Entry, OpenFault, Scratch, Superblock};
 use std::alloc::Global;
 
-// Reads the saved frame of an object, which is taken behind those before it.
+// Reads the saved frame of an object, which is taken after those before it.
 fn take_frame<D: Device, I: Intake>(
     alloc: Global,
     device: &mut D,

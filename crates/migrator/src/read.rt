@@ -22,7 +22,7 @@ use layout::{
 };
 use model::ObjectHeader;
 
-/// Reads the superblock of a device, and no other sector. It is refused by `Failed` exactly where
+/// Reads the superblock of a device, and no other sector. It is refused by `Failed` exactly if
 /// the device failed, and else by the least of the first three reasons that holds. It takes no
 /// memory.
 pub fn read_superblock<D: Device>(device: &mut D) -> Result<Superblock, OpenFault>

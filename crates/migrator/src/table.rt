@@ -129,7 +129,7 @@ fn next_entry(places: &[Place], held: &NumberSet, from: usize) -> Option<Entry>
     })
 }
 
-// Puts the entries of the objects that have a slot behind those that are there.
+// Puts the entries of the objects that have a slot after those that are there.
 #[tactic(auto, unfolding(crate::specs::Table::entries_of))]
 fn list_entries(places: &[Place], held: &NumberSet, taken: u64, into: &mut Vec<Entry>)
     requires held { held.now ≡ map is_held places.now }

@@ -80,7 +80,7 @@ abbrev pub TouchesWritten : Type 0
 TouchesWritten = (touched : List Bool) (written : List ℕ) (n : ℕ) → n < length touched →
     (slice_get (touching touched written) n ≡ Some true) ↔ ((slice_get touched n ≡ Some true) ⊎ Contains written n)
 
--- an invocation that no earlier refusal meets is refused as log full exactly where the numbers
+-- an invocation that no earlier refusal meets is refused as log full exactly if the numbers
 -- touched with those it writes are more than half of the log holds
 abbrev pub LogFullIsExact : Type 0
 LogFullIsExact = (g : Geometry) (s : Running) (i : Invocation) (e : Effect) →

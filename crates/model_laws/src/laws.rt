@@ -43,14 +43,14 @@ pub fn touches_written()
     ensures { TouchesWritten }
 {}
 
-/// An invocation that nothing else refuses is refused as log full exactly where the numbers that it
+/// An invocation that nothing else refuses is refused as log full exactly if the numbers that it
 /// writes would be too many.
 #[tactic(auto, using(crate::proofs::Touching::log_full_is_exact))]
 pub fn log_full_is_exact()
     ensures { LogFullIsExact }
 {}
 
-/// A store that reaches a page which it may write is refused as log full exactly where that page
+/// A store that reaches a page which it may write is refused as log full exactly if that page
 /// would be one too many, and a memory fault comes before a full log.
 pub fn store_log_full_is_exact()
     ensures { StoreLogFullIsExact }

@@ -50,7 +50,7 @@ one_more x y (z ∷ xs) (w ∷ ys) len =
 abbrev Same : Sums → Sums → Type 0
 Same s t = (s.a ≡ t.a) × (s.b ≡ t.b) × (s.c ≡ t.c)
 
--- behind the last difference the sums are the same
+-- after the last difference the sums are the same
 none_left : (s t : Sums) (hs : List ℕ) → Same (run s hs) (run t hs) → Same s t
 none_left s t [] same = same
 none_left s t (h ∷ hs) same = let next = none_left (step s h) (step t h) hs same in (omega (arith, next), omega (arith, next), omega (arith, next))

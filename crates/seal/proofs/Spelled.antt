@@ -33,7 +33,7 @@ one_spelling s t small small' e =
     let rest = two_numbers s.b s.c t.b t.c small.b small.c small'.b small'.c first.1 in
     same_sums s t first.0 rest.0 rest.1
 
--- behind the first eight bytes they spell b and c
+-- after the first eight bytes they spell b and c
 pub tail_spelling : (s t : Sums) → AreWords s → AreWords t → drop 8 (sums_bytes s) ≡ drop 8 (sums_bytes t) → (s.b ≡ t.b) × (s.c ≡ t.c)
 unfolding sums_bytes
 tail_spelling s t small small' e = two_numbers s.b s.c t.b t.c small.b small.c small'.b small'.c e
@@ -99,7 +99,7 @@ written bytes buf at n room is =
     ap (λ (t : List ℕ). little_bytes 8 n ++ t) (drop-drop 8 at bytes) in
     rw (past, whole, append-nil) (sym (append_assoc (take at bytes) (little_bytes 8 n) (drop (at + 8) bytes)))
 
--- one number behind another
+-- one number after another
 behind : (old mid new front number : List ℕ) (at : ℕ) → length front ≡ at → length number ≡ 8 → mid ≡ front ++ drop at old →
     new ≡ (take at mid ++ number) ++ drop (at + 8) mid → new ≡ (front ++ number) ++ drop (at + 8) old
 behind old mid new front number at len eight was is =

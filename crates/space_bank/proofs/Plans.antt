@@ -210,7 +210,7 @@ module _ (g : Geometry) (os : List Object) (b : ℕ) (args : Arguments) where
   unfolding on_bank
   remaining_replying = refl
 
--- the same where the frame is the same, by what was read before
+-- the same of later objects with the same frame, by what was read of the earlier ones
 module _ (g : Geometry) (os : List Object) (b : ℕ) (args : Arguments) (us : List Object) (frame : SameFrame os us) where
   pub frees_none_there : (c : Capability) → args.capability ≡ c → freed_by os c ≡ [] → on_bank g us b bank.Free args ≡ refused us code.BadCapability
   frees_none_there c is none = frees_none g us b args c is (freed_alike os us frame c ∙ none)

@@ -14,7 +14,7 @@ use Rattle.space_bank.specs.Banks.{AreCounted, BanksState}
 abbrev pub marks_of : BanksState → List Bool
 marks_of s = s.free_nodes ++ s.free_pages
 
--- a number is marked as taken, and nothing else is another
+-- a number is marked as taken, and nothing else changes
 pub record IsMade (s t : BanksState) (n : ℕ) : Type 0 where
   pub nodes : length t.free_nodes ≡ length s.free_nodes
   pub pages : length t.free_pages ≡ length s.free_pages
@@ -98,7 +98,7 @@ pub record PlansAs (g : Geometry) (os : List Object) (b : ℕ) (order : BankOrde
   pub outcome : (us : List Object) → SameFrame os us → on_bank g us b order args ≡ outcome_by us written plan
   pub may : (us : List Object) → SameFrame os us → IsNow g us → IsForBank g us written plan.change
 
--- a plan, and what is listed, behind the numbers that the invocation writes itself
+-- a plan, and what is listed, after the numbers that the invocation writes itself
 pub record IsPlanned (p : Parts) (b : ℕ) (order : BankOrder) (args : Arguments) (first : List ℕ) (plan : OrderPlan)
     (list : List ℕ) : Type 0 where
   pub plans : PlansAs p.geometry (objects_in p) b order args (on_bank p.geometry (objects_in p) b order args).written

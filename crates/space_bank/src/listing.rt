@@ -81,7 +81,7 @@ impl Banks {
         }
     }
 
-    /// Lists a number behind those that are listed.
+    /// Lists a number after those that are listed.
     pub fn list(&mut self, number: u64)
         requires { length self.old.listed < self.old.room }
         ensures { self.new ≡ record self.old { listed = self.old.listed ++ number ∷ [] } }
@@ -89,7 +89,7 @@ impl Banks {
         self.listed.push_reserved(number);
     }
 
-    // Lists the numbers of a bank behind those that are listed.
+    // Lists the numbers of a bank after those that are listed.
     #[tactic(auto, using(crate::proofs::Tallies::serve_roles, crate::proofs::Missing::bank_free))]
     pub(crate) fn list_all<F: Frames>(&mut self, store: &F, bank: u64, deep: bool)
         requires bank { MayServe (F.parts store.now) self.old bank }

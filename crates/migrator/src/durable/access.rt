@@ -78,7 +78,7 @@ impl<D: Device> Durable<D> {
 
     /// Reads what lies below a frame of an object that is kept in memory: the frozen one that was
     /// put, else the saved one. The slots of a node or an annex and the words of a page are left in
-    /// `scratch`, and no memory is taken. It is refused exactly where the device failed.
+    /// `scratch`, and no memory is taken. It is refused exactly if the device failed.
     pub fn fetch_below(
         &mut self,
         number: u64,
@@ -95,7 +95,7 @@ impl<D: Device> Durable<D> {
 
     /// Reads the newest frame of an object: the one that was put last, else the frozen one, else
     /// the saved one. The slots of a node or an annex and the words of a page are left in
-    /// `scratch`, and no memory is taken. It is refused exactly where the device failed.
+    /// `scratch`, and no memory is taken. It is refused exactly if the device failed.
     pub fn fetch(
         &mut self,
         number: u64,

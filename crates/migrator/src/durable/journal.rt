@@ -13,7 +13,7 @@ use model::{ObjectHeader, WORDS};
 
 impl<D: Device> Durable<D> {
     /// The header of the saved frame of an object, where all that is saved is home. One sector is
-    /// read, or the 8 of a cluster, and no memory is taken. It is refused exactly where the device
+    /// read, or the 8 of a cluster, and no memory is taken. It is refused exactly if the device
     /// failed.
     pub fn saved_header(&mut self, number: u64) -> Result<ObjectHeader, Failed>
         requires object { IsObject self.old.books.plan.geometry number }
@@ -28,7 +28,7 @@ impl<D: Device> Durable<D> {
 
     /// Saves a page with other words, at an age, under its saved header (`saved_header`), where no checkpoint is on its
     /// way and all that is saved is home. Answers its generation, the one after the next, in which it is the one entry.
-    /// It takes no memory. Fails exactly where the device does, and then a crash leaves what was saved before, or that
+    /// It takes no memory. Fails exactly if the device does, and then a crash leaves what was saved before, or that
     /// with the page.
     pub fn save_page(
         &mut self,

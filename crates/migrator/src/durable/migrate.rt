@@ -13,7 +13,7 @@ impl<D: Device> Durable<D> {
     /// are left. Once none is, the home frames are made durable, and a header says that all that is
     /// saved is home. Where the header says so already, it makes no call of the device.
     ///
-    /// It returns `Failed` exactly where the device failed. Then a crash leaves what was saved,
+    /// It returns `Failed` exactly if the device failed. Then a crash leaves what was saved,
     /// or the same with all of it home where that was to be reached.
     pub fn migrate(&mut self, count: u64) -> Result<u64, Failed>
         requires sound { is_sound D.disk self.old }

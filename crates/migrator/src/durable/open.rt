@@ -224,7 +224,7 @@ impl<D: Device> Durable<D> {
     /// and every saved frame, once: `I` takes each when it is read, and may use `memory`. No later call
     /// takes memory.
     ///
-    /// A refusal gives the device back: `Failed` exactly where the device failed, `NoMemory` only
+    /// A refusal gives the device back: `Failed` exactly if the device failed, `NoMemory` only
     /// where memory ran out, and else the least of the reasons 1 to 7 to refuse an image.
     pub fn open<I: Intake>(
         alloc: Global,
