@@ -36,7 +36,7 @@ pub use Rattle.std.proofs.lemmas.Result.{err_from_is_err_and}
 pub use Rattle.std.specs.List.{All, Contains, count_by, enumerate_from, find, flat_map}
 pub use Rattle.std.specs.Prelude.{IsTrue}
 pub use Rattle.std.specs.declared.alloc.Global.{Global}
-pub use Rattle.reach.specs.Backward.{AddsOwners, AllChange, ConveysInto, HasOwners, IsClosedAt, LeadsInto, Widens, others, unmarked}
+pub use Rattle.reach.specs.Backward.{AddsOwners, AllChange, ConveysInto, Grows, HasOwners, IsClosedAt, LeadsInto, Widens, others, unmarked}
 pub use Rattle.reach.specs.Chain.{Conveys, IsChain, IsFollowed, IsPath, IsShortest, IsStep, IsWay, held_by}
 pub use Rattle.reach.specs.ChainLines.{step_line}
 unfoldable pub use Rattle.reach.specs.ChainLines.{chain_text}

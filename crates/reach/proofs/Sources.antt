@@ -1,9 +1,9 @@
 -- What can change an object.
 use Rattle.reach.proofs.Names.{nat_tests, ℕ, zero, suc, Bool, true, false, not, List, [], length, slice_set, slice_index_or, inl, inr, ⊎_elim, refl, sym, ap}
 use Rattle.reach.proofs.Names.{subst, arith, IsTrue, All, get_or_default, Contains, is_marked, Object, is_free, is_bank, content_at, owner_at, is_process}
-use Rattle.reach.proofs.Names.{AreSoundObjects, AddsOwners, AllChange, HasOwners, IsClosedAt, LeadsInto, Widens, others, unmarked, AreChangers, ConveysInto}
-use Rattle.reach.proofs.Names.{slots_in, is_root, root_in, Void, CanChange, IsReach, ReachIsChange, Capability, Content, cases_lt, length-set, replicate}
-use Rattle.reach.proofs.Names.{Conveys, named, same_Some, IsClosedFor, Links, StaysFor, StaysAs, links}
+use Rattle.reach.proofs.Names.{AreSoundObjects, AddsOwners, AllChange, Grows, HasOwners, IsClosedAt, LeadsInto, Widens, others, unmarked, AreChangers, ConveysInto}
+use Rattle.reach.proofs.Names.{slots_in, is_root, root_in, Void, CanChange, ReachIsChange, Capability, Content, cases_lt, length-set, replicate}
+use Rattle.reach.proofs.Names.{Conveys, same_Some, IsClosedFor, Links, StaysFor}
 use Rattle.std.proofs.Common.{◌≡◌, ◌⊎◌, ◌↔◌, ◌+◌, ◌<◌, ◌≤◌, ◌∷◌, ◌∙◌}
 use Rattle.reach.proofs.Chains.{named_inside, stays_inside, void_stays}
 use Rattle.model.specs.declared.object.Content.TheVariants as content
@@ -139,6 +139,28 @@ module _ (os : List Object) (number at : ℕ) (old mid : List Bool) (adds : Adds
         let both : false ≡ true = sym none ∙ marked in absurd (cc)) (λ later. later.1) adds.begun;
   }
 
+-- objects are added that lead into the set
+pub grows_none : (os : List Object) (follows : Links) (l : List Bool) → Grows os follows l l
+grows_none os follows l = record { count = refl; kept = λ n is. is; each = λ o all. all; owners = λ has. has }
+
+pub grows_both : (os : List Object) (follows : Links) (a b c : List Bool) → Grows os follows a b → Grows os follows b c → Grows os follows a c
+grows_both os follows a b c first next = record {
+  count = next.count ∙ first.count;
+  kept = λ n is. next.kept n (first.kept n is);
+  each = λ o all. next.each o (first.each o all);
+  owners = λ has. next.owners (first.owners has);
+}
+
+pub grows_by : (os : List Object) (follows : Links) (i : ℕ) (old new : List Bool) → LeadsInto os follows (is_marked old) i → AddsOwners os i old new →
+    Grows os follows old new
+grows_by os follows i old new leads adds = record {
+  count = adds.count;
+  kept = adds.kept;
+  each = λ o all n is. ⊎_elim (λ before. all n before) (λ change. λ inside closed member.
+      let into = leads inside closed (change inside closed member) in all into.0 into.1 inside closed into.2) (adds.each follows n is);
+  owners = adds.owners;
+}
+
 -- the objects below a number were tried
 pub widens_first : (os : List Object) (follows : Links) (old : List Bool) → Widens os follows 0 false old old
 widens_first os follows old = record {
@@ -173,16 +195,17 @@ module _ (os : List Object) (follows : Links) (i : ℕ) (grew : Bool) (old mid :
   no_more false is = omega (arith, ap unmarked (widens.same is))
 
   pub widens_more : (new : List Bool) → is_marked mid i ≡ false → LeadsInto os follows (is_marked mid) i → AddsOwners os i mid new → Widens os follows (i + 1) true old new
-  widens_more new none leads adds = record {
-    count = adds.count ∙ widens.count;
-    kept = λ n is. adds.kept n (widens.kept n is);
-    each = λ o all n is. ⊎_elim (λ before. widens.each o all n before) (λ change. λ inside closed member.
-        let into = leads inside closed (change inside closed member) in widens.each o all into.0 into.1 inside closed into.2) (adds.each follows n is);
-    owners = λ has. adds.owners (widens.owners has);
-    fewer = λ yes_. omega (arith, adds.fewer none, no_more grew refl);
-    same = λ other. absurd (cc);
-    settled = λ other. absurd (cc);
-  }
+  widens_more new none leads adds =
+      let grows = grows_by os follows i mid new leads adds in
+      record {
+        count = grows.count ∙ widens.count;
+        kept = λ n is. grows.kept n (widens.kept n is);
+        each = λ o all. grows.each o (widens.each o all);
+        owners = λ has. grows.owners (widens.owners has);
+        fewer = λ yes_. omega (arith, adds.fewer none, no_more grew refl);
+        same = λ other. absurd (cc);
+        settled = λ other. absurd (cc);
+      }
 
 -- the members so far, each of which can change the object
 pub record Sources (os : List Object) (follows : Links) (o : ℕ) (grew : Bool) (marks : List Bool) : Type 0 where
@@ -218,6 +241,16 @@ sources_next os follows o grew old new sources widens = record {
   each = widens.each o sources.each;
   owners = widens.owners sources.owners;
   settled = widens.settled;
+}
+
+pub sources_grow : (os : List Object) (follows : Links) (o : ℕ) (old new : List Bool) → Sources os follows o true old → Grows os follows old new →
+    Sources os follows o true new
+sources_grow os follows o old new sources grows = record {
+  count = grows.count ∙ sources.count;
+  object = grows.kept o sources.object;
+  each = grows.each o sources.each;
+  owners = grows.owners sources.owners;
+  settled = λ other. absurd (cc);
 }
 
 -- how much is left to do

@@ -49,6 +49,13 @@ pub record AddsOwners (os : List Object) (number : ℕ) (old new : List Bool) : 
   pub owners : HasOwners os (is_marked old) → HasOwners os (is_marked new)
   pub fewer : is_marked old number ≡ false → unmarked new < unmarked old
 
+-- objects were added that have authority over members, and their owners
+pub record Grows (os : List Object) (follows : Links) (old new : List Bool) : Type 0 where
+  pub count : length new ≡ length old
+  pub kept : (n : ℕ) → IsTrue (is_marked old n) → IsTrue (is_marked new n)
+  pub each : (o : ℕ) → AllChange os follows (is_marked old) o → AllChange os follows (is_marked new) o
+  pub owners : HasOwners os (is_marked old) → HasOwners os (is_marked new)
+
 -- the numbers below one were tried, and those added that lead into the set
 pub record Widens (os : List Object) (follows : Links) (below : ℕ) (grew : Bool) (old new : List Bool) : Type 0 where
   pub count : length new ≡ length old

@@ -6,12 +6,13 @@ ghost use Rattle.model.specs.Object.{is_free};
 ghost use Rattle.model.specs.Revoke.{is_member};
 ghost use Rattle.model.specs.World.{content_at};
 ghost use Rattle.collections.specs.Marks.{is_marked};
-ghost use Rattle.reach.specs.Backward.{AddsOwners, ConveysInto, IsClosedAt, LeadsInto, Widens, others};
+ghost use Rattle.reach.specs.Backward.{AddsOwners, ConveysInto, Grows, IsClosedAt, LeadsInto, Widens, others};
 ghost use Rattle.reach.specs.Levels.{NamesWithin};
 ghost use Rattle.reach.specs.Links.{StaysFor, links};
 ghost use Rattle.reach.specs.Reached.{AreChangers, AreSoundObjects, CanChange};
 
 use crate::authority::{Purpose, authority_but};
+use crate::holders::Holders;
 use crate::searching::set_of;
 use collections::NumberSet;
 use model::{Capability, Content, Object};
@@ -99,33 +100,118 @@ fn leads_into(
     }
 }
 
-// Adds an object to a set, its owner, the owner's owner, and so on up to a member.
-fn add_owners(objects: &[Object], inside: &mut NumberSet, number: usize)
+// Adds an object to a set, its owner, the owner's owner, and so on up to a member. Those added are to be followed.
+fn add_owners(objects: &[Object], inside: &mut NumberSet, to_follow: &mut NumberSet, number: usize)
     requires sound { AreSoundObjects objects.now }
     requires count { length inside.old ≡ length objects.now }
+    requires to_follow { length to_follow.old ≡ length objects.now }
     requires there { is_free (content_at objects.now number) ≡ false }
-    ensures { AddsOwners objects.now number inside.old inside.new }
+    ensures adds { AddsOwners objects.now number inside.old inside.new }
+    ensures count { length to_follow.new ≡ length to_follow.old }
 {
     let mut at = number;
     while !inside.contains(at) {
         inside.set(at, true);
+        to_follow.set(at, true);
         at = objects[at].owner as usize;
+    }
+}
+
+// Adds an object with its owners if it has authority over a member.
+#[tactic(auto, using(crate::proofs::Sources::grows_none))]
+fn add_leading(
+    objects: &[Object],
+    purpose: Purpose,
+    trusted: &NumberSet,
+    number: usize,
+    inside: &mut NumberSet,
+    to_follow: &mut NumberSet,
+)
+    requires sound { AreSoundObjects objects.now }
+    requires count { length inside.old ≡ length objects.now }
+    requires to_follow { length to_follow.old ≡ length objects.now }
+    requires trusted { length trusted.now ≡ length objects.now }
+    ensures grows { Grows objects.now (links purpose (is_marked trusted.now)) inside.old inside.new }
+    ensures count { length to_follow.new ≡ length to_follow.old }
+{
+    if number >= objects.len() {
+        return;
+    }
+    if leads_into(objects, purpose, trusted, number, inside) {
+        add_owners(objects, inside, to_follow, number);
+    }
+}
+
+// Adds those of some numbers that have authority over a member, with their owners.
+#[tactic(auto, using(crate::proofs::Sources::grows_none))]
+fn add_all_leading(
+    objects: &[Object],
+    purpose: Purpose,
+    trusted: &NumberSet,
+    numbers: &[u64],
+    inside: &mut NumberSet,
+    to_follow: &mut NumberSet,
+)
+    requires sound { AreSoundObjects objects.now }
+    requires count { length inside.old ≡ length objects.now }
+    requires to_follow { length to_follow.old ≡ length objects.now }
+    requires trusted { length trusted.now ≡ length objects.now }
+    ensures grows { Grows objects.now (links purpose (is_marked trusted.now)) inside.old inside.new }
+    ensures count { length to_follow.new ≡ length to_follow.old }
+{
+    for number in numbers {
+        let number = *number as usize;
+        add_leading(objects, purpose, trusted, number, inside, to_follow);
+    }
+}
+
+// Follows each member back to the objects that name it, and so on: each is followed once.
+#[tactic(auto, using(crate::proofs::Sources::grows_none))]
+fn follow_back(
+    objects: &[Object],
+    purpose: Purpose,
+    trusted: &NumberSet,
+    holders: &Holders,
+    inside: &mut NumberSet,
+    to_follow: &mut NumberSet,
+)
+    requires sound { AreSoundObjects objects.now }
+    requires count { length inside.old ≡ length objects.now }
+    requires to_follow { length to_follow.old ≡ length objects.now }
+    requires trusted { length trusted.now ≡ length objects.now }
+    ensures grows { Grows objects.now (links purpose (is_marked trusted.now)) inside.old inside.new }
+    ensures count { length to_follow.new ≡ length to_follow.old }
+{
+    for turn in 0..objects.len() {
+        if let Some(member) = to_follow.next(0) {
+            to_follow.set(member, false);
+            let numbers = holders.of_number(member);
+            add_all_leading(objects, purpose, trusted, numbers, inside, to_follow);
+        }
     }
 }
 
 // Goes over all objects once, and adds those that have authority over a member, with their owners.
 // Returns whether it added any.
-fn widen(objects: &[Object], purpose: Purpose, trusted: &NumberSet, inside: &mut NumberSet) -> bool
+fn widen(
+    objects: &[Object],
+    purpose: Purpose,
+    trusted: &NumberSet,
+    inside: &mut NumberSet,
+    to_follow: &mut NumberSet,
+) -> bool
     requires sound { AreSoundObjects objects.now }
     requires count { length inside.old ≡ length objects.now }
+    requires to_follow { length to_follow.old ≡ length objects.now }
     requires trusted { length trusted.now ≡ length objects.now }
-    ensures { Widens objects.now (links purpose (is_marked trusted.now)) (length objects.now) result
+    ensures widens { Widens objects.now (links purpose (is_marked trusted.now)) (length objects.now) result
         inside.old inside.new }
+    ensures count { length to_follow.new ≡ length to_follow.old }
 {
     let mut grew = false;
     for number in 0..objects.len() {
         if leads_into(objects, purpose, trusted, number, inside) {
-            add_owners(objects, inside, number);
+            add_owners(objects, inside, to_follow, number);
             grew = true;
         }
     }
@@ -171,10 +257,21 @@ fn sources(
         → IsTrue (is_marked inside n) ↔ CanChange objects.now (links purpose (is_marked trusted.now)) n object) }
 {
     let mut inside = NumberSet::new(alloc, objects.len())?;
-    add_owners(objects, &mut inside, object as usize);
+    let mut to_follow = NumberSet::new(alloc, objects.len())?;
+    let holders = Holders::of_objects(alloc, objects)?;
+    add_owners(objects, &mut inside, &mut to_follow, object as usize);
+    follow_back(
+        objects,
+        purpose,
+        trusted,
+        &holders,
+        &mut inside,
+        &mut to_follow,
+    );
+    // A pass that adds none shows that none is missing. The first does.
     let mut grew = true;
     while grew {
-        grew = widen(objects, purpose, trusted, &mut inside);
+        grew = widen(objects, purpose, trusted, &mut inside, &mut to_follow);
     }
     Ok(inside)
 }

@@ -17,7 +17,7 @@ use std::alloc::{AllocError, Global};
 /// doesn't start a process of `trusted`. To change, the capability mustn't be weak either.
 ///
 /// If what may be read is sought, the set is closed for reading: nothing outside determines an answer to
-/// its processes, but for what looks outside (crate `noninterference`).
+/// its processes, but to turns that look outside or lack room (crate `noninterference`).
 ///
 /// Over any run of invocations, loads and stores by processes of the set, and by processes made of
 /// numbers that were free, objects outside the set that weren't free keep their content and their

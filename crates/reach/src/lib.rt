@@ -8,6 +8,7 @@ mod chaining;
 mod changing;
 mod closing;
 mod explaining;
+mod holders;
 pub mod laws;
 mod levels;
 mod printing;

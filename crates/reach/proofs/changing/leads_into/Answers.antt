@@ -1,4 +1,4 @@
-use Rattle.reach.proofs.Names.{ap, refl, sym, Capability, Content, slots_in, is_root, is_marked, others, links}
+use Rattle.reach.proofs.Names.{ap, sym, Capability, Content, slots_in, is_root, is_marked, others, links}
 use Rattle.std.proofs.Common.{◌∙◌}
 use Rattle.reach.proofs.Members.{content_is, slots_known}
 use Rattle.reach.proofs.Sources.{slots_lead, slots_settle}
