@@ -1,8 +1,8 @@
 -- What holds as numbers are found by steps.
-use Rattle.reach.proofs.Names.{nat_tests, ℕ, Bool, max, zero, suc, true, false, is_some, Option, None, Some, List, [], length, length-set, slice_set, inl, inr}
+use Rattle.reach.proofs.Names.{nat_tests, ℕ, max, zero, suc, true, false, is_some, Option, None, Some, List, [], length, length-set, slice_set, inl, inr}
 use Rattle.reach.proofs.Names.{⊎_elim, refl, sym, ap, arith, get_or-set_same, get_or-set_other, same_Some, Capability, Void, Object, is_free, content_at}
 use Rattle.reach.proofs.Names.{owner_at, Found, Levels, Step, Way, Conveys, Begins, FindsBy, IsBy, IsFoundBy, IsHeldIn, IsOwnedBelow, IsTheStep, found_at}
-use Rattle.reach.proofs.Names.{missing, slice_index_or, IsClosedFor, Links, StaysFor, StaysAs, links}
+use Rattle.reach.proofs.Names.{missing, slice_index_or, Links}
 use Rattle.std.proofs.Common.{◌≡◌, ◌≢◌, ◌⊎◌, ◌+◌, ◌<◌, ◌≤◌, ◌∷◌, ◌∙◌}
 use Rattle.reach.specs.declared.step.Way.TheVariants as way
 

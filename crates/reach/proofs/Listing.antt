@@ -1,5 +1,5 @@
 -- The numbers of all processes.
-use Rattle.reach.proofs.Names.{nat_tests, ℕ, false, true, List, [], length, inl, inr, ⊎_elim, refl, sym, subst, arith, IsTrue, Contains, cases_lt, Object}
+use Rattle.reach.proofs.Names.{ℕ, false, true, List, [], length, inl, inr, ⊎_elim, refl, sym, subst, arith, IsTrue, Contains, cases_lt, Object}
 use Rattle.reach.proofs.Names.{is_root, is_process, Contains-append_left, Contains-push, Contains-push_cases}
 use Rattle.std.proofs.Common.{◌≡◌, ◌↔◌, ◌+◌, ◌<◌, ◌≤◌, ◌∷◌, ◌++◌, ◌∙◌}
 use Rattle.reach.proofs.Members.{known}

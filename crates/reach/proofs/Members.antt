@@ -1,7 +1,7 @@
 -- What a member of a closed set holds, in a sound world.
-use Rattle.reach.proofs.Names.{nat_tests, ℕ, zero, suc, Bool, false, List, [], length, refl, sym, ap, subst, arith, IsTrue, All, get_or_default, Capability}
-use Rattle.reach.proofs.Names.{Void, Page, Node, Space, Process, Start, Resume, Bank, Content, Object, Root, StaysInside, free, is_bank, is_node, is_page}
-use Rattle.reach.proofs.Names.{is_root, root_in, slots_in, NamesItsKind, content_at, slot_at, NamesWithin, AreSoundObjects}
+use Rattle.reach.proofs.Names.{ℕ, zero, suc, Bool, false, List, [], length, refl, sym, ap, arith, IsTrue, All, get_or_default, Capability}
+use Rattle.reach.proofs.Names.{Void, Content, Object, free}
+use Rattle.reach.proofs.Names.{is_root, slots_in, content_at, slot_at, NamesWithin, AreSoundObjects}
 use Rattle.std.specs.Prelude.{slice_index_or}
 use Rattle.std.proofs.Common.{◌≡◌, ◌<◌, ◌∷◌, ◌∙◌}
 use Rattle.model.specs.declared.object.Content.TheVariants as content

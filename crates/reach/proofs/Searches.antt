@@ -1,9 +1,9 @@
 -- What holds as levels are followed.
 use Rattle.reach.proofs.Names.{ℕ, Bool, zero, suc, true, false, Option, None, Some, List, [], length, replicate, inl, inr, ⊎_elim, sym, subst, arith, Contains}
 use Rattle.reach.proofs.Names.{cases_lt, nat_tests, get_or_default, length-replicate, Object, Found, Levels, Step, Begins, FindsBy, IsAfter, IsAt, IsFirst}
-use Rattle.reach.proofs.Names.{IsFoundBy, IsFoundIn, IsFrom, IsFromLevel, IsSearched, found_at, has_level, missing, slice_index_or, IsTrue, All, refl, add-one}
-use Rattle.reach.proofs.Names.{cases_eq, ap, get_or-set_other, get_or-set_same, is_marked, is_member, length-set, slice_set, take, take_all, IsClosedFor, Links}
-use Rattle.reach.proofs.Names.{StaysFor, StaysAs, links, Purpose}
+use Rattle.reach.proofs.Names.{IsFoundBy, IsFoundIn, IsFrom, IsFromLevel, IsSearched, found_at, has_level, missing, slice_index_or, All, refl, add-one}
+use Rattle.reach.proofs.Names.{cases_eq, ap, get_or-set_other, get_or-set_same, is_marked, is_member, length-set, slice_set, take, take_all, Links}
+use Rattle.reach.proofs.Names.{links, Purpose}
 use Rattle.std.proofs.Common.{◌≢◌, ◌==◌, ◌||◌, ◌≡◌, ◌+◌, ◌<◌, ◌≤◌, ◌∷◌, ◌∙◌}
 use Rattle.reach.proofs.Finding.{finds_both, finds_same, missing_most}
 

@@ -1,8 +1,7 @@
 -- The ways from an object, by what it holds.
-use Rattle.reach.proofs.Names.{common_steps, nat_tests, ℕ, Bool, zero, suc, false, not, List, [], length, inl, inr, refl, sym, ap, subst, arith, Capability}
-use Rattle.reach.proofs.Names.{Void, Content, Object, Root, IsWeak, is_free, slots_in, content_at, owner_at, Levels, Step, Way, Conveys, IsWay, FindsBy, IsBy}
-use Rattle.reach.proofs.Names.{IsFrom, IsHeldIn, IsOwnedBelow, IsTheStep, slice_index_or, named, None, Option, Some, IsClosedFor, Links, StaysFor, StaysAs}
-use Rattle.reach.proofs.Names.{links}
+use Rattle.reach.proofs.Names.{common_steps, nat_tests, ℕ, zero, suc, List, [], length, inl, inr, refl, sym, ap, subst, arith, Capability}
+use Rattle.reach.proofs.Names.{Void, Content, Object, Root, slots_in, content_at, Levels, Step, Way, Conveys, IsWay, FindsBy, IsBy}
+use Rattle.reach.proofs.Names.{IsFrom, IsHeldIn, IsOwnedBelow, IsTheStep, slice_index_or, named, None, Some, Links}
 use Rattle.std.proofs.Common.{◌≡◌, ◌⊎◌, ◌<◌, ◌∷◌, ◌∙◌}
 use Rattle.model.specs.declared.object.Content.TheVariants as content
 use Rattle.reach.specs.declared.step.Way.TheVariants as way

@@ -1,5 +1,5 @@
 -- Chains of steps: by each step one object has authority over another.
-use Rattle.reach.specs.Names.{ℕ, Bool, StartsOne, false, Option, None, Some, List, [], Vec, length, slice_index_or}
+use Rattle.reach.specs.Names.{ℕ, StartsOne, false, Option, None, Some, List, [], Vec, length, slice_index_or}
 use Rattle.reach.specs.Names.{IsTrue, Contains, Global, Capability, Void, Content, Object, IsWeak, named, is_bank}
 use Rattle.reach.specs.Names.{is_free, is_root, root_in, slots_in, content_at, owner_at}
 use Rattle.std.specs.Prelude.{◌≡◌, ◌≤◌, ◌∷◌}

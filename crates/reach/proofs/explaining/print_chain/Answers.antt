@@ -1,4 +1,4 @@
-use Rattle.reach.proofs.Names.{common_steps, arith, ℕ, List, Option, Vec, subst, sym, Global, line_of, Writes, Step, chain_text}
+use Rattle.reach.proofs.Names.{common_steps, arith, chain_text}
 use Rattle.reach.proofs.explaining.print_chain.Goals as goal
 
 pub returns-in-Some : goal.returns-in-Some

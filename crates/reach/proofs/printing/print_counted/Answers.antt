@@ -1,6 +1,6 @@
 use Rattle.reach.proofs.Names.{ℕ, ap, refl, err_from_is_err_and, enumerate_from, flat_map, line_of, number_line, text_fails, writes_after, member_line}
 use Rattle.reach.proofs.Names.{count_by}
-use Rattle.std.proofs.Common.{◌∷◌, ◌∙◌}
+use Rattle.std.proofs.Common.{◌∙◌}
 use Rattle.reach.proofs.printing.print_counted.Goals as goal
 
 pub returns-in_err-print_members : goal.returns-in_err-print_members

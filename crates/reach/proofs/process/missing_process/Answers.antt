@@ -1,4 +1,4 @@
-use Rattle.reach.proofs.Names.{common_steps, nat_tests, ℕ, zero, suc, true, false, not, List, [], length, Some, None, inl, inr, refl, sym, ap, arith, IsTrue}
+use Rattle.reach.proofs.Names.{common_steps, ℕ, zero, suc, true, false, not, List, [], length, Some, None, refl, sym, ap, arith, IsTrue}
 use Rattle.reach.proofs.Names.{find, cases_lt, get_or_default, Object, is_process, slice_index_or}
 use Rattle.std.proofs.Common.{◌≡◌, ◌<◌, ◌∷◌}
 use Rattle.reach.proofs.process.missing_process.Goals as goal

@@ -1,4 +1,4 @@
-use Rattle.reach.proofs.Names.{common_steps, arith, ap, sym, Capability, Content, is_marked, slots_in, links}
+use Rattle.reach.proofs.Names.{ap, sym, Capability, Content, is_marked, slots_in, links}
 use Rattle.std.proofs.Common.{◌∙◌}
 use Rattle.model.specs.declared.object.Content.TheVariants as content
 use Rattle.reach.proofs.Members.{content_is, slots_known}

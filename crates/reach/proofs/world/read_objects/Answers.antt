@@ -1,5 +1,4 @@
-use Rattle.reach.proofs.Names.{common_steps, nat_tests, [], arith, length, rules, take_all, take_more, object_at, objects_in, length_objects}
-use Rattle.std.proofs.Common.{◌≡◌, ◌<◌, ◌++◌, ◌∷◌}
+use Rattle.reach.proofs.Names.{common_steps, arith, take_all, take_more, length_objects}
 use Rattle.reach.proofs.world.read_objects.Goals as goal
 
 pub loop-number-preserved : goal.loop-number-preserved
