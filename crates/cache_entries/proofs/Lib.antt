@@ -2,7 +2,7 @@ mod Names
 pub mod Contents
 pub mod Orders
 pub mod Recent
-pub mod Moves
 pub mod Turns
+pub mod Logs
 pub mod Spreads
 pub mod Stored

@@ -3,6 +3,7 @@ use Rattle.cache_entries.proofs.Names.{nat_tests, IsFilled, inl, inr, ℕ, nat_e
 use Rattle.cache_entries.proofs.Names.{None, is_some, refl, sym, ap, arith, keys_of, lookup_entry, remove_entry, option_map_or, eqb-true, eq-eqb, ne_eqb}
 use Rattle.cache_entries.proofs.Names.{take_all, LruCache, promoted, demoted, put_entries, Contains-lookup_entry, is_member, AllDiffer, without, or_right}
 use Rattle.cache_entries.proofs.Names.{or_cases, or_parts, false_from_ne_true, any_passes_from_place, list_any-append, take-append-drop, slice_get, drop}
+use Rattle.cache_entries.proofs.Names.{get_or, get_or-drop, length-drop, slice_get-get_or, subst}
 use Rattle.std.proofs.Common.{◌≡◌, ◌≢◌, ◌+◌, ◌-◌, ◌<◌, ◌||◌, ◌∷◌, ◌++◌, ◌∙◌, ◌⊎◌}
 
 -- ---- the keys of pairs
@@ -87,6 +88,16 @@ not_here m ms n none = (λ same. true≢false (sym (member_head n m ms same) ∙
 -- what stands in a list is a member
 pub listed_member : (ns : List ℕ) (i n : ℕ) → slice_get ns i ≡ Some n → is_member ns n ≡ true
 listed_member ns i n at = any_passes_from_place (nat_eq n) ns i n at (eq-eqb n n refl)
+
+pub member_at : (ns : List ℕ) (i : ℕ) → i < length ns → is_member ns (get_or ns i 0) ≡ true
+member_at ns i below = listed_member ns i (get_or ns i 0) (slice_get-get_or ns i 0 below)
+
+pub member_behind : (ns : List ℕ) (i j : ℕ) → i < j → j < length ns → is_member (drop (i + 1) ns) (get_or ns j 0) ≡ true
+member_behind ns i j after below =
+    let k = j - (i + 1) in
+    let same : (i + 1) + k ≡ j = omega (arith, after) in
+    subst (λ (n : ℕ). is_member (drop (i + 1) ns) n ≡ true) (get_or-drop (i + 1) ns k 0 ∙ ap (λ (m : ℕ). get_or ns m 0) same)
+    (member_at (drop (i + 1) ns) k (omega (arith, after, below, length-drop (i + 1) ns)))
 
 pub in_behind : (front ns : List ℕ) (n : ℕ) → is_member ns n ≡ true → is_member (front ++ ns) n ≡ true
 in_behind front ns n is = list_any-append (nat_eq n) front ns ∙ or_right (is_member front n) (is_member ns n) is

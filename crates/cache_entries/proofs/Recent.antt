@@ -1,8 +1,8 @@
 -- The numbers used last, and the one used longest ago.
 use Rattle.cache_entries.proofs.Names.{nat_tests, ℕ, zero, suc, true, false, true≢false, List, [], length, take, Some, refl, sym, ap, arith, slice_get}
-use Rattle.cache_entries.proofs.Names.{none-some, same_Some, is_member, AllDiffer, without, remove}
+use Rattle.cache_entries.proofs.Names.{is_member, AllDiffer, without}
 use Rattle.std.proofs.Common.{◌≡◌, ◌≢◌, ◌+◌, ◌<◌, ◌∷◌, ◌∙◌}
-use Rattle.cache_entries.proofs.Orders.{listed_member, in_front, without_here, without_tail, gone}
+use Rattle.cache_entries.proofs.Orders.{listed_member, in_front, without_tail, gone}
 
 module _ (n : ℕ) where
   pub apart_from : (m : ℕ) (ms : List ℕ) (place : ℕ) → slice_get ms place ≡ Some n → is_member ms m ≡ false → n ≢ m
@@ -22,9 +22,3 @@ module _ (n : ℕ) where
   front_apart ns i k m last once at below is same = true≢false (
       sym (in_front k (without n ns) m (ap (λ (ms : List ℕ). is_member ms m) (front_stays ns i k last once at below) ∙ is))
       ∙ ap (is_member (without n ns)) same ∙ gone n ns once)
-
-  -- what stands at a place is taken out
-  pub taken_out : (ns : List ℕ) (place : ℕ) → slice_get ns place ≡ Some n → AllDiffer ns → remove ns place ≡ without n ns
-  taken_out [] place at once = absurd (none-some n at)
-  taken_out (m ∷ ms) zero at once = sym (without_here n m ms (sym (same_Some m n at)))
-  taken_out (m ∷ ms) (suc place) at once = grind (arith, nat_tests, without_tail, apart_from, taken_out ms place at once.1)

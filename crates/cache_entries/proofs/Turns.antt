@@ -1,11 +1,11 @@
 -- Numbers that are used in turn, and those whose use the order doesn't have yet.
-use Rattle.cache_entries.proofs.Names.{nat_tests, Uses, AreLatest, AreSpread, inl, inr, ℕ, nat_eq, Bool, true, false, true≢false, List, [], length, take, drop}
-use Rattle.cache_entries.proofs.Names.{get_or, Some, refl, sym, ap, subst, arith, slice_get, take_more, cases_eq, is_member, AllDiffer, OrderState}
-use Rattle.cache_entries.proofs.Names.{used_in_turn, used_last, without, keys_of, length-append, promoted, IsFilled, used_all, remove}
-use Rattle.std.proofs.Common.{◌≡◌, ◌≢◌, ◌+◌, ◌∷◌, ◌++◌, ◌<◌, ◌∙◌}
+use Rattle.cache_entries.proofs.Names.{nat_tests, Uses, AreSpread, inl, inr, ℕ, nat_eq, Bool, true, false, true≢false, List, [], length, take, drop, get_or}
+use Rattle.cache_entries.proofs.Names.{Some, refl, sym, ap, subst, arith, slice_get, take_more, cases_eq, is_member, AllDiffer, OrderState, used_in_turn}
+use Rattle.cache_entries.proofs.Names.{used_last, without, keys_of, length-append, promoted, IsFilled, used_all, used_longest_ago, at_drop_more, none-some}
+use Rattle.cache_entries.proofs.Names.{same_Some, suc}
+use Rattle.std.proofs.Common.{◌≡◌, ◌≢◌, ◌+◌, ◌-◌, ◌∷◌, ◌++◌, ◌<◌, ◌∙◌}
 use Rattle.cache_entries.proofs.Orders.{used_keys, unused_keys, differ_without, gone, length_without, member_head, member_tail, still, in_tail, either_of}
-use Rattle.cache_entries.proofs.Orders.{not_here, listed_member, member_end, without_here, without_tail}
-use Rattle.cache_entries.proofs.Recent.{taken_out}
+use Rattle.cache_entries.proofs.Orders.{not_here, member_end, without_here, without_tail}
 
 -- a number that is listed keeps its place among the members when it is used
 pub member_used : (n : ℕ) (ns : List ℕ) (m : ℕ) → is_member ns n ≡ true → is_member (n ∷ without n ns) m ≡ is_member ns m
@@ -45,42 +45,14 @@ used_at_end [] n order = refl
 used_at_end (m ∷ ms) n order = used_at_end ms n (m ∷ without m order)
 
 -- the uses of others leave it where it is
-without_in_turn : (n : ℕ) (ns order : List ℕ) → is_member ns n ≡ false → without n (used_in_turn ns order) ≡ used_in_turn ns (without n order)
+pub without_in_turn : (n : ℕ) (ns order : List ℕ) → is_member ns n ≡ false → without n (used_in_turn ns order) ≡ used_in_turn ns (without n order)
 without_in_turn n [] order none = refl
 without_in_turn n (m ∷ ms) order none =
     let apart = not_here m ms n none in
     without_in_turn n ms (m ∷ without m order) apart.1
     ∙ ap (used_in_turn ms) (without_tail n m (without m order) apart.0 ∙ ap (λ (rest : List ℕ). m ∷ rest) (without_both n m order apart.0))
 
--- what is used once more needn't have been used before
-without_earlier : (n : ℕ) (ns order : List ℕ) → AllDiffer ns → without n (used_in_turn (without n ns) order) ≡ without n (used_in_turn ns order)
-without_earlier n [] order once = refl
-without_earlier n (m ∷ ms) order once =
-    grind (arith, nat_tests, without_here, without_in_turn, without_tail, without_earlier n ms (m ∷ without m order) once.1)
-
-used_once_more : (n : ℕ) (ns order : List ℕ) → AllDiffer ns → used_in_turn (without n ns ++ n ∷ []) order ≡ n ∷ without n (used_in_turn ns order)
-used_once_more n ns order once = used_at_end (without n ns) n order ∙ ap (λ (rest : List ℕ). n ∷ rest) (without_earlier n ns order once)
-
 -- ---- used again in the same turn
-
-without_behind : (n : ℕ) (front ns : List ℕ) → is_member front n ≡ false → without n (front ++ ns) ≡ front ++ without n ns
-without_behind n [] ns none = refl
-without_behind n (m ∷ ms) ns none =
-    let apart = not_here m ms n none in
-    without_tail n m (ms ++ ns) apart.0 ∙ ap (λ (rest : List ℕ). m ∷ rest) (without_behind n ms ns apart.1)
-
--- what was used in turn before others, and is used in turn after them, needn't have been used before
-used_behind : (ns front order : List ℕ) → AllDiffer ns → ((k : ℕ) → is_member ns k ≡ true → is_member front k ≡ false) →
-    used_in_turn ns (front ++ used_in_turn ns order) ≡ used_in_turn ns (front ++ order)
-used_behind [] front order once apart = refl
-used_behind (n ∷ ns) front order once apart =
-    let here = apart n (member_head n n ns refl) in
-    let moved : without n (used_in_turn ns (n ∷ without n order)) ≡ used_in_turn ns (without n order) = search (without_in_turn, without_here) in
-    ap (λ (rest : List ℕ). used_in_turn ns (n ∷ rest))
-    (without_behind n front (used_in_turn ns (n ∷ without n order)) here ∙ ap (λ (rest : List ℕ). front ++ rest) moved)
-    ∙ used_behind ns (n ∷ front) (without n order) once.1 (λ k is.
-    member_tail k n front (λ same. true≢false (sym is ∙ ap (is_member ns) (sym same) ∙ once.0)) ∙ apart k (in_tail n ns k is))
-    ∙ ap (λ (rest : List ℕ). used_in_turn ns (n ∷ rest)) (sym (without_behind n front order here))
 
 -- what is used later in turn needn't have been used before
 used_later : (n : ℕ) (ns xs ys : List ℕ) → is_member ns n ≡ true → without n xs ≡ without n ys → used_in_turn ns xs ≡ used_in_turn ns ys
@@ -101,18 +73,6 @@ used_anew ns (p ∷ ps) order listed =
     used_anew ns ps (p ∷ without p order) (λ k is. listed k (in_tail p ps k is))
     ∙ used_later p ns (p ∷ without p order) order (listed p (member_head p p ps refl)) (without_here p p (without p order) refl)
 
-differ_behind : (front ns : List ℕ) → AllDiffer (front ++ ns) → AllDiffer ns
-differ_behind [] ns once = once
-differ_behind (m ∷ ms) ns once = differ_behind ms ns once.1
-
-pub used_front : (front ns order : List ℕ) → used_in_turn (front ++ ns) order ≡ used_in_turn ns (used_in_turn front order)
-used_front [] ns order = refl
-used_front (m ∷ ms) ns order = used_front ms ns (m ∷ without m order)
-
--- what was used last, in turn, is used again
-pub used_again : (front ns order : List ℕ) → AllDiffer (front ++ ns) → used_in_turn (front ++ ns) order ≡ used_in_turn ns (used_in_turn (front ++ ns) order)
-used_again front ns order once = cc (used_front front ns order, used_behind ns [] (used_in_turn front order) (differ_behind front ns once) (λ k is. refl))
-
 pub all_at_end : (ns : List ℕ) (n : ℕ) (s : OrderState) → used_all (ns ++ n ∷ []) s ≡ used_last n (used_all ns s)
 all_at_end [] n s = refl
 all_at_end (m ∷ ms) n s = all_at_end ms n (used_last m s)
@@ -127,48 +87,67 @@ pub listed_more : (s t : List ℕ) (ns : List ℕ) (i : ℕ) → i < length ns �
 listed_more s t ns i below is here listed n has =
     grind (arith, nat_tests, take_more ns i 0 below, member_end (take i ns) (get_or ns i 0) n, member_in_turn (take i ns) s (get_or ns i 0) listed)
 
--- ---- the latest
-
 pub differ_end : (ns : List ℕ) (n : ℕ) → AllDiffer ns → is_member ns n ≡ false → AllDiffer (ns ++ n ∷ [])
 differ_end [] n once none = (refl, tt)
 differ_end (m ∷ ms) n once none =
     let apart = not_here m ms n none in
     (member_end ms n m ∙ member_tail m n ms apart.0 ∙ once.0, differ_end ms n once.1 apart.1)
 
--- one of them is used again
-pub record Again (latest after : List ℕ) (n : ℕ) : Type 0 where
-  pub once : AllDiffer after
-  pub members : (m : ℕ) → is_member after m ≡ is_member latest m
-  pub count : length after ≡ length latest
-  pub used : (o : OrderState) → used_all after o ≡ used_last n (used_all latest o)
+-- ---- a log
 
-pub used_again_at : (latest after : List ℕ) (place n : ℕ) → slice_get latest place ≡ Some n → AllDiffer latest → after ≡ remove latest place ++ n ∷ [] →
-    Again latest after n
-used_again_at latest after place n at once is =
-    let has = listed_member latest place n at in
-    rw (is, taken_out n latest place at once) (record {
-      once = differ_end (without n latest) n (differ_without n latest once) (gone n latest once);
-      members = λ m. member_end (without n latest) n m ∙ member_used n latest m has;
-      count = omega (arith, length-append (without n latest) (n ∷ []), length_without n latest has);
-      used = λ o k. record { numbers = used_once_more n latest o.numbers once k; places = o.places; most = o.most };
-    })
+-- a number that is used later needn't be used before
+pub used_again : (n : ℕ) (ns : List ℕ) (o : OrderState) → is_member ns n ≡ true → used_all ns (used_last n o) ≡ used_all ns o
+used_again n ns o later =
+    ap (λ (xs : List ℕ). let p : OrderState = record { numbers = xs; places = o.places; most = o.most } in p)
+    (used_later n ns (n ∷ without n o.numbers) o.numbers later (without_here n n (without n o.numbers) refl))
 
--- another one is used
-pub more_latest : (latest order : List ℕ) → AreLatest latest order → (n : ℕ) → is_member latest n ≡ false → is_member order n ≡ true →
-    AreLatest (latest ++ n ∷ []) order
-more_latest latest order are n none here = grind (arith, nat_tests, differ_end, either_of, member_end)
+-- one use of a log moves to the order
+pub settles : (uses : List ℕ) (i : ℕ) (o : OrderState) → i < length uses →
+    used_all (drop i uses) o ≡ used_all (drop (i + 1) uses) (used_last (get_or uses i 0) o)
+settles uses i o below = at_drop_more (λ (us : List ℕ). used_all us o) uses i 0 below
 
--- what is left once the first of them moved to the end of the order
-pub record Settles (latest rest : List ℕ) (order after : OrderState) : Type 0 where
-  pub same : used_all rest after ≡ used_all latest order
-  pub are : AreLatest rest after.numbers
-  pub others : (m : ℕ) → is_member latest m ≡ false → is_member rest m ≡ false
-  pub members : (m : ℕ) → is_member after.numbers m ≡ is_member order.numbers m
-  pub fewer : length rest + 1 ≡ length latest
+-- or is left out
+pub left_out : (uses : List ℕ) (i : ℕ) (o : OrderState) → i < length uses → is_member (drop (i + 1) uses) (get_or uses i 0) ≡ true →
+    used_all (drop i uses) o ≡ used_all (drop (i + 1) uses) o
+left_out uses i o below later = settles uses i o below ∙ used_again (get_or uses i 0) (drop (i + 1) uses) o later
 
-pub settles : (latest rest : List ℕ) (order after : OrderState) (n : ℕ) → 0 < length latest → n ≡ get_or latest 0 n → rest ≡ take 0 latest ++ drop 1 latest →
-    after ≡ used_last n order → AreLatest latest order.numbers → Settles latest rest order after
-settles latest rest order after n some first is used are = grind (arith, nat_tests, member_head, member_used, in_tail, not_here)
+-- a number is new in the order, and used after those of the log
+pub new_last : (uses order : List ℕ) (n : ℕ) → is_member uses n ≡ false → used_in_turn (uses ++ n ∷ []) (n ∷ order) ≡ n ∷ used_in_turn uses order
+new_last uses order n none =
+    used_at_end uses n (n ∷ order)
+    ∙ ap (λ (rest : List ℕ). n ∷ rest) (without_in_turn n uses (n ∷ order) none ∙ ap (used_in_turn uses) (without_here n n order refl))
+
+-- the number used longest ago, where others were used
+last_behind : (m : ℕ) (ns : List ℕ) (n : ℕ) → used_longest_ago ns ≡ Some n → used_longest_ago (m ∷ ns) ≡ Some n
+last_behind m [] n last = absurd (none-some n last)
+last_behind m (k ∷ ks) n last =
+    let more : length (m ∷ k ∷ ks) - 1 ≡ suc (length (k ∷ ks) - 1) = omega arith in
+    ap (slice_get (m ∷ k ∷ ks)) more ∙ last
+
+last_without : (m : ℕ) (ns : List ℕ) (n : ℕ) → n ≢ m → used_longest_ago ns ≡ Some n → used_longest_ago (without m ns) ≡ Some n
+last_without m [] n other last = absurd (none-some n last)
+last_without m (k ∷ []) n other last =
+    let same : k ≡ n = same_Some k n last in
+    ap used_longest_ago (without_tail m k [] (λ is. other (sym same ∙ sym is))) ∙ last
+last_without m (k ∷ l ∷ ks) n other last =
+    let fewer : length (k ∷ l ∷ ks) - 1 ≡ suc (length (l ∷ ks) - 1) = omega arith in
+    let behind : used_longest_ago (l ∷ ks) ≡ Some n = sym (ap (slice_get (k ∷ l ∷ ks)) fewer) ∙ last in
+    elim (cases_eq m k) [
+      | inl same ↦ ap used_longest_ago (without_here m k (l ∷ ks) same) ∙ behind
+      | inr apart ↦ ap used_longest_ago (without_tail m k (l ∷ ks) apart)
+          ∙ last_behind k (without m (l ∷ ks)) n (last_without m (l ∷ ks) n other behind)
+    ]
+
+pub last_in_turn : (ns order : List ℕ) (n : ℕ) → is_member ns n ≡ false → used_longest_ago order ≡ Some n → used_longest_ago (used_in_turn ns order) ≡
+    Some n
+last_in_turn [] order n none last = last
+last_in_turn (m ∷ ms) order n none last =
+    let apart = not_here m ms n none in
+    last_in_turn ms (m ∷ without m order) n apart.1 (last_behind m (without m order) n (last_without m order n apart.0 last))
+
+pub listed_end : (uses order : List ℕ) (n : ℕ) → ((m : ℕ) → is_member uses m ≡ true → is_member order m ≡ true) → is_member order n ≡ true →
+    (m : ℕ) → is_member (uses ++ n ∷ []) m ≡ true → is_member order m ≡ true
+listed_end uses order n listed here m has = grind (arith, nat_tests, either_of, member_end)
 
 -- ---- an order with places
 

@@ -1,13 +1,8 @@
 -- The bodies of objects by place.
-use Rattle.std.specs.Prelude.{◌≡◌, ◌+◌, ◌∷◌, ℕ, Bool, true, false, List, [], Option, Some, IsSome, length, map}
-use Rattle.std.specs.Prelude.{slice_index_or, slice_set}
-use Rattle.std.specs.List.{range_with_len}
-use Rattle.std.specs.Option.{unwrap_or}
-use Rattle.model.specs.declared.capability.Cap.{Cap}
-use Rattle.model.specs.declared.object.Content.{Content}
-use Rattle.model.specs.declared.object.Root.{Root}
+use Rattle.cache_entries.specs.Names.{ℕ, Bool, true, false, List, [], Option, Some, IsSome, length, map, slice_index_or}
+use Rattle.cache_entries.specs.Names.{slice_set, range_with_len, unwrap_or, Cap, Content, Root, item_at}
+use Rattle.std.specs.Prelude.{◌≡◌, ◌+◌, ◌∷◌}
 use Rattle.model.specs.declared.object.Content.TheVariants as content
-use Rattle.collections.specs.SparseVec.{item_at}
 use Rattle.cache_entries.specs.declared.bodies.Kind.{Kind}
 use Rattle.cache_entries.specs.declared.bodies.Kind.TheVariants as kind
 

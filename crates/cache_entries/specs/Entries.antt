@@ -1,7 +1,5 @@
 -- The entries of a store's cache: by number, and in the order of their last use.
-use Rattle.std.specs.Prelude.{ℕ, Option, None, List, option_map, slice_index_or, slice_set}
-use Rattle.model.specs.declared.capability.Cap.{Cap}
-use Rattle.model.specs.declared.object.Content.{Content}
+use Rattle.cache_entries.specs.Names.{ℕ, Option, None, List, option_map, slice_index_or, slice_set, Cap, Content}
 
 -- what is in memory of an object: what it holds now; and what it held when it was frozen, where that isn't in the log
 -- yet and is kept apart from what it holds now

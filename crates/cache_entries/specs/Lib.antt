@@ -1,3 +1,4 @@
+pub mod Names
 pub mod Bodies
 pub mod Entries
 pub mod NumberHasher

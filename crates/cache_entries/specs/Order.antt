@@ -1,11 +1,8 @@
 -- Numbers in the order of their last use, the one used last first.
-use Rattle.std.specs.Prelude.{◌≡◌, ◌==◌, ◌-◌, ◌<◌, ◌≤◌, if◌then◌else◌, ℕ, Bool, true, false, Option, Some, None}
-use Rattle.std.specs.Prelude.{is_some, nat_lt, option_map}
-use Rattle.std.specs.Prelude.{List, [], ◌∷◌, length, map, take, slice_get, slice_index, slice_index_or, slice_set}
-use Rattle.model.specs.Revoke.{is_member}
-use Rattle.model.specs.declared.capability.Cap.{Cap}
-use Rattle.model.specs.Frame.{held_at}
-use Rattle.model.specs.declared.object.Content.{Content}
+use Rattle.cache_entries.specs.Names.{ℕ, Bool, true, false, Option, Some, None, is_some, nat_lt, option_map, List, []}
+use Rattle.cache_entries.specs.Names.{length, map, take, slice_get, slice_index, slice_index_or, slice_set, is_member}
+use Rattle.cache_entries.specs.Names.{Cap, held_at, Content}
+use Rattle.std.specs.Prelude.{◌≡◌, ◌==◌, ◌-◌, ◌<◌, ◌≤◌, if◌then◌else◌, ◌∷◌}
 use Rattle.cache_entries.specs.Entries.{Entry, entry_at, new_entry, with_entry}
 
 -- no number stands twice
@@ -32,11 +29,6 @@ used_longest_ago ns = slice_get ns (length ns - 1)
 abbrev pub used_in_turn : List ℕ → List ℕ → List ℕ
 used_in_turn [] order = order
 used_in_turn (n ∷ ns) order = used_in_turn ns (n ∷ without n order)
-
--- numbers that were used after all others, in turn, which their order needn't say yet: each of them once
-pub record AreLatest (latest order : List ℕ) : Type 0 where
-  pub once : AllDiffer latest
-  pub listed : (n : ℕ) → is_member latest n ≡ true → is_member order n ≡ true
 
 -- numbers in the order of their last use, a place for each, and how many there may be
 pub record OrderState : Type 0 where
@@ -86,6 +78,28 @@ pub record ArePlaced (keys numbers places : List ℕ) (count : ℕ) : Type 0 whe
       → is_member (take count keys) (slice_index_or places n (length numbers)) ≡ true
   pub forth : (n : ℕ) → slice_index_or places n (length numbers) < length numbers
       → slice_index numbers (slice_index_or places n (length numbers)) ≡ n
+
+-- a log: uses of numbers below a count, in turn, and how many there may be
+pub record LogState : Type 0 where
+  pub uses : List ℕ
+  pub count : ℕ
+  pub most : ℕ
+
+-- a use of a number stands at an index
+pub record IsUseAt (uses : List ℕ) (i n : ℕ) : Type 0 where
+  pub within : i < length uses
+  pub there : slice_index uses i ≡ n
+
+-- the stamp of each number that was used is the index of a use of it
+pub record AreStamped (uses stamps : List ℕ) : Type 0 where
+  pub known : (n : ℕ) → is_member uses n ≡ true → n < length stamps
+  pub stamped : (n : ℕ) → is_member uses n ≡ true → IsUseAt uses (slice_index stamps n) n
+
+-- a log of uses of numbers of an order
+pub record IsLogOf (l : LogState) (s : OrderState) : Type 0 where
+  pub listed : (n : ℕ) → is_member l.uses n ≡ true → is_member s.numbers n ≡ true
+  pub count : l.count ≡ length s.places
+  pub some : 0 < l.most
 
 -- the first `count` of a list of numbers of the order were used in turn, and all of them if `said`
 pub record Uses (s t : OrderState) (ns : List ℕ) (said : Bool) : Type 0 where

@@ -271,8 +271,8 @@ impl Entries {
         self.order.remove(number);
     }
 
-    /// Marks numbers as used, in turn, up to the first that isn't among the last few used. Returns
-    /// whether it marked them all; then each has an entry.
+    /// Marks numbers as used, in turn, up to the first that has no entry. Returns whether it marked
+    /// them all; then each has an entry.
     pub fn use_again(&mut self, numbers: &[u64]) -> bool
         ensures held { result ≡ true → (n : ℕ) → Contains numbers.now n
             → IsSome (entry_at self.old.at n) }

@@ -5,6 +5,7 @@ mod bodies;
 mod entries;
 mod number_hasher;
 mod places;
+mod use_log;
 mod use_order;
 
 pub use entries::Entries;

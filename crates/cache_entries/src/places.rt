@@ -141,6 +141,16 @@ impl Places {
         self.places[number as usize] < self.numbers.len()
     }
 
+    /// Whether a number has a place. The number may be any.
+    #[tactic(auto, using(crate::proofs::Spreads::known_is, crate::proofs::Logs::unlisted))]
+    pub(crate) fn lists(&self, number: u64) -> bool
+        ensures { result ≡ is_member self.now.numbers number }
+    {
+        // Proof only: each number in the order has a place.
+        self.len();
+        (number as usize) < self.places.len() && self.has(number)
+    }
+
     /// The place of a number that has one.
     pub(crate) fn place(&self, number: u64) -> usize
         requires { IsSome (place_at self.now.places number) }
@@ -199,12 +209,12 @@ impl Places {
 
     /// The number used longest ago. All places must have a number.
     #[tactic(auto, using(crate::proofs::Spreads::least_number, crate::proofs::Spreads::spread_is))]
-    pub(crate) fn least(&self) -> Option<u64>
+    pub(crate) fn least(&self) -> u64
         requires { self.now.most ≤ length self.now.numbers }
-        ensures least { result ≡ used_longest_ago self.now.numbers }
+        ensures least { Some result ≡ used_longest_ago self.now.numbers }
         ensures spread { AreSpread self.now }
     {
         let place = last_place(&self.order);
-        Some(self.numbers[place])
+        self.numbers[place]
     }
 }
