@@ -4,8 +4,9 @@ use Rattle.cache_entries.proofs.Names.{refl, sym, ap, subst, arith, length-set, 
 use Rattle.cache_entries.proofs.Names.{get_or-map-range_with_len, length-map-range_with_len, get_or-replicate, length-replicate, set-get_or, fill_by_all}
 use Rattle.cache_entries.proofs.Names.{item_at, Kind, Content, Cap, held_at, with_word_in, with_slot_in, HasRoom, kind_at, kind_of, content_in, content_at}
 use Rattle.cache_entries.proofs.Names.{contents_in, with_words_of, with_slots_of, words_are_of, slots_are_of, kind_with_root, slots_from, with_root_in}
-use Rattle.cache_entries.proofs.Names.{with_slots_in, Root, changed_once}
+use Rattle.cache_entries.proofs.Names.{with_slots_in, Root, changed_once, slots_at}
 use Rattle.std.proofs.Common.{◌≡◌, ◌≢◌, ◌+◌, ◌<◌, ◌∷◌, ◌∙◌}
+use Rattle.cache_entries.proofs.Voids.{slots_are}
 use Rattle.model.specs.declared.object.Content.TheVariants as content
 use Rattle.cache_entries.specs.declared.bodies.Kind.TheVariants as kind
 
@@ -208,7 +209,10 @@ module _ {ks : List Kind} {ps : List (Option (List ℕ))} {ns : List (Option (Li
 
     pub ruleset word_edits = (words_there, no_page, word_seen)
 
-    pub ruleset slot_edits = (slots_there, slot_seen, no_slot_seen, slots_seen, no_slots_seen)
+    pub slots_are_there : slots_are_of b ≡ true → item_at ns k ≡ Some (slots_at ns k)
+    slots_are_there is = slots_are ns k (slots_there is)
+
+    pub ruleset slot_edits = (slots_there, slots_are_there, slot_seen, no_slot_seen, slots_seen, no_slots_seen)
 
 all_held : (ks : List Kind) (ps : List (Option (List ℕ))) (ns : List (Option (List Cap))) → ((k : ℕ) → kind_at ks k ≡ kind.Free) → replicate (length ks)
     content.Free ≡ contents_in ks ps ns

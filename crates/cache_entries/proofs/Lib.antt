@@ -1,5 +1,6 @@
 mod Names
 pub mod Contents
+pub mod Voids
 pub mod Orders
 pub mod Recent
 pub mod Turns

@@ -5,7 +5,7 @@ pub use Rattle.collections.proofs.Positions.{filled}
 pub use Rattle.collections.specs.SparseVec.{item_at}
 pub use Rattle.lru.proofs.CallerLemmas.{Contains-lookup_entry}
 pub use Rattle.lru.specs.LruCache.{LruCache, demoted, promoted, put_entries}
-pub use Rattle.model.specs.Frame.{held_at}
+pub use Rattle.model.specs.Frame.{held_at, void_held}
 pub use Rattle.model.specs.Object.{with_slot_in, with_word_in}
 pub use Rattle.model.specs.Revoke.{is_member}
 pub use Rattle.model.specs.declared.capability.Cap.{Cap}
@@ -18,7 +18,8 @@ pub use Rattle.std.proofs.lemmas.Bool.{cases_eq, cases_lt, eq-eqb, eqb-true, fal
 pub use Rattle.std.proofs.lemmas.Bool.Decides.{nat_tests}
 pub use Rattle.std.proofs.lemmas.Grind.{common_steps}
 pub use Rattle.std.proofs.lemmas.List.{at_drop_more, get_or-drop, get_or-replicate, get_or-set_other, get_or-set_same, get_or_default, get_or_past, length-drop}
-pub use Rattle.std.proofs.lemmas.List.{length-map, length-replicate, length-take-le, set-get_or, take-append-drop, take-append-le, take_all, take_more}
+pub use Rattle.std.proofs.lemmas.List.{length-map, length-replicate, length-take-le, same_lists, set-get_or, take-append-drop, take-append-le, take_all}
+pub use Rattle.std.proofs.lemmas.List.{take_more}
 pub use Rattle.std.proofs.lemmas.List.Folds.{list_any-append}
 pub use Rattle.std.proofs.lemmas.List.FromFn.{fill_by_all, get_or-map-range_with_len, length-map-range_with_len}
 pub use Rattle.std.proofs.lemmas.Map.Keys.{any_passes_from_place}
@@ -28,9 +29,9 @@ pub use Rattle.std.specs.Cmp.{nat_eq_equiv}
 pub use Rattle.std.specs.List.{slice_get}
 pub use Rattle.std.specs.Map.{keys_of, lookup_entry, remove_entry}
 pub use Rattle.std.specs.NonZero.{non_zero_usize_get}
-pub use Rattle.std.specs.Option.{option_map_or}
-pub use Rattle.cache_entries.specs.Bodies.{AreBodies, HasRoom, content_at, content_in, kind_at, kind_of, kind_with_root, slots_are_of, slots_from}
-pub use Rattle.cache_entries.specs.Bodies.{with_slots_of, with_words_of, words_are_of}
+pub use Rattle.std.specs.Option.{option_map_or, unwrap_or}
+pub use Rattle.cache_entries.specs.Bodies.{AreBodies, AreEnds, AreVoidFrom, HasRoom, content_at, content_in, kind_at, kind_of, kind_with_root, slots_are_of}
+pub use Rattle.cache_entries.specs.Bodies.{slots_at, slots_from, with_slots_of, with_words_of, words_are_of}
 unfoldable pub use Rattle.cache_entries.specs.Bodies.{contents_in}
 pub use Rattle.cache_entries.specs.Entries.{Entry, changing, entry_at}
 pub use Rattle.cache_entries.specs.Order.{AllDiffer, AreOrdered, ArePlaced, AreSpread, AreStamped, AreStored, EntriesState, IsFilled, IsLogOf, LogState}

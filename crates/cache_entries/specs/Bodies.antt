@@ -1,7 +1,8 @@
 -- The bodies of objects by place.
 use Rattle.cache_entries.specs.Names.{ℕ, Bool, true, false, List, [], Option, Some, IsSome, length, map, slice_index_or}
-use Rattle.cache_entries.specs.Names.{slice_set, range_with_len, unwrap_or, Cap, Content, Root, item_at}
-use Rattle.std.specs.Prelude.{◌≡◌, ◌+◌, ◌∷◌}
+use Rattle.cache_entries.specs.Names.{slice_set, range_with_len, unwrap_or, void_held, Cap, Content, Root, item_at}
+use Rattle.cache_entries.specs.Names.{slice_index}
+use Rattle.std.specs.Prelude.{◌≡◌, ◌+◌, ◌<◌, ◌≤◌, ◌∷◌}
 use Rattle.model.specs.declared.object.Content.TheVariants as content
 use Rattle.cache_entries.specs.declared.bodies.Kind.{Kind}
 use Rattle.cache_entries.specs.declared.bodies.Kind.TheVariants as kind
@@ -34,6 +35,19 @@ kind_with_root change other = other
 abbrev pub slots_from : List Cap → ℕ → List Cap → List Cap
 slots_from slots i [] = slots
 slots_from slots i (c ∷ cs) = slots_from (slice_set slots i c) (i + 1) cs
+
+-- each of 32 slots from an index on is void
+abbrev pub AreVoidFrom : ℕ → List Cap → Type 0
+AreVoidFrom end slots = (end ≤ 32) × ((i : ℕ) → end ≤ i → i < 32 → slice_index_or slots i void_held ≡ void_held)
+
+-- the slots at a place, and none if it has none
+abbrev pub slots_at : List (Option (List Cap)) → ℕ → List Cap
+slots_at ns k = unwrap_or (item_at ns k) []
+
+-- by place: from which slot on all are void
+pub record AreEnds (ns : List (Option (List Cap))) (ends : List ℕ) : Type 0 where
+  pub count : length ends ≡ length ns
+  pub void : (k : ℕ) (slots : List Cap) → item_at ns k ≡ Some slots → AreVoidFrom (slice_index ends k) slots
 
 -- whether the words or slots of that kind are there
 abbrev pub HasRoom : Kind → Option (List ℕ) → Option (List Cap) → Type 0

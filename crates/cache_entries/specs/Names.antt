@@ -1,6 +1,6 @@
 -- The names of other crates that the definitions here cite.
 pub use Rattle.collections.specs.SparseVec.{item_at}
-pub use Rattle.model.specs.Frame.{held_at}
+pub use Rattle.model.specs.Frame.{held_at, void_held}
 pub use Rattle.model.specs.Revoke.{is_member}
 pub use Rattle.model.specs.declared.capability.Cap.{Cap}
 pub use Rattle.model.specs.declared.object.Content.{Content}

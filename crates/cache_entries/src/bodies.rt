@@ -1,16 +1,17 @@
 // The bodies of objects by place, in reserved memory.
-ghost use Rattle.std.specs.Prelude.{◌≡◌, ◌<◌, ◌≤◌, Some, None, length, replicate, slice_set, IfOk};
+ghost use Rattle.std.specs.Prelude.{◌≡◌, ◌<◌, Some, None, length, replicate, slice_set, IfOk};
 ghost use Rattle.capability.specs.Objects.{changed_root, with_root_in, with_slots_in};
 ghost use Rattle.capability.specs.Parts.{fresh_content};
 ghost use Rattle.model.specs.Frame.{content_behind, held_at, void_held};
 ghost use Rattle.model.specs.Object.{with_slot_in, with_word_in};
 ghost use Rattle.model.specs.declared.object.Content.{Content};
 ghost use Rattle.cache_entries.specs.Bodies.{kind_of, slots_are_of, with_slots_of, with_words_of, kind_with_root};
-ghost use Rattle.cache_entries.specs.Bodies.{slots_from, words_are_of};
+ghost use Rattle.cache_entries.specs.Bodies.{words_are_of};
 
+use crate::nodes::Nodes;
 use capability::{Fresh, RootChange};
 use collections::SparseVec;
-use model::{Cap, ContentRef, Page, Root, SLOTS, State};
+use model::{Cap, ContentRef, Page, Root, State};
 use std::alloc::{AllocError, Global};
 use std::marker::Model;
 
@@ -31,7 +32,7 @@ pub(crate) struct Bodies {
     kinds: Vec<Kind>,
     pages: SparseVec<Page>,
     /// The slots of nodes and the registers of annexes.
-    nodes: SparseVec<[Cap; SLOTS]>,
+    nodes: Nodes,
 }
 
 impl Model for Bodies {
@@ -79,18 +80,6 @@ fn clear_page(pages: &mut SparseVec<Page>, place: usize)
         pages.item_mut(place).clear();
     } else {
         pages.add(place, Page::blank());
-    }
-}
-
-// Sets all slots at a place.
-fn put_slots(nodes: &mut SparseVec<[Cap; SLOTS]>, place: usize, slots: &[Cap; SLOTS])
-    requires { place < length nodes.old }
-    ensures { nodes.new ≡ slice_set nodes.old place (Some slots.now) }
-{
-    if nodes.has(place) {
-        *nodes.item_mut(place) = *slots;
-    } else {
-        nodes.add(place, *slots);
     }
 }
 
@@ -146,12 +135,7 @@ fn has_slots(kind: &Kind) -> bool
 }
 
 // Copies the words or slots of a content to a place.
-fn put_arrays(
-    pages: &mut SparseVec<Page>,
-    nodes: &mut SparseVec<[Cap; SLOTS]>,
-    place: usize,
-    content: ContentRef<'_>,
-)
+fn put_arrays(pages: &mut SparseVec<Page>, nodes: &mut Nodes, place: usize, content: ContentRef<'_>)
     requires pages { place < length pages.old }
     requires nodes { place < length nodes.old }
     ensures pages { pages.new ≡ with_words_of (content_behind content.entry) place pages.old }
@@ -159,19 +143,9 @@ fn put_arrays(
 {
     match content {
         ContentRef::Page(words) => put_page(pages, place, words),
-        ContentRef::Node(slots) => put_slots(nodes, place, slots),
-        ContentRef::Annex(registers) => put_slots(nodes, place, registers),
+        ContentRef::Node(slots) => nodes.put(place, slots),
+        ContentRef::Annex(registers) => nodes.put(place, registers),
         _ => {}
-    }
-}
-
-// Sets the slots from 28 on, at most four.
-fn put_last(slots: &mut [Cap; SLOTS], held: &[Cap])
-    requires { length held.now ≤ 4 }
-    ensures { slots.new ≡ slots_from slots.old 28 held.now }
-{
-    for i in 0..held.len() {
-        slots[28 + i] = held[i];
     }
 }
 
@@ -196,12 +170,7 @@ fn fresh_kind(fresh: Fresh) -> Kind
 
 // Sets the words or slots at a place to those of a new object.
 #[tactic(auto, unfolding(model::specs::Object::all_slots, model::specs::Object::zero_words))]
-fn clear_arrays(
-    pages: &mut SparseVec<Page>,
-    nodes: &mut SparseVec<[Cap; SLOTS]>,
-    place: usize,
-    fresh: Fresh,
-)
+fn clear_arrays(pages: &mut SparseVec<Page>, nodes: &mut Nodes, place: usize, fresh: Fresh)
     requires pages { place < length pages.old }
     requires nodes { place < length nodes.old }
     ensures pages { pages.new ≡ with_words_of (fresh_content void_held fresh) place pages.old }
@@ -209,8 +178,8 @@ fn clear_arrays(
 {
     match fresh {
         Fresh::Page => clear_page(pages, place),
-        Fresh::Node => put_slots(nodes, place, &[Cap::void(); SLOTS]),
-        Fresh::Annex => put_slots(nodes, place, &[Cap::void(); SLOTS]),
+        Fresh::Node => nodes.clear(place),
+        Fresh::Annex => nodes.clear(place),
         _ => {}
     }
 }
@@ -225,7 +194,7 @@ impl Bodies {
         Ok(Bodies {
             kinds: free_kinds(alloc, most)?,
             pages: SparseVec::new(alloc, most)?,
-            nodes: SparseVec::new(alloc, most)?,
+            nodes: Nodes::new(alloc, most)?,
         })
     }
 
@@ -275,8 +244,7 @@ impl Bodies {
         ensures { self.new ≡ slice_set self.old place (with_slot_in (held_at self.old place) slot held) }
     {
         if has_slots(&self.kinds[place]) {
-            let slots = self.nodes.item_mut(place);
-            slots[slot] = held;
+            self.nodes.set(place, slot, held);
         }
     }
 
@@ -287,7 +255,7 @@ impl Bodies {
         ensures { self.new ≡ slice_set self.old place (with_slots_in (held_at self.old place) 28 held) }
     {
         if has_slots(&self.kinds[place]) {
-            put_last(self.nodes.item_mut(place), &held);
+            self.nodes.set_last(place, &held);
         }
     }
 

@@ -3,6 +3,7 @@
 
 mod bodies;
 mod entries;
+mod nodes;
 mod number_hasher;
 mod places;
 mod use_log;
