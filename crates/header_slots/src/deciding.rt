@@ -21,8 +21,9 @@ pub enum NotCommitted {
     NextGate,
 }
 
-// Returns the number of the header in slot `i`, if it counts.
-fn counting(slots: &[SlotNumbers], i: usize) -> Option<u64>
+/// Returns the number of the header in slot `i`, if it counts: it is sound, lies in its slot, and the gate there has its
+/// number.
+pub fn counting_number(slots: &[SlotNumbers], i: usize) -> Option<u64>
     requires slots { length slots.now ≡ 3 }
     requires slot { i < 3 }
     ensures some { IfSome result (λ s. (s % 3 ≡ i) × Counts (slots_of slots.now) s) }
@@ -44,7 +45,10 @@ fn pair_at(slots: &[SlotNumbers], i: usize) -> u64
     ensures some { 0 < result → (result % 3 ≡ i) × IsPair (slots_of slots.now) result }
     ensures none { result ≡ 0 → (s : ℕ) → s % 3 ≡ i → IsPair (slots_of slots.now) s → ⊥ }
 {
-    match (counting(slots, i), counting(slots, (i + 2) % 3)) {
+    match (
+        counting_number(slots, i),
+        counting_number(slots, (i + 2) % 3),
+    ) {
         (Some(number), Some(before)) => {
             if number > 0 && before == number - 1 {
                 number

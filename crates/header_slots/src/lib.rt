@@ -4,5 +4,5 @@
 mod deciding;
 mod laws;
 
-pub use deciding::{NotCommitted, SlotNumbers, committed};
+pub use deciding::{NotCommitted, SlotNumbers, committed, counting_number};
 pub use laws::{closing_is_safe, damage_changes_nothing, publishing_is_safe, weaker_rules_fail};
