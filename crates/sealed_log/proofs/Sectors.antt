@@ -1,0 +1,14 @@
+-- One sector of a device.
+use Rattle.std.proofs.Common.{◌≡◌, ℕ, List, sym, ◌∙◌}
+use Rattle.device.specs.Calls.{Agrees}
+use Rattle.device.specs.Disk.{Image}
+use Rattle.layout.specs.Image.{sectors_from}
+use Rattle.layout.proofs.Sectors.{one_from}
+
+-- the bytes of one sector, where a read leaves the image
+pub read_is : {old new : Image} {at : ℕ} (bytes : List ℕ) → Agrees new old → sectors_from new at 1 ≡ bytes → bytes ≡ old at
+read_is {new = new} {at = at} bytes same is = sym is ∙ one_from new at ∙ same at
+
+-- the bytes of one sector, where a sync leaves the image
+pub written_is : {mid new : Image} {at : ℕ} (bytes : List ℕ) → Agrees new mid → sectors_from mid at 1 ≡ bytes → new at ≡ bytes
+written_is {mid = mid} {at = at} bytes same is = same at ∙ sym (one_from mid at) ∙ is

@@ -1,0 +1,5 @@
+pub mod Opening
+pub mod Reading
+pub mod Committed
+pub mod Publish
+pub mod Closing

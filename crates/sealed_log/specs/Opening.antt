@@ -1,0 +1,32 @@
+-- The header slots of an image, and the header that is committed.
+use Rattle.std.specs.Prelude.{◌≡◌, ◌↔◌, ℕ, ◌+◌, ◌*◌, List, Some}
+use Rattle.device.specs.Disk.{Image}
+use Rattle.header_slots.specs.Slots.{Opens, Slots}
+use Rattle.sealed_layout.specs.declared.header.SealedHeader.{SealedHeader}
+use Rattle.sealed_layout.specs.Gate.{HasNumber}
+use Rattle.sealed_layout.specs.Header.{header_bytes, header_numbers}
+use Rattle.sealed_layout.specs.Sector.{AreWords}
+
+-- the sectors of header slot k and of its gate
+abbrev pub header_sector : ℕ → ℕ
+header_sector k = 8 + 16 * k
+
+abbrev pub gate_sector : ℕ → ℕ
+gate_sector k = 16 + 16 * k
+
+-- these bytes are a sound header with this sequence number
+abbrev pub IsSound : List ℕ → ℕ → Type 0
+IsSound bytes s = (h : SealedHeader) × AreWords (header_numbers h) × (bytes ≡ header_bytes h) × (h.header.sequence ≡ s)
+
+-- the slots of an image have the numbers of its sound headers and of its gates
+pub record AreSlots (image : Image) (slots : Slots) : Type 0 where
+  pub header : (k s : ℕ) → ((slots k).header ≡ Some s) ↔ IsSound (image (header_sector k)) s
+  pub gate : (k n : ℕ) → ((slots k).gate ≡ Some n) ↔ HasNumber (image (gate_sector k)) n
+  pub bytes : (k : ℕ) → (slots k).bytes ≡ image (header_sector k)
+
+-- the committed header of an image is h
+pub record Commits (image : Image) (h : SealedHeader) : Type 0 where
+  pub slots : Slots
+  pub are : AreSlots image slots
+  pub opens : Opens slots h.header.sequence (header_bytes h)
+  pub fits : AreWords (header_numbers h)

@@ -1,0 +1,50 @@
+-- What a publish writes, and what a crash in its course leaves.
+use Rattle.std.specs.Prelude.{◌≡◌, ◌⊎◌, ℕ, ◌+◌, ◌%◌}
+use Rattle.device.specs.Calls.{Elsewhere}
+use Rattle.device.specs.Disk.{Disk, Image}
+use Rattle.sealed_layout.specs.declared.header.SealedHeader.{SealedHeader}
+use Rattle.sealed_layout.specs.Header.{header_bytes}
+use Rattle.sealed_log.specs.Opening.{Commits, gate_sector, header_sector}
+
+-- the sector of a header and that of its gate, in the slot of its sequence number
+abbrev pub header_at : SealedHeader → ℕ
+header_at h = header_sector (h.header.sequence % 3)
+
+abbrev pub gate_at : SealedHeader → ℕ
+gate_at h = gate_sector (h.header.sequence % 3)
+
+-- the header that is committed stays so
+abbrev pub StaysCommitted : Image → Image → Type 0
+StaysCommitted old new = (h : SealedHeader) → Commits old h → Commits new h
+
+-- a crash leaves the committed header that a read gives
+abbrev pub CommitsOne : Disk → Type 0
+CommitsOne disk = (c : Image) → disk.may_leave c → StaysCommitted disk.seen c
+
+-- an image has a committed header, and h is the next one by its sequence number
+abbrev pub Precedes : Image → SealedHeader → Type 0
+Precedes image h = (before : SealedHeader) × Commits image before × (before.header.sequence + 1 ≡ h.header.sequence)
+
+-- the same bytes in each sector but those of h and its gate
+abbrev pub SparesRest : SealedHeader → Image → Image → Type 0
+SparesRest h old new = (i : ℕ) → (i ≡ header_at h → ⊥) → (i ≡ gate_at h → ⊥) → new i ≡ old i
+
+-- what a crash could have left before, but for the slot of h, with the committed header from before
+pub record IsOld (h : SealedHeader) (disk : Disk) (c : Image) : Type 0 where
+  pub could_be : (d : Image) × disk.may_leave d × SparesRest h d c
+  pub committed : StaysCommitted disk.seen c
+
+-- nothing is touched but the slot of h, where h stands, and h is the committed header
+pub record HasNew (h : SealedHeader) (old new : Image) : Type 0 where
+  pub written : new (header_at h) ≡ header_bytes h
+  pub elsewhere : SparesRest h old new
+  pub committed : Commits new h
+
+abbrev pub IsOldOrNew : SealedHeader → Disk → Image → Type 0
+IsOldOrNew h disk c = IsOld h disk c ⊎ HasNew h disk.seen c
+
+-- the gate of h isn't touched yet; or h stands, and with it all that was written before
+abbrev pub IsInOrder : SealedHeader → Disk → Image → Type 0
+IsInOrder h disk c =
+    ((d : Image) × disk.may_leave d × Elsewhere (header_at h) 1 d c)
+    ⊎ ((c (header_at h) ≡ header_bytes h) × SparesRest h disk.seen c)

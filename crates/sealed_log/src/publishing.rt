@@ -1,0 +1,61 @@
+// The commit of a header.
+ghost use Rattle.std.specs.Prelude.{◌≡◌, ◌≤◌, ◌<◌, ◌%◌, OnOk};
+ghost use Rattle.device.specs.Calls.{Counts, Only};
+ghost use Rattle.device.specs.Moments.{LeavesOnly};
+ghost use Rattle.sealed_layout.specs.Gate.{gate_bytes};
+ghost use Rattle.sealed_layout.specs.Header.{header_numbers};
+ghost use Rattle.sealed_layout.specs.Sector.{AreWords};
+ghost use Rattle.sealed_log.specs.Publish.{CommitsOne, HasNew, IsInOrder, IsOldOrNew, Precedes, SparesRest, gate_at};
+
+use crate::opening::{gate_sector, header_sector};
+use crate::sector::put_sector;
+use device::{Device, Failed, SECTOR_SIZE};
+use sealed_layout::{SealedHeader, encode_gate, encode_header};
+
+// Returns the slot that a header belongs in.
+fn slot_of(header: SealedHeader) -> u64
+    ensures value { result ≡ header.header.sequence % 3 }
+    ensures low { result < 3 }
+    ensures fits { AreWords (header_numbers header) }
+{
+    header.header.sequence % 3
+}
+
+/// Commits a header, with two syncs. After `Ok` each crash leaves it committed, and all earlier writes are durable.
+/// Returns `Failed` exactly if the device failed; then a crash leaves the old header committed, or this one.
+///
+/// Its sequence number must be the next after that of the committed header, and each crash before the call must leave
+/// that header. What the header speaks of needs no sync of its own: it is durable before the gate is written.
+///
+/// It writes only the header's own slot: the header, then its gate.
+pub fn publish<D: Device>(device: &mut D, header: SealedHeader) -> Result<(), Failed>
+    requires inside { 56 ≤ (D.disk device.old).sectors }
+    requires one { CommitsOne (D.disk device.old) }
+    requires next { Precedes (D.disk device.old).seen header }
+
+    ensures committed { OnOk result
+        (HasNew header (D.disk device.old).seen (D.disk device.new).seen) }
+    ensures opened { OnOk result
+        ((D.disk device.new).seen (gate_at header) ≡ gate_bytes header.header.sequence) }
+    ensures durable { OnOk result (Only (D.disk device.new).seen (D.disk device.new)) }
+    ensures one { OnOk result (CommitsOne (D.disk device.new)) }
+    ensures size { (D.disk device.new).sectors ≡ (D.disk device.old).sectors }
+    ensures elsewhere { SparesRest header (D.disk device.old).seen (D.disk device.new).seen }
+
+    // A crash at any moment leaves the old header committed, or this one. With this one it leaves all that was written
+    // before the call.
+    ensures any_moment { LeavesOnly (D.disk device.old) (D.disk device.new)
+        (λ c. IsOldOrNew header (D.disk device.old) c) }
+
+    // The gate is written once the header and all earlier writes are durable.
+    ensures in_order { LeavesOnly (D.disk device.old) (D.disk device.new)
+        (λ c. IsInOrder header (D.disk device.old) c) }
+    ensures cause { Counts (D.disk device.old) (D.disk device.new) result }
+{
+    let slot = slot_of(header);
+    let mut sector = [0; SECTOR_SIZE];
+    encode_header(header, &mut sector);
+    put_sector(device, header_sector(slot), &sector)?;
+    encode_gate(header.header.sequence, &mut sector);
+    put_sector(device, gate_sector(slot), &sector)
+}
