@@ -3,6 +3,7 @@ pub mod CallErrors
 pub mod CapabilityTexts
 pub mod CapabilityWords
 mod Commands
+pub mod CommonWords
 mod Digits
 mod FirstWords
 mod LineFaults

@@ -1,4 +1,5 @@
-use Rattle.script.specs.Names.{ℕ, List, [], codes, slice_index_or, Command, command_words, operation_name}
+use Rattle.script.specs.Names.{ℕ, List, [], codes, length, slice_index_or, take, Command, command_words, operation_name}
+use Rattle.std.specs.Prelude.{◌≡◌, ◌+◌, ◌≤◌, ◌++◌}
 use Rattle.script.specs.declared.keyword.Keyword.{Keyword}
 use Rattle.script.specs.declared.keyword.Keyword.TheVariants.{Invoke, Load, Store, Show, Evict, Checkpoint, Stabilize}
 use Rattle.script.specs.declared.keyword.Keyword.TheVariants.{Commit, Migrate, Journal, Restart, Cut}
@@ -21,3 +22,15 @@ keyword_name Cut = codes "cut"
 -- the first word of a command's line
 abbrev pub command_name : Command → List ℕ
 command_name c = slice_index_or (command_words c) 0 []
+
+-- a line begins with a word and a space, and has at least this many more bytes
+pub record BeginsWith (word : List ℕ) (more : ℕ) (line : List ℕ) : Type 0 where
+  pub front : take (length word + 1) line ≡ word ++ codes " "
+  pub room : length word + 1 + more ≤ length line
+
+-- the least bytes of the numbers behind a keyword that most lines begin with
+abbrev pub IsCommon : Keyword → ℕ → Type 0
+IsCommon (Invoke operation) least = least ≡ 19
+IsCommon Load least = least ≡ 3
+IsCommon Store least = least ≡ 5
+IsCommon _ least = ⊥

@@ -1,9 +1,10 @@
 // The first words of commands.
 ghost use Rattle.std.specs.Prelude.{◌≡◌, ◌≢◌, ◌+◌, ◌*◌, ◌<◌, ◌≤◌, ◌∷◌, IfSome, IfNone, IsTrue, codes, length, drop};
-ghost use Rattle.std.specs.Prelude.{slice_index_or};
+ghost use Rattle.std.specs.Prelude.{false, slice_index_or};
 ghost use Rattle.model.specs.Text.{operation_name};
+ghost use Rattle.model.specs.declared.command.Operation.{Operation};
 ghost use Rattle.script.specs.declared.keyword.Keyword.{Keyword};
-ghost use Rattle.script.specs.Keywords.{command_name, keyword_name};
+ghost use Rattle.script.specs.Keywords.{BeginsWith, command_name, keyword_name};
 ghost use Rattle.script.specs.Reading.{words_of};
 
 use model::{Command, Operation};
@@ -141,18 +142,22 @@ pub fn four_at(text: &[u8], at: usize) -> u64
 
 /// Whether a line begins with `load`, and two numbers can follow.
 #[inline(always)]
+#[tactic(auto, using(crate::proofs::CommonWords::load_bytes))]
 pub fn is_load(line: &[u8]) -> bool
     ensures named { IsTrue result → (words_of line.now ≡ codes "load" ∷ words_of (drop 5 line.now)) }
     ensures room { IsTrue result → 7 < length line.now }
+    ensures none { result ≡ false → BeginsWith (codes "load") 3 line.now → ⊥ }
 {
     line.len() >= 8 && four_at(line, 0) == LOAD && line[4] == b' '
 }
 
 /// Whether a line begins with `store`, and three numbers can follow.
 #[inline(always)]
+#[tactic(auto, using(crate::proofs::CommonWords::store_bytes))]
 pub fn is_store(line: &[u8]) -> bool
     ensures named { IsTrue result → (words_of line.now ≡ codes "store" ∷ words_of (drop 6 line.now)) }
     ensures room { IsTrue result → 10 < length line.now }
+    ensures none { result ≡ false → BeginsWith (codes "store") 5 line.now → ⊥ }
 {
     line.len() >= 11 && four_at(line, 0) == STORE && line[4] == b'e' && line[5] == b' '
 }
@@ -166,10 +171,12 @@ pub struct Named {
 
 /// The operation that a line names first, where ten numbers can follow.
 #[inline(always)]
+#[tactic(auto, using(crate::proofs::CommonWords::operation_bytes))]
 pub fn operation_in(line: &[u8]) -> Option<Named>
     ensures reads { IfSome result (λ n. words_of line.now
         ≡ operation_name n.operation ∷ words_of (drop n.next line.now)) }
     ensures room { IfSome result (λ n. n.next + 18 < length line.now) }
+    ensures none { IfNone result ((o : Operation) → BeginsWith (operation_name o) 19 line.now → ⊥) }
 {
     if line.len() < SHORTEST_INVOCATION {
         return None;

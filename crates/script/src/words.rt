@@ -1,8 +1,9 @@
 // The words of a line.
 ghost use Rattle.std.specs.Prelude.{◌≡◌, ◌==◌, [], ◌∷◌, MatchOption, IfSome, IfNone, IsSome, IsTrue, ◌↔◌, ◌<◌};
-ghost use Rattle.std.specs.Prelude.{option_map};
+ghost use Rattle.std.specs.Prelude.{List, option_map, ℕ};
 ghost use Rattle.std.specs.List.{position};
-ghost use Rattle.script.specs.Keywords.{keyword_name};
+ghost use Rattle.script.specs.Keywords.{BeginsWith, IsCommon, keyword_name};
+ghost use Rattle.script.specs.declared.keyword.Keyword.{Keyword};
 ghost use Rattle.script.specs.Reading.{first_end, first_word, words_left, words_of, Gives, number_at, register_at};
 ghost use Rattle.script.specs.Reading.{numbers_at, registers_at};
 
@@ -108,6 +109,8 @@ impl<'a> Words<'a> {
     pub fn common_keyword(&mut self) -> Option<Keyword>
         ensures taken { IfSome result (λ k. self.old ≡ keyword_name k ∷ self.new) }
         ensures kept { IfNone result (self.new ≡ self.old) }
+        ensures none { IfNone result ((line : List ℕ) (k : Keyword) (least : ℕ) → self.old ≡ words_of line
+            → IsCommon k least → BeginsWith (keyword_name k) least line → ⊥) }
     {
         let line = self.rest?;
         if is_load(line) {
