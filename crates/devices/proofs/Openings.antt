@@ -4,7 +4,8 @@ use Rattle.devices.proofs.Names.{length-take-le, take-append-le, concat-append, 
 use Rattle.devices.proofs.Names.{opened, locked, measured, got, resized, listed, resizes, KeepsLength, reads, Gets, LoadsLocked, MakesZeros, IsOpened, IsMade}
 use Rattle.devices.proofs.Names.{GetsFrom, Adds, AreSectors, Elsewhere, min, take-append-add, take_all, take-put_mid_below, TakesLock, Exclusive, FileFault}
 use Rattle.devices.proofs.Names.{Loads, Result, Ok, Err, OnOk, IfOk, IfErr, inl, inr, nat_lt}
-use Rattle.devices.specs.OpeningCalls.{synced}
+use Rattle.devices.specs.OpeningCalls.{FailsToMake, StopsWithin, synced}
+use Rattle.std.specs.Prelude.{OnErr}
 use Rattle.std.proofs.Common.{if◌then◌else◌, ◌⊎◌, ◌≢◌, ◌<◌, ◌/◌, ◌≡◌, ◌+◌, ◌*◌, ◌≤◌, ◌∷◌, ◌++◌, ◌∙◌, ◌%◌}
 use Rattle.devices.specs.declared.fault.FileFault.TheVariants as fault
 use Rattle.devices.proofs.Deeds.{adds_none, adds_more}
@@ -125,6 +126,31 @@ opens path access lock a b copy disk is loads size seen = grind (arith, nat_test
 pub makes : (path : List ℕ) (access : Access) (sectors n : ℕ) (a b : Calls) → IfSome a (λ calls. calls ≡ opened path access ∷ []) → n ≡ 512 * sectors
     → MakesZeros path n a b → IfSome b (λ calls. IsMade path access sectors calls)
 makes path access sectors n a b is size zeros = grind (arith, nat_tests)
+
+-- the calls that follow the lock
+abbrev zero_calls : List ℕ → ℕ → List OpeningCall
+zero_calls path n = resized 0 ∷ resized n ∷ synced ∷ listed path ∷ []
+
+nonempty : (x : OpeningCall) (xs : List OpeningCall) → x ∷ xs ≢ []
+nonempty x xs is = grind (arith, nat_tests)
+
+-- a call that failed, and calls before it
+pub stops_at : (x : OpeningCall) (xs : List OpeningCall) (a b : Calls) → b ≡ a → StopsWithin (x ∷ xs) a b
+stops_at x xs a b same = ([], x ∷ xs, refl, nonempty x xs, subst (λ (c : Calls). Adds a c []) (sym same) (adds_none a))
+
+pub stops_on : (x : OpeningCall) (xs : List OpeningCall) (a b c : Calls) → Adds a b (x ∷ []) → StopsWithin xs b c → StopsWithin (x ∷ xs) a c
+stops_on x xs a b c first stops =
+    (x ∷ stops.0, stops.1, ap (λ (l : List OpeningCall). x ∷ l) stops.2, stops.3, adds_more a b c (x ∷ []) stops.0 first stops.4)
+
+pub last_stops : {T E : Type 0} (r : Result T E) (path : List ℕ) (n : ℕ) (a b c d e : Calls) → Adds a b (resized 0 ∷ []) → Adds b c (resized n ∷ []) →
+    Adds c d (synced ∷ []) → OnErr r (e ≡ d) → OnErr r (StopsWithin (zero_calls path n) a e)
+last_stops (Ok x) path n a b c d e emptied extended kept same = tt
+last_stops (Err x) path n a b c d e emptied extended kept same =
+    stops_on (resized 0) (resized n ∷ synced ∷ listed path ∷ []) a b e emptied
+    (stops_on (resized n) (synced ∷ listed path ∷ []) b c e extended (stops_on synced (listed path ∷ []) c d e kept (stops_at (listed path) [] d e same)))
+
+pub fails_later : (path : List ℕ) (n : ℕ) (a b c : Calls) → TakesLock Exclusive a b → StopsWithin (zero_calls path n) b c → FailsToMake path n a c
+fails_later path n a b c took stops = (took.0, took.1, stops_on (locked Exclusive took.0) (zero_calls path n) a b c took.2 stops)
 
 -- a fault that is passed on
 pub same_fault : {T : Type 0} (r : Result T FileFault) (y e f : FileFault) → r ≡ Err y → y ≡ e → r ≡ Err f → e ≡ f

@@ -9,5 +9,5 @@ pub use Rattle.std.proofs.lemmas.List.{drop_all, length-take-le, take_all}
 pub use Rattle.std.proofs.lemmas.List.Elements.{All-drop, All-take}
 pub use Rattle.std.specs.Coded.{Coded, code_by, coded_list, coded_ℕ, coded×}
 pub use Rattle.std.specs.List.{concat, flat_map, sum_by}
-pub use Rattle.std.specs.Prelude.{All, Bool, IsErr, List, MatchResult, None, Option, Result, Some, [], drop, false, length, map}
+pub use Rattle.std.specs.Prelude.{All, Bool, IfSome, IsErr, List, MatchResult, None, Option, Result, Some, [], drop, false, length, map}
 pub use Rattle.std.specs.Prelude.{option_map, replicate, suc, take, true, unwrap_or, vec_len, zero, ℕ, ⊤}

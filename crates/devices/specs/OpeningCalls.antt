@@ -1,8 +1,13 @@
 -- The calls that open or make a device in a file.
 use Rattle.devices.specs.Names.{ℕ, List, [], length, take, drop, replicate, Option, option_map, ⊤, concat, Disk, Agrees}
-use Rattle.devices.specs.Names.{image_of}
+use Rattle.devices.specs.Names.{image_of, IfSome}
 use Rattle.std.specs.Prelude.{◌≡◌, ◌≢◌, ◌+◌, ◌*◌, ◌/◌, ◌<◌, ◌∷◌, ◌++◌}
+use Rattle.devices.specs.declared.fault.FileFault.{FileFault}
+use Rattle.devices.specs.declared.fault.FileFault.TheVariants as fault
+use Rattle.devices.specs.declared.new_file.Unmade.{Unmade}
+use Rattle.devices.specs.declared.new_file.Unmade.TheVariants as unmade
 use Rattle.devices.specs.declared.openable.Access.{Access}
+use Rattle.devices.specs.declared.openable.Access.TheVariants.{New}
 use Rattle.devices.specs.declared.openable.Lock.{Lock}
 use Rattle.devices.specs.declared.openable.Lock.TheVariants.{Exclusive}
 use Rattle.devices.specs.declared.openable.LockAnswer.{LockAnswer}
@@ -88,6 +93,31 @@ pub record IsMade (path : List ℕ) (access : Access) (sectors : ℕ) (calls : L
   pub made : calls ≡ opened path access ∷ locked Exclusive answer
       ∷ resized 0 ∷ resized (512 * sectors) ∷ synced ∷ listed path ∷ []
   pub free : answer ≢ Held
+
+-- only the first of these calls were made, and not all
+abbrev pub StopsWithin : List OpeningCall → Option (List OpeningCall) → Option (List OpeningCall) → Type 0
+StopsWithin calls old new =
+    (front : List OpeningCall) × (left : List OpeningCall) × (calls ≡ front ++ left) × (left ≢ []) × Adds old new front
+
+-- as `MakesZeros`, but a call failed
+abbrev pub FailsToMake : List ℕ → ℕ → Option (List OpeningCall) → Option (List OpeningCall) → Type 0
+FailsToMake path bytes old new =
+    (answer : LockAnswer) × (answer ≢ Held) ×
+    StopsWithin (locked Exclusive answer ∷ resized 0 ∷ resized bytes ∷ synced ∷ listed path ∷ []) old new
+
+-- A file was made at a path, and is no device of `sectors` sectors: another device is open in it, and it wasn't changed;
+-- or one of the calls that make the device failed.
+abbrev pub IsUnfinished : List ℕ → ℕ → FileFault → List OpeningCall → Type 0
+IsUnfinished path sectors fault.Held calls = calls ≡ opened path New ∷ locked Exclusive Held ∷ []
+IsUnfinished path sectors fault.Io calls =
+    (left : List OpeningCall) × (left ≢ []) × IsMade path New sectors (calls ++ left)
+IsUnfinished path sectors _ calls = ⊥
+
+-- why no device was made in a new file
+abbrev pub IsUnmade : {F : Type 0} → (F → Option (List OpeningCall)) → List ℕ → ℕ → Unmade F → Type 0
+IsUnmade opening path sectors unmade.NoMemory = ⊤
+IsUnmade opening path sectors (unmade.Refused error) = ⊤
+IsUnmade opening path sectors (unmade.Unfinished file why) = IfSome (opening file) (IsUnfinished path sectors why)
 
 -- the bytes of a file after a call
 abbrev pub bytes_after : List ℕ → OpeningCall → List ℕ

@@ -1,8 +1,8 @@
 // Making a device in a file that isn't there.
-ghost use Rattle.std.specs.Prelude.{◌≡◌, ◌<◌, ◌≤◌, ℕ, IfOk, IfSome, replicate};
+ghost use Rattle.std.specs.Prelude.{◌≡◌, ◌<◌, ◌≤◌, ℕ, IfErr, IfOk, IfSome, replicate};
 ghost use Rattle.device.specs.Calls.{Only};
 ghost use Rattle.devices.specs.FileDevice.{file_disk, raw_file};
-ghost use Rattle.devices.specs.OpeningCalls.{IsMade, Mirrors};
+ghost use Rattle.devices.specs.OpeningCalls.{IsMade, IsUnmade, Mirrors};
 
 use crate::fault::FileFault;
 use crate::file_device::CopiedFile;
@@ -43,6 +43,7 @@ impl<F: Openable> CopiedFile<HostFile<F>> {
         ensures zeros { IfOk result (λ d. (i : ℕ) → i < sectors → (file_disk d).seen i ≡ replicate 512 0) }
         ensures durable { IfOk result (λ d. Only (file_disk d).seen (file_disk d)) }
         ensures failures { IfOk result (λ d. (file_disk d).failures ≡ 0) }
+        ensures unmade { IfErr result (IsUnmade F.opening path.now sectors) }
     {
         let zeros = match SectorCopy::zeros(rt.alloc(), sectors as usize) {
             Ok(zeros) => zeros,

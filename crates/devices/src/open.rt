@@ -6,7 +6,7 @@ ghost use Rattle.device.specs.Calls.{Agrees, Only, sectors_of, image_of};
 ghost use Rattle.devices.specs.FileDevice.{file_disk, raw_file};
 ghost use Rattle.devices.specs.OpeningCalls.{listed, locked, measured, resized, synced, Gets, GetsFrom, Loads};
 ghost use Rattle.devices.specs.OpeningCalls.{LoadsLocked, TakesLock, MakesZeros, KeepsLength, IsOpened, IsMade};
-ghost use Rattle.devices.specs.OpeningCalls.{Mirrors, got};
+ghost use Rattle.devices.specs.OpeningCalls.{FailsToMake, Mirrors, StopsWithin, got};
 ghost use Rattle.devices.specs.CallErrors.{HasCause};
 ghost use Rattle.devices.specs.RawCalls.{Adds};
 
@@ -142,6 +142,7 @@ fn take_lock<F: Openable>(file: &mut F, lock: Lock) -> Result<(), FileFault>
     ensures ok { OnOk result (TakesLock lock (F.opening file.old) (F.opening file.new)) }
     ensures held { IsErrOf result FileFault.Held
         → Adds (F.opening file.old) (F.opening file.new) (locked lock LockAnswer.Held ∷ []) }
+    ensures failed { IsErrOf result FileFault.Io → F.opening file.new ≡ F.opening file.old }
     ensures fault { IfErr result (λ fault. (fault ≡ FileFault.Io) ⊎ (fault ≡ FileFault.Held)) }
     ensures length { KeepsLength (F.opening file.old) (F.opening file.new) }
     ensures calls { F.calls file.new ≡ F.calls file.old }
@@ -176,6 +177,8 @@ fn load_locked<F: Openable>(
 fn fill_zeros<F: Openable>(rt: &HostRuntime, file: &mut F, path: &str, bytes: u64) -> io::Result<()>
     ensures ok { OnOk result (Adds (F.opening file.old) (F.opening file.new)
         (resized 0 ∷ resized bytes ∷ synced ∷ listed path.now ∷ [])) }
+    ensures failed { OnErr result (StopsWithin (resized 0 ∷ resized bytes ∷ synced ∷ listed path.now ∷ [])
+        (F.opening file.old) (F.opening file.new)) }
     ensures calls { F.calls file.new ≡ F.calls file.old }
 {
     file.resize(0)?;
@@ -195,6 +198,8 @@ pub(crate) fn make_zeros<F: Openable>(
     ensures made { OnOk result (MakesZeros path.now bytes (F.opening file.old) (F.opening file.new)) }
     ensures held { IsErrOf result FileFault.Held
         → Adds (F.opening file.old) (F.opening file.new) (locked Lock.Exclusive LockAnswer.Held ∷ []) }
+    ensures failed { IsErrOf result FileFault.Io
+        → FailsToMake path.now bytes (F.opening file.old) (F.opening file.new) }
     ensures fault { IfErr result (λ fault. (fault ≡ FileFault.Io) ⊎ (fault ≡ FileFault.Held)) }
     ensures calls { F.calls file.new ≡ F.calls file.old }
 {

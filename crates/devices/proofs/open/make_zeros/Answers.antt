@@ -1,6 +1,6 @@
 use Rattle.devices.proofs.Names.{ap, Err, err_from_is_err_and}
 use Rattle.std.proofs.Common.{◌∙◌}
-use Rattle.devices.proofs.Openings.{fills, not_held, same_fault}
+use Rattle.devices.proofs.Openings.{fails_later, fills, not_held, same_fault}
 use Rattle.devices.proofs.open.make_zeros.Goals as goal
 
 pub returns-in_err-take_lock-clause-held : goal.returns-in_err-take_lock-clause-held
@@ -18,3 +18,9 @@ returns-clause-made g c =
     let calls = g.F.Openable.opening in
     fills c.args.path.now c.args.bytes (calls c.args.file.now) (calls c.take_lock.new.file) (calls c.fill_zeros.new.file) c.in_ok-take_lock.ensures.ok
     c.in_ok-fill_zeros.ensures.ok
+
+pub returns-in_err-fill_zeros-clause-failed : goal.returns-in_err-fill_zeros-clause-failed
+returns-in_err-fill_zeros-clause-failed g c is =
+    let calls = g.F.Openable.opening in
+    fails_later c.args.path.now c.args.bytes (calls c.args.file.now) (calls c.take_lock.new.file) (calls c.fill_zeros.new.file) c.in_ok-take_lock.ensures.ok
+    c.in_err-fill_zeros.ensures.failed
