@@ -47,7 +47,7 @@ enum vezhnake_status {
     VEZHNAKE_NOT_OPEN = 15,         /* the handle is not open */
     VEZHNAKE_SMALL_BUFFER = 16,     /* the buffer is too small: *size is the size that fits */
     VEZHNAKE_CALLS_LOST = 17,       /* the calls are no longer kept: close the handle. Tests never see it */
-    VEZHNAKE_FAILED = 18,           /* memory ran out in opening, or the text could not be read: close the handle */
+    VEZHNAKE_FAILED = 18,           /* memory ran out in opening */
     VEZHNAKE_BAD_COMMAND = 19,      /* a command's kind or register is out of range */
     /* A description is refused. 21 to 26 are `bad description` 1 to 6 of `eros build`. */
     VEZHNAKE_NOT_TOML = 20,         /* the text is no UTF-8, or no TOML */

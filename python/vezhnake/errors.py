@@ -9,7 +9,7 @@ STATUSES = {
     7: "bad image 7: damaged frame", 8: "bad image 8: bad capability", 9: "bad image 9: bad process", 10: "bad image 10: bad bank",
     11: "memory ran out", 12: "the image isn't a whole number of sectors, or is over 64 MiB", 13: "the cache is neither 0 nor 8 to 8192",
     14: "the machine is open already", 15: "the machine is closed", 16: "the buffer is too small", 17: "the calls are no longer kept",
-    18: "memory ran out while the image was opened, or the text could not be read",
+    18: "memory ran out while the image was opened",
     19: "a number or a register is out of range", 20: "bad description: the text is no UTF-8, or no TOML",
     21: "bad description 1: not a description's table", 22: "bad description 2: no image has these limits",
     23: "bad description 3: a bad number", 24: "bad description 4: a bad field", 25: "bad description 5: a bad target",

@@ -3,7 +3,7 @@ use Rattle.runs.specs.Names.{ℕ, Bool, true, false, List, [], length, take, Opt
 use Rattle.runs.specs.Names.{WroteFront, Consumes, IsAtEnd, Geometry, Line, Machine, Reply, Turn, Replies, lines_of}
 use Rattle.runs.specs.Names.{reply_text, output_of, Says, Disk, LeavesOnly, Parts, View, Power, Stands, disk_of}
 use Rattle.runs.specs.Names.{RunFault, LineBuffer, Holds}
-use Rattle.std.specs.Prelude.{◌≡◌, ◌≤◌}
+use Rattle.std.specs.Prelude.{◌≡◌, ◌<◌, ◌≤◌}
 use Rattle.script.specs.declared.fault.RunFault.TheVariants as fault
 use Rattle.runs.specs.declared.script_pieces.Piece.{Piece}
 use Rattle.runs.specs.declared.script_pieces.Piece.TheVariants as piece
@@ -15,6 +15,13 @@ ReadsPiece old new bytes (Ok (piece.Bytes n)) = (n ≤ length bytes) × Consumes
 ReadsPiece old new bytes (Ok piece.End) = Consumes old new [] × IsAtEnd new
 ReadsPiece old new bytes (Ok piece.Nothing) = Consumes old new []
 ReadsPiece old new bytes (Err e) = (e ≡ fault.Read) × Consumes old new []
+
+-- after a read before the end fewer can follow
+abbrev pub LeavesFewer : Result Piece RunFault → ℕ → ℕ → Type 0
+LeavesFewer (Ok (piece.Bytes n)) old new = new < old
+LeavesFewer (Ok piece.Nothing) old new = new < old
+LeavesFewer (Ok piece.End) old new = Unit {0}
+LeavesFewer (Err e) old new = Unit {0}
 
 -- the answer was written, and the observer let the run go on or not; or the writer failed
 abbrev pub IsWritten : Written → Written → Result Bool RunFault → Bool → List ℕ → Type 0

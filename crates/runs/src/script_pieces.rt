@@ -1,7 +1,7 @@
 // What a run reads.
-ghost use Rattle.std.specs.Prelude.{◌≡◌, ◌<◌, ℕ, List, [], Option, length, IsErr, OnOk};
+ghost use Rattle.std.specs.Prelude.{◌≡◌, ◌<◌, ℕ, List, [], Option, length, IsErr};
 ghost use Rattle.runs.specs.KernelRuns.{IsCounted};
-ghost use Rattle.runs.specs.Taking.{ReadsPiece};
+ghost use Rattle.runs.specs.Taking.{LeavesFewer, ReadsPiece};
 
 use script::{Output, RunFault};
 
@@ -24,7 +24,7 @@ pub trait Script {
     // How many reads failed.
     ghost failures: { Self → ℕ };
 
-    // How many more reads can succeed.
+    // How many more reads can succeed before the end.
     ghost reads_left: { Self → ℕ };
 
     /// Reads a piece. No answer waits in `output`: whoever writes the script has got them all.
@@ -35,5 +35,5 @@ pub trait Script {
         ensures bytes { ReadsPiece (unread self.old) (unread self.new) piece.new result }
         ensures size { length piece.new ≡ length piece.old }
         ensures cause { IsCounted (IsErr result) (failures self.old) (failures self.new) }
-        ensures fewer { OnOk result (reads_left self.new < reads_left self.old) };
+        ensures fewer { LeavesFewer result (reads_left self.old) (reads_left self.new) };
 }

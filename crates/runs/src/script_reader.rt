@@ -3,7 +3,7 @@ ghost use Rattle.std.specs.Prelude.{◌≡◌, ◌<◌, ◌+◌, ◌-◌, ◌^�
 ghost use Rattle.script.specs.CallErrors.{HasCause};
 ghost use Rattle.runs.specs.KernelRuns.{IsCounted};
 ghost use Rattle.runs.specs.Reader.{failed_reads, left_to_read, read_from};
-ghost use Rattle.runs.specs.Taking.{ReadsPiece};
+ghost use Rattle.runs.specs.Taking.{LeavesFewer, ReadsPiece};
 
 use crate::raw_reader::RawReader;
 use crate::script_pieces::{Piece, Script};
@@ -60,6 +60,7 @@ impl<R: RawReader> Script for ScriptReader<R> {
         ensures size { length piece.new ≡ length piece.old }
         ensures cause { IsCounted (IsErr result) (failed_reads self.old) (failed_reads self.new) }
         ensures fewer { OnOk result (left_to_read self.new < left_to_read self.old) }
+        ensures before_end { LeavesFewer result (left_to_read self.old) (left_to_read self.new) }
         ensures left { left_to_read self.new ≡ left_to_read self.old - 1 }
         ensures errors { 0 < left_to_read self.old
             → HasCause (R.errors self.old.inner) (R.errors self.new.inner) result }

@@ -3,10 +3,11 @@ use Rattle.vezhnake.proofs.Names.{ℕ, List, length, take, drop, sym, ap, subst,
 use Rattle.vezhnake.proofs.Names.{flat_map-append, Image, image_of, Event, MayLeave, at_first, replay, Parts, View, Power, IsDeviceOf, Stands, disk_of}
 use Rattle.vezhnake.proofs.Names.{Geometry, Machine, Turn, IsConfined, IsRunOf, RunsOver, CrashesInRunsAreSurvived, RunFault, HostCall, StorageLeaves}
 use Rattle.vezhnake.proofs.Names.{events_by, events_of, HostDevice, RunsSurvive, RunsText, Survives, Written, calls_beneath, host_disk, in_memory}
-use Rattle.vezhnake.proofs.Names.{start_beneath, Result, Bool, true, [], nat_tests, IsErrOf, nat_lt, IsCounted}
-use Rattle.std.specs.Prelude.{Option, ◌<◌, Some}
-use Rattle.std.proofs.Common.{◌≡◌, ◌≤◌, ◌++◌, ◌∙◌}
+use Rattle.vezhnake.proofs.Names.{start_beneath, Result, IsCounted, IsErrOf}
+use Rattle.std.specs.Prelude.{◌≢◌, ◌<◌, Err, IfErr, Ok, Option, Some}
+use Rattle.std.proofs.Common.{refl}
 use Rattle.script.specs.declared.fault.RunFault.TheVariants as fault
+use Rattle.std.proofs.Common.{◌≡◌, ◌≤◌, ◌++◌, ◌∙◌}
 use Rattle.kernel.specs.Power as power
 
 -- the events of the first k calls are the first events
@@ -19,15 +20,6 @@ first_events : (k : ℕ) (calls : List HostCall) (lost : List Event)
     → take (length (events_of (take k calls))) (events_of calls ++ lost) ≡ events_of (take k calls)
 first_events k calls lost =
     ap (take (length (events_of (take k calls)))) (front_of k calls lost) ∙ take-append_seam (events_of (take k calls)) (events_of (drop k calls) ++ lost)
-
--- a read fails only behind the end of a text
-pub read_to_end : (before after : ℕ) (rest : List ℕ) (ended : Bool) (result : Result (Unit {0}) RunFault) → before ≡ 0
-    → IsCounted (IsErrOf result fault.Read) before after → (nat_lt 0 after ≡ true → ended ≡ true) → (ended ≡ true → rest ≡ [])
-    → IsErrOf result fault.Read → Some rest ≡ Some []
-read_to_end before after rest ended result none counted behind ends err =
-    let rises : before < after = counted.cause.0 err in
-    let some : nat_lt 0 after ≡ true = grind (arith, nat_tests) in
-    ap (λ (bytes : List ℕ). Some bytes) (ends (behind some))
 
 -- what storage may leave after the first k calls, the device might have left since an earlier moment
 at_calls : (d : HostDevice) (t k : ℕ) (c : Image) → t ≤ length (events_of (take k d.file.history.calls))
@@ -65,15 +57,13 @@ module _ {S : Type 0} (view : S → View HostDevice) (parts : S → Parts) where
   pub runs_text : CrashesInRunsAreSurvived host_disk view parts → (old new : Power HostDevice S) (text before after : List ℕ) (failures : ℕ)
       (start : Written) → start ≡ in_memory before 0 → (input unread : Option (List ℕ)) → input ≡ Some text → (result : Result (Unit {0}) RunFault) →
       RunsOver host_disk view parts old new input unread start (in_memory after failures) result
-      → IsConfined host_disk view parts old new input unread → (IsErrOf result fault.Read → unread ≡ Some [])
-      → RunsText view parts old new text before after result
-  runs_text all old new text before after failures start begins input unread is result over confined read = record {
+      → IsConfined host_disk view parts old new input unread → RunsText view parts old new text before after result
+  runs_text all old new text before after failures start begins input unread is result over confined = record {
     unread = unread;
     failures = failures;
     run = subst (λ (i : Option (List ℕ)). RunsOver host_disk view parts old new i unread (in_memory before 0) (in_memory after failures) result) is
         (subst (λ (w : Written). RunsOver host_disk view parts old new input unread w (in_memory after failures) result) begins over);
     confined = subst (λ (i : Option (List ℕ)). IsConfined host_disk view parts old new i unread) is confined;
-    read = read;
     survives = runs_survive all old new;
   }
 
@@ -88,3 +78,11 @@ pub start_is : {S : Type 0} (view : S → View HostDevice) (parts : S → Parts)
 start_is view parts (power.Up l) d is = ap (λ (e : HostDevice). e.file.pending.start) is
 start_is view parts (power.Down e) d is = ap (λ (f : HostDevice). f.file.pending.start) is
 start_is view parts power.Between d is = absurd is
+
+-- a run in which no read fails, and whose observer doesn't end it, fails only to write
+pub only_to_write : (r : Result (Unit {0}) RunFault) (n : ℕ) → IfErr r (λ e. e ≢ fault.Stopped) → IsCounted (IsErrOf r fault.Read) n n
+    → IfErr r (λ e. e ≡ fault.Write)
+only_to_write (Ok a) n goes_on counted = tt
+only_to_write (Err fault.Read) n goes_on counted = let rises : n < n = counted.cause.0 refl in absurd (omega (arith, rises))
+only_to_write (Err fault.Write) n goes_on counted = refl
+only_to_write (Err fault.Stopped) n goes_on counted = absurd (goes_on refl)

@@ -1,5 +1,5 @@
 -- A kernel over the host's storage: how it begins, what a text does, and what a crash of the storage leaves.
-use Rattle.std.specs.Prelude.{◌≡◌, ℕ, ◌*◌, ◌≤◌, List, [], length, take, Option, Some, Result, IsErrOf}
+use Rattle.std.specs.Prelude.{◌≡◌, ℕ, ◌*◌, ◌≤◌, List, [], length, take, Option, Some, Result}
 use Rattle.device.specs.Disk.{Disk, Image}
 use Rattle.device.specs.Calls.{Agrees, image_of}
 use Rattle.capability.specs.Parts.{Parts}
@@ -14,7 +14,6 @@ use Rattle.model.specs.declared.geometry.Geometry.{Geometry}
 use Rattle.model.specs.Machine.{Machine, Saved}
 use Rattle.model.specs.Run.{Turn}
 use Rattle.script.specs.declared.fault.RunFault.{RunFault}
-use Rattle.script.specs.declared.fault.RunFault.TheVariants as fault
 use Rattle.script.specs.Writing.{Written}
 use Rattle.runs.specs.KernelRuns.{IsConfined, IsRunOf, RunsOver}
 use Rattle.runs.specs.Laws.{MaySave}
@@ -70,8 +69,7 @@ module _ {S : Type 0} (view : S → View HostDevice) (parts : S → Parts) where
   RunsSurvive old new = (g : Geometry) (m : Machine) (turns : List Turn) → Stands host_disk view parts g old m →
       IsRunOf host_disk view parts g m old new turns → Survives g m old new turns
 
-  -- A text was run as a script: the answers are those of a run, the authority bound holds, and the storage survives. No
-  -- read fails before the end of the text, so each whole line was run then.
+  -- a text was run as a script: the answers are those of a run, the authority bound holds, and the storage survives
   pub record RunsText (old new : Power HostDevice S) (text before after : List ℕ)
       (result : Result (Unit {0}) RunFault) : Type 0 where
     pub unread : Option (List ℕ)
@@ -79,5 +77,4 @@ module _ {S : Type 0} (view : S → View HostDevice) (parts : S → Parts) where
     pub run : RunsOver host_disk view parts old new (Some text) unread (in_memory before 0) (in_memory after failures)
         result
     pub confined : IsConfined host_disk view parts old new (Some text) unread
-    pub read : IsErrOf result fault.Read → unread ≡ Some []
     pub survives : RunsSurvive old new

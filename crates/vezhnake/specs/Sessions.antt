@@ -85,8 +85,8 @@ CopiesOut bytes old new size true =
     (size ≡ length bytes) × (length bytes ≤ length old) × (new ≡ bytes ++ drop (length bytes) old)
 CopiesOut bytes old new size false = (size ≡ length bytes) × (length old < length bytes) × (new ≡ old)
 
--- The lines of a text were served, and their answers are kept and copied out. Without memory for the answers, or after
--- a failed read, the lines up to there were.
+-- The lines of a text were served, and their answers are kept and copied out. Without memory for the answers, the lines
+-- up to there were.
 abbrev pub StepsSession : Session → Session → List ℕ → List ℕ → List ℕ → ℕ → Status → Type 0
 StepsSession old new text buffer copied size status.Done =
     RunsKernel old.kernel new.kernel text [] new.answer.items (Ok tt) × (new.taken ≡ old.taken)
@@ -96,9 +96,6 @@ StepsSession old new text buffer copied size status.SmallBuffer =
     × CopiesOut new.answer.items buffer copied size false
 StepsSession old new text buffer copied size status.NoMemory =
     RunsKernel old.kernel new.kernel text [] new.answer.items (Err run.Write) × (new.taken ≡ old.taken)
-    × (copied ≡ buffer)
-StepsSession old new text buffer copied size status.Failed =
-    RunsKernel old.kernel new.kernel text [] new.answer.items (Err run.Read) × (new.taken ≡ old.taken)
     × (copied ≡ buffer)
 StepsSession old new text buffer copied size _ = ⊥
 

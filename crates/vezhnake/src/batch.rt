@@ -67,7 +67,7 @@ pub fn run_batch(
     match Session::open(alloc, image, cache) {
         Ok(mut session) => {
             let status = run_script(&mut session, script, answers, calls, batch);
-            session.end();
+            drop(session);
             status
         }
         Err(status) => status,

@@ -89,7 +89,7 @@ fn run_lines<S: ObjectStore<HostDevice>>(
     answers: &mut Vec<u8>,
 ) -> Result<(), RunFault>
     ensures runs { RunsText S.view S.parts kernel.old kernel.new text.now answers.old.items answers.new.items result }
-    ensures goes_on { IfErr result (λ e. e ≢ RunFault.Stopped) }
+    ensures fault { IfErr result (λ e. e ≡ RunFault.Write) }
 {
     crashes_in_runs_are_survived::<HostDevice, S>();
     let mut reader = TextScript::new(text);
@@ -136,8 +136,7 @@ impl HostKernel {
 
     /// Runs a text as a script, as `runs::run` does, and appends the answers.
     ///
-    /// `RunFault::Write` if memory for the answers runs out. `RunFault::Read` only
-    /// for a read after the end of the text.
+    /// `RunFault::Write` if memory for the answers runs out.
     pub fn run_text(
         &mut self,
         alloc: Global,
@@ -145,7 +144,7 @@ impl HostKernel {
         answers: &mut Vec<u8>,
     ) -> Result<(), RunFault>
         ensures runs { RunsKernel self.old self.new text.now answers.old.items answers.new.items result }
-        ensures goes_on { IfErr result (λ e. e ≢ RunFault.Stopped) }
+        ensures fault { IfErr result (λ e. e ≡ RunFault.Write) }
     {
         match self {
             HostKernel::Plain(kernel) => run_lines(alloc, kernel, text, answers),

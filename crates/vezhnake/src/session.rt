@@ -71,15 +71,10 @@ impl Session {
         boxed(self.alloc, self)
     }
 
-    /// Drops the session, with the image and the calls that it keeps. Returns nothing.
-    pub fn end(self) {
-        drop(self);
-    }
-
     /// Runs a text as a script, keeps the answers and copies them to the buffer.
     ///
     /// `SmallBuffer` if they don't fit; `NoMemory` if memory for the answers runs out: the lines up
-    /// to there were served. `Failed` only for a read after the end of the text.
+    /// to there were served.
     pub fn step(&mut self, text: &[u8], buffer: &mut [u8], size: &mut usize) -> Status
         ensures { StepsSession self.old self.new text.now buffer.old buffer.new size.new result }
     {
@@ -93,8 +88,7 @@ impl Session {
                 }
             }
             Err(RunFault::Write) => Status::NoMemory,
-            Err(RunFault::Read) => Status::Failed,
-            Err(RunFault::Stopped) => unreachable!(),
+            Err(RunFault::Read | RunFault::Stopped) => unreachable!(),
         }
     }
 

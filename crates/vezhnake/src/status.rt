@@ -25,8 +25,7 @@ pub enum Status {
     SmallBuffer,
     /// The calls that the host needs next are no longer kept.
     CallsLost,
-    /// Memory ran out for the record of the sync with which opening begins, or the text could not be
-    /// read.
+    /// Memory ran out for the record of the sync with which opening begins.
     Failed,
     /// The numbers are no command: the kind or a register is out of range.
     BadCommand,

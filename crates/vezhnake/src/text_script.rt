@@ -1,52 +1,36 @@
 // A text in memory, as a script.
-ghost use Rattle.std.specs.Prelude.{◌≡◌, ◌+◌, [], true, nat_lt, length, Some, if◌then◌else◌};
+ghost use Rattle.std.specs.Prelude.{◌≡◌, [], length, Some};
 
-use collections::Tally;
 use runs::{Piece, Script};
 use script::{Output, RunFault};
 
-/// A text in memory, as a script. A read fails only behind its end.
+/// A text in memory, as a script. No read fails.
 #[derive(Drop)]
 pub struct TextScript<'a> {
     rest: &'a [u8],
-    // The end was read.
-    has_ended: bool,
-    failures: Tally,
-    ghost ended: { has_ended ≡ true → rest.now ≡ [] },
-    ghost behind: { nat_lt 0 failures.number ≡ true → has_ended ≡ true },
 }
 
 impl TextScript<'_> {
     /// Reads this text.
     pub fn new(text: &[u8]) -> TextScript<'_>
-        ensures rest { result.rest.now ≡ text.now }
-        ensures failures { result.failures.number ≡ 0 }
+        ensures { result.rest.now ≡ text.now }
     {
-        TextScript {
-            rest: text,
-            has_ended: false,
-            failures: Tally::new(),
-        }
+        TextScript { rest: text }
     }
 }
 
 impl Script for TextScript<'_> {
-    ghost use Rattle.std.specs.Prelude.{◌+◌, Some, length, if◌then◌else◌};
+    ghost use Rattle.std.specs.Prelude.{Some, length};
 
     ghost unread = { λ s. Some s.rest.now };
 
-    ghost failures = { λ s. s.failures.number };
+    ghost failures = { λ s. 0 };
 
-    ghost reads_left = { λ s. if s.has_ended then 0 else length s.rest.now + 1 };
+    ghost reads_left = { λ s. length s.rest.now };
 
     fn read_piece<W: Output>(&mut self, _output: &W, piece: &mut [u8]) -> Result<Piece, RunFault> {
-        if self.has_ended {
-            self.failures = self.failures.next();
-            return Err(RunFault::Read);
-        }
         let count = self.rest.len().min(piece.len());
         if count == 0 {
-            self.has_ended = true;
             return Ok(Piece::End);
         }
         piece[..count].copy_from_slice(&self.rest[..count]);

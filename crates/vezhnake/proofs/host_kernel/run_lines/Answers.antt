@@ -1,6 +1,6 @@
 use Rattle.vezhnake.proofs.Names.{ℕ, List, Some, Vec, Global, ap, subst, sym, RunsText, in_memory}
 use Rattle.std.proofs.Common.{◌∙◌}
-use Rattle.vezhnake.proofs.Surviving.{read_to_end, runs_text}
+use Rattle.vezhnake.proofs.Surviving.{only_to_write, runs_text}
 use Rattle.vezhnake.proofs.host_kernel.run_lines.Goals as goal
 
 pub returns-clause-runs : goal.returns-clause-runs
@@ -13,8 +13,8 @@ returns-clause-runs g c =
     (runs_text g.S.ObjectStore.view g.S.Frames.parts c.crashes_in_runs_are_survived.ensures c.args.kernel.now c.run-outcome.new.kernel c.args.text.now
     c.args.answers.now.items c.run-outcome.new.writer.inner.items c.run-outcome.new.writer.failures.number
     (in_memory writer.inner.items writer.failures.number) begins
-    (Some c.new-reader.result.rest.now) (Some c.run-outcome.new.reader.rest.now) (ap (λ (bytes : List ℕ). Some bytes) c.new-reader.ensures.rest)
-    c.run-outcome.result c.run-outcome.ensures.runs c.run-outcome.ensures.confined
-    (read_to_end c.new-reader.result.failures.number c.run-outcome.new.reader.failures.number c.run-outcome.new.reader.rest.now
-    c.run-outcome.new.reader.has_ended c.run-outcome.result c.new-reader.ensures.failures c.run-outcome.ensures.read_failed
-    c.run-outcome.new.reader.behind c.run-outcome.new.reader.ended))
+    (Some c.new-reader.result.rest.now) (Some c.run-outcome.new.reader.rest.now) (ap (λ (bytes : List ℕ). Some bytes) c.new-reader.ensures)
+    c.run-outcome.result c.run-outcome.ensures.runs c.run-outcome.ensures.confined)
+
+pub returns-clause-fault : goal.returns-clause-fault
+returns-clause-fault g c = only_to_write c.run-outcome.result 0 c.run-outcome.ensures.goes_on c.run-outcome.ensures.read_failed
