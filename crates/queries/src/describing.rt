@@ -3,7 +3,7 @@ ghost use Rattle.std.specs.Prelude.{◌≡◌, Result};
 ghost use Rattle.home_ranges.specs.Laid.{MayBeLaid};
 ghost use Rattle.description.specs.Described.{HasFields};
 ghost use Rattle.image_describer.specs.Spelled.{CanBeSpelled};
-ghost use Rattle.jobs.specs.Faults.{IsReported, status_of};
+ghost use Rattle.jobs.specs.Faults.{IsEnd, IsReported};
 ghost use Rattle.queries.specs.Growing.{GrowsDescription, TellsDescription, TellsGrown};
 ghost use Rattle.queries.specs.Images.{DescribesImage};
 
@@ -81,7 +81,7 @@ pub fn describe_image<D: Device, S: WholeStore<D>, W: Output, V: Output>(
     writer: &mut W,
     errors: &mut V,
 ) -> Done<D>
-    ensures { (outcome : Result (Unit {0}) Fault) × (result.status ≡ status_of outcome)
+    ensures { (outcome : Result (Unit {0}) Fault) × IsEnd outcome result.status result.fault
         × IsReported outcome (V.written errors.old) (V.written errors.new)
         × DescribesImage D.disk sizes device result.device (W.written writer.old) (W.written writer.new) outcome }
 {

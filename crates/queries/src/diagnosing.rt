@@ -2,7 +2,7 @@
 ghost use Rattle.std.specs.Prelude.{◌≡◌, ◌≤◌, Option, Result, length};
 ghost use Rattle.image_explainer.specs.declared.fault.ImageFault.{ImageFault};
 ghost use Rattle.queries.specs.Diagnosed.{ExplainsImage, explained_status, explanation_text, without_fault};
-ghost use Rattle.jobs.specs.Faults.{IsReported};
+ghost use Rattle.jobs.specs.Faults.{IsReported, fault_in};
 
 use device::Device;
 use image_explainer::{ImageFault, explain};
@@ -56,6 +56,7 @@ pub fn explain_image<D: Device, S: WholeStore<D>, W: Output, V: Output>(
     errors: &mut V,
 ) -> Done<D>
     ensures { (outcome : Result (Option ImageFault) Fault) × (result.status ≡ explained_status outcome)
+        × (result.fault ≡ fault_in (without_fault outcome))
         × IsReported (without_fault outcome) (V.written errors.old) (V.written errors.new)
         × ExplainsImage D.disk device result.device (W.written writer.old) (W.written writer.new) outcome }
 {

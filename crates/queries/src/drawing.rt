@@ -4,7 +4,7 @@ ghost use Rattle.model.specs.Sound.{object_count};
 ghost use Rattle.description.specs.Described.{HasNumbers};
 ghost use Rattle.reach.specs.Reached.{AreSoundObjects};
 ghost use Rattle.queries.specs.Drawing.{DrawsImage, DrawsPart, KeepsHolders, KeepsPart, KeepsReached};
-ghost use Rattle.jobs.specs.Faults.{IsReported, status_of};
+ghost use Rattle.jobs.specs.Faults.{IsEnd, IsReported};
 
 use crate::saved::read_saved;
 use collections::NumberSet;
@@ -132,7 +132,7 @@ pub fn draw_image<D: Device, S: WholeStore<D>, W: Output, V: Output>(
     writer: &mut W,
     errors: &mut V,
 ) -> Done<D>
-    ensures { (outcome : Result (Unit {0}) Fault) × (result.status ≡ status_of outcome)
+    ensures { (outcome : Result (Unit {0}) Fault) × IsEnd outcome result.status result.fault
         × IsReported outcome (V.written errors.old) (V.written errors.new)
         × DrawsImage D.disk focus device result.device (W.written writer.old) (W.written writer.new) outcome }
 {

@@ -1,6 +1,6 @@
 // The command that reports the sizes of an image, and how much it holds.
 ghost use Rattle.std.specs.Prelude.{◌≡◌, Result};
-ghost use Rattle.jobs.specs.Faults.{IsReported, status_of};
+ghost use Rattle.jobs.specs.Faults.{IsEnd, IsReported};
 ghost use Rattle.queries.specs.Info.{InspectsImage};
 
 use crate::info::{InfoLine, print_lines};
@@ -28,7 +28,7 @@ pub fn info_image<D: Device, S: WholeStore<D>, W: Output, V: Output>(
     writer: &mut W,
     errors: &mut V,
 ) -> Done<D>
-    ensures { (outcome : Result (Unit {0}) Fault) × (result.status ≡ status_of outcome)
+    ensures { (outcome : Result (Unit {0}) Fault) × IsEnd outcome result.status result.fault
         × IsReported outcome (V.written errors.old) (V.written errors.new)
         × InspectsImage format D.disk device result.device (W.written writer.old) (W.written writer.new) outcome }
 {

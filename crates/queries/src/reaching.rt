@@ -3,7 +3,7 @@ ghost use Rattle.std.specs.Prelude.{◌≡◌, ℕ, [], false, true, IfSome, IsN
 ghost use Rattle.model.specs.Object.{is_free};
 ghost use Rattle.model.specs.World.{content_at};
 ghost use Rattle.reach.specs.Reached.{AreSoundObjects};
-ghost use Rattle.jobs.specs.Faults.{IsReported, status_of};
+ghost use Rattle.jobs.specs.Faults.{IsEnd, IsReported};
 ghost use Rattle.queries.specs.Reaching.{AreProcesses, IsFirstMissing, ReachesImage, TellsOf, TellsReach, object_of};
 ghost use Rattle.queries.specs.declared.reaching.ReachQuestion.TheVariants.{Chain, Changers, Set};
 
@@ -269,7 +269,7 @@ pub fn reach_image<D: Device, S: WholeStore<D>, W: Output, V: Output>(
     writer: &mut W,
     errors: &mut V,
 ) -> Done<D>
-    ensures { (outcome : Result (Unit {0}) Fault) × (result.status ≡ status_of outcome)
+    ensures { (outcome : Result (Unit {0}) Fault) × IsEnd outcome result.status result.fault
         × IsReported outcome (V.written errors.old) (V.written errors.new)
         × ReachesImage format D.disk named.now trusted.now question device result.device
         (W.written writer.old) (W.written writer.new) outcome }

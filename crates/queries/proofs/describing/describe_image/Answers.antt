@@ -13,7 +13,7 @@ returns-in-Ok g c =
     let r = c.report.ensures in
     let read = c.in-Ok.ensures.read in (
       c.tell_grown-outcome.result,
-      r.status,
+      (r.status, r.fault),
       r.reported,
       rw r.device (describes_image read.1 _ read.2 c.args.sizes (g.W.Output.written c.args.writer.now)
           (g.W.Output.written c.tell_grown-outcome.new.writer) c.tell_grown-outcome.result c.tell_grown-outcome.ensures),
@@ -22,4 +22,4 @@ returns-in-Ok g c =
 pub returns-in-Err : goal.returns-in-Err
 returns-in-Err g c =
     let r = c.unopened.ensures in
-    (Err (fault.Open c.in-Err.refused.fault), r.status, r.reported, rw r.device (c.in-Err.ensures.refused, refl {a = g.W.Output.written c.args.writer.now}))
+    (Err (fault.Open c.in-Err.refused.fault), (r.status, r.fault), r.reported, rw r.device (c.in-Err.ensures.refused, refl {a = g.W.Output.written c.args.writer.now}))

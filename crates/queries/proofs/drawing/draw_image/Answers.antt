@@ -14,7 +14,7 @@ returns-in-Ok g c =
     let r = c.report.ensures in
     let read = c.in-Ok.ensures.read in (
       c.draw_part-outcome.result,
-      r.status,
+      (r.status, r.fault),
       r.reported,
       rw r.device (draws_image read.1 _ _ read.2 c.args.focus (g.W.Output.written c.args.writer.now)
           (g.W.Output.written c.draw_part-outcome.new.writer) c.draw_part-outcome.result c.draw_part-outcome.ensures),
@@ -23,4 +23,4 @@ returns-in-Ok g c =
 pub returns-in-Err : goal.returns-in-Err
 returns-in-Err g c =
     let r = c.unopened.ensures in
-    (Err (fault.Open c.in-Err.refused.fault), r.status, r.reported, rw r.device (c.in-Err.ensures.refused, refl {a = g.W.Output.written c.args.writer.now}))
+    (Err (fault.Open c.in-Err.refused.fault), (r.status, r.fault), r.reported, rw r.device (c.in-Err.ensures.refused, refl {a = g.W.Output.written c.args.writer.now}))
