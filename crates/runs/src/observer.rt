@@ -8,8 +8,7 @@ ghost use Rattle.script.specs.Lines.{IsTextOf};
 
 use model::{Answer, Command, Line, ResultCode};
 
-/// Watches a run. It is shown each turn before the answer is written, and says whether the run
-/// goes on after it.
+/// Watches a run. It is shown each turn, and says whether the run goes on after it.
 pub trait Observer {
     // What it makes of a turn over a machine of a geometry, and whether the run goes on.
     ghost sees: { Geometry → Turn → Self → Self → Bool → Type 0 };

@@ -202,10 +202,11 @@ fn run_turns<D: Device, S: ObjectStore<D>, R: Script, W: Output, O: Observer>(
     }
 }
 
-/// Runs a script over a kernel: reads it in pieces of 4096 bytes, which may end anywhere, serves
-/// the lines that end in a piece before it reads the next, and writes the answer to each line that
-/// isn't skipped before it takes the next line. A line that isn't of the grammar is answered `bad
-/// line`. What was written is passed on before each read, and at the end of the input.
+/// Runs a script over a kernel: reads it in pieces of 4096 bytes, which may end anywhere, and writes
+/// the answer to each line that isn't skipped before it takes the next line. A line that isn't of the
+/// grammar is answered `bad line`. What was written is passed on before each read, and at the end of
+/// the input. The lines that end in a piece are served before the next is read: that is tested, not
+/// proved.
 ///
 /// What is written is the printed answers of a run of the machine on the commands that the lines
 /// name, from whichever machine the kernel stands for; power cuts and failures of the device are
