@@ -1,3 +1,4 @@
+pub mod Listed
 pub mod Sessions
 pub mod SessionRuns
 pub mod ShellLines

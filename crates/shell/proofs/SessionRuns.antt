@@ -1,5 +1,5 @@
 -- A session is a run of the machine.
-use Rattle.std.proofs.Common.{◌≡◌, ◌∷◌, ◌++◌, ℕ, Bool, List, [], Option, Result, Ok, Err, refl, sym, ap, subst, ⊎_elim, false, true}
+use Rattle.std.proofs.Common.{◌≡◌, ◌∷◌, ◌++◌, ℕ, Bool, List, [], Option, Result, Ok, Err, length, refl, suc, sym, ap, subst, ⊎_elim, false, true}
 use Rattle.capability.specs.Parts.{Parts}
 use Rattle.checkpoint.specs.Store.{View}
 use Rattle.device.specs.Disk.{Disk}
@@ -18,6 +18,7 @@ use Rattle.runs.specs.Saving.{CarriesOut, CarriesOutAll, Moves, all_objects, com
 use Rattle.script.specs.Writing.{Written, Wrote}
 use Rattle.script.specs.declared.fault.RunFault.{RunFault}
 use Rattle.shell.specs.Laws.{SessionsAreRuns}
+use Rattle.shell.specs.Listing.{AreListed, EndsList, Lists}
 use Rattle.shell.specs.Sessions.{AreServed, Finishes, HasServed, Serves, ServesFrom, Session, StepsBy}
 use Rattle.shell.specs.declared.help.Topic.{Topic}
 use Rattle.shell.specs.declared.request.Request.{Request}
@@ -56,10 +57,32 @@ module _ {D S : Type 0} (disk : D → Disk) (view : S → View D) (parts : S →
     moves (Ok a) old new r is = stage old new (command.Migrate all_objects) is.0 is.1
     moves (Err why) old new r is = stays old new is.0
 
+    listed : (n : ℕ) (more : List Answer) (old new : Power D S) (output output_left : Written) →
+        AreListed disk view parts n more old new output output_left → Runs old new
+    listed n [] old new output output_left is = stays old new is.0
+    listed n (a ∷ more) old new output output_left (next, between, carries, wrote, is) =
+        joins old next new (stage old next (command.Show n) (Ok a) carries) (listed (suc n) more next new between output_left is)
+
+    ends_list : (n : ℕ) (old new : Power D S) (output output_left : Written) (r : Result (Unit {0}) RunFault) →
+        EndsList disk view parts n old new output output_left r → Runs old new
+    ends_list n old new output output_left r is = ⊎_elim
+        (λ last. stays old new last.1)
+        (λ not. ⊎_elim
+        (λ refused. stage old new (command.Show n) (Err refused.0) refused.1)
+        (λ failed. stage old new (command.Show n) (Ok failed.0) failed.2)
+        not)
+        is
+
+    lists : (old new : Power D S) (output output_left : Written) (r : Result (Unit {0}) RunFault) →
+        Lists disk view parts old new output output_left r → Runs old new
+    lists old new output output_left r (answers, between, written, are, ends) =
+        joins old between new (listed 0 answers old between output written are) (ends_list (length answers) between new written output_left r ends)
+
     serves : (topics : List Topic) (prompts : Bool) (req : Request) (line : List ℕ) (s t : Session D S) (r : Result Bool RunFault) →
         Serves disk view parts topics prompts req line s t r → Runs s.kernel t.kernel
     serves topics prompts request.Pass line s t r is = λ m stands. (let ran = is.1 g m stands in (ran.0 ∷ [], ran.2))
     serves topics prompts (request.Help word) line s t r is = stays s.kernel t.kernel is.3
+    serves topics prompts request.List line s t r is = lists s.kernel t.kernel s.output t.output is.0 is.1
     serves topics prompts request.Save line s t r is =
         joins s.kernel is.1.0 t.kernel (stages commit_stages s.kernel is.1.0 is.1.1 is.1.2) (moves is.1.1 is.1.0 t.kernel is.0 is.1.3)
     serves topics prompts request.Quit line s t r is = stays s.kernel t.kernel is.3

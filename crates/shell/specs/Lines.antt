@@ -43,12 +43,18 @@ IsKept old b new = ((length old < 257) × (new ≡ old ++ b ∷ [])) ⊎ ((257 �
 abbrev pub requests_save : List ℕ → Bool
 requests_save line = bytes_eq line (codes "save")
 
+-- to list what is there
+abbrev pub requests_list : List ℕ → Bool
+requests_list line = bytes_eq line (codes "list")
+
 -- what a line requests; the word of `help` is what follows the space
 abbrev pub IsRequest : List ℕ → Request → Type 0
 IsRequest line request.Quit = ends_shell line ≡ true
 IsRequest line request.Save = requests_save line ≡ true
+IsRequest line request.List = requests_list line ≡ true
 IsRequest line (request.Help word) = (requests_help line ≡ true) × (word.now ≡ drop 5 line)
-IsRequest line request.Pass = (ends_shell line ≡ false) × (requests_save line ≡ false) × (requests_help line ≡ false)
+IsRequest line request.Pass = (ends_shell line ≡ false) × (requests_save line ≡ false) × (requests_list line ≡ false)
+    × (requests_help line ≡ false)
 
 -- the lines of an input, of whose first line these bytes were read before
 abbrev pub lines_from : List ℕ → List ℕ → List (List ℕ)

@@ -14,6 +14,7 @@ use Rattle.runs.specs.declared.unsaved.Unsaved.{Unsaved}
 use Rattle.script.specs.Writing.{Writes, Written, Wrote, WroteFront}
 use Rattle.script.specs.declared.fault.RunFault.{RunFault}
 use Rattle.script.specs.declared.fault.RunFault.TheVariants as fault
+use Rattle.shell.specs.Listing.{Lists}
 use Rattle.shell.specs.Lines.{IsRequest, NoneAhead, Takes}
 use Rattle.shell.specs.Served.{Notes, WritesHelp, question}
 use Rattle.shell.specs.Watching.{NotesRemark, Watches}
@@ -96,11 +97,17 @@ module _ {D S : Type 0} (disk : D → Disk) (view : S → View D) (parts : S →
       × (wrote : Result (Unit {0}) RunFault) × Writes s.output t.output wrote (line_of (saved_text saved)) × (r ≡ goes_on_if wrote)
       × (t.notes ≡ s.notes) × (t.is_asked ≡ false)
 
+  -- what is there was listed
+  abbrev pub ListsIn : Session D S → Session D S → Result Bool RunFault → Type 0
+  ListsIn s t r = (wrote : Result (Unit {0}) RunFault) × Lists disk view parts s.kernel t.kernel s.output t.output wrote
+      × (r ≡ goes_on_if wrote) × (t.unsaved ≡ s.unsaved) × (t.notes ≡ s.notes) × (t.is_asked ≡ false)
+
   -- a request was served
   abbrev pub Serves : List Topic → Bool → Request → List ℕ → Session D S → Session D S → Result Bool RunFault → Type 0
   Serves topics prompts request.Pass line s t r = RunsIn line s t r
   Serves topics prompts (request.Help word) line s t r = WritesHelp topics word.now s.notes t.notes × (r ≡ Ok true)
       × (t.is_asked ≡ false) × (t.kernel ≡ s.kernel) × (t.unsaved ≡ s.unsaved) × (t.output ≡ s.output)
+  Serves topics prompts request.List line s t r = ListsIn s t r
   Serves topics prompts request.Save line s t r = SavesIn s t r
   Serves topics prompts request.Quit line s t r =
       (on : Bool) × Quits prompts s.unsaved s.is_asked t.is_asked s.notes t.notes on × (r ≡ Ok on)

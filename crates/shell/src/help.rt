@@ -25,11 +25,12 @@ show O, evict O                     prints object O; lets it leave memory
 checkpoint, stabilize N, commit     freezes the machine, writes N objects to the log, saves
 migrate N, journal O                copies N saved objects home; saves page O alone
 restart, cut                        opens the image again; cuts the power first
+list                                lists the kind, number and owner of each object
 save                                saves all that was done
 quit, exit                          ends the shell
 help WORD                           explains a command, or the orders of number, page, node, space,
                                     discrim, process or bank
-For history and line editing start the shell as: rlwrap eros shell IMAGE
+For history, line editing and completion start the shell as: eros-shell IMAGE
 ",
     },
     Topic {
@@ -95,6 +96,10 @@ before the next checkpoint.
     Topic {
         word: b"cut",
         text: b"cut: cuts the power, then opens the image again, at the last commit.\n",
+    },
+    Topic {
+        word: b"list",
+        text: b"list: lists the kind, number and owner of each object. show N prints the whole object.\n",
     },
     Topic {
         word: b"save",

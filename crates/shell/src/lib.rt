@@ -3,6 +3,7 @@
 
 mod help;
 pub mod laws;
+mod listing;
 mod reading;
 mod request;
 mod saving;

@@ -7,6 +7,8 @@ pub(crate) enum Request<'a> {
     Pass,
     /// To explain a word, or to list all commands where the word is empty.
     Help(&'a [u8]),
+    /// To list what is there.
+    List,
     /// To save all.
     Save,
     /// To end.
@@ -19,6 +21,8 @@ pub(crate) fn request_of(line: &[u8]) -> Request<'_>
 {
     if line == b"quit".as_slice() || line == b"exit".as_slice() {
         Request::Quit
+    } else if line == b"list".as_slice() {
+        Request::List
     } else if line == b"save".as_slice() {
         Request::Save
     } else if line == b"help".as_slice() {

@@ -6,9 +6,10 @@ ghost use Rattle.runs.specs.Reader.{failed_reads};
 ghost use Rattle.runs.specs.Unsaved.{nothing_unsaved};
 ghost use Rattle.shell.specs.Lines.{ahead_of};
 ghost use Rattle.shell.specs.Served.{Notes, greeting, question};
-ghost use Rattle.shell.specs.Sessions.{HasServed, Quits, RunsIn, SavesIn, ServesFrom, ServesLine, session_at};
+ghost use Rattle.shell.specs.Sessions.{HasServed, ListsIn, Quits, RunsIn, SavesIn, ServesFrom, ServesLine, session_at};
 
 use crate::help::{Topic, help_on};
+use crate::listing::list;
 use crate::request::{Request, request_of};
 use crate::saving::{print_line, save_all, saved_line};
 use crate::typed_lines::TypedLines;
@@ -19,7 +20,7 @@ use kernel::Kernel;
 use runs::{RawReader, Unsaved, run_line};
 use script::{Output, RunFault};
 
-/// A shell over a kernel. It answers `help`, `help WORD`, `save`, `quit` and `exit` itself, and gives all other lines to
+/// A shell over a kernel. It answers `help`, `help WORD`, `list`, `save`, `quit` and `exit` itself, and gives all other lines to
 /// the machine. Help, prompts and remarks go to `notes`.
 #[derive(Drop)]
 pub struct Shell<V> {
@@ -95,6 +96,26 @@ impl<V: Output> Shell<V> {
         ran
     }
 
+    // Lists what is there.
+    fn list<D: Device, S: ObjectStore<D>, W: Output>(
+        &mut self,
+        kernel: &mut Kernel<D, S>,
+        writer: &mut W,
+    ) -> Result<bool, RunFault>
+        ensures lists { ListsIn D.disk S.view S.parts (session_at V.written self.old kernel.old (W.written writer.old))
+            (session_at V.written self.new kernel.new (W.written writer.new)) result }
+        ensures topics { self.new.topics ≡ self.old.topics }
+        ensures prompts { self.new.is_prompting ≡ self.old.is_prompting }
+        ensures none_waits { OnOk result (W.waiting writer.new ≡ []) }
+        ensures fault { IfErr result (λ e. e ≡ RunFault.Write) }
+    {
+        self.is_asked = false;
+        match list(kernel, writer) {
+            Ok(()) => Ok(true),
+            Err(fault) => Err(fault),
+        }
+    }
+
     // Saves all, and writes the answer.
     fn save<D: Device, S: ObjectStore<D>, W: Output>(
         &mut self,
@@ -157,6 +178,7 @@ impl<V: Output> Shell<V> {
                 help_on(self.topics, word, &mut self.notes);
                 Ok(true)
             }
+            Request::List => self.list(kernel, writer),
             Request::Save => self.save(kernel, writer),
             Request::Quit => Ok(self.asks()),
         }
