@@ -19,6 +19,10 @@ given f id o text got is = sym (first_value-rows f id) ∙ (sym got ∙ ap (opti
 pub missing : (f : Found) (id : Text) (o : Option (Bor Text)) → option_map (λ s. s.now) o ≡ first_value f id → o ≡ None → first_of id (rows_of f) ≡ None
 missing f id o got is = sym (first_value-rows f id) ∙ (sym got ∙ ap (option_map (λ s. s.now)) is)
 
+pub given_or_not : (f : Found) (id : Text) (o : Option (Bor Text)) → option_map (λ s. s.now) o ≡ first_value f id →
+    first_of id (rows_of f) ≡ option_map (λ s. s.now) o
+given_or_not f id o got = sym (first_value-rows f id) ∙ sym got
+
 pub given_all : (f : Found) (id : Text) (o : Option (Bor (List (Bor Text)))) (words : Bor (List (Bor Text)))
     → option_map (λ s. map (λ v. v.now) s.now) o ≡ option_map raw_values (matched_of f id) → o ≡ Some words →
     all_of id (rows_of f) ≡ Some (map (λ v. v.now) words.now)

@@ -54,6 +54,14 @@ json_rule = flag_rule (codes "json")
 abbrev pub cause_rule : Rule
 cause_rule = flag_rule (codes "verbose")
 
+-- --NAME VALUE, any text, which may be left out
+abbrev pub text_rule : Text → Rule
+text_rule name = record (new_rule name) { long = Some name; value_names = 1 }
+
+-- --names FILE, by which objects have names
+abbrev pub names_rule : Rule
+names_rule = text_rule (codes "names")
+
 -- the rule of an argument
 abbrev pub argument_rule : Argument → Rule
 argument_rule (argument.File name help) = file_rule name.now
@@ -62,6 +70,7 @@ argument_rule argument.Processes = processes_rule
 argument_rule (argument.Number name value help) = number_rule name.now
 argument_rule (argument.Numbers name value help) = numbers_rule name.now
 argument_rule (argument.Flag name help) = flag_rule name.now
+argument_rule argument.Names = names_rule
 
 -- the word that names a subcommand
 abbrev pub subcommand_name : Subcommand → Text
@@ -82,19 +91,20 @@ abbrev pub rules_of : Subcommand → List Rule
 rules_of sub.Build = file_rule (codes "DESCRIPTION") ∷ file_rule (codes "IMAGE") ∷ flag_rule (codes "new")
     ∷ cause_rule ∷ []
 rules_of sub.Run = file_rule (codes "IMAGE") ∷ file_rule (codes "SCRIPT") ∷ cache_rule ∷ flag_rule (codes "trace")
-    ∷ flag_rule (codes "strict") ∷ flag_rule (codes "save") ∷ number_rule (codes "stop-after") ∷ cause_rule ∷ []
-rules_of sub.Shell = file_rule (codes "IMAGE") ∷ cache_rule ∷ cause_rule ∷ []
+    ∷ flag_rule (codes "strict") ∷ flag_rule (codes "save") ∷ number_rule (codes "stop-after") ∷ names_rule
+    ∷ cause_rule ∷ []
+rules_of sub.Shell = file_rule (codes "IMAGE") ∷ cache_rule ∷ names_rule ∷ cause_rule ∷ []
 rules_of sub.Check = file_rule (codes "IMAGE") ∷ json_rule ∷ cause_rule ∷ []
-rules_of sub.Explain = file_rule (codes "FILE") ∷ cause_rule ∷ []
+rules_of sub.Explain = file_rule (codes "FILE") ∷ json_rule ∷ names_rule ∷ cause_rule ∷ []
 rules_of sub.Info = file_rule (codes "IMAGE") ∷ json_rule ∷ cause_rule ∷ []
 rules_of sub.Reach = file_rule (codes "IMAGE") ∷ processes_rule ∷ flag_rule (codes "reads") ∷ number_rule (codes "shows")
-    ∷ number_rule (codes "to") ∷ numbers_rule (codes "trust") ∷ json_rule ∷ cause_rule ∷ []
+    ∷ number_rule (codes "to") ∷ numbers_rule (codes "trust") ∷ json_rule ∷ names_rule ∷ cause_rule ∷ []
 rules_of sub.Upgrade = file_rule (codes "OLD") ∷ file_rule (codes "NEW") ∷ cause_rule ∷ []
 rules_of sub.Copy = file_rule (codes "IMAGE") ∷ file_rule (codes "NEW") ∷ cause_rule ∷ []
 rules_of sub.Describe = file_rule (codes "IMAGE") ∷ number_rule (codes "nodes") ∷ number_rule (codes "pages")
     ∷ number_rule (codes "log") ∷ cause_rule ∷ []
 rules_of sub.Draw = file_rule (codes "IMAGE") ∷ number_rule (codes "from") ∷ flag_rule (codes "reads")
-    ∷ number_rule (codes "to") ∷ cause_rule ∷ []
+    ∷ number_rule (codes "to") ∷ names_rule ∷ cause_rule ∷ []
 
 -- a command with more arguments
 abbrev pub with_rules : App → List Rule → App

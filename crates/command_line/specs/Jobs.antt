@@ -1,6 +1,7 @@
 -- The job that a subcommand and its arguments name.
-use Rattle.std.specs.Prelude.{◌≡◌, ◌≢◌, ◌⊎◌, ℕ, ⊤, List, Option, Some, None, codes, true}
-use Rattle.clap.specs.Words.{Row, Text}
+use Rattle.std.specs.Prelude.{◌≡◌, ◌≢◌, ◌⊎◌, ℕ, ⊤, List, Option, Some, None, codes, option_map, true}
+use Rattle.std.specs.Borrow.{Bor}
+use Rattle.clap.specs.Words.{Row, Text, first_of}
 use Rattle.command_line.specs.Arguments.{AreNumbersIfAny, IsFlag, IsGiven, IsNumberOption, IsOption, has_all}
 use Rattle.command_line.specs.declared.requested.CommandLine.{CommandLine}
 use Rattle.command_line.specs.declared.requested.Job.{Job}
@@ -27,24 +28,25 @@ AreSizes rows sizes = IsNumberOption rows (codes "nodes") sizes.nodes
 abbrev pub IsJob : Text → List Row → Job → Type 0
 IsJob name rows (job.Build description image is_new) = (name ≡ codes "build") × IsFlag rows (codes "new") is_new
     × IsGiven rows (codes "DESCRIPTION") description.now × IsGiven rows (codes "IMAGE") image.now
-IsJob name rows (job.Run image script cache trace strict saves stop_after) = (name ≡ codes "run") × IsCache rows cache
-    × IsFlag rows (codes "trace") trace × IsFlag rows (codes "strict") strict
-    × IsFlag rows (codes "save") saves
-    × IsNumberOption rows (codes "stop-after") stop_after
-    × IsGiven rows (codes "IMAGE") image.now × (word : Text) × IsGiven rows (codes "SCRIPT") word × IsScript word script
+IsJob name rows (job.Run run) = (name ≡ codes "run") × IsCache rows run.cache
+    × IsFlag rows (codes "trace") run.trace × IsFlag rows (codes "strict") run.strict
+    × IsFlag rows (codes "save") run.saves
+    × IsNumberOption rows (codes "stop-after") run.stop_after
+    × IsGiven rows (codes "IMAGE") run.image.now
+    × (word : Text) × IsGiven rows (codes "SCRIPT") word × IsScript word run.script
 IsJob name rows (job.Shell image cache) = (name ≡ codes "shell") × IsCache rows cache × IsGiven rows (codes "IMAGE")
     image.now
 IsJob name rows (job.Check image json) = (name ≡ codes "check") × IsGiven rows (codes "IMAGE") image.now
     × IsFlag rows (codes "json") json
-IsJob name rows (job.Explain file) = (name ≡ codes "explain") × IsGiven rows (codes "FILE") file.now
+IsJob name rows (job.Explain file json) = (name ≡ codes "explain") × IsGiven rows (codes "FILE") file.now
+    × IsFlag rows (codes "json") json
 IsJob name rows (job.Info image json) = (name ≡ codes "info") × IsGiven rows (codes "IMAGE") image.now
     × IsFlag rows (codes "json") json
-IsJob name rows (job.Reach image processes reads shows to trusted json) = (name ≡ codes "reach") × IsGiven rows (codes "IMAGE")
-    image.now
-    × AreNumbersIfAny rows (codes "P") processes.items × IsFlag rows (codes "reads") reads
-    × IsNumberOption rows (codes "shows") shows
-    × IsNumberOption rows (codes "to") to × AreNumbersIfAny rows (codes "trust") trusted.items
-    × IsFlag rows (codes "json") json
+IsJob name rows (job.Reach reach) = (name ≡ codes "reach") × IsGiven rows (codes "IMAGE") reach.image.now
+    × AreNumbersIfAny rows (codes "P") reach.processes.items × IsFlag rows (codes "reads") reach.reads
+    × IsNumberOption rows (codes "shows") reach.shows
+    × IsNumberOption rows (codes "to") reach.to × AreNumbersIfAny rows (codes "trust") reach.trusted.items
+    × IsFlag rows (codes "json") reach.json
 IsJob name rows (job.Upgrade old new) = (name ≡ codes "upgrade")
     × IsGiven rows (codes "OLD") old.now × IsGiven rows (codes "NEW") new.now × (old.now ≢ new.now)
 IsJob name rows (job.Copy image new) = (name ≡ codes "copy")
@@ -55,9 +57,13 @@ IsJob name rows (job.Draw image from reads to) = (name ≡ codes "draw") × IsGi
     × IsNumberOption rows (codes "from") from × IsFlag rows (codes "reads") reads
     × IsNumberOption rows (codes "to") to
 
--- the subcommand of this name, with these arguments, is the job, and says whether causes are written
+-- the file that `--names` gives, if any
+abbrev pub IsNames : List Row → Option (Bor Text) → Type 0
+IsNames rows names = first_of (codes "names") rows ≡ option_map (λ file. file.now) names
+
+-- the subcommand of this name, with these arguments, is the job, and says whether causes are written and where names are
 abbrev pub IsLine : Text → List Row → CommandLine → Type 0
-IsLine name rows line = IsJob name rows line.job × IsFlag rows (codes "verbose") line.is_verbose
+IsLine name rows line = IsJob name rows line.job × IsFlag rows (codes "verbose") line.is_verbose × IsNames rows line.names
 
 -- the subcommand that was met, if any, is what the line requests
 abbrev pub NamesLine : Option (Text × List Row) → CommandLine → Type 0

@@ -8,5 +8,5 @@ mod subcommands;
 mod words;
 
 pub use fault::JobFault;
-pub use requested::{CommandLine, Job, Script, Sizes};
+pub use requested::{CommandLine, Job, Reach, Run, Script, Sizes};
 pub use words::command_line;

@@ -4,13 +4,13 @@ ghost use Rattle.clap.specs.Words.{found_of, kind_of, rows_of, subcommand_of, su
 ghost use Rattle.clap.specs.declared.error.kind.ErrorKind.TheVariants.{OutOfMemory};
 ghost use Rattle.command_line.specs.Arguments.{AreNumbersIfAny, GivesNoNumber, IsNumberOption};
 ghost use Rattle.command_line.specs.Commands.{IsCommand, eros_app, greatest_number, subcommand_name};
-ghost use Rattle.command_line.specs.Jobs.{AreSizes, IsCache, IsJob, IsLine, IsNoJob, IsScript, NamesLine, NamesNone};
+ghost use Rattle.command_line.specs.Jobs.{AreSizes, IsCache, IsJob, IsLine, IsNames, IsNoJob, IsScript, NamesLine, NamesNone};
 ghost use Rattle.command_line.specs.Refusals.{Explains};
 
 use crate::arguments::{flag_of, numbers_of, option_of};
 use crate::subcommands::{
-    CACHE, DESCRIPTION, FILE, FROM, IMAGE, JSON, LOG, NEW, NEW_ONLY, NODES, OLD, PAGES, PROCESS,
-    READS, SAVE, SCRIPT, SHOWS, STOP_AFTER, STRICT, Subcommand, TO, TRACE, TRUST, VERBOSE,
+    CACHE, DESCRIPTION, FILE, FROM, IMAGE, JSON, LOG, NAMES, NEW, NEW_ONLY, NODES, OLD, PAGES,
+    PROCESS, READS, SAVE, SCRIPT, SHOWS, STOP_AFTER, STRICT, Subcommand, TO, TRACE, TRUST, VERBOSE,
 };
 use clap::error::ErrorKind;
 use clap::{ArgMatches, Command, Error};
@@ -38,6 +38,42 @@ pub struct Sizes {
     pub log: Option<u64>,
 }
 
+/// A run of a script over an image.
+#[derive(Drop)]
+pub struct Run<'a> {
+    pub image: &'a str,
+    pub script: Script<'a>,
+    /// The most objects kept in memory; `None` keeps all.
+    pub cache: Option<Capacity>,
+    /// Whether the result of each line is written to standard error.
+    pub trace: bool,
+    /// Whether the run stops at the first line that is bad or refused, or whose invocation of a kernel
+    /// object fails.
+    pub strict: bool,
+    /// Whether all is saved after the last line.
+    pub saves: bool,
+    /// How many reads, writes and syncs the device answers before it fails each; `None` where it answers all.
+    pub stop_after: Option<u64>,
+}
+
+/// A question about what processes of an image can ever change.
+#[derive(Drop)]
+pub struct Reach<'a> {
+    pub image: &'a str,
+    /// The numbers of the processes, in the order of the words; none stands for all processes.
+    pub processes: Vec<u64>,
+    /// Whether it is what they can ever read instead.
+    pub reads: bool,
+    /// The object to which a shortest chain of capabilities is shown.
+    pub shows: Option<u64>,
+    /// The object of which it is shown which processes can change it.
+    pub to: Option<u64>,
+    /// The processes that are trusted, in the order of the words.
+    pub trusted: Vec<u64>,
+    /// Whether the answer is JSON.
+    pub json: bool,
+}
+
 /// What `eros` does, with the names of the files.
 #[derive(Drop)]
 pub enum Job<'a> {
@@ -49,21 +85,7 @@ pub enum Job<'a> {
         is_new: bool,
     },
     /// Runs a script over an image.
-    Run {
-        image: &'a str,
-        script: Script<'a>,
-        /// The most objects kept in memory; `None` keeps all.
-        cache: Option<Capacity>,
-        /// Whether the result of each line is written to standard error.
-        trace: bool,
-        /// Whether the run stops at the first line that is bad or refused, or whose invocation of a kernel
-        /// object fails.
-        strict: bool,
-        /// Whether all is saved after the last line.
-        saves: bool,
-        /// How many reads, writes and syncs the device answers before it fails each; `None` where it answers all.
-        stop_after: Option<u64>,
-    },
+    Run(Run<'a>),
     /// Reads commands from a terminal and runs them over an image.
     Shell {
         image: &'a str,
@@ -79,6 +101,8 @@ pub enum Job<'a> {
     /// Says why a description or an image is refused.
     Explain {
         file: &'a str,
+        /// Whether the answer is JSON.
+        json: bool,
     },
     /// Prints the sizes of an image and the state of its checkpoint.
     Info {
@@ -87,21 +111,7 @@ pub enum Job<'a> {
         json: bool,
     },
     /// Prints what processes of an image can ever change.
-    Reach {
-        image: &'a str,
-        /// The numbers of the processes, in the order of the words; none stands for all processes.
-        processes: Vec<u64>,
-        /// Whether it prints what they can ever read instead.
-        reads: bool,
-        /// The object to which a shortest chain of capabilities is shown.
-        shows: Option<u64>,
-        /// The object of which it is shown which processes can change it.
-        to: Option<u64>,
-        /// The processes that are trusted, in the order of the words.
-        trusted: Vec<u64>,
-        /// Whether the answer is JSON.
-        json: bool,
-    },
+    Reach(Reach<'a>),
     /// Writes what an image saves to a new image, of version 2 of the layout. The two names differ.
     Upgrade {
         old: &'a str,
@@ -136,6 +146,8 @@ pub struct CommandLine<'a> {
     pub job: Job<'a>,
     /// Whether the cause of a fault is written to standard error in any case.
     pub is_verbose: bool,
+    /// The file that gives names to objects.
+    pub names: Option<&'a str>,
 }
 
 // The script that a word names: a hyphen alone is standard input.
@@ -200,7 +212,7 @@ fn run_of<'a>(inner: &ArgMatches<'a>) -> Option<Job<'a>>
     let strict = flag_of(inner, STRICT);
     let saves = flag_of(inner, SAVE);
     let stop_after = number_of(inner, STOP_AFTER)?;
-    Some(Job::Run {
+    Some(Job::Run(Run {
         image,
         script,
         cache,
@@ -208,7 +220,7 @@ fn run_of<'a>(inner: &ArgMatches<'a>) -> Option<Job<'a>>
         strict,
         saves,
         stop_after,
-    })
+    }))
 }
 
 // The shell that the matches name, or `None` where the image is missing or the capacity is none.
@@ -237,7 +249,8 @@ fn explain_of<'a>(inner: &ArgMatches<'a>) -> Option<Job<'a>>
     ensures none { IsNone result → IsNoJob (codes "explain") (rows_of (found_of inner.now)) }
 {
     let file = inner.get_str(FILE)?;
-    Some(Job::Explain { file })
+    let json = flag_of(inner, JSON);
+    Some(Job::Explain { file, json })
 }
 
 // The account of an image that the matches name, or `None` where the image is missing.
@@ -261,7 +274,7 @@ fn reach_from<'a>(inner: &ArgMatches<'a>, processes: Vec<u64>, trusted: Vec<u64>
     let reads = flag_of(inner, READS);
     let shows = number_of(inner, SHOWS)?;
     let to = number_of(inner, TO)?;
-    Some(Job::Reach {
+    Some(Job::Reach(Reach {
         image,
         processes,
         reads,
@@ -269,7 +282,7 @@ fn reach_from<'a>(inner: &ArgMatches<'a>, processes: Vec<u64>, trusted: Vec<u64>
         to,
         trusted,
         json: flag_of(inner, JSON),
-    })
+    }))
 }
 
 // The analysis of these processes that the matches name, or `None` where the image is missing or a word writes
@@ -404,6 +417,14 @@ fn job_named<'a>(
     }
 }
 
+// The file that gives names to objects, if one is given.
+#[tactic(auto, using(crate::proofs::Getters::given_or_not))]
+fn names_of<'a>(inner: &ArgMatches<'a>) -> Option<&'a str>
+    ensures { IsNames (rows_of (found_of inner.now)) result }
+{
+    inner.get_str(NAMES)
+}
+
 // What a subcommand of this name requests, or `None`. Fails where memory runs out.
 fn line_named<'a>(
     alloc: Global,
@@ -416,7 +437,12 @@ fn line_named<'a>(
     match job_named(alloc, name, inner)? {
         Some(job) => {
             let is_verbose = flag_of(inner, VERBOSE);
-            Ok(Some(CommandLine { job, is_verbose }))
+            let names = names_of(inner);
+            Ok(Some(CommandLine {
+                job,
+                is_verbose,
+                names,
+            }))
         }
         None => Ok(None),
     }

@@ -2,7 +2,7 @@
 ghost use Rattle.std.specs.Prelude.{◌≡◌, ◌≢◌, IfOk, MatchOption, false, map};
 ghost use Rattle.std.specs.List.{All};
 ghost use Rattle.clap.specs.Words.{new_app, rule_of};
-ghost use Rattle.command_line.specs.Commands.{IsCommand, argument_rule, bare_app, eros_app, numbers_rule};
+ghost use Rattle.command_line.specs.Commands.{IsCommand, argument_rule, bare_app, eros_app, names_rule, numbers_rule};
 ghost use Rattle.command_line.specs.Commands.{option_rule};
 ghost use Rattle.command_line.specs.Commands.{processes_rule, rules_of, subcommand_app, subcommand_name, subcommands};
 ghost use Rattle.command_line.specs.Commands.{with_rules, with_subcommands};
@@ -56,6 +56,8 @@ pub(crate) const TRUST: &str = "trust";
 
 pub(crate) const JSON: &str = "json";
 
+pub(crate) const NAMES: &str = "names";
+
 pub(crate) const STOP_AFTER: &str = "stop-after";
 
 /// What `eros --version` prints behind the name.
@@ -77,6 +79,8 @@ enum Argument<'a> {
     Numbers(&'a str, &'a str, &'a str),
     /// An option that gives no value, and may be left out: its name and its help.
     Flag(&'a str, &'a str),
+    /// The file that gives names to objects, which may be left out.
+    Names,
 }
 
 // An option that gives a number from `least` to `most`.
@@ -105,6 +109,16 @@ fn numbers_arg<'a>(alloc: Global, name: &'a str, value: &'a str, help: &'a str) 
     ensures local { result.global ≡ false }
 {
     number_arg(alloc, name, value, help, 0, u64::MAX).action(ArgAction::Append)
+}
+
+// The file that gives names to objects, which may be left out.
+fn names_arg<'a>(alloc: Global) -> Arg<'a>
+    ensures rule { rule_of result ≡ names_rule }
+    ensures local { result.global ≡ false }
+{
+    Arg::new(alloc, NAMES).long(NAMES).value_name(FILE).help(
+        "Gives names to objects: a file in TOML, with lines like viewer = 14",
+    )
 }
 
 // The processes of `reach`, which may be left out.
@@ -140,6 +154,7 @@ impl<'a> Argument<'a> {
                 .long(name)
                 .action(ArgAction::SetTrue)
                 .help(help),
+            Argument::Names => names_arg(alloc),
         }
     }
 }
@@ -193,12 +208,14 @@ const RUN: &[Argument<'static>] = &[
         "K",
         "Lets the image's device fail after K reads, writes and syncs, as --stop-after 40",
     ),
+    Argument::Names,
     CAUSE,
 ];
 
 const SHELL: &[Argument<'static>] = &[
     Argument::File(IMAGE, "The image, which is changed by what is committed"),
     Argument::Cache,
+    Argument::Names,
     CAUSE,
 ];
 
@@ -207,6 +224,8 @@ const TOLD: &[Argument<'static>] = &[READ, AS_JSON, CAUSE];
 
 const EXPLAIN: &[Argument<'static>] = &[
     Argument::File(FILE, "The description or the image, which isn't changed"),
+    AS_JSON,
+    Argument::Names,
     CAUSE,
 ];
 
@@ -233,6 +252,7 @@ const REACH: &[Argument<'static>] = &[
         "Trusts process S: leaves out what is reached only by starting it, as --trust 5; repeatable",
     ),
     AS_JSON,
+    Argument::Names,
     CAUSE,
 ];
 
@@ -284,6 +304,7 @@ const DRAW: &[Argument<'static>] = &[
         "O",
         "Draws only object O and what holds a capability to it, as --to 7",
     ),
+    Argument::Names,
     CAUSE,
 ];
 

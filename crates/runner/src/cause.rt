@@ -92,11 +92,11 @@ fn made_by<'j>(job: &Job<'j>) -> Option<&'j str> {
 // The file of the image that a job opens.
 fn opened_by<'j>(job: &Job<'j>) -> Option<&'j str> {
     match job {
-        Job::Run { image, .. }
-        | Job::Shell { image, .. }
+        Job::Run(run) => Some(run.image),
+        Job::Reach(reach) => Some(reach.image),
+        Job::Shell { image, .. }
         | Job::Check { image, .. }
         | Job::Info { image, .. }
-        | Job::Reach { image, .. }
         | Job::Copy { image, .. }
         | Job::Describe { image, .. }
         | Job::Draw { image, .. } => Some(*image),
@@ -108,10 +108,10 @@ fn opened_by<'j>(job: &Job<'j>) -> Option<&'j str> {
 // The script of a job, if it is a file.
 fn script_of<'j>(job: &Job<'j>) -> Option<&'j str> {
     match job {
-        Job::Run {
-            script: Script::File(script),
-            ..
-        } => Some(*script),
+        Job::Run(run) => match run.script {
+            Script::File(script) => Some(script),
+            Script::Input => None,
+        },
         _ => None,
     }
 }
@@ -121,8 +121,8 @@ pub(crate) fn tell_line<C: Display + Drop>(rt: &HostRuntime, file: &str, cause: 
     let _reported = eprintln!(rt; "eros: {file}: {cause}");
 }
 
-// A line in memory, and errors that nobody reads.
-fn line_in(rt: &HostRuntime) -> Streams<CountedWriter<Vec<u8>>, CountedWriter<Sink>> {
+/// A line in memory, and errors that nobody reads.
+pub(crate) fn line_in(rt: &HostRuntime) -> Streams<CountedWriter<Vec<u8>>, CountedWriter<Sink>> {
     Streams {
         output: CountedWriter::new(Vec::new(rt.alloc())),
         errors: CountedWriter::new(io::sink()),
@@ -227,7 +227,7 @@ fn options(is_written: bool, is_made: bool) -> OpenOptions {
 // Writes why a job doesn't open its image.
 fn tell_unopened(rt: &HostRuntime, job: &Job<'_>, cause: Cause) {
     let is_written = match job {
-        Job::Run { .. } | Job::Shell { .. } => true,
+        Job::Run(_) | Job::Shell { .. } => true,
         _ => false,
     };
     if let Some(file) = opened_by(job) {

@@ -4,20 +4,23 @@
 mod cause;
 mod json;
 mod making;
+mod naming;
 mod query;
 
 use crate::cause::{Cause, NO_FILE, Refusal, tell_cause, tell_line};
-use crate::json::{format_of, tell_json};
+use crate::json::{explain_in_json, format_of, is_json, tell_json};
 use crate::making::build;
+use crate::naming::{Naming, NoNames, naming_of};
 use crate::query::{Query, drawing, purpose_of, reaching, sizes_of, writing};
 use checkpoint::ObjectStore;
-use command_line::{CommandLine, Job, JobFault, Script, command_line};
+use command_line::{CommandLine, Job, JobFault, Run, Script, command_line};
 use device::Device;
 use devices::{FileDevice, FileFault, Fuse};
 use image_builder::NewLayout;
 use jobs::{Done, Fault, check_image, finish, run_and_save, run_image, run_shell, run_traced};
 use json_lines::Format;
 use layout::Version;
+use names::{NamedLines, NamedOutput};
 use object_cache::{Capacity, KeepAll, KeepRecent, PlainStore, Policy, Store};
 use queries::explain_description;
 use runs::{ScriptReader, TraceOptions, Tracer};
@@ -38,10 +41,13 @@ pub(crate) struct Streams<W, V> {
 }
 
 // Standard error.
-type StandardError = CountedWriter<Stderr>;
+type StandardError = NamedOutput<CountedWriter<Stderr>>;
 
 /// Standard output, behind a buffer, and standard error.
-pub(crate) type Stdio = Streams<BufferedOutput<BufWriter<Stdout, Global>>, StandardError>;
+pub(crate) type Stdio = Streams<
+    NamedOutput<BufferedOutput<BufWriter<Stdout, Global>>>,
+    StandardError,
+>;
 
 /// How a command ended. What is wrong was written.
 #[derive(Clone, Copy)]
@@ -83,14 +89,14 @@ impl End {
 
 // Standard error.
 fn errors_of(rt: &HostRuntime) -> StandardError {
-    CountedWriter::new(rt.stderr())
+    NamedOutput::new(CountedWriter::new(rt.stderr()), None)
 }
 
-// Standard output and standard error.
-fn stdio_of(rt: &HostRuntime) -> Result<Stdio, Fault> {
+// Standard output, whose lines get names if there are some, and standard error.
+fn stdio_of(rt: &HostRuntime, lines: Option<NamedLines>) -> Result<Stdio, Fault> {
     match BufWriter::new(rt.alloc(), rt.stdout()) {
         Ok(buffer) => Ok(Stdio {
-            output: BufferedOutput::new(buffer),
+            output: NamedOutput::new(BufferedOutput::new(buffer), lines),
             errors: errors_of(rt),
         }),
         Err(_) => Err(Fault::NoMemory),
@@ -272,9 +278,9 @@ fn open_script_and_run<D: Device>(
     script: &Script<'_>,
     cache: Option<Capacity>,
     mode: Mode,
+    notes: StandardError,
     stdio: &mut Stdio,
 ) -> Result<End, Refusal> {
-    let notes = errors_of(rt);
     match script {
         Script::Input => Ok(run_with_cache(rt, device, cache, rt.stdin(), mode, notes, stdio)),
         Script::File(path) => match File::open(rt, *path) {
@@ -292,6 +298,7 @@ fn open_image_and_run(
     cache: Option<Capacity>,
     mode: Mode,
     stop_after: Option<u64>,
+    notes: StandardError,
     stdio: &mut Stdio,
 ) -> Result<End, Refusal> {
     let device = open(rt, image)?;
@@ -299,7 +306,7 @@ fn open_image_and_run(
         Some(calls) => Fuse::new(device, calls),
         None => Fuse::mended(device),
     };
-    open_script_and_run(rt, device, script, cache, mode, stdio)
+    open_script_and_run(rt, device, script, cache, mode, notes, stdio)
 }
 
 // Checks whether an image can be opened, and returns its end. A check fetches one object at a time.
@@ -370,9 +377,13 @@ fn refuse_for(rt: &HostRuntime, file: &str, error: &io::Error) -> Result<End, Re
 }
 
 // Says why the image in a file is refused, and returns its end.
-fn explain_file(rt: &HostRuntime, image: &str, stdio: &mut Stdio) -> Result<End, Refusal> {
+fn explain_file<W: Output, V: Output>(
+    rt: &HostRuntime,
+    image: &str,
+    streams: &mut Streams<W, V>,
+) -> Result<End, Refusal> {
     match FileDevice::open_to_read(rt, image) {
-        Ok(device) => answer(rt, device, Query::Explain, stdio),
+        Ok(device) => answer(rt, device, Query::Explain, streams),
         Err(FileFault::NoMemory) => Err(Refusal::from(Fault::NoMemory)),
         Err(fault) => Ok(refuse_file(rt, image, fault)),
     }
@@ -380,72 +391,95 @@ fn explain_file(rt: &HostRuntime, image: &str, stdio: &mut Stdio) -> Result<End,
 
 // Says why the bytes of a file are refused as a description or an image, and returns its end. They are an image if
 // they are no text, or one of them is zero.
-fn explain_bytes(
+fn explain_bytes<W: Output, V: Output>(
     rt: &HostRuntime,
     file: &str,
     bytes: &[u8],
-    stdio: &mut Stdio,
+    streams: &mut Streams<W, V>,
 ) -> Result<End, Refusal> {
     match str::from_utf8(bytes) {
         Ok(text) if !bytes.contains(&0) => {
-            let Stdio { output, errors } = stdio;
+            let Streams { output, errors } = streams;
             let status = explain_description(rt.alloc(), text, output, errors);
             Ok(End::of_status(status))
         }
-        _ => explain_file(rt, file, stdio),
+        _ => explain_file(rt, file, streams),
     }
 }
 
 // Says why a regular file is refused as a description or an image, and returns its end.
-fn explain_regular(rt: &HostRuntime, file: &str, stdio: &mut Stdio) -> Result<End, Refusal> {
+fn explain_regular<W: Output, V: Output>(
+    rt: &HostRuntime,
+    file: &str,
+    streams: &mut Streams<W, V>,
+) -> Result<End, Refusal> {
     match fs::read(rt, file) {
-        Ok(bytes) => explain_bytes(rt, file, &bytes, stdio),
+        Ok(bytes) => explain_bytes(rt, file, &bytes, streams),
         Err(error) => refuse_for(rt, file, &error),
     }
 }
 
-// Says why a file is refused as a description or an image, and returns its end. A block device may have an image. Any
-// other file that isn't regular, such as a FIFO, isn't opened: reading one waits until somebody writes to it.
-fn explain(rt: &HostRuntime, file: &str, stdio: &mut Stdio) -> Result<End, Refusal> {
+/// Says why a file is refused as a description or an image, and returns its end. A block device may have an image. Any
+/// other file that isn't regular, such as a FIFO, isn't opened: reading one waits until somebody writes to it.
+pub(crate) fn explain<W: Output, V: Output>(
+    rt: &HostRuntime,
+    file: &str,
+    streams: &mut Streams<W, V>,
+) -> Result<End, Refusal> {
     let kind = match fs::metadata(rt, file) {
         Ok(found) => found.file_type(),
         Err(error) => return refuse_for(rt, file, &error),
     };
     if kind.is_block_device() {
-        explain_file(rt, file, stdio)
+        explain_file(rt, file, streams)
     } else if kind.is_file() {
-        explain_regular(rt, file, stdio)
+        explain_regular(rt, file, streams)
     } else {
         Ok(refuse_file(rt, file, NO_FILE))
     }
 }
 
-// Does a job, and returns its end.
-fn serve(rt: &HostRuntime, job: &Job<'_>, stdio: &mut Stdio) -> Result<End, Refusal> {
+// Runs a script over an image, and returns its end. Its trace is written to `notes`.
+fn run_script(
+    rt: &HostRuntime,
+    run: &Run<'_>,
+    notes: StandardError,
+    stdio: &mut Stdio,
+) -> Result<End, Refusal> {
+    let mode = mode_of(run.trace, run.strict, run.saves);
+    open_image_and_run(
+        rt,
+        run.image,
+        &run.script,
+        run.cache,
+        mode,
+        run.stop_after,
+        notes,
+        stdio,
+    )
+}
+
+// Does a job, and returns its end. Traces are written to `notes`.
+fn serve(
+    rt: &HostRuntime,
+    job: &Job<'_>,
+    notes: StandardError,
+    stdio: &mut Stdio,
+) -> Result<End, Refusal> {
     let (image, query) = match job {
         Job::Build {
             description,
             image,
             is_new,
         } => return build(rt, description, image, *is_new, stdio),
-        Job::Run {
-            image,
-            script,
-            cache,
-            trace,
-            strict,
-            saves,
-            stop_after,
-        } => {
-            let mode = mode_of(*trace, *strict, *saves);
-            return open_image_and_run(rt, image, script, *cache, mode, *stop_after, stdio);
-        }
+        Job::Run(run) => return run_script(rt, run, notes, stdio),
         Job::Shell { image, cache } => {
             let (script, mode) = (Script::Input, Mode::Shell);
-            return open_image_and_run(rt, image, &script, *cache, mode, None, stdio);
+            return open_image_and_run(rt, image, &script, *cache, mode, None, errors_of(rt), stdio);
         }
         Job::Check { image, json } => return check(rt, image, format_of(*json), stdio),
-        Job::Explain { file } => return explain(rt, file, stdio),
+        Job::Explain { file, json: false } => return explain(rt, file, stdio),
+        Job::Explain { file, json: true } => return explain_in_json(rt, file, stdio),
         Job::Upgrade { old, new } => (*old, writing(old, new, NewLayout::Of(Version::NEWEST))),
         Job::Copy { image, new } => (*image, writing(image, new, NewLayout::Kept)),
         Job::Describe { image, sizes } => (*image, Query::Describe(sizes_of(sizes))),
@@ -456,36 +490,17 @@ fn serve(rt: &HostRuntime, job: &Job<'_>, stdio: &mut Stdio) -> Result<End, Refu
             to,
         } => (*image, drawing(*from, purpose_of(*reads), *to)),
         Job::Info { image, json } => (*image, Query::Info(format_of(*json))),
-        Job::Reach {
-            image,
-            processes,
-            reads,
-            shows,
-            to,
-            trusted,
-            json,
-        } => {
-            let (processes, trusted) = (processes.as_slice(), trusted.as_slice());
-            (
-                *image,
-                reaching(
-                    processes,
-                    purpose_of(*reads),
-                    trusted,
-                    *shows,
-                    *to,
-                    format_of(*json),
-                ),
-            )
-        }
+        Job::Reach(reach) => (reach.image, reaching(reach)),
     };
     inspect(rt, image, query, stdio)
 }
 
 // Does a job, passes on what it wrote, and returns its end.
-fn serve_whole(rt: &HostRuntime, job: &Job<'_>) -> Result<End, Refusal> {
-    let mut stdio = stdio_of(rt)?;
-    match serve(rt, job, &mut stdio) {
+fn serve_whole(rt: &HostRuntime, job: &Job<'_>, naming: Naming) -> Result<End, Refusal> {
+    let Naming { output, trace } = naming;
+    let mut stdio = stdio_of(rt, output)?;
+    let notes = NamedOutput::new(CountedWriter::new(rt.stderr()), trace);
+    match serve(rt, job, notes, &mut stdio) {
         Ok(end) => {
             let Stdio { output, errors } = &mut stdio;
             let status = finish(output, end.status, errors);
@@ -495,10 +510,19 @@ fn serve_whole(rt: &HostRuntime, job: &Job<'_>) -> Result<End, Refusal> {
     }
 }
 
+// Does a job with the names of a file, if one is given, and returns its end.
+fn serve_named(rt: &HostRuntime, job: &Job<'_>, names: Option<&str>) -> Result<End, Refusal> {
+    match naming_of(rt, job, is_json(job), names) {
+        Ok(naming) => serve_whole(rt, job, naming),
+        Err(NoNames::NoMemory) => Err(Refusal::from(Fault::NoMemory)),
+        Err(NoNames::Told) => Ok(End::of_status(1)),
+    }
+}
+
 // Does a job, writes why it fails, and gives the status. The cause follows if it `is_verbose`, or standard error is a
 // terminal.
-fn serve_line(rt: &HostRuntime, job: &Job<'_>, is_verbose: bool) -> u8 {
-    let (end, cause) = match serve_whole(rt, job) {
+fn serve_line(rt: &HostRuntime, job: &Job<'_>, is_verbose: bool, names: Option<&str>) -> u8 {
+    let (end, cause) = match serve_named(rt, job, names) {
         Ok(end) => (end, Cause::Unknown),
         Err(Refusal { fault, cause }) => {
             let _reported = fault.tell(&mut errors_of(rt));
@@ -539,7 +563,13 @@ fn refuse(rt: &HostRuntime, fault: &JobFault) -> Result<u8, Fault> {
 // Does what words request, and gives the status.
 fn work_by(rt: &HostRuntime, words: &[String]) -> Result<u8, Fault> {
     match command_line(rt.alloc(), words) {
-        Ok(CommandLine { job, is_verbose }) => Ok(serve_line(rt, &job, is_verbose)),
+        Ok(
+            CommandLine {
+                job,
+                is_verbose,
+                names,
+            },
+        ) => Ok(serve_line(rt, &job, is_verbose, names)),
         Err(fault) => refuse(rt, &fault),
     }
 }

@@ -1,7 +1,9 @@
 // The commands that only read an image, as queries about it.
 use crate::cause::Refusal;
+use crate::json::format_of;
 use crate::making::create;
 use crate::{End, Streams};
+use command_line::Reach;
 use description::Sizes;
 use device::Device;
 use image_builder::{NewLayout, OldImage};
@@ -70,24 +72,18 @@ pub(crate) fn drawing(from: Option<u64>, purpose: Purpose, to: Option<u64>) -> Q
 
 /// The query of `reach`: which processes can change, or read, the object of `--to`, or else a chain to that of
 /// `--shows`.
-pub(crate) fn reaching<'a>(
-    processes: &'a [u64],
-    purpose: Purpose,
-    trusted: &'a [u64],
-    shows: Option<u64>,
-    to: Option<u64>,
-    format: Format,
-) -> Query<'a> {
-    let question = match (to, shows) {
+pub(crate) fn reaching<'a>(reach: &'a Reach<'_>) -> Query<'a> {
+    let purpose = purpose_of(reach.reads);
+    let question = match (reach.to, reach.shows) {
         (Some(object), _) => ReachQuestion::Changers(purpose, object),
         (None, Some(object)) => ReachQuestion::Chain(purpose, object),
         (None, None) => ReachQuestion::Set(purpose),
     };
     Query::Reach {
-        processes,
-        trusted,
+        processes: reach.processes.as_slice(),
+        trusted: reach.trusted.as_slice(),
         question,
-        format,
+        format: format_of(reach.json),
     }
 }
 

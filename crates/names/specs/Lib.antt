@@ -1,0 +1,5 @@
+pub mod Table
+pub mod Texts
+pub mod Entries
+pub mod Refused
+pub mod Output

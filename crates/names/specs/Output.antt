@@ -1,0 +1,44 @@
+-- A writer that puts names behind numbers.
+use Rattle.std.specs.Prelude.{◌+◌, ◌-◌, ◌==◌, ◌++◌, ℕ, Bool, List, None, Option, Some, drop, length, not, take}
+use Rattle.std.specs.List.{suffix_len}
+use Rattle.names.specs.Entries.{entries}
+use Rattle.names.specs.Texts.{named_text}
+use Rattle.names.specs.declared.lines.NamedLines.{NamedLines}
+use Rattle.names.specs.declared.output.NamedOutput.{NamedOutput}
+use Rattle.script.specs.Writing.{Written}
+
+abbrev pub is_in_line : ℕ → Bool
+is_in_line b = not (b == 10)
+
+-- where the whole lines of a text end
+abbrev pub lines_end : List ℕ → ℕ
+lines_end text = length text - suffix_len is_in_line text
+
+-- the whole lines of a text, with names; and the rest of it
+abbrev pub named_lines : NamedLines → List ℕ → List ℕ
+named_lines l text = named_text l.kinds.now (entries l.names) (take (lines_end text) text)
+
+abbrev pub rest_of_lines : List ℕ → List ℕ
+rest_of_lines text = drop (lines_end text) text
+
+-- What was written. With names, what was taken isn't what the writer beneath took, so it isn't known.
+abbrev pub written_above : Option NamedLines → ℕ → Written → Written
+written_above None own beneath = beneath
+written_above (Some l) own beneath = record { contents = None; failures = beneath.failures + own }
+
+abbrev pub waiting_above : Option NamedLines → List ℕ → List ℕ
+waiting_above None beneath = beneath
+waiting_above (Some l) beneath = beneath ++ l.line.items
+
+abbrev pub written_by : {W : Type 0} → (W → Written) → NamedOutput W → Written
+written_by written o = written_above o.lines o.failures.number (written o.inner)
+
+abbrev pub waiting_by : {W : Type 0} → (W → List ℕ) → NamedOutput W → List ℕ
+waiting_by waiting o = waiting_above o.lines (waiting o.inner)
+
+-- the writer beneath, and what names lines
+abbrev pub inner_output : {W : Type 0} → NamedOutput W → W
+inner_output o = o.inner
+
+abbrev pub lines_in : {W : Type 0} → NamedOutput W → Option NamedLines
+lines_in o = o.lines

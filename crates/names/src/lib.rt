@@ -1,0 +1,14 @@
+//! Names that a person gives to the objects of an image: a table from numbers to names, and texts with the names.
+#![tactic(auto)]
+
+mod lines;
+mod name;
+mod naming;
+mod output;
+mod table;
+
+pub use lines::NamedLines;
+pub use name::{Name, is_name};
+pub use naming::{DRAWN, TOLD, name_objects};
+pub use output::NamedOutput;
+pub use table::{Names, NamesFault};

@@ -1,0 +1,77 @@
+// Lines with names.
+ghost use Rattle.std.specs.Prelude.{◌≡◌, ◌++◌, ◌≤◌, [], IfOk, OnOk, length};
+ghost use Rattle.names.specs.Entries.{entries};
+ghost use Rattle.names.specs.Output.{lines_end, named_lines, rest_of_lines};
+ghost use Rattle.names.specs.Texts.{named_text};
+
+use crate::naming::name_objects;
+use crate::table::Names;
+use std::alloc::{AllocError, Global};
+
+/// Puts the name of each object behind its number, in lines that come in parts.
+#[derive(Drop)]
+pub struct NamedLines {
+    names: Names,
+    // The words before the number of an object.
+    kinds: &'static [&'static [u8]],
+    // What came of a line that isn't whole.
+    line: Vec<u8>,
+    alloc: Global,
+}
+
+// Where the whole lines of a text end.
+#[tactic(auto, using(crate::proofs::Suffixes::one_in_line, crate::proofs::Suffixes::no_more_in_line, crate::proofs::Suffixes::none_left))]
+fn lines_end(text: &[u8]) -> usize
+    ensures end { result ≡ lines_end text.now }
+    ensures within { result ≤ length text.now }
+{
+    let mut end = text.len();
+    while end > 0 && text[end - 1] != b'\n' {
+        end -= 1;
+    }
+    end
+}
+
+impl NamedLines {
+    /// No line has begun. A number is that of an object behind one of the words `kinds`.
+    pub fn new(alloc: Global, names: Names, kinds: &'static [&'static [u8]]) -> NamedLines
+        ensures names { result.names ≡ names }
+        ensures kinds { result.kinds.now ≡ kinds.now }
+        ensures line { result.line.items ≡ [] }
+    {
+        NamedLines {
+            names,
+            kinds,
+            line: Vec::new(alloc),
+            alloc,
+        }
+    }
+
+    /// Takes a text, and returns the lines that are whole, with names. Fails only if memory runs out.
+    pub(crate) fn take(&mut self, text: &[u8]) -> Result<Vec<u8>, AllocError>
+        ensures lines { IfOk result (λ named. named.items ≡ named_lines self.old (self.old.line.items ++ text.now)) }
+        ensures rest { OnOk result (self.new.line.items ≡ rest_of_lines (self.old.line.items ++ text.now)) }
+        ensures names { self.new.names ≡ self.old.names }
+        ensures kinds { self.new.kinds ≡ self.old.kinds }
+    {
+        self.line.extend_from_slice(text)?;
+        let (whole, rest) = self.line.as_slice().split_at(lines_end(&self.line));
+        let named = name_objects(self.alloc, &self.names, self.kinds, whole)?;
+        let rest = Vec::from_slice(self.alloc, rest)?;
+        self.line = rest;
+        Ok(named)
+    }
+
+    /// Returns the line that isn't whole, with names. Fails only if memory runs out.
+    pub(crate) fn end(&mut self) -> Result<Vec<u8>, AllocError>
+        ensures named { IfOk result (λ named. named.items
+            ≡ named_text self.old.kinds.now (entries self.old.names) self.old.line.items) }
+        ensures line { OnOk result (self.new.line.items ≡ []) }
+        ensures names { self.new.names ≡ self.old.names }
+        ensures kinds { self.new.kinds ≡ self.old.kinds }
+    {
+        let named = name_objects(self.alloc, &self.names, self.kinds, &self.line)?;
+        self.line.clear();
+        Ok(named)
+    }
+}

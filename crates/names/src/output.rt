@@ -1,0 +1,74 @@
+// A writer that puts names behind numbers.
+ghost use Rattle.std.specs.Prelude.{◌≡◌, ◌++◌, [], None, OnOk, Option, Some};
+ghost use Rattle.names.specs.Output.{inner_output, lines_in, named_lines, waiting_by, written_by};
+ghost use Rattle.names.specs.declared.lines.NamedLines.{NamedLines};
+ghost use Rattle.script.specs.Writing.{Writes};
+
+use crate::lines::NamedLines;
+use collections::Tally;
+use script::{Output, RunFault};
+
+/// A writer that puts the name of each object behind its number, line by line. Without names it passes all on as it is.
+#[derive(Drop)]
+pub struct NamedOutput<W> {
+    inner: W,
+    lines: Option<NamedLines>,
+    // How many calls failed for want of memory, and not beneath.
+    failures: Tally,
+}
+
+impl<W: Output> NamedOutput<W> {
+    /// Writes to `inner`. No call has failed yet.
+    pub fn new(inner: W, lines: Option<NamedLines>) -> NamedOutput<W>
+        ensures inner { inner_output result ≡ inner }
+        ensures lines { lines_in result ≡ lines }
+    {
+        NamedOutput {
+            inner,
+            lines,
+            failures: Tally::new(),
+        }
+    }
+}
+
+impl<W: Output> Output for NamedOutput<W> {
+    ghost written = { written_by W.written };
+
+    ghost waiting = { waiting_by W.waiting };
+
+    fn write_fully(&mut self, text: &[u8]) -> Result<(), RunFault>
+        ensures written { Writes (written_by W.written self.old) (written_by W.written self.new) result text.now }
+        ensures plain { lines_in self.old ≡ None
+            → Writes (W.written (inner_output self.old)) (W.written (inner_output self.new)) result text.now }
+        ensures named { (l : NamedLines) → lines_in self.old ≡ Some l
+            → OnOk result (Writes (W.written (inner_output self.old)) (W.written (inner_output self.new)) result
+            (named_lines l (l.line.items ++ text.now))) }
+    {
+        match &mut self.lines {
+            None => self.inner.write_fully(text),
+            Some(lines) => match lines.take(text) {
+                Ok(named) => self.inner.write_fully(&named),
+                Err(_) => {
+                    self.failures = self.failures.next();
+                    Err(RunFault::Write)
+                }
+            },
+        }
+    }
+
+    fn pass_on(&mut self) -> Result<(), RunFault> {
+        match &mut self.lines {
+            None => self.inner.pass_on(),
+            Some(lines) => match lines.end() {
+                Ok(named) => {
+                    self.inner.write_fully(&named)?;
+                    self.inner.pass_on()
+                }
+                Err(_) => {
+                    self.failures = self.failures.next();
+                    Err(RunFault::Write)
+                }
+            },
+        }
+    }
+}

@@ -1,0 +1,118 @@
+// The names that a person gives to the objects of an image.
+use crate::cause::tell_line;
+use command_line::Job;
+use names::{DRAWN, NamedLines, Names, NamesFault, TOLD};
+use std::fs;
+use toml::Table;
+
+/// Why a file has no names.
+#[derive(Clone, Copy)]
+pub(crate) enum NoNames {
+    NoMemory,
+    /// What is wrong was written.
+    Told,
+}
+
+/// What names the lines of a command's output, and of its trace.
+#[derive(Drop)]
+pub(crate) struct Naming {
+    pub(crate) output: Option<NamedLines>,
+    pub(crate) trace: Option<NamedLines>,
+}
+
+// What a key isn't.
+const NOT_NAME: &str = "a name has letters, digits, _ and -, and begins with a letter";
+
+// Writes what is wrong with a file of names.
+fn tell(rt: &HostRuntime, file: &str, why: &str) -> NoNames {
+    tell_line(rt, file, why);
+    NoNames::Told
+}
+
+// Writes what is wrong with a key there.
+fn tell_key(rt: &HostRuntime, file: &str, key: &str, why: &str) -> NoNames {
+    let _reported = eprintln!(rt; "eros: {file}: {key}: {why}");
+    NoNames::Told
+}
+
+// The table in a file.
+fn table_in(rt: &HostRuntime, file: &str) -> Result<Table, NoNames> {
+    let bytes = match fs::read(rt, file) {
+        Ok(bytes) => bytes,
+        Err(error) => {
+            tell_line(rt, file, error);
+            return Err(NoNames::Told);
+        }
+    };
+    let Ok(text) = str::from_utf8(&bytes) else {
+        return Err(tell(rt, file, "not a text in UTF-8"));
+    };
+    match toml::table_from_str(rt.alloc(), text) {
+        Ok(table) => Ok(table),
+        Err(error) if error.is_memory() => Err(NoNames::NoMemory),
+        Err(error) => Err(tell(rt, file, error.message())),
+    }
+}
+
+// The names of the table in a file.
+fn names_of(rt: &HostRuntime, file: &str, table: &Table) -> Result<Names, NoNames> {
+    match Names::read(rt.alloc(), table) {
+        Ok(names) => Ok(names),
+        Err(NamesFault::NoMemory) => Err(NoNames::NoMemory),
+        Err(NamesFault::NotName(key)) => Err(tell_key(rt, file, key, NOT_NAME)),
+        Err(NamesFault::NotNumber(key)) => Err(tell_key(rt, file, key, "its value isn't a number")),
+        Err(NamesFault::Twice(key)) => Err(tell_key(rt, file, key, "its number has another name")),
+    }
+}
+
+// The words before the number of an object in what a job prints.
+fn kinds_of(job: &Job<'_>) -> &'static [&'static [u8]] {
+    match job {
+        Job::Draw { .. } => DRAWN,
+        _ => TOLD,
+    }
+}
+
+// What names lines by a table.
+fn lines_by(
+    rt: &HostRuntime,
+    job: &Job<'_>,
+    file: &str,
+    table: &Table,
+) -> Result<NamedLines, NoNames> {
+    match names_of(rt, file, table) {
+        Ok(names) => Ok(NamedLines::new(rt.alloc(), names, kinds_of(job))),
+        Err(why) => Err(why),
+    }
+}
+
+/// What names the lines of a job, by the file of names that it is given, if any. JSON stays as it is.
+pub(crate) fn naming_of(
+    rt: &HostRuntime,
+    job: &Job<'_>,
+    is_json: bool,
+    file: Option<&str>,
+) -> Result<Naming, NoNames> {
+    let Some(file) = file else {
+        return Ok(Naming {
+            output: None,
+            trace: None,
+        });
+    };
+    let table = match table_in(rt, file) {
+        Ok(table) => table,
+        Err(why) => return Err(why),
+    };
+    let output = lines_by(rt, job, file, &table)?;
+    let trace = lines_by(rt, job, file, &table)?;
+    if is_json {
+        return Ok(Naming {
+            output: None,
+            trace: None,
+        });
+    }
+    Ok(Naming {
+        output: Some(output),
+        trace: Some(trace),
+    })
+}
