@@ -31,7 +31,7 @@ some_words a o s is room = grind (arith, nat_tests)
 some_slots : (a : Kind) (o : Option (List ℕ)) (s : Option (List Cap)) → slots_are_of a ≡ true → HasRoom a o s → IsSome s
 some_slots a o s is room = grind (arith, nat_tests)
 
--- a body is another one
+-- a body has changed
 pub record Puts (ks : List Kind) (ps : List (Option (List ℕ))) (ns : List (Option (List Cap))) (after : List (Content Cap)) : Type 0 where
   pub are : AreBodies ks ps ns
   pub contents : contents_in ks ps ns ≡ after
@@ -179,7 +179,7 @@ module _ {ks : List Kind} {ps : List (Option (List ℕ))} {ns : List (Option (Li
     pub root_seen : (change : Root Cap → Root Cap) → contents_in (set ks k (kind_with_root change b)) ps ns ≡ set v k (with_root_in change (held_at v k))
     root_seen change = (root_put change).contents
 
-    -- the slots of a body are others
+    -- the slots of a body have changed
     slots_put : slots_are_of b ≡ true → (s t : List Cap) → item_at ns k ≡ Some s → (change : Content Cap → Content Cap) →
         ((a : Kind) → slots_are_of a ≡ true → change (content_in a (item_at ps k) (Some s)) ≡ content_in a (item_at ps k) (Some t)) →
         Puts ks ps (set ns k (Some t)) (set v k (change (held_at v k)))

@@ -24,7 +24,7 @@ module _ {uses stamps : List ℕ} (are : AreStamped uses stamps) {us : List ℕ}
   pub number_known : n < length stamps
   number_known = are.known n was_used
 
-  -- and is used again behind it, if its stamp is there
+  -- and is used again after it, if its stamp is there
   pub used_behind : (j : ℕ) → j ≡ get_or stamps n j → i < j → is_member (drop (i + 1) us) (get_or us i 0) ≡ true
   used_behind j stamp after =
       let stamp_is : j ≡ get_or stamps n 0 = stamp ∙ get_or_default stamps n j 0 number_known in

@@ -55,7 +55,7 @@ module _ {ns : List (Option (List Cap))} {ends : List ℕ} (are : AreEnds ns end
   pub all_cleared : (k : ℕ) → k < length ns → AreEnds (set ns k (Some (replicate 32 void_held))) (set ends k 0)
   all_cleared k below = ends_put k 0 (replicate 32 void_held) below (void_from_start (replicate 32 void_held) refl)
 
-  -- one slot is set, and no other behind the new end
+  -- one slot is set, and no other after the new end
   pub one_put : (k i e : ℕ) (c : Cap) → IsSome (item_at ns k) → i < 32 → get_or ends k 0 ≤ e → i < e → e ≤ 32 →
       AreEnds (set ns k (Some (set (slots_at ns k) i c))) (set ends k e)
   one_put k i e c there within old new few =

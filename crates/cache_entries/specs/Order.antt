@@ -143,7 +143,7 @@ pub record AreOrdered (s : EntriesState) : Type 0 where
   pub few : length s.order ≤ s.most
   pub least : 8 ≤ s.most
 
--- the entry of a number is another one
+-- the entry of a number has changed
 abbrev pub with_entry_of : (Entry → Entry) → ℕ → EntriesState → EntriesState
 with_entry_of change n s = record { at = with_entry change n s.at; order = s.order; most = s.most }
 

@@ -11,7 +11,7 @@ use Rattle.description.specs.declared.flaw.Part.TheVariants as part
 use Rattle.description.specs.declared.flaw.SlotFlaw.TheVariants as slot
 use Rattle.description.proofs.Lists.{all_got, contains_cases, contains_here, contains_none, contains_there}
 
--- one more number that is another
+-- one more number, which differs
 pub one_more_other : (ns : List ℕ) (i n : ℕ) → i < length ns → (Contains (take i ns) n → ⊥) → (slice_index ns i ≢ n) → Contains (take (i + 1) ns) n → ⊥
 one_more_other ns i n within none other there =
     elim (Contains-append_cases (take i ns) (slice_index ns i ∷ []) n (subst (λ (ms : List ℕ). Contains ms n) (take_more ns i 0 within) there)) [

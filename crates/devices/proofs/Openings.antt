@@ -57,7 +57,7 @@ module _ (byte : ℕ) (a b : Calls) (old part : List ℕ) (done k : ℕ) (within
   pub fits_within : (n : ℕ) → n ≤ length part → done + n ≤ length (put_mid done k old part)
   fits_within n fits = grind (arith, nat_tests, size, length-append)
 
-  -- a call got n bytes behind the first ones of a buffer
+  -- a call got n bytes after the first ones of a buffer
   pub gets_on : (c : Calls) (n : ℕ) → n ≤ length part → Adds b c (got (byte + done) (take n part) ∷ [])
       → GetsFrom byte a c (take (done + n) (put_mid done k old part))
   gets_on c n fits adds =
@@ -76,7 +76,7 @@ module _ (byte : ℕ) (a b : Calls) (old part : List ℕ) (done k : ℕ) (within
   pub gets_still : GetsFrom byte a b (take done (put_mid done k old part))
   gets_still = subst (GetsFrom byte a b) (sym (take-put_mid_below done k old part done (omega arith) within)) gets
 
--- sectors were got behind the first ones of a copy, up to a byte or all that it has
+-- sectors were got after the first ones of a copy, up to a byte or all that it has
 pub sectors_on : (a b c : Calls) (old new part : List ℕ) (at byte next : ℕ) → byte ≡ 512 * at → length new ≡ length old → length part % 512 ≡ 0
     → 512 * at ≤ length old → byte + length part ≡ min next (length old)
     → AreSectors (image_of new) at part → Elsewhere at (sectors_of part) (image_of old) (image_of new)

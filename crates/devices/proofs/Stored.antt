@@ -9,7 +9,7 @@ unfoldable use Rattle.devices.specs.SectorCopy.{bytes_in}
 abbrev pub Stored : Type 0
 Stored = List (Option (List ℕ))
 
--- the sectors behind the first
+-- the sectors after the first
 rest_whole : (x : Option (List ℕ)) (xs : Stored) → AreWhole (x ∷ xs) → AreWhole xs
 rest_whole x xs whole k = whole (suc k)
 

@@ -15,7 +15,7 @@ calls_left fuse = fuse.left
 abbrev pub IsBlown : {D : Type 0} → Fuse D → Type 0
 IsBlown fuse = calls_left fuse ≡ Some 0
 
--- A blown fuse fails and leaves the device beneath alone. Any other fails only where that device does.
+-- A blown fuse fails and leaves the device beneath alone. One that isn't blown fails only if that device does.
 pub record Passes {D T E : Type 0} (disk : D → Disk) (old new : Fuse D) (result : Result T E) : Type 0 where
   pub blown : IsBlown old → IsErr result
   pub spared : IsBlown old → beneath new ≡ beneath old

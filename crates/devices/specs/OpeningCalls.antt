@@ -39,7 +39,7 @@ resizes (listed path ∷ calls) = resizes calls
 abbrev pub KeepsLength : Option (List OpeningCall) → Option (List OpeningCall) → Type 0
 KeepsLength old new = option_map resizes new ≡ option_map resizes old
 
--- reads that give these pieces, one behind the other, from a byte on
+-- reads that give these pieces, one after the other, from a byte on
 abbrev pub reads : ℕ → List (List ℕ) → List OpeningCall
 reads byte [] = []
 reads byte (piece ∷ pieces) = got byte piece ∷ reads (byte + length piece) pieces

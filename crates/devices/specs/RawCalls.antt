@@ -23,7 +23,7 @@ pub data Deed : Type 0 where
   fails_sync : Deed  -- a sync fails
   cuts : Deed  -- the power is cut
 
--- pieces are taken one behind the other from a byte on
+-- pieces are taken one after the other from a byte on
 abbrev pub taken : ℕ → List (List ℕ) → List Call
 taken byte [] = []
 taken byte (piece ∷ pieces) = took byte piece ∷ taken (byte + length piece) pieces

@@ -7,7 +7,7 @@ abbrev pub bytes_of : Option (List ℕ) → List ℕ
 bytes_of None = replicate 512 0
 bytes_of (Some bytes) = bytes
 
--- the bytes of all sectors, one sector behind the other
+-- the bytes of all sectors, one sector after the other
 unfoldable pub bytes_in : List (Option (List ℕ)) → List ℕ
 bytes_in stored = concat (map bytes_of stored)
 

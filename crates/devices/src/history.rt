@@ -23,7 +23,7 @@ impl Model for History {
 /// What happens to a file.
 #[derive(Clone, Copy, Drop)]
 pub(crate) enum Step<'a> {
-    /// The file was found to hold these bytes behind those known.
+    /// The file was found to hold these bytes after those known.
     Held { bytes: &'a [u8] },
     /// These sectors are written from `at` on.
     Wrote { at: u64, bytes: &'a [u8] },

@@ -102,7 +102,7 @@ impl Device for Memory {
         Ok(())
     }
 
-    /// It fails exactly where the record takes fewer entries than there are sectors in `from`, and
+    /// It fails exactly if the record takes fewer entries than there are sectors in `from`, and
     /// writes nothing then.
     fn write(&mut self, at: u64, from: &[u8]) -> Result<(), Failed>
         requires whole { length from.now % 512 ≡ 0 }
@@ -127,7 +127,7 @@ impl Device for Memory {
         Ok(())
     }
 
-    /// It fails exactly where the record takes no more entries.
+    /// It fails exactly if the record takes no more entries.
     fn sync(&mut self) -> Result<(), Failed>
         ensures full { IsErr result ↔ (capacity_left self.old ≡ 0) }
         ensures past { OnOk result (memory_past self.new ≡ memory_past self.old ++ synced ∷ []) }

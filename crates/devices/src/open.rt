@@ -228,7 +228,7 @@ fn open_locked<F: Openable>(
 
 impl<F: Openable> CopiedFile<HostFile<F>> {
     /// The device in the file at `path`, which has to be there. Its sectors are the whole ones of
-    /// the file; the bytes behind the last sector stay. The file is locked and synced before it
+    /// the file; the bytes after the last sector stay. The file is locked and synced before it
     /// is read, so what a read of the device gives at first is durable. Until the device is dropped no other is open
     /// in the file.
     ///

@@ -10,7 +10,7 @@ use device::SECTOR_SIZE;
 use std::alloc::{AllocError, Global};
 use std::marker::Model;
 
-/// The bytes of sectors, one sector behind the other.
+/// The bytes of sectors, one sector after the other.
 ///
 /// All memory is reserved when it is made, so no later call lacks memory. The system gives memory
 /// for a sector when bytes other than zeros are first put there.

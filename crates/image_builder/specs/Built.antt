@@ -5,7 +5,7 @@ use Rattle.image_builder.specs.Names.{EndInZeros, IsAccepted, [], plan_for}
 use Rattle.std.specs.Prelude.{◌≡◌, ◌⊎◌, if◌then◌else◌}
 
 -- an image of a description is built over what a device held: it has the described frames, which stand for a sound
--- world, at the described age, and one checkpoint of generation 0 with nothing in the log, and zeros behind the frames
+-- world, at the described age, and one checkpoint of generation 0 with nothing in the log, and zeros after the frames
 -- of each cluster; a crash leaves the same
 pub record Builds (d : Description) (old new : Disk) : Type 0 where
   pub accepted : IsAccepted d old.sectors

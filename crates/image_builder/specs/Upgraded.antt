@@ -33,7 +33,7 @@ upgraded l s = record {
   frames = s.frames;
 }
 
--- what an old device saves, which stands for a sound world, is written over what a new one held, and zeros behind the
+-- what an old device saves, which stands for a sound world, is written over what a new one held, and zeros after the
 -- frames of each cluster; a crash leaves the same
 pub record Upgrades (l : NewLayout) (old before new : Disk) : Type 0 where
   pub state : SavedState
@@ -104,7 +104,7 @@ abbrev pub IsLeftUpgrading : Disk → Disk → Image → Type 0
 IsLeftUpgrading old before c = (saved : SavedFrames) → Holds before.sectors c saved →
     ((d : Image) × before.may_leave d × Holds before.sectors d saved) ⊎ Holds old.sectors old.seen saved
 
--- A device was only read between two states: nothing was written to it at any moment. A call of it failed exactly where
+-- A device was only read between two states: nothing was written to it at any moment. A call of it failed exactly if
 -- failure_told holds.
 pub record IsOnlyRead (old new : Disk) (failure_reported : Type 0) : Type 0 where
   pub only_reads : OnlyReads old new

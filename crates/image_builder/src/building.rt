@@ -31,8 +31,8 @@ pub fn sectors_needed(alloc: Global, table: &Table) -> Result<u64, BuildFault>
 /// Builds the image of a table's description over whatever a device holds: the described frames,
 /// the numbers that aren't named free, at the described age, with one committed checkpoint of
 /// generation 0 and nothing in the log. The home ranges lie from sector 5 on in their order, and
-/// the two halves of the log behind them. From `Ok` on a read gives that image, each crash leaves
-/// it, and its frames stand for a sound world. Sectors behind it hold what they held.
+/// the two halves of the log after them. From `Ok` on a read gives that image, each crash leaves
+/// it, and its frames stand for a sound world. Sectors after it hold what they held.
 ///
 /// It answers the least of the faults that hold: `Shape` where the table isn't that of a
 /// description; `Limits` where no image has that many objects or slots, such ranges, such an age or
@@ -40,7 +40,7 @@ pub fn sectors_needed(alloc: Global, table: &Table) -> Result<u64, BuildFault>
 /// twice; `Field` where a field is bad; `Target` where a capability names an object of another kind,
 /// or resumes a process that doesn't wait; `Owner` where the banks aren't a tree that owns all
 /// objects within their limits; `Small` where the device has fewer sectors than `sectors_needed`
-/// says; `Failed` exactly where the device failed; and `NoMemory` where memory ran out.
+/// says; `Failed` exactly if the device failed; and `NoMemory` where memory ran out.
 ///
 /// The device is as it was, but after `Failed`: then the image's sectors may hold any bytes.
 ///

@@ -16,7 +16,7 @@ pub enum NewLayout {
 
 impl NewLayout {
     /// Lays out the new image, with the objects and home ranges of the old one: the ranges lie from sector 5 on
-    /// in their order, and the two halves of the log behind them.
+    /// in their order, and the two halves of the log after them.
     pub(crate) fn lay_out(self, old: &Superblock) -> Superblock
         ensures { result ≡ new_plan self old.now }
     {

@@ -33,7 +33,7 @@ use std::marker::{Model, PhantomData};
 /// How many sectors a device needs for what the image on another saves, in a new layout. It reads the
 /// superblock alone.
 ///
-/// `Failed` exactly where the device failed, and else the least of the reasons 1 to 3 to refuse an
+/// `Failed` exactly if the device failed, and else the least of the reasons 1 to 3 to refuse an
 /// image. It takes no memory.
 pub fn upgraded_sectors<D: Device>(device: &mut D, layout: NewLayout) -> Result<u64, OpenFault>
     ensures reported { IfOk result (λ sectors. (p : Plan)
@@ -165,7 +165,7 @@ impl<D: Device, S: WholeStore<D>> Model for OldImage<D, S> {
 impl<D: ClosableDevice, S: WholeStore<D>> OldImage<D, S> {
     /// Opens an old device as a kernel does, and reads its image whole.
     ///
-    /// `Old` exactly where a kernel doesn't open the device, with its reason, but for want of
+    /// `Old` exactly if a kernel doesn't open the device, with its reason, but for want of
     /// memory, and `NoMemory` where memory ran out; no other fault comes. A refusal closes the
     /// device, which was only read.
     pub fn open(alloc: Global, old: D, setting: S::Setting) -> Result<OldImage<D, S>, UpgradeFault>
@@ -260,9 +260,9 @@ pub fn upgrade_and_count<D: ClosableDevice, E: Device, S: WholeStore<D>>(
 /// same home ranges from sector 5 on, and the slots of the log in order. From `Ok` on a read of the new
 /// device gives that, and so does each crash. An old image of the version to be written is taken too.
 ///
-/// `Old` exactly where a kernel doesn't open the old device, with its reason, but for want of memory;
+/// `Old` exactly if a kernel doesn't open the old device, with its reason, but for want of memory;
 /// `Small` where the new device has fewer sectors than `upgraded_sectors` says of the old one;
-/// `Failed` exactly where the new device failed; and `NoMemory` where memory ran out. The new device
+/// `Failed` exactly if the new device failed; and `NoMemory` where memory ran out. The new device
 /// is as it was, but after `Failed`: then the image's sectors may hold any bytes.
 ///
 /// A crash of the new device at any moment leaves the image that it could have left before; or

@@ -52,7 +52,7 @@ pub chain_only : (ps : List Pair) (keys : List (List ℕ)) (old new : Members) �
 chain_only [] keys old new chain known all = subst (λ (ms : Members). IsTrue (has_only keys ms)) (sym chain) all
 chain_only (p ∷ ps) keys old new chain known all = chain_only ps keys _ new chain.2 (right _ _ known) (chain.1.only keys (left _ _ known) all)
 
--- a chain behind a chain
+-- a chain after a chain
 pub chain_append : (ps qs : List Pair) (old mid new : Members) → Chain ps old mid → Chain qs mid new → Chain (ps ++ qs) old new
 chain_append [] qs old mid new one other = subst (λ (ms : Members). Chain qs ms new) one other
 chain_append (p ∷ ps) qs old mid new one other = (one.0, one.1, chain_append ps qs one.0 mid new one.2 other)

@@ -7,7 +7,7 @@ use Rattle.std.proofs.lemmas.List.{append-nil}
 use Rattle.image_describer.proofs.Rising.{rising_distinct, rising_more}
 
 module _ {E V : Type 0} (index : E → ℕ) (value : E → V) (default : V) where
-  -- an entry behind others names nothing else
+  -- an entry after others names nothing else
   first_before : (es : List E) (e : E) (i : ℕ) → index e ≢ i → first_named index value default (es ++ e ∷ []) i ≡ first_named index value default es i
   first_before [] e i differ = first_beyond index value default e [] i differ
   first_before (f ∷ es) e i differ = grind (arith, nat_tests, first_before es e i differ, first_there, first_beyond)

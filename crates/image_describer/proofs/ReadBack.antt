@@ -35,7 +35,7 @@ parsed es text n s is printed ran =
     let read = read_lines false false es text text (no_nodes, []) (suc (length text)) is printed refl (omega arith) in
     document_some text (n, s) (rw (no_skip text (not_bom false es text is printed)) (read ∙ ran))
 
--- parts of a text, one behind the other
+-- parts of a text, one after the other
 joined : (a b c d e : List ℕ) → a ++ (b ++ (c ++ (d ++ (e ++ [])))) ≡ a ++ b ++ c ++ d ++ e
 joined a b c d e = ap (λ (t : List ℕ). a ++ (b ++ (c ++ (d ++ t)))) (append-nil e) ∙ sym (append_assoc _ d e ∙ append_assoc _ c _ ∙ append_assoc a b _)
 

@@ -52,7 +52,7 @@ field_line (key, Some value) = line_of (key ++ codes " = " ++ value)
 abbrev pub field_lines : List Field → List ℕ
 field_lines fields = flat_map field_line fields
 
--- the line that begins an object, behind an empty one
+-- the line that begins an object, after an empty one
 abbrev pub begin_line : List ℕ → List ℕ
 begin_line name = codes "\n[[" ++ name ++ codes "]]\n"
 
@@ -126,7 +126,7 @@ image_fields d =
     ∷ (codes "layout", number_unless 1 d.layout) ∷ (codes "age", number_unless 0 d.age)
     ∷ (codes "ranges", unless (are_whole d.geometry d.ranges.items) (list_text range_text d.ranges.items)) ∷ []
 
--- the keys of the image, and behind them its objects
+-- the keys of the image, and after them its objects
 unfoldable pub description_text : Description → List ℕ
 description_text d = field_lines (image_fields d) ++ flat_map bank_text d.banks.items ++ flat_map process_text
     d.processes.items

@@ -16,7 +16,7 @@ use layout::Version;
 use model::Refusal;
 use std::alloc::Global;
 
-// Describes all objects of a kind, in order. It is `Fault` exactly where the device failed; so is
+// Describes all objects of a kind, in order. It is `Fault` exactly if the device failed; so is
 // the one below.
 fn tell_all<F: Frames, E: DescribedEntry>(
     alloc: Global,
@@ -61,7 +61,7 @@ fn tell_objects<F: Frames>(
 /// no slot that is void or stale, and no word that is 0. An image built from it has the same
 /// objects, with counts of 0.
 ///
-/// `NoMemory` where memory ran out, and `Fault` exactly where the device failed. No object changes.
+/// `NoMemory` where memory ran out, and `Fault` exactly if the device failed. No object changes.
 pub fn describe<F: Frames>(
     alloc: Global,
     store: &mut F,

@@ -9,7 +9,7 @@ use crate::values::{Item, put_capability, put_items, put_wide, state_word};
 use model::{Capability, State};
 use std::alloc::AllocError;
 
-/// Writes the line that begins an object, behind an empty one.
+/// Writes the line that begins an object, after an empty one.
 pub(crate) fn put_header(text: &mut String, name: &str) -> Result<(), AllocError>
     ensures { OnOk result (string_bytes text.new ≡ string_bytes text.old ++ begin_line name.now) }
 {

@@ -64,7 +64,7 @@ pub(crate) trait DescribedEntry: Drop {
     ghost kind: { Role };
 
     /// The entry for a number, or nothing where no object of this kind is there. It is `Fault`
-    /// exactly where the device failed.
+    /// exactly if the device failed.
     fn entry_of<F: Frames>(
         alloc: Global,
         store: &mut F,

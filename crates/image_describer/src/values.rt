@@ -109,7 +109,7 @@ pub(crate) trait Item {
         ensures { OnOk result (string_bytes text.new ≡ string_bytes text.old ++ text_of self.now) };
 }
 
-// Writes values of a list, each behind a comma.
+// Writes values of a list, each after a comma.
 fn put_others<T: Item>(text: &mut String, items: &[T]) -> Result<(), AllocError>
     requires { All T.MayBePut items.now }
     ensures { OnOk result (string_bytes text.new

@@ -8,7 +8,7 @@ use Rattle.image_drawer.proofs.Names.{plain_frames, unwrap_or, plain_at}
 use Rattle.std.proofs.Common.{◌≡◌, ◌≢◌, ◌<◌, ◌≤◌, ◌∷◌, ◌∙◌}
 use Rattle.model.specs.declared.object.Content.TheVariants as content
 
--- a capability behind its count
+-- a capability after its count
 abbrev pub what : Cap → Capability
 what c = c.what
 

@@ -19,7 +19,7 @@ boxes d = map (λ b. b.number) d.banks.items ++ map (λ p. p.root) d.processes.i
 abbrev pub joined : ℕ → ℕ → List (ℕ × ℕ)
 joined owner number = if owner == number then [] else (owner, number) ∷ []
 
--- what is owned by another, each behind its owner
+-- what is owned by another, each after its owner
 abbrev pub owners : Description → List (ℕ × ℕ)
 owners d = flat_map (λ b. joined b.owner b.number) d.banks.items ++ flat_map (λ p. joined p.owner p.root)
     d.processes.items

@@ -17,7 +17,7 @@ IsOnce (x ∷ xs) = (Contains xs x → ⊥) × IsOnce xs
 abbrev pub HasBox : List Object → ℕ → Type 0
 HasBox os n = (is_free (content_at os n) ≡ false) × (is_annex (content_at os n) ≡ false)
 
--- an owner and what it owns, which is another
+-- an owner and what it owns, which differ
 abbrev pub IsOwner : List Object → ℕ × ℕ → Type 0
 IsOwner os p = HasBox os p.1 × (owner_at os p.1 ≡ p.0) × (p.0 ≢ p.1)
 

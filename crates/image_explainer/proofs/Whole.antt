@@ -6,7 +6,7 @@ use Rattle.std.proofs.Common.{◌≡◌, ◌+◌, ◌-◌, ◌*◌, ◌/◌, ◌
 use Rattle.image_explainer.specs.declared.sectors.fault.SectorFault.TheVariants as fault
 use Rattle.image_explainer.proofs.Directories.{no_spelling}
 
--- the directory lies behind the last slot
+-- the directory lies after the last slot
 pub behind_slots : (p : Plan) (generation at : ℕ) → 1 ≤ p.geometry.log → at ≡ slot_sector p generation (p.geometry.log - 1) →
     at + 9 ≡ directory_sector p generation
 behind_slots p generation at some is = omega (arith, some, is)

@@ -41,7 +41,7 @@ pub record IsFirstMisnamed (fs : List Frame) (m : Misnamed) : Type 0 where
   pub here : (k : ℕ) → k < m.index → IsNamed fs (cap_at (caps_in (frame_at fs m.holder).content) k)
   pub before : (n : ℕ) → n < m.holder → All (IsNamed fs) (caps_in (frame_at fs n).content)
 
--- where a number is a root, its annex is one for it, and no root behind it has that
+-- where a number is a root, its annex is one for it, and no root after it has that
 abbrev pub IsMatched : List Frame → ℕ → Type 0
 IsMatched fs p = (a : ℕ) → IsRootOf fs p a → IsAnnexFor fs p a × ((q : ℕ) → p < q → IsRootOf fs q a → ⊥)
 
@@ -56,7 +56,7 @@ IsUnmatched fs (unmatched.Shared first second annex) = IsRootOf fs first annex �
     (first ≢ second)
 IsUnmatched fs (unmatched.Rootless annex) = (role_at fs annex ≡ role.Annex) × ((p : ℕ) → IsRootOf fs p annex → ⊥)
 
--- it is the first: roots come by number, and behind them annexes
+-- it is the first: roots come by number, and after them annexes
 abbrev pub IsFirstUnmatched : List Frame → Unmatched → Type 0
 IsFirstUnmatched fs (unmatched.Annex root annex) = (p : ℕ) → p < root → IsMatched fs p
 IsFirstUnmatched fs (unmatched.Shared first second annex) =

@@ -123,7 +123,7 @@ BreaksDirectory g es (entry.Order k object before) =
 BreaksDirectory g es (entry.Shared j k slot) = (j < k) × (k < length es) × ((entry_at es j).slot ≡ slot) ×
     ((entry_at es k).slot ≡ slot)
 
--- an entry is as it must be, and so it stands behind those before it
+-- an entry is as it must be, and so it stands after those before it
 pub record IsAmong (g : Geometry) (es : List Entry) (k : ℕ) : Type 0 where
   pub own : IsEntry g (entry_at es k)
   pub rises : 1 ≤ k → (entry_at es (k - 1)).object < (entry_at es k).object

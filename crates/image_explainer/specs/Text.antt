@@ -102,7 +102,7 @@ holder_text role.Root holder index = numbered (codes "process") holder ++ codes 
 holder_text role.Annex holder index = numbered (codes "annex") holder ++ codes ", register" ++ 32 ∷ decimal index
 holder_text _ holder index = numbered (codes "node") holder ++ codes ", slot" ++ 32 ∷ decimal index
 
--- what a capability is for
+-- the word for the kind of object that a capability names
 abbrev pub kind_text : Capability → List ℕ
 kind_text (cap.Page o a) = codes "page"
 kind_text (cap.Node o a) = codes "node"

@@ -86,7 +86,7 @@ fault_json (fault.Stopped stop) = text_object (codes "fault") (codes "stopped") 
 fault_json (fault.Sizes why) = text_object (codes "fault") (codes "not renumbered") []
 fault_json (fault.NotSaved why) = text_object (codes "fault") (codes "not saved") []
 
--- a run that was ended by its observer has a place where it was
+-- where a run stopped, if its observer ended it
 abbrev pub HasStop : Result (Result (Unit {0}) RunFault) OpenFault → Option Stop → Type 0
 HasStop (Ok (Err run.Stopped)) None = ⊥
 HasStop outcome stop = Unit {0}

@@ -39,7 +39,7 @@ member_text (member.Number k n) = named_value (key_text k) (decimal n)
 member_text (member.Capability k c) = named_value (key_text k) (quoted (capability_text c))
 member_text (member.No k) = named_value (key_text k) (codes "false")
 
--- a member behind another
+-- a member after another
 abbrev pub next_text : Member → List ℕ
 next_text m = codes ", " ++ member_text m
 
@@ -54,7 +54,7 @@ text_object name text rest = codes "{" ++ named_value name (quoted text) ++ rest
 abbrev pub number_object : List ℕ → ℕ → List Member → List ℕ
 number_object name n rest = codes "{" ++ named_value name (decimal n) ++ rest_text rest
 
--- a number behind its name: `closed 3`, or `{"closed": 3}`
+-- a number after its name: `closed 3`, or `{"closed": 3}`
 abbrev pub number_line : Format → List ℕ → ℕ → List ℕ
 number_line format.Text name n = spaced (name ∷ decimal n ∷ [])
 number_line format.Json name n = number_object name n []

@@ -109,7 +109,7 @@ pub fn number_object(name: &[u8], number: u64, rest: &[Member]) -> LineText
     add_rest(line, rest)
 }
 
-/// A number behind its name, in a format.
+/// A number after its name, in a format.
 pub fn number_line(format: Format, name: &[u8], number: u64) -> LineText
     requires { length name.now ≤ 20 }
     ensures text { result ≡ number_line format name.now number }

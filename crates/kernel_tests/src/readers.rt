@@ -15,7 +15,7 @@ const READ_SIZE: usize = 4096;
 const WIDTHS: [usize; 4] = [1, 7, 4095, 4096];
 
 // Gives some bytes, `width` at a time. If it interrupts, each piece comes after an interrupted read. If it fails, the
-// read behind the last piece fails. It keeps whether a read requested another number of bytes than `READ_SIZE`.
+// read after the last piece fails. It keeps whether a read requested another number of bytes than `READ_SIZE`.
 #[derive(Drop)]
 struct Pieces<'a> {
     rest: &'a [u8],

@@ -91,7 +91,7 @@ same_integer m n same = cc
 same_number : (key : List ℕ) (d : Data) (m n : Name) → IsNamed key d m → IsNamed key d n → m.number ≡ n.number
 same_number key d m n one other = same_integer m.number n.number (sym one.number ∙ other.number)
 
--- what the first member of the rest is named, and those behind it
+-- what the first member of the rest is named, and those after it
 record HasFirst (key : List ℕ) (d : Data) (rest : Members) (ns all : List Name) : Type 0 where
   first : Name
   more : List Name

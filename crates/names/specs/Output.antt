@@ -1,4 +1,4 @@
--- A writer that puts names behind numbers.
+-- A writer that puts names after numbers.
 use Rattle.std.specs.Prelude.{◌+◌, ◌-◌, ◌==◌, ◌++◌, ℕ, Bool, List, None, Option, Some, drop, length, not, take}
 use Rattle.std.specs.List.{suffix_len}
 use Rattle.names.specs.Entries.{entries}

@@ -18,22 +18,22 @@ abbrev pub begins_with_digit : List ℕ → Bool
 begins_with_digit [] = false
 begins_with_digit (b ∷ bs) = is_ascii_digit b
 
--- a name, as it stands behind its number
+-- a name, as it stands after its number
 abbrev pub suffix_of : Option (List ℕ) → List ℕ
 suffix_of None = []
 suffix_of (Some name) = codes " (" ++ name ++ codes ")"
 
--- what stands behind a text that another follows: the name of the object whose number ends there
+-- what stands after a text that another follows: the name of the object whose number ends there
 abbrev pub behind : List (Bor (List ℕ)) → List Name → List ℕ → List ℕ → List ℕ
 behind kinds names before after =
     if begins_with_digit after then []
     else if names_object kinds before then suffix_of (name_at names (drop (digits_start before) before))
     else []
 
--- a byte of a text with its index, and what stands behind it
+-- a byte of a text with its index, and what stands after it
 abbrev pub byte_and_name : List (Bor (List ℕ)) → List Name → List ℕ → ℕ × ℕ → List ℕ
 byte_and_name kinds names text b = b.1 ∷ behind kinds names (take (b.0 + 1) text) (drop (b.0 + 1) text)
 
--- a text with the name of each object behind its number; a number is that of an object behind one of the words `kinds`
+-- a text with the name of each object after its number; a number is that of an object after one of the words `kinds`
 unfoldable pub named_text : List (Bor (List ℕ)) → List Name → List ℕ → List ℕ
 named_text kinds names text = flat_map (byte_and_name kinds names text) (enumerate_from 0 text)

@@ -8,7 +8,7 @@ use crate::naming::name_objects;
 use crate::table::Names;
 use std::alloc::{AllocError, Global};
 
-/// Puts the name of each object behind its number, in lines that come in parts.
+/// Puts the name of each object after its number, in lines that come in parts.
 #[derive(Drop)]
 pub struct NamedLines {
     names: Names,
@@ -33,7 +33,7 @@ fn lines_end(text: &[u8]) -> usize
 }
 
 impl NamedLines {
-    /// No line has begun. A number is that of an object behind one of the words `kinds`.
+    /// No line has begun. A number is that of an object after one of the words `kinds`.
     pub fn new(alloc: Global, names: Names, kinds: &'static [&'static [u8]]) -> NamedLines
         ensures names { result.names ≡ names }
         ensures kinds { result.kinds.now ≡ kinds.now }

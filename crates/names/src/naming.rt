@@ -54,7 +54,7 @@ fn begins_with_digit(text: &[u8]) -> bool
     }
 }
 
-// Adds what stands behind a number: a space, and the name in parentheses.
+// Adds what stands after a number: a space, and the name in parentheses.
 fn push_suffix(named: &mut Vec<u8>, name: &str) -> Result<(), AllocError>
     ensures { OnOk result (named.new.items ≡ named.old.items ++ suffix_of (Some name.now)) }
 {
@@ -63,7 +63,7 @@ fn push_suffix(named: &mut Vec<u8>, name: &str) -> Result<(), AllocError>
     named.extend_from_slice(b")")
 }
 
-// The name that stands behind a text which another follows.
+// The name that stands after a text which another follows.
 fn name_behind<'n>(
     names: &'n Names,
     kinds: &[&[u8]],
@@ -83,7 +83,7 @@ fn name_behind<'n>(
     names.name_of(digits)
 }
 
-// Adds what stands behind a text which another follows.
+// Adds what stands after a text which another follows.
 fn push_behind(
     names: &Names,
     kinds: &[&[u8]],
@@ -100,7 +100,7 @@ fn push_behind(
     }
 }
 
-/// A text with the name of each object behind its number. A number is that of an object behind one of the words
+/// A text with the name of each object after its number. A number is that of an object after one of the words
 /// `kinds`. Fails only if memory runs out.
 pub fn name_objects(
     alloc: Global,

@@ -1,4 +1,4 @@
-// A writer that puts names behind numbers.
+// A writer that puts names after numbers.
 ghost use Rattle.std.specs.Prelude.{◌≡◌, ◌++◌, [], None, OnOk, Option, Some};
 ghost use Rattle.names.specs.Output.{inner_output, lines_in, named_lines, waiting_by, written_by};
 ghost use Rattle.names.specs.declared.lines.NamedLines.{NamedLines};
@@ -8,7 +8,7 @@ use crate::lines::NamedLines;
 use collections::Tally;
 use script::{Output, RunFault};
 
-/// A writer that puts the name of each object behind its number, line by line. Without names it passes all on as it is.
+/// A writer that puts the name of each object after its number, line by line. Without names it passes all on as it is.
 #[derive(Drop)]
 pub struct NamedOutput<W> {
     inner: W,

@@ -12,7 +12,7 @@ use Rattle.object_cache.proofs.Objects.{of_each, keepable_alike, unwritten_alike
 use Rattle.object_cache.proofs.Outcomes.{IsSeenAs}
 use Rattle.model.specs.declared.object.Role.TheVariants as role
 
--- the entry of one number is another, with the same object and the same frozen frame
+-- the entry of one number changes, but neither its object nor its frozen frame
 pub record Recaches (s : Stored) (m : Memory) (es : List (Option Entry)) (n : ℕ) : Type 0 where
   pub count : length es ≡ length m.entries
   pub entries : (k : ℕ) → k ≢ n → entry_at es k ≡ entry_at m.entries k

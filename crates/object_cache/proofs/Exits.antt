@@ -92,7 +92,7 @@ module _ {D : Type 0} {disk : D → Disk} where
     cause = ok_counts (counted_ok moves.cause);
   })
 
--- ---- what is fetched and can be kept still is, if the device or the entries are others
+-- ---- what is fetched and can be kept still is, if the device or the entries have changed
 
 module _ {D : Type 0} {s t : StoreState D} where
   pub fetched_put : {n : ℕ} → t ≡ on_device s t → IsFetchedIn s n → IsFetchedIn t n

@@ -78,7 +78,7 @@ front_less (suc k) n (m ∷ ms) = elim (cases_eq n m) [
   | inr other ↦ rw (without_tail n m (take (suc k) ms) other, front_less k n ms, without_tail n m ms other)
 ]
 
--- a use keeps the front, whether or not what lies behind it went before
+-- a use keeps the front, whether or not what lies after it went before
 use_keeps_front : (most n : ℕ) (xs : List ℕ) → take most (n ∷ without n (take most xs)) ≡ take most (n ∷ without n xs)
 use_keeps_front most n xs = search (arith, front_less)
 
@@ -110,7 +110,7 @@ used_more most i ns s t u below before is = search (arith, use_keeps_front, one_
 pub used_then : (most k : ℕ) (ns s t u : List ℕ) → t ≡ used_in_turn (take k ns) s → u ≡ take most (used_in_turn ns t) → u ≡ take most (used_in_turn ns s)
 used_then most k ns s t u first is = is ∙ ap (λ ks. take most (used_in_turn ns ks)) first ∙ ap (take most) (used_anew ns (take k ns) s (in_front k ns))
 
--- ---- bodies are read from the device: nothing that is seen is another
+-- ---- bodies are read from the device: nothing that is seen changes
 
 module _ {D : Type 0} (disk : D → Disk) {d : DurableState D} {m : Memory} {all : Bool} {left count : ℕ} {order : List ℕ} {most_entries : ℕ} {s : StoreState D}
     (view : cache_of disk d m left order most_entries ≡ s) (is : IsCache all (stored_of disk d) m left count) where

@@ -136,7 +136,7 @@ module _ {D : Type 0} (disk : D → Disk) {d : DurableState D} {m : Memory} {all
     abbrev IsDone : Type 0
     IsDone = stored_of disk new ≡ on_snapshots (journaled age n (words_in (held_now m.entries st n))) st
 
-    -- the store is another by a page with the words of now
+    -- the store differs by a page with its present words
     done_is : IsThere → IsDone → stored_of disk new ≡ on_snapshots (journaled age n (words_in (content_at st m n))) st
     done_is there done = rw (page_held is (none_of left_of st.frozen there.0) n (role_is_page header.role there.1)) done
 

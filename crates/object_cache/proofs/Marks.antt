@@ -1,4 +1,4 @@
--- Numbers are marked that are to be written: no object and no frozen frame is another.
+-- Numbers that are to be written are marked: no object and no frozen frame changes.
 use Rattle.object_cache.proofs.Names.{put_at, Kept, Absent, present_at, inl, inr, ℕ, zero, suc, Bool, true, false, true≢false, List, [], length, set, Option}
 use Rattle.object_cache.proofs.Names.{option_map, refl, sym, ap, subst, arith, length-set, slice_index_or, Contains, cases_eq, get_or-set_other}
 use Rattle.object_cache.proofs.Names.{get_or-set_same, Cap, Frame, ObjectHeader, Content, touched_count, touching, Disk, DurableState, Stored, stored_of}

@@ -1,4 +1,4 @@
--- One object is changed that is to be put: no frozen frame is another, and what always holds still does.
+-- An object that is to be put changes: no frozen frame does, and what always holds still holds.
 use Rattle.object_cache.proofs.Names.{put_at, FrozenPuts, ℕ, Bool, true, false, true≢false, List, length, set, Option, Some, None, is_some, option_map, refl}
 use Rattle.object_cache.proofs.Names.{sym, ap, subst, arith, cases_eq, none-some, same_Some, Cap, ObjectHeader, Content, header_at, AreKeepable, Kept, most}
 use Rattle.object_cache.proofs.Names.{Stored, maps_same, map_set, Entry, entry_at, kept_of, Memory, mark_at, present_body, content_at, present_at, newest_body}
@@ -55,7 +55,7 @@ module _ {s t : Stored} {m u : Memory} (same : Alike s m t u) where
 abbrev pub with_objects : Memory → List ObjectHeader → List (Option Entry) → Memory
 with_objects m hs es = record m { headers = hs; entries = es }
 
--- one object's header or present body is another: there is an entry where there was one, with the same body kept apart
+-- one object's header or present body has changed: there is an entry where there was one, with the same body kept apart
 pub record Changes (m : Memory) (hs : List ObjectHeader) (es : List (Option Entry)) (n : ℕ) : Type 0 where
   pub header_count : length hs ≡ length m.headers
   pub entry_count : length es ≡ length m.entries
@@ -114,7 +114,7 @@ module _ (s : Stored) {m : Memory} {hs : List ObjectHeader} {es : List (Option E
     touched_here : mark_at m.touched n ≡ true
     touched_here = is.marked n dirty
 
-    -- a number that isn't marked is another
+    -- a number that isn't marked is a different one
     unmarked : (marks : List Bool) → mark_at marks n ≡ true → (k : ℕ) → mark_at marks k ≡ false → k ≢ n
     unmarked marks here k not_here same = true≢false (sym here ∙ ap (mark_at marks) (sym same) ∙ not_here)
 

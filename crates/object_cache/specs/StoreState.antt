@@ -214,7 +214,7 @@ AreAll e = (n : ℕ) → n < length e.at → IsSome (entry_at e.at n)
 abbrev pub all_of : ℕ → ℕ
 all_of count = if nat_le 8 count then count else 8
 
--- the present body of a number is another one
+-- the present body of a number changes
 abbrev pub with_body : ℕ → Content Cap → EntriesState → EntriesState
 with_body n c e = with_entry_of (changing (λ (x : Content Cap). c)) n e
 

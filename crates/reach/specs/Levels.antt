@@ -17,10 +17,11 @@ found_at l n = slice_index_or l.found.items n None
 abbrev pub IsFound : Levels → ℕ → Type 0
 IsFound l n = (f : Found) × (found_at l n ≡ Some f)
 
--- found in at most `k` steps, and at level `k`
+-- found in at most `k` steps
 abbrev pub IsFoundIn : Levels → ℕ → ℕ → Type 0
 IsFoundIn l n k = (f : Found) × (found_at l n ≡ Some f) × (f.level ≤ k)
 
+-- found at level `k`
 abbrev pub IsAt : Levels → ℕ → ℕ → Type 0
 IsAt l n k = (f : Found) × (found_at l n ≡ Some f) × (f.level ≡ k)
 

@@ -20,7 +20,7 @@ pub(crate) fn is_json(job: &Job<'_>) -> bool {
     }
 }
 
-/// Writes the fault of a job that answers in JSON to standard output, as an object on a line behind what was written
+/// Writes the fault of a job that answers in JSON to standard output, as an object on a line after what was written
 /// before. It writes nothing if the fault is that standard output takes no more.
 pub(crate) fn tell_json(rt: &HostRuntime, job: &Job<'_>, fault: Fault) {
     if !is_json(job) || matches!(fault, Fault::CannotWriteOutput) {

@@ -43,7 +43,7 @@ left_by g size t command says c one = ⊎_elim
 
 -- ---- failures
 
--- an answer reports a failure exactly where there was one
+-- an answer reports a failure exactly if there was one
 pub answer_reported : (old new : Disk) (a : Answer) → IsCaused old new a → IsReportedBy old new (Reported a)
 answer_reported old new a caused = search (arith, nat_tests)
 

@@ -82,7 +82,7 @@ Does turns input input_left output output_left (Err fault.Stopped) =
     (text : List ℕ) × Consumes input input_left text × AreFirst text input_left (lines_in turns) × Wrote output
     output_left (output_of turns)
 
--- the device failed exactly where that was answered
+-- the device failed exactly if that was answered
 pub record IsReportedBy (old new : Disk) (reply : Reply) : Type 0 where
   pub later : old.failures ≤ new.failures
   pub exact : (tells_fault reply ≡ true) ↔ (old.failures < new.failures)
@@ -99,7 +99,7 @@ AreSeen sees old new [] on = (new ≡ old) × (on ≡ true)
 AreSeen sees old new (t ∷ ts) on = ((next : _) × sees t old next true × AreSeen sees next new ts on) ⊎
     ((ts ≡ []) × (on ≡ false) × sees t old new false)
 
--- it ended the run exactly where the run says so; where the writer failed the observer may have ended it at that line
+-- it ended the run exactly if the run says so; where the writer failed the observer may have ended it at that line
 abbrev pub EndsBy : Bool → Result (Unit {0}) RunFault → Type 0
 EndsBy on (Ok a) = on ≡ true
 EndsBy on (Err fault.Read) = on ≡ true

@@ -73,7 +73,7 @@ IsCauseOf g t why =
     (c : Command) × Says t.line (line.Command c) × (a : Answer) × (t.reply ≡ Reported a) × IsCauseIn a
     (reported_code g t.before c a) why
 
--- the run ends at this turn with this number exactly where it is strict and the turn is a cause
+-- the run ends at this turn with this number exactly if it is strict and the turn is a cause
 abbrev pub Ends : Geometry → ℕ → Turn → Bool → Bool → Option Stop → Type 0
 Ends g place t false on stop = on ≡ true
 Ends g place t true true stop = (why : Cause) → IsCauseOf g t why → ⊥

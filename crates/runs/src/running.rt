@@ -211,15 +211,15 @@ fn run_turns<D: Device, S: ObjectStore<D>, R: Script, W: Output, O: Observer>(
 /// What is written is the printed answers of a run of the machine on the commands that the lines
 /// name, from whichever machine the kernel stands for; power cuts and failures of the device are
 /// part of such a run. A crash at any moment while a line is served leaves a candidate of the
-/// machine before it, or what its command is to save besides; `fault` is answered exactly where the
+/// machine before it, or what its command is to save besides; `fault` is answered exactly if the
 /// device failed.
 ///
 /// If each line is an invocation, a load or a store by a process of a closed set, or by one made of
 /// numbers that were free, then objects outside the set that weren't free keep their content and
 /// their owner (EROS: confinement). Exception: capabilities to members may become void.
 ///
-/// `RunFault::Read` exactly where a read failed: then each line whose newline was read was answered.
-/// `RunFault::Write` exactly where a call of the writer failed: then the lines taken are the first of
+/// `RunFault::Read` exactly if a read failed: then each line whose newline was read was answered.
+/// `RunFault::Write` exactly if a call of the writer failed: then the lines taken are the first of
 /// those read whole, or all of an input at its end, and only the answer to the last may be cut
 /// short; where it fails to pass on what it took, all of those lines were answered. The kernel then
 /// stands where the lines taken left it. A read that was interrupted is tried again. Reading lines
@@ -243,7 +243,7 @@ pub fn run<D: Device, S: ObjectStore<D>, R: Script, W: Output>(
 /// Runs a script over a kernel as `run` does, and shows an observer each turn, in order. What is
 /// written is the same with each observer.
 ///
-/// `RunFault::Stopped` exactly where the observer ends the run: then all lines taken were answered,
+/// `RunFault::Stopped` exactly if the observer ends the run: then all lines taken were answered,
 /// and the last of them is where it did.
 pub fn run_observed<D: Device, S: ObjectStore<D>, R: Script, W: Output, O: Observer>(
     kernel: &mut Kernel<D, S>,
@@ -267,7 +267,7 @@ pub fn run_observed<D: Device, S: ObjectStore<D>, R: Script, W: Output, O: Obser
 /// Runs one line over a kernel: does what it says, shows an observer the turn, writes the answer and passes it on.
 /// Returns whether the observer lets a run go on.
 ///
-/// `RunFault::Write` exactly where a call of the writer failed: then the answer may be cut short, and the kernel stands
+/// `RunFault::Write` exactly if a call of the writer failed: then the answer may be cut short, and the kernel stands
 /// where the line left it.
 pub fn run_line<D: Device, S: ObjectStore<D>, W: Output, O: Observer>(
     kernel: &mut Kernel<D, S>,

@@ -88,7 +88,7 @@ operands_length registers words are = absurd are
 
 -- ---- faults of a line
 
--- a word behind the keyword has a place in the line
+-- a word after the keyword has a place in the line
 has_word : (line : List ℕ) (k : Keyword) (before after : Words) (word : List ℕ) (place : ℕ) → Names line k (before ++ word ∷ after) →
     place ≡ length before + 2 → HasWord line place word
 has_word line k before after word place names is = (keyword_name k ∷ before, after, names, omega (arith, is))

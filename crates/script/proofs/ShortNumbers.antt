@@ -1,4 +1,4 @@
--- A number at a place of a text, with a space behind it or at the end.
+-- A number at a place of a text, with a space after it or at the end.
 use Rattle.script.proofs.Names.{ℕ, List, [], Option, Some, IfSome, length, get_or, take, drop, decimal, refl, sym, ap, subst, arith, IsInRange, AllDigits}
 use Rattle.script.proofs.Names.{digits_value, nat_tests, get_or-take, get_or-drop, take_all, length-drop, drop-drop, position_or_len_is, digit_at, first_end}
 use Rattle.script.proofs.Names.{first_word, number_at, words_of, digits_value_short, length-take-le}
@@ -36,7 +36,7 @@ digits_alone text size n begins whole =
     number_gives (Some n) (first_word text) (words_of text) [] (word_alone text size (sym ends) (omega (arith, whole)))
     (begins.5, word_is text size n begins ends) tt
 
--- the value of the first digits behind a place
+-- the value of the first digits after a place
 abbrev pub Values : List ℕ → ℕ → ℕ → ℕ → Type 0
 Values text at size n = AllDigits 10 (take size (drop at text)) × (n ≡ digits_value 10 (take size (drop at text)))
 

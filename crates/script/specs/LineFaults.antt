@@ -9,7 +9,7 @@ use Rattle.script.specs.declared.line_fault.LineFault.TheVariants as fault
 use Rattle.script.specs.Keywords.{keyword_name}
 use Rattle.script.specs.Reading.{Words, words_of}
 
--- of each word behind a keyword, whether it is a register
+-- of each word after a keyword, whether it is a register
 abbrev pub are_registers : Keyword → List Bool
 are_registers (keyword.Invoke operation) = false ∷ true ∷ false ∷ false ∷ false ∷ false ∷ true ∷ true ∷ true ∷ true ∷ []
 are_registers keyword.Load = false ∷ false ∷ []

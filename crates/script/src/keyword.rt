@@ -162,7 +162,7 @@ pub fn is_store(line: &[u8]) -> bool
     line.len() >= 11 && four_at(line, 0) == STORE && line[4] == b'e' && line[5] == b' '
 }
 
-/// An operation that a line names, and where the words behind its name begin.
+/// An operation that a line names, and where the words after its name begin.
 #[derive(Clone, Copy)]
 pub struct Named {
     pub operation: Operation,

@@ -87,7 +87,7 @@ fn add_numbered(line: &mut LineText, word: &[u8], number: u64, more: &[u8])
     line.word(more);
 }
 
-// For each word behind a keyword, whether it is a register.
+// For each word after a keyword, whether it is a register.
 fn operands(keyword: Keyword) -> &'static [bool]
     ensures { result.now ≡ are_registers keyword }
 {
@@ -165,7 +165,7 @@ fn operand_fault(words: &mut Words<'_>, place: u64, is_register: bool) -> Option
     }
 }
 
-// The first fault of the words behind a keyword, if they have one.
+// The first fault of the words after a keyword, if they have one.
 fn operands_fault(keyword: Keyword, words: &mut Words<'_>) -> Option<LineFault>
     ensures fault { IfSome result (λ why. (line : List ℕ) → Names line keyword words.old → IsFaultOf line why) }
     ensures none { IfNone result (AreOperands (are_registers keyword) words.old) }

@@ -176,7 +176,7 @@ pub fn number_before(text: &[u8], at: usize, behind: usize) -> Option<Short>
     Some(short)
 }
 
-// A register that a text names, and where the word behind it begins.
+// A register that a text names, and where the word after it begins.
 #[derive(Clone, Copy)]
 struct ShortRegister {
     register: Register,

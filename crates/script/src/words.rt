@@ -19,7 +19,7 @@ fn first_space(bytes: &[u8]) -> Option<usize>
     bytes.iter().position(|byte| *byte == b' ')
 }
 
-// What follows the space behind the first word of a text, if there is a space.
+// What follows the space after the first word of a text, if there is a space.
 #[tactic(auto, using(crate::proofs::Split::word_and_more, crate::proofs::Split::word_alone))]
 fn behind_first(text: &[u8], end: usize) -> Option<&[u8]>
     requires { end ≡ first_end text.now }

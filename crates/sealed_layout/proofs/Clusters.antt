@@ -7,7 +7,7 @@ zeros_front : (m n : ℕ) → m ≤ n → take m (zeros n) ≡ zeros m
 unfolding zeros
 zeros_front m n le = take-replicate m n 0 le
 
--- zeros are put behind the frames, and a seal over the end
+-- zeros are put after the frames, and a seal over the end
 module _ (old blanked new : List ℕ) (nodes : ℕ) (few : nodes ≤ 5) (size : length old ≡ 4096) (size' : length new ≡ length blanked)
     (is : blanked ≡ take (800 * nodes) old ++ zeros (length old - 800 * nodes)) (same : body_of new ≡ body_of blanked) where
   abbrev end : ℕ

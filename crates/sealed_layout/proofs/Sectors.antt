@@ -119,7 +119,7 @@ sector_written ns filled put row few blank written is same =
     let rest : drop (8 * length ns) filled ≡ zeros (512 - 8 * length ns) = drop_filled filled 512 (8 * length ns) blank in
     sealed_is row (body_with ns) is (same ∙ body_written ns put few (written ∙ ap (λ (z : List ℕ). words_bytes ns ++ z) rest))
 
--- a row with numbers, zeros behind them and a seal
+-- a row with numbers, zeros after them and a seal
 pub sector_found : (row ns : List ℕ) (n : ℕ) → length row ≡ 512 → length ns ≡ n → n ≤ 61 → take (8 * n) row ≡ words_bytes ns
     → take (488 - 8 * n) (drop (8 * n) row) ≡ zeros (length (take (488 - 8 * n) (drop (8 * n) row))) → IsSealed row → row ≡ sector_bytes ns
 unfolding sector_bytes

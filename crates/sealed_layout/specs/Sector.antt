@@ -5,7 +5,7 @@ use Rattle.layout.specs.Bytes.{zeros}
 use Rattle.layout.specs.Frame.{words_bytes}
 use Rattle.seal.specs.Sums.{sums_bytes, sums_of}
 
--- a body with its seal behind it
+-- a body with its seal after it
 unfoldable pub sealed : List ℕ → List ℕ
 sealed body = body ++ sums_bytes (sums_of body)
 

@@ -51,7 +51,7 @@ pub fn encode_entries(entries: &[Entry], into: &mut [u8])
 
 /// Reads the 512 bytes of a directory's sector with `into.len()` entries, at most 30, and returns its seal.
 ///
-/// Returns `None` if the bytes spell no such sector: it isn't sealed, or a byte behind the entries isn't 0. Then `into`
+/// Returns `None` if the bytes spell no such sector: it isn't sealed, or a byte after the entries isn't 0. Then `into`
 /// may hold any entries. The entries aren't checked.
 pub fn decode_entries(bytes: &[u8], into: &mut [Entry]) -> Option<Sums>
     requires size { length bytes.now ≡ 512 }

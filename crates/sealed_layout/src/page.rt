@@ -19,7 +19,7 @@ const WORDS_AT: usize = 512;
 #[derive(Clone, Copy)]
 pub struct PageHeader {
     pub object: ObjectHeader,
-    /// The sums of the words behind the sector.
+    /// The sums of the words after the sector.
     pub words: Sums,
 }
 

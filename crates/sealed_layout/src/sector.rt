@@ -33,7 +33,7 @@ pub fn encode_sector(numbers: &[u64], into: &mut [u8])
 }
 
 /// Reads the 512 bytes of a sealed sector into at most 61 numbers. Returns whether it is sealed and has only zeros
-/// behind them.
+/// after them.
 pub fn decode_sector(bytes: &[u8], into: &mut [u64]) -> bool
     requires size { length bytes.now ≡ 512 }
     requires numbers { length into.old ≤ 61 }

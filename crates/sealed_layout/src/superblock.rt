@@ -113,7 +113,7 @@ pub fn encode_superblock(row: SuperblockRow, ranges: &[HomeRange], into: &mut [u
 
 /// Reads the 512 bytes of a superblock's sector, and puts its eight ranges into `ranges`.
 ///
-/// Returns `None` if the sector is no superblock of version 3: it has another magic or version, a byte behind the
+/// Returns `None` if the sector is no superblock of version 3: it has another magic or version, a byte after the
 /// ranges that isn't 0, or another seal. Then `ranges` may hold any ranges. Limits of the fields aren't checked.
 pub fn decode_superblock(bytes: &[u8], ranges: &mut [HomeRange]) -> Option<SuperblockRow>
     requires size { length bytes.now ≡ 512 }

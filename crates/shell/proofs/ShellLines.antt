@@ -156,7 +156,7 @@ read_short line words short is =
     let tested : nat_lt 256 (length line) ≡ false = grind (arith, nat_tests) in
     is ∙ sym (rw tested refl)
 
--- the input ended behind a line, or it is none
+-- the input ended after a line, or it is none
 pub not_last : (r : Bool) (A B : Type 0) → IsTrue r ↔ (A × B) → r ≡ false → A → B → ⊥
 not_last r A B is none a b = let holds : IsTrue r = is.1 (a, b) in cc
 

@@ -28,7 +28,7 @@ abbrev other_parts : List (List ℕ) → List (List ℕ)
 other_parts [] = []
 other_parts (p ∷ ps) = ps
 
--- words behind others
+-- words after others
 abbrev behind : List ℕ → List (List ℕ) → List ℕ
 behind words [] = words
 behind words (p ∷ ps) = cond (nat_lt 0 (length words)) (words ++ 32 ∷ spaced (p ∷ ps)) (spaced (p ∷ ps))
@@ -42,7 +42,7 @@ spaced_longer : (b : ℕ) (f : List ℕ) (ps : List (List ℕ)) → spaced ((b �
 spaced_longer b f [] = refl
 spaced_longer b f (p ∷ ps) = refl
 
--- behind a part that goes on
+-- after a part that goes on
 spaced_behind : (words : List ℕ) (b : ℕ) (f : List ℕ) (ps : List (List ℕ)) → behind ((words ++ b ∷ []) ++ f) ps ≡ words ++ spaced ((b ∷ f) ∷ ps)
 spaced_behind words b f [] = append_assoc words (b ∷ []) f
 spaced_behind words b f (p ∷ ps) =

@@ -33,7 +33,7 @@ fn without_comment(line: &[u8]) -> &[u8]
     &line[..end]
 }
 
-// Adds a byte of a word, behind a space if another word stands before it.
+// Adds a byte of a word, after a space if another word stands before it.
 fn add(words: &mut ArrayVec<u8, MOST>, is_apart: bool, byte: u8)
     requires room { length words.old.items + 1 ≤ 257 }
     requires apart { is_apart ≡ true → length words.old.items + 2 ≤ 257 }

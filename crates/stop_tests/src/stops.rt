@@ -26,7 +26,7 @@ fn tell_stop(stop: Option<usize>, reported: &mut Vec<u8>) -> Result<(), RunFault
     writeln!(reported, "= stopped {line}").or(Err(RunFault::Write))
 }
 
-// Reports what is answered to some lines, and returns whether that is one fault.
+// Reports the answers to some lines, and returns whether they are a single `fault`.
 fn tell_run<D: Device, S: ObjectStore<D>>(
     kernel: &mut Kernel<D, S>,
     lines: &[u8],

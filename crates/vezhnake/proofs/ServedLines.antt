@@ -51,7 +51,7 @@ numbered_on g [] us (c ∷ cs) ds rs qs first next = absurd first
 numbered_on g (t ∷ ts) us [] ds rs qs first next = absurd first
 numbered_on g (t ∷ ts) us (c ∷ cs) ds [] qs first next = absurd first
 
--- what is behind the replies written
+-- what is after the replies written
 pub behind_next : (rs before : List RawReply) (i : ℕ) (r : RawReply) → drop i rs ≡ drop i before → drop (i + 1) (slice_set rs i r) ≡ drop (i + 1) before
 behind_next rs before i r same =
     drop-set-lt (i + 1) rs i r (omega arith) ∙ sym (drop-drop 1 i rs) ∙ ap (λ (xs : List RawReply). drop 1 xs) same ∙ drop-drop 1 i before
@@ -130,7 +130,7 @@ module _ {S : Type 0} (view : S → View HostDevice) (parts : S → Parts) where
     survives = runs_survive view parts all a c;
   }
 
-  -- one more of a list, whose reply is written behind those before
+  -- one more of a list, whose reply is written after those before
   pub served_next : CrashesInRunsAreSurvived host_disk view parts → (start now next : Power HostDevice S) (cs : List (Option Command)) (rs : List RawReply)
       (i : ℕ) (c : Command) (r : RawReply) → i < length cs → i < length rs → slice_index_or cs i None ≡ Some c →
       ServesEach view parts start now (take i cs) (take i rs) → ServesEach view parts now next (Some c ∷ []) (r ∷ [])

@@ -46,7 +46,7 @@ AreNumbered g _ _ _ = ⊥
 abbrev pub refuses_at : List RawReply → ℕ → Bool
 refuses_at replies k = is_refused (slice_index_or replies k (reply_of answer.Done None))
 
--- Where a batch ends: behind its last command, or before the first that is none. If a refusal ends it, then behind the
+-- Where a batch ends: after its last command, or before the first that is none. If a refusal ends it, then after the
 -- first refusal.
 pub record EndsAt (stops : Bool) (commands : List (Option Command)) (replies : List RawReply) (n : ℕ) : Type 0 where
   pub most : n ≤ length commands

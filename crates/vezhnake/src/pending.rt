@@ -25,7 +25,7 @@ fn append_number(bytes: &mut Vec<u8>, number: u64) -> Result<(), AllocError>
     bytes.extend_from_slice(&number.to_le_bytes())
 }
 
-// Appends a header and these bytes. `Err` may leave a part behind the old bytes.
+// Appends a header and these bytes. `Err` may leave a part after the old bytes.
 fn append_parts(bytes: &mut Vec<u8>, byte: u64, from: &[u8]) -> Result<(), AllocError>
     ensures ok { OnOk result (bytes.new.items ≡ bytes.old.items ++ (header_of byte (length from.now) ++ from.now)) }
     ensures kept { take (length bytes.old.items) bytes.new.items ≡ bytes.old.items }
@@ -73,7 +73,7 @@ impl Pending {
         }
     }
 
-    /// Adds a call behind the others: a header with this byte, and `from`. The host has taken the
+    /// Adds a call after the others: a header with this byte, and `from`. The host has taken the
     /// first `taken` calls: if these are all, their bytes are dropped before.
     ///
     /// `Failed` if memory runs out: then no call is added.

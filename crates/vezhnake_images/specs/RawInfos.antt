@@ -17,7 +17,7 @@ raw_range r = record { first = r.first; count = r.count }
 abbrev pub no_range : RawRange
 no_range = record { first = 0; count = 0 }
 
--- the numbers of home ranges, and zeros behind them
+-- the numbers of home ranges, and zeros after them
 abbrev pub raw_ranges : List HomeRange → List RawRange
 raw_ranges ranges = map raw_range ranges ++ replicate (8 - length ranges) no_range
 

@@ -72,7 +72,7 @@ fn blueprint_of(alloc: Global, text: &[u8]) -> Result<Blueprint, ImageStatus>
     }
 }
 
-// A device with the image of a description, and nothing behind it.
+// A device with the image of a description, and nothing after it.
 #[tactic(auto, using(crate::proofs::Built::unbuilt))]
 fn build_device(alloc: Global, blueprint: &Blueprint) -> Result<ImageDevice, ImageStatus>
     ensures ok { (table : Members) → IsDescription table blueprint.now

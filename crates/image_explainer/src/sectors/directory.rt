@@ -38,7 +38,7 @@ fn slot_before(entries: &[Entry], index: usize, slot: u64) -> Option<usize>
     None
 }
 
-// What is wrong with an entry, by itself or behind those before it.
+// What is wrong with an entry, by itself or after those before it.
 fn entry_part(geometry: Geometry, entries: &[Entry], index: usize) -> Option<DirectoryPart>
     requires index { index < length entries.now }
     requires fits { AllFitting entries.now }

@@ -85,7 +85,7 @@ impl<D: Device, P: Policy> Store<D, P> {
         self.read_in(number)
     }
 
-    // Marks objects as used, in turn, up to the first that isn't among the last few used. Returns whether it marked
+    // Marks objects as used, in turn, up to the first that has no entry. Returns whether it marked
     // them all; then they are in memory.
     pub(crate) fn use_again(&mut self, numbers: &[u64]) -> bool
         requires { All (λ n. n < length self.old.headers) numbers.now }
