@@ -91,7 +91,7 @@ some_below most p is = grind (arith, nat_tests, past_is)
 none_past : (most p : ℕ) → place_below most p ≡ None → most ≤ p
 none_past most p is = grind (arith, nat_tests, none-some, below_is)
 
--- an order that is seen as a value is another one
+-- numbers with places, and the order that they stand for
 pub record Spreads (keys numbers places : List ℕ) (count : ℕ) (s : OrderState) : Type 0 where
   pub are : ArePlaced keys numbers places count
   pub view : order_of keys numbers places count ≡ s

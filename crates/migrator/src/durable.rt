@@ -109,7 +109,7 @@ impl<D: Device> Durable<D> {
     /// Freezes what was put since the last checkpoint began: a checkpoint is on its way that writes
     /// `size` objects, those that were put among them. It makes no device call. It is refused by
     /// `CheckpointRunning` exactly if one is on its way, and else by `MigrationPending` exactly
-    /// where something saved isn't home.
+    /// if something saved isn't home.
     pub fn freeze(&mut self, size: u64) -> Result<(), Refusal>
         requires enough { sum_of held_slot (stored_of D.disk self.old).working ≤ size }
         requires few { size ≤ self.old.books.plan.geometry.log }

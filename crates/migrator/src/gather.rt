@@ -76,7 +76,7 @@ fn gather_one<D: Device>(
     copy_place(device, at, plan.shape(number), block)
 }
 
-/// Fills a block with the saved frames of all that have the home of an object, and with zeros behind
+/// Fills a block with the saved frames of all that have the home of an object, and with zeros after
 /// them.
 pub(crate) fn gather<D: Device>(
     device: &mut D,
