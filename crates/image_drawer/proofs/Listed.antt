@@ -3,8 +3,8 @@ use Rattle.image_drawer.proofs.Names.{ℕ, Bool, true, false, List, [], length, 
 use Rattle.image_drawer.proofs.Names.{All-contains, All-map, object_count, BankEntry, Description, NodeEntry, PageEntry, ProcessEntry, HasNumbers, OfBank}
 use Rattle.image_drawer.proofs.Names.{OfNode, OfPage, OfRoot, in_range, all_from, contains_here, contains_there, boxes, is_listed, slice_set, replicate}
 use Rattle.image_drawer.proofs.Names.{get_or-set_other, get_or-set_same, length-replicate, length-set, is_marked, Adds, holding_nodes, get_or, take}
-use Rattle.image_drawer.proofs.Names.{holding_processes, take_more, list_any-append, All-filter, list_any, none_marked}
-use Rattle.std.proofs.Common.{◌≡◌, ◌<◌, ◌+◌, ◌∷◌, ◌++◌, ◌∙◌}
+use Rattle.image_drawer.proofs.Names.{holding_processes, take_more, list_any-append, All-filter, list_any}
+use Rattle.std.proofs.Common.{◌≡◌, ◌<◌, ◌+◌, ◌∷◌, ◌++◌, ◌∙◌, suc}
 use Rattle.std.specs.Prelude.{◌==◌, ◌||◌}
 
 either_or : (a r b c : Bool) → r ≡ (b || c) → (a || r) ≡ ((a || b) || c)
@@ -85,6 +85,11 @@ adds_both ms ns was between now first second = record {
 pub adds_more : (ns : List ℕ) (i d : ℕ) (was now : List Bool) → i < length ns → Adds (take i ns) was now → get_or ns i d < length now →
     Adds (take (i + 1) ns) was (slice_set now (get_or ns i d) true)
 adds_more ns i d was now within adds below = rw (take_more ns i d within) (adds_both (take i ns) (get_or ns i d ∷ []) was now _ adds (adds_one now _ below))
+
+-- an empty set has no number
+none_marked : (count n : ℕ) → is_marked (replicate count false) n ≡ false
+none_marked (suc c) (suc n) = none_marked c n
+none_marked count n = refl
 
 -- an empty set gets an object, and those that hold it
 pub holders_marked : (count o : ℕ) (ns : List ℕ) (now : List Bool) → o < count → Adds ns (slice_set (replicate count false) o true) now → (n : ℕ) →

@@ -3,7 +3,7 @@ pub use Rattle.capability.specs.Plain.{fresh_cap}
 pub use Rattle.collections.specs.Marks.{is_marked}
 pub use Rattle.description.proofs.Entries.{IsOf, described_cases, in_range}
 pub use Rattle.description.proofs.Lists.{all_from, contains_cases, contains_here, contains_map, contains_none, contains_there, distinct_apart, distinct_left}
-pub use Rattle.description.proofs.Lists.{distinct_right, first_beyond, first_of, first_there, map_again, map_both, map_contains, none_marked}
+pub use Rattle.description.proofs.Lists.{distinct_right, first_beyond, first_of, first_there, map_again, map_both, map_contains}
 pub use Rattle.description.proofs.Pairs.{ZipBelow, zip_map}
 pub use Rattle.description.proofs.PlainFrames.{plain_at}
 pub use Rattle.description.specs.Described.{AreDistinct, AreSlots, HasNumbers, HoldsNamed, IsDescribedAnnex, IsDescribedNode, IsDescribedPage, IsDescribedRoot}
