@@ -37,7 +37,9 @@ pub struct Recorded {
 
 impl Recorded {
     /// The calls, in order.
-    pub fn made(&self) -> &[Made] {
+    pub fn made(&self) -> &[Made]
+        ensures { result.now ≡ self.now.made.items }
+    {
         &self.made
     }
 

@@ -43,7 +43,7 @@ fn goes_first(slots: &[SlotNumbers], i: u64, j: u64) -> bool
     }
 }
 
-// Returns slots `i` and `j`, of which `i` goes first, with slot 2 in its place.
+// Returns the order of all three slots. Slot `i` goes before slot `j`, and neither is slot 2.
 fn with_last(slots: &[SlotNumbers], i: u64, j: u64) -> Order
     requires slots { length slots.now ≡ 3 }
     requires first { i < 2 }
